@@ -1,0 +1,112 @@
+-- The lists of the branches at an input stand for the set there.
+use Rattle.std.proofs.Common.{◌≡◌, ◌≢◌, ℕ, ◌<◌, Bool, true, false, not, ◌&&◌, ◌||◌, List, [], ◌∷◌, ◌++◌, length, get_or, refl, ap, sym, subst, ◌∙◌, inl, inr, ◌⊎◌, All}
+use Rattle.std.specs.List.{Contains, list_any}
+use Rattle.std.proofs.lemmas.Bool.{and_parts, and_from, or_from, cases_Bool, false≢true}
+use Rattle.std.proofs.lemmas.List.Elements.{All-append}
+use Rattle.cube.specs.declared.symbol.Symbol.{Symbol}
+use Rattle.cube.specs.declared.symbol.Symbol.TheVariants.{Dash, Zero, One}
+use Rattle.cube.specs.Size.{Size}
+use Rattle.cube.specs.Cube.{Cube, Place, holds, IsCube, IsSubset}
+use Rattle.cube.proofs.Members.{list_any_none, list_any_false}
+use Rattle.cover.specs.Cubes.{AreCubes}
+use Rattle.cover.specs.Places.{places}
+use Rattle.cover.specs.Complete.{literal, at_input, at_both, at_either}
+use Rattle.cover.specs.Marks.{is_symbol}
+use Rattle.cover.specs.Parts.{part, has_literal}
+use Rattle.cover.specs.Reduced.{IsMeets, Frees, IsBranch, IsAbsorbed}
+use Rattle.cover.proofs.Lists.{all_members, members_all, list_any_from, list_any_witness}
+use Rattle.cover.proofs.SumParts.{AreCubes-part, places-at_input, Frees-part, Frees-append, Frees-less}
+use Rattle.cover.proofs.SumMeets.{places-append}
+
+same_bool : (x y : Bool) → (x ≡ true → y ≡ true) → (y ≡ true → x ≡ true) → x ≡ y
+same_bool true y to from = sym (to refl)
+same_bool false true to from = from refl
+same_bool false false to from = refl
+
+-- a list of some of the cubes, in which each of them lies
+module _ (cubes kept : List Cube) (within : (c : Cube) → Contains kept c → Contains cubes c)
+    (over : (c : Cube) → Contains cubes c → (d : Cube) × Contains kept d × IsSubset (holds c) (holds d)) where
+  pub places-kept : (p : Place) → places kept p ≡ places cubes p
+  places-kept p = same_bool (places kept p) (places cubes p)
+      (λ h. let r = list_any_witness (λ (c : Cube). holds c p) kept h in list_any_from (λ (c : Cube). holds c p) cubes r.0 (within r.0 r.1) r.2)
+      (λ h.
+      let r = list_any_witness (λ (c : Cube). holds c p) cubes h in
+      let d = over r.0 r.1 in
+      list_any_from (λ (c : Cube). holds c p) kept d.0 d.1 (d.2 p r.2))
+
+  pub has_literal-kept : (k : ℕ) → has_literal k cubes ≡ false → has_literal k kept ≡ false
+  has_literal-kept k h =
+      let test = λ (c : Cube). not (is_symbol Dash (get_or c.symbols k Dash)) in
+      list_any_false test kept (λ c m t. list_any_none test cubes c h (within c m) t)
+
+pub IsBranch-absorbed : (size : Size) (i : ℕ) (cubes : List Cube) (s : Place → Bool) (all kept : List Cube) → IsBranch size i cubes s all
+    → IsAbsorbed all kept → IsBranch size i cubes s kept
+IsBranch-absorbed size i cubes s all kept branch absorbed = record {
+  are_cubes = members_all (IsCube size) kept (λ c h. all_members (IsCube size) all branch.are_cubes c (absorbed.within c h));
+  places = λ p. places-kept all kept absorbed.within absorbed.over p ∙ branch.places p;
+  frees = Frees-less i cubes all kept (has_literal-kept all kept absorbed.within absorbed.over) branch.frees;
+}
+
+module _ (size : Size) (i : ℕ) (lt : i < size.inputs) (cubes : List Cube) (h : AreCubes size cubes) where
+  pub IsBranch-value : (b : Bool) → IsBranch size i cubes (at_input i b (places cubes)) (part i Dash cubes ++ part i (literal b) cubes)
+  IsBranch-value b = record {
+    are_cubes = All-append (IsCube size) (part i Dash cubes) (part i (literal b) cubes) (AreCubes-part size i Dash cubes h) (AreCubes-part size i (literal b) cubes h);
+    places = λ p. places-append (part i Dash cubes) (part i (literal b) cubes) p ∙ places-at_input size i lt b cubes p h;
+    frees = Frees-append i cubes (part i Dash cubes) (part i (literal b) cubes) (Frees-part size i Dash cubes lt h) (Frees-part size i (literal b) cubes lt h);
+  }
+
+  pub IsBranch-both : (common : List Cube) → IsMeets size (part i Zero cubes) (part i One cubes) common
+      → IsBranch size i cubes (at_both i (places cubes)) (part i Dash cubes ++ common)
+  IsBranch-both common meets = record {
+    are_cubes = All-append (IsCube size) (part i Dash cubes) common (AreCubes-part size i Dash cubes h) meets.are_cubes;
+    places = λ p.
+        let d = places (part i Dash cubes) p in
+        let z = places (part i Zero cubes) p in
+        let o = places (part i One cubes) p in
+        places-append (part i Dash cubes) common p ∙ ap (λ x. d || x) (meets.places p) ∙ or_over_and d z o
+        ∙ ap (λ x. x && (d || o)) (places-at_input size i lt false cubes p h)
+        ∙ ap (λ x. at_input i false (places cubes) p && x) (places-at_input size i lt true cubes p h);
+    frees = Frees-append i cubes (part i Dash cubes) common (Frees-part size i Dash cubes lt h) (record {
+      there = meets.literals i (Frees-part size i Zero cubes lt h).there (Frees-part size i One cubes lt h).there;
+      others = λ k ne none'. meets.literals k ((Frees-part size i Zero cubes lt h).others k ne none') ((Frees-part size i One cubes lt h).others k ne none');
+    });
+  }
+    where
+      or_over_and : (d z o : Bool) → (d || (z && o)) ≡ ((d || z) && (d || o))
+      or_over_and true z o = refl
+      or_over_and false z o = refl
+
+  pub IsBranch-either : IsBranch size i cubes (at_either i (places cubes)) ((part i Dash cubes ++ part i Zero cubes) ++ part i One cubes)
+  IsBranch-either = record {
+    are_cubes = All-append (IsCube size) (part i Dash cubes ++ part i Zero cubes) (part i One cubes)
+        (All-append (IsCube size) (part i Dash cubes) (part i Zero cubes) (AreCubes-part size i Dash cubes h) (AreCubes-part size i Zero cubes h)) (AreCubes-part size i One cubes h);
+    places = λ p.
+        let d = places (part i Dash cubes) p in
+        let z = places (part i Zero cubes) p in
+        let o = places (part i One cubes) p in
+        places-append (part i Dash cubes ++ part i Zero cubes) (part i One cubes) p ∙ ap (λ x. x || o) (places-append (part i Dash cubes) (part i Zero cubes) p)
+        ∙ or_twice d z o
+        ∙ ap (λ x. x || (d || o)) (places-at_input size i lt false cubes p h)
+        ∙ ap (λ x. at_input i false (places cubes) p || x) (places-at_input size i lt true cubes p h);
+    frees = Frees-append i cubes (part i Dash cubes ++ part i Zero cubes) (part i One cubes)
+        (Frees-append i cubes (part i Dash cubes) (part i Zero cubes) (Frees-part size i Dash cubes lt h) (Frees-part size i Zero cubes lt h)) (Frees-part size i One cubes lt h);
+  }
+    where
+      or_twice : (d z o : Bool) → ((d || z) || o) ≡ ((d || z) || (d || o))
+      or_twice true z o = refl
+      or_twice false true o = refl
+      or_twice false false o = refl
+
+  -- the lists as the code makes them
+  pub IsBranch-both_list : (dashes zeros ones common all : List Cube) → dashes ≡ part i Dash cubes → zeros ≡ part i Zero cubes → ones ≡ part i One cubes
+      → IsMeets size zeros ones common → all ≡ dashes ++ common → IsBranch size i cubes (at_both i (places cubes)) all
+  IsBranch-both_list dashes zeros ones common all d z o meets is =
+      subst (IsBranch size i cubes (at_both i (places cubes))) (sym (is ∙ ap (λ l. l ++ common) d))
+      (IsBranch-both common (subst (λ l. IsMeets size l (part i One cubes) common) z (subst (λ l. IsMeets size zeros l common) o meets)))
+
+  pub IsBranch-either_list : (dashes zeros ones some all : List Cube) → dashes ≡ part i Dash cubes → zeros ≡ part i Zero cubes → ones ≡ part i One cubes
+      → some ≡ dashes ++ zeros → all ≡ some ++ ones → IsBranch size i cubes (at_either i (places cubes)) all
+  IsBranch-either_list dashes zeros ones some all d z o first second =
+      subst (IsBranch size i cubes (at_either i (places cubes)))
+      (sym (second ∙ ap (λ l. l ++ ones) (first ∙ ap (λ l. l ++ zeros) d ∙ ap (λ l. part i Dash cubes ++ l) z) ∙ ap (λ l. (part i Dash cubes ++ part i Zero cubes) ++ l) o))
+      IsBranch-either

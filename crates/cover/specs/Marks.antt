@@ -1,0 +1,54 @@
+-- How the contained cubes of a list are marked. No public clause cites this module.
+use Rattle.std.specs.Prelude.{◌≡◌, ℕ, ◌+◌, ◌<◌, Bool, true, false, not, ◌&&◌, ◌||◌, nat_lt, nat_eq, List, [], length, take, drop, slice_index_or}
+use Rattle.std.specs.List.{list_any}
+use Rattle.cube.specs.declared.symbol.Symbol.{Symbol}
+use Rattle.cube.specs.declared.symbol.Symbol.TheVariants.{Dash, Zero, One}
+use Rattle.cube.specs.Size.{Size}
+use Rattle.cube.specs.Cube.{Cube}
+use Rattle.cover.specs.Contained.{lies_in, is_contained}
+
+-- the cube at index k
+abbrev pub cube_at : List Cube → ℕ → Cube
+cube_at cubes k = slice_index_or cubes k (record { symbols = []; outputs = [] })
+
+-- the cube at k leaves for that at j: it lies in it, and j is earlier or its cube is larger
+abbrev pub leaves_for : Size → List Cube → ℕ → ℕ → Bool
+leaves_for size cubes k j =
+    lies_in size (cube_at cubes k) (cube_at cubes j)
+    && (nat_lt j k || (nat_lt k j && not (lies_in size (cube_at cubes j) (cube_at cubes k))))
+
+-- the cube at k leaves for an earlier one, or for a later one
+abbrev pub is_contained_at : Size → List Cube → ℕ → Bool
+is_contained_at size cubes k = is_contained size (take k cubes) (cube_at cubes k) (drop (k + 1) cubes)
+
+-- the symbol at input i of the cube at k
+abbrev pub symbol_at : List Cube → ℕ → ℕ → Symbol
+symbol_at cubes i k = slice_index_or (cube_at cubes k).symbols i Dash
+
+-- the symbols are one
+abbrev pub is_symbol : Symbol → Symbol → Bool
+is_symbol Dash Dash = true
+is_symbol Zero Zero = true
+is_symbol One One = true
+is_symbol s t = false
+
+-- what has the second symbol can lie in what has the first
+abbrev pub is_over : Symbol → Symbol → Bool
+is_over Dash t = true
+is_over Zero t = is_symbol Zero t
+is_over One t = is_symbol One t
+
+-- the indices of `inner` are marked whose cubes leave for those of `outer`
+pub record Marks (size : Size) (cubes : List Cube) (inner outer : List ℕ) (old new : List Bool) : Type 0 where
+  pub len : length new ≡ length old
+  pub each : (k : ℕ) → k < length old
+      → slice_index_or new k false
+      ≡ (slice_index_or old k false || (list_any (λ x. nat_eq x k) inner && list_any (leaves_for size cubes k) outer))
+
+-- the same for those indices of `inner` whose cubes have the symbol at input i
+pub record MarksPart (size : Size) (cubes : List Cube) (i : ℕ) (s : Symbol) (inner outer : List ℕ) (old new : List Bool) : Type 0 where
+  pub len : length new ≡ length old
+  pub each : (k : ℕ) → k < length old
+      → slice_index_or new k false
+      ≡ (slice_index_or old k false
+      || ((is_symbol (symbol_at cubes i k) s && list_any (λ x. nat_eq x k) inner) && list_any (leaves_for size cubes k) outer))

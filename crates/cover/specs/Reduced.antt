@@ -1,0 +1,51 @@
+-- Lists that stand for the places of others. No public clause cites this module.
+use Rattle.std.specs.Prelude.{◌≡◌, ◌≢◌, ℕ, Bool, true, false, not, ◌&&◌, ◌<◌, ◌⊎◌, List, length, slice_index_or, Contains}
+use Rattle.std.specs.List.{list_any}
+use Rattle.cube.specs.declared.symbol.Symbol.TheVariants.{Zero, One}
+use Rattle.std.specs.List.Sorted.{IsStrictlySortedBy}
+use Rattle.std.specs.declared.cmp.Ordering.TheVariants.{Less}
+use Rattle.cube.specs.Size.{Size}
+use Rattle.cube.specs.Cube.{Cube, Place, holds, IsCube, IsSubset}
+use Rattle.cube.specs.Order.{row_cmp}
+use Rattle.cover.specs.Cubes.{AreCubes}
+use Rattle.cover.specs.Places.{places}
+use Rattle.cover.specs.Parts.{has_literal, has_symbol}
+
+-- cubes of the places that are in a cube of each list, with literals only where these have them
+pub record IsMeets (size : Size) (rows others meets : List Cube) : Type 0 where
+  pub are_cubes : AreCubes size meets
+  pub places : (p : Place) → places meets p ≡ (places rows p && places others p)
+  pub literals : (k : ℕ) → has_literal k rows ≡ false → has_literal k others ≡ false → has_literal k meets ≡ false
+
+-- no literal is left at input i, and none comes at another
+pub record Frees (i : ℕ) (cubes freed : List Cube) : Type 0 where
+  pub there : has_literal i freed ≡ false
+  pub others : (k : ℕ) → k ≢ i → has_literal k cubes ≡ false → has_literal k freed ≡ false
+
+-- cubes of the places of s, which stand for the list at one or both values of input i
+pub record IsBranch (size : Size) (i : ℕ) (cubes : List Cube) (s : Place → Bool) (branch : List Cube) : Type 0 where
+  pub are_cubes : AreCubes size branch
+  pub places : (p : Place) → places branch p ≡ s p
+  pub frees : Frees i cubes branch
+
+-- a part of the list in row order in which each of its cubes lies, and none in one before it
+pub record IsAbsorbed (cubes kept : List Cube) : Type 0 where
+  pub rising : IsStrictlySortedBy row_cmp kept
+  pub within : (c : Cube) → Contains kept c → Contains cubes c
+  pub over : (c : Cube) → Contains cubes c → (d : Cube) × Contains kept d × IsSubset (holds c) (holds d)
+  pub apart : (c d : Cube) → Contains kept c → Contains kept d → row_cmp c d ≡ Less → IsSubset (holds d) (holds c) → ⊥
+
+-- the same cubes
+abbrev pub HasSameCubes : List Cube → List Cube → Type 0
+HasSameCubes cubes others = (c : Cube) → (Contains cubes c → Contains others c) × (Contains others c → Contains cubes c)
+
+-- no input has both literals, and all outputs are equal
+pub record IsUnate (size : Size) (cubes : List Cube) : Type 0 where
+  pub one_literal : (k : ℕ) → k < size.inputs → (has_symbol k Zero cubes ≡ false) ⊎ (has_symbol k One cubes ≡ false)
+  pub same_outputs : (c d : Cube) → Contains cubes c → Contains cubes d → c.outputs ≡ d.outputs
+
+-- the outputs that some cube of the first list has, and none of the second
+pub record LeftOutputs (size : Size) (inner outer : List Cube) (bits : List Bool) : Type 0 where
+  pub len : length bits ≡ size.outputs
+  pub each : (j : ℕ) → j < size.outputs
+      → slice_index_or bits j false ≡ (list_any (λ c. slice_index_or c.outputs j false) inner && not (list_any (λ c. slice_index_or c.outputs j false) outer))

@@ -1,0 +1,44 @@
+//! Lists of cubes of one shape, and what they hold.
+//!
+//! A [`Cover`] stands for the places of its cubes: a point with the number of an output, as in
+//! Brayton, Hachtel, McMullen and Sangiovanni-Vincentelli, Logic Minimization Algorithms for VLSI
+//! Synthesis (1984). Its list keeps its order and may repeat a cube. The main calls:
+//!
+//! - [`Cover::push`], [`Cover::get`] and [`Cover::as_slice`] for the list itself;
+//! - [`Cover::cofactor`], the list inside a cube, and [`Cover::holds_cube`] and
+//!   [`Cover::tautology`], which ask whether a cube or everything is held;
+//! - [`contain`], the list without the cubes that lie in others of it;
+//! - [`complete_sum`], [`Cover::complement`], [`intersect`] and [`difference`], which answer the
+//!   complete sum of the places inside, outside, in both lists and in the first alone.
+//!
+//! With two inputs and one output, the rows `11 1`, `1- 1`, `1- 1` and `0- 1` hold every place, so
+//! `tautology` answers true; `contain` leaves `1- 1` and `0- 1`; the cofactor by `1- 1` has the
+//! rows `-1 1`, `-- 1` and `-- 1`; its complete sum is the row `-- 1`, and its complement is empty.
+//!
+//! No call lists points. `cofactor` looks at each cube once. `tautology` and `holds_cube` take time
+//! in the number of cubes times the depth of the splits where the cubes hardly overlap, and at worst
+//! exponential time in the inputs. `contain` looks at far fewer than all pairs of cubes where these
+//! have literals at many inputs, and at worst at all of them. Each takes memory for indices or
+//! references; `cofactor`, `contain` and `try_clone` also for the cubes of their answer.
+#![tactic(auto)]
+
+mod cofactor;
+mod list;
+mod marking;
+mod region;
+mod sum;
+mod sum_absorb;
+mod sum_branch;
+mod sum_choice;
+mod sum_leaf;
+mod sum_parts;
+mod sum_rows;
+#[cfg(test)]
+mod sum_tests;
+mod tautology;
+#[cfg(test)]
+mod tests;
+
+pub use list::Cover;
+pub use marking::contain;
+pub use sum::{complete_sum, difference, intersect};

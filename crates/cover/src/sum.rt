@@ -1,0 +1,121 @@
+//! Complete sums.
+ghost use Rattle.std.specs.Prelude.{◌≡◌, IfOk, not};
+ghost use Rattle.cube.specs.Cube.{intersection, difference as difference_of};
+ghost use Rattle.cube.specs.Sum.{complete_sum as complete_sum_of};
+ghost use Rattle.cover.specs.Cubes.{AreCubes};
+ghost use Rattle.cover.specs.Places.{places};
+
+use crate::list::Cover;
+use crate::sum_absorb::reduced;
+use crate::sum_branch::{at_both_values, at_either_value, at_value};
+use crate::sum_choice::{choose, is_unate};
+use crate::sum_leaf::free_sum;
+use crate::sum_parts::meets;
+use crate::sum_rows::merge_three;
+use crate::tautology::universal;
+use cube::{Cube, Shape};
+use std::alloc::{AllocError, Global};
+
+// The complete sum of the places of the first list that are not in the second.
+fn sum_between(
+    alloc: Global,
+    shape: Shape,
+    inner: Vec<Cube>,
+    outer: Vec<Cube>,
+) -> Result<Vec<Cube>, AllocError>
+    requires inner { AreCubes shape inner.items }
+    requires outer { AreCubes shape outer.items }
+    ensures { IfOk result (λ rows. rows.items ≡ complete_sum_of shape (difference_of (places inner.items) (places outer.items))) }
+{
+    if inner.is_empty() {
+        return Ok(inner);
+    }
+    if outer.is_empty() {
+        if inner.len() == 1 {
+            return Ok(inner);
+        }
+        if is_unate(shape, &inner) {
+            return reduced(alloc, shape, inner);
+        }
+    }
+    match choose(shape, &inner, &outer) {
+        None => free_sum(alloc, shape, &inner, &outer),
+        Some(i) => {
+            let both_inner = at_both_values(alloc, shape, &inner, i)?;
+            let both_outer = at_either_value(alloc, shape, &outer, i)?;
+            let both = sum_between(alloc, shape, both_inner, both_outer)?;
+            let low_inner = at_value(alloc, shape, &inner, i, false)?;
+            let low_outer = at_value(alloc, shape, &outer, i, false)?;
+            let low = sum_between(alloc, shape, low_inner, low_outer)?;
+            let high_inner = at_value(alloc, shape, &inner, i, true)?;
+            let high_outer = at_value(alloc, shape, &outer, i, true)?;
+            let high = sum_between(alloc, shape, high_inner, high_outer)?;
+            merge_three(alloc, shape, i, both, low, high)
+        }
+    }
+}
+
+/// The complete sum of the places of the list.
+pub fn complete_sum(list: &Cover) -> Result<Cover, AllocError>
+    ensures { IfOk result (λ sum. sum ≡ record { size = list.now.size; cubes = complete_sum_of list.now.size (places list.now.cubes) }) }
+{
+    let alloc = list.allocator();
+    let shape = list.shape();
+    let rows = list.try_clone()?.into_cubes();
+    let sum = sum_between(alloc, shape, rows, Vec::new(alloc))?;
+    Ok(Cover::from_cubes(shape, sum))
+}
+
+/// The complete sum of the places that are in both lists.
+pub fn intersect(list: &Cover, other: &Cover) -> Result<Cover, AllocError>
+    requires { other.now.size ≡ list.now.size }
+    ensures { IfOk result (λ sum. sum ≡ record {
+      size = list.now.size;
+      cubes = complete_sum_of list.now.size (intersection (places list.now.cubes) (places other.now.cubes));
+    }) }
+{
+    let alloc = list.allocator();
+    let shape = list.shape();
+    let _shape = other.shape();
+    let rows = meets(alloc, shape, list.as_slice(), other.as_slice())?;
+    let rows = reduced(alloc, shape, rows)?;
+    let sum = sum_between(alloc, shape, rows, Vec::new(alloc))?;
+    Ok(Cover::from_cubes(shape, sum))
+}
+
+/// The complete sum of the places that are in the first list and not in the second.
+pub fn difference(list: &Cover, other: &Cover) -> Result<Cover, AllocError>
+    requires { other.now.size ≡ list.now.size }
+    ensures { IfOk result (λ sum. sum ≡ record {
+      size = list.now.size;
+      cubes = complete_sum_of list.now.size (difference_of (places list.now.cubes) (places other.now.cubes));
+    }) }
+{
+    let alloc = list.allocator();
+    let shape = list.shape();
+    let _shape = other.shape();
+    let inner = list.try_clone()?.into_cubes();
+    let outer = other.try_clone()?.into_cubes();
+    let sum = sum_between(alloc, shape, inner, outer)?;
+    Ok(Cover::from_cubes(shape, sum))
+}
+
+impl Cover {
+    /// The complete sum of the places that are in no cube of the list.
+    pub fn complement(&self) -> Result<Cover, AllocError>
+        ensures { IfOk result (λ sum. sum ≡ record {
+          size = self.now.size;
+          cubes = complete_sum_of self.now.size (λ p. not (places self.now.cubes p));
+        }) }
+    {
+        let alloc = self.allocator();
+        let shape = self.shape();
+        let mut inner = Vec::new(alloc);
+        let everything = universal(alloc, shape)?;
+        let _shape = everything.shape();
+        inner.push(everything)?;
+        let outer = self.try_clone()?.into_cubes();
+        let sum = sum_between(alloc, shape, inner, outer)?;
+        Ok(Cover::from_cubes(shape, sum))
+    }
+}

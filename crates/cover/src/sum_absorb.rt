@@ -1,0 +1,50 @@
+//! Rows that lie in other rows, left out.
+ghost use Rattle.std.specs.Prelude.{◌≡◌, IfOk, IsTrue, All, Contains, false};
+ghost use Rattle.std.specs.List.Sorted.{IsStrictlySortedBy};
+ghost use Rattle.cube.specs.Cube.{SameSize, IsSubset, holds, Cube as Row};
+ghost use Rattle.cube.specs.Order.{row_cmp as row_order};
+ghost use Rattle.cover.specs.Cubes.{AreCubes};
+ghost use Rattle.cover.specs.Reduced.{IsAbsorbed};
+
+use crate::sum_rows::sorted;
+use cube::{Cube, Shape};
+use std::alloc::{AllocError, Global};
+
+// Whether the row lies in one of the kept rows.
+fn is_covered(kept: &[Cube], row: &Cube) -> bool
+    requires { All (λ d. SameSize d row.now) kept.now }
+    ensures covered { IsTrue result → (d : Row) × Contains kept.now d × IsSubset (holds row.now) (holds d) }
+    ensures open { result ≡ false → All (λ d. IsSubset (holds row.now) (holds d) → ⊥) kept.now }
+{
+    for old in kept {
+        if old.contains(row) {
+            return true;
+        }
+    }
+    false
+}
+
+// The rows that lie in no row before them. In row order the larger rows come first, so that among
+// rows of equal outputs none is left that lies in another.
+fn absorb(alloc: Global, shape: Shape, rows: &[Cube]) -> Result<Vec<Cube>, AllocError>
+    requires cubes { AreCubes shape rows.now }
+    requires rising { IsStrictlySortedBy row_order rows.now }
+    ensures { IfOk result (λ kept. IsAbsorbed rows.now kept.items) }
+{
+    let mut kept = Vec::new(alloc);
+    for row in rows {
+        if !is_covered(&kept, row) {
+            kept.push(row.try_clone()?)?;
+        }
+    }
+    Ok(kept)
+}
+
+/// The rows in row order, without those that lie in one before them.
+pub(crate) fn reduced(alloc: Global, shape: Shape, rows: Vec<Cube>) -> Result<Vec<Cube>, AllocError>
+    requires { AreCubes shape rows.items }
+    ensures { IfOk result (λ kept. IsAbsorbed rows.items kept.items) }
+{
+    let rows = sorted(alloc, shape, rows)?;
+    absorb(alloc, shape, &rows)
+}

@@ -1,0 +1,90 @@
+//! A list of rows split at an input, and the meets of two lists.
+ghost use Rattle.std.specs.Prelude.{◌≡◌, ℕ, List, ◌<◌, ◌++◌, ◌∷◌, [], ◌||◌, IfOk, OnOk, IfSome, IfNone, All, length, slice_index_or, false, true};
+ghost use Rattle.cube.specs.Size.{Size};
+ghost use Rattle.cube.specs.Cube.{SameSize, IsCube, Cube as Row};
+ghost use Rattle.cover.specs.Cubes.{AreCubes};
+ghost use Rattle.cover.specs.Marks.{is_symbol};
+ghost use Rattle.cover.specs.Parts.{part as part_of, symbol_count, has_literal};
+ghost use Rattle.cover.specs.Reduced.{IsMeets};
+
+use cube::{Cube, Shape, Symbol};
+use std::alloc::{AllocError, Global};
+
+// Whether a row has this symbol at input `i`.
+fn has_symbol_at(row: &Cube, i: usize, symbol: Symbol) -> bool
+    requires { i < length row.now.symbols }
+    ensures { result ≡ is_symbol symbol (slice_index_or row.now.symbols i Symbol.Dash) }
+{
+    match (symbol, row.symbol(i)) {
+        (Symbol::Dash, Symbol::Dash) => true,
+        (Symbol::Zero, Symbol::Zero) => true,
+        (Symbol::One, Symbol::One) => true,
+        _ => false,
+    }
+}
+
+/// The rows with this symbol at input `i`, with `-` there.
+pub(crate) fn part(
+    alloc: Global,
+    rows: &[Cube],
+    i: usize,
+    symbol: Symbol,
+) -> Result<Vec<Cube>, AllocError>
+    requires { All (λ c. i < length c.symbols) rows.now }
+    ensures { IfOk result (λ kept. kept.items ≡ part_of i symbol rows.now) }
+{
+    let mut kept = Vec::new(alloc);
+    for row in rows {
+        if has_symbol_at(row, i, symbol) {
+            kept.push(row.with_symbol(i, Symbol::Dash)?)?;
+        }
+    }
+    Ok(kept)
+}
+
+/// How many rows have this symbol at input `i`.
+pub(crate) fn count(rows: &[Cube], i: usize, symbol: Symbol) -> usize
+    requires { All (λ c. i < length c.symbols) rows.now }
+    ensures { result ≡ symbol_count i symbol rows.now }
+{
+    let mut n = 0usize;
+    for row in rows {
+        if has_symbol_at(row, i, symbol) {
+            n += 1;
+        }
+    }
+    n
+}
+
+// Adds the meets of a row with the others.
+fn push_meets(row: &Cube, others: &[Cube], all: &mut Vec<Cube>) -> Result<(), AllocError>
+    requires { All (λ c. SameSize row.now c) others.now }
+    ensures { OnOk result ((size : Size) → IsCube size row.now → AreCubes size others.now
+        → (meets : List Row) × (all.new.items ≡ all.old.items ++ meets) × IsMeets size (row.now ∷ []) others.now meets) }
+{
+    for other in others {
+        if let Some(met) = row.meet(other)? {
+            let _shape = met.shape();
+            all.push(met)?;
+        }
+    }
+    Ok(())
+}
+
+/// The meets of a row of each list.
+pub(crate) fn meets(
+    alloc: Global,
+    shape: Shape,
+    rows: &[Cube],
+    others: &[Cube],
+) -> Result<Vec<Cube>, AllocError>
+    requires rows { AreCubes shape rows.now }
+    requires others { AreCubes shape others.now }
+    ensures { IfOk result (λ all. IsMeets shape rows.now others.now all.items) }
+{
+    let mut all = Vec::new(alloc);
+    for row in rows {
+        push_meets(row, others, &mut all)?;
+    }
+    Ok(all)
+}

@@ -1,0 +1,56 @@
+//! Whether cubes hold every place, and whether they hold a cube.
+ghost use Rattle.std.specs.Prelude.{◌≡◌, true, IfOk, length, replicate};
+ghost use Rattle.cube.specs.Cube.{HasSize, holds};
+ghost use Rattle.cube.specs.Sum.{is_subset};
+ghost use Rattle.cover.specs.Places.{places, holds_all, behind, universal as universal_of};
+
+use crate::list::Cover;
+use crate::region::is_held;
+use cube::{Cube, Shape, Symbol};
+use std::alloc::{AllocError, Global};
+
+// References to the cubes of a list.
+pub(crate) fn references(alloc: Global, cubes: &[Cube]) -> Result<Vec<&Cube>, AllocError>
+    ensures { IfOk result (λ refs. behind refs.items ≡ cubes.now) }
+{
+    let mut refs = Vec::with_capacity(alloc, cubes.len())?;
+    for cube in cubes {
+        refs.push(cube)?;
+    }
+    Ok(refs)
+}
+
+// The cube of every place.
+pub(crate) fn universal(alloc: Global, shape: Shape) -> Result<Cube, AllocError>
+    ensures { IfOk result (λ c. c ≡ universal_of shape) }
+{
+    let symbols = vec![in alloc; Symbol::Dash; shape.inputs()]?;
+    let outputs = vec![in alloc; true; shape.outputs()]?;
+    match Cube::from_symbols(alloc, shape, &symbols, &outputs)? {
+        Some(cube) => Ok(cube),
+        None => unreachable!(),
+    }
+}
+
+impl Cover {
+    /// Whether every place is in some cube: each point with each output, also with one that no
+    /// cube has.
+    pub fn tautology(&self) -> Result<bool, AllocError>
+        ensures { IfOk result (λ all. all ≡ holds_all self.now.size (places self.now.cubes)) }
+    {
+        let alloc = self.allocator();
+        let region = universal(alloc, self.shape())?;
+        let rows = references(alloc, self.as_slice())?;
+        is_held(alloc, &rows, &region)
+    }
+
+    /// Whether every place of the cube is in some cube of the list.
+    pub fn holds_cube(&self, cube: &Cube) -> Result<bool, AllocError>
+        requires { HasSize cube.now self.now.size }
+        ensures { IfOk result (λ held. held ≡ is_subset self.now.size (holds cube.now) (places self.now.cubes)) }
+    {
+        let alloc = self.allocator();
+        let rows = references(alloc, self.as_slice())?;
+        is_held(alloc, &rows, cube)
+    }
+}

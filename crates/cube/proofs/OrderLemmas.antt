@@ -1,0 +1,184 @@
+-- The first difference of two rows, in words and in symbols.
+use Rattle.std.proofs.Common.{◌≡◌, ◌≢◌, ℕ, zero, suc, ◌+◌, ◌*◌, ◌/◌, ◌%◌, ◌^◌, ◌<◌, ◌≤◌, Bool, true, false, List, [], ◌∷◌, length, get_or, refl, ap, sym, ◌∙◌, arith, eqb, inl, inr, bit_xor}
+use Rattle.std.specs.Int.{bit_at, w64, trailing_zeros}
+use Rattle.std.specs.Ordering.{ordering_then, bool_cmp}
+use Rattle.std.specs.Cmp.Lexicographic.{slice_cmp}
+use Rattle.std.specs.declared.cmp.Ordering.{Ordering}
+use Rattle.std.specs.declared.cmp.Ordering.TheVariants.{Less, Equal, Greater}
+use Rattle.std.proofs.lemmas.Bool.{cases_lt}
+use Rattle.std.proofs.lemmas.List.{get_or_past, ext_get_or}
+use Rattle.std.proofs.lemmas.Nat.Bits.{bit_at_xor, bit_at-lt, bit_at-trailing_zeros}
+use Rattle.std.proofs.lemmas.Nat.{xor_lt}
+use Rattle.cube.specs.declared.symbol.Symbol.{Symbol}
+use Rattle.cube.specs.declared.symbol.Symbol.TheVariants.{Dash, Zero, One}
+use Rattle.cube.specs.Pattern.{agrees}
+use Rattle.cube.specs.Order.{symbol_cmp}
+use Rattle.cube.specs.Words.{bit_of_words, DiffersFirstAt}
+use Rattle.cube.specs.Packing.{bit_of, PacksInputs, PacksOutputs}
+use Rattle.cube.proofs.PackingLemmas.{symbol_from_bits}
+use Rattle.cube.proofs.ContainsLemmas.{input_bit_at}
+use Rattle.cube.proofs.SumLemmas.{slice_same, symbol_same, bool_same}
+
+-- where the words before are equal and these two are not
+pub DiffersFirstAt-from_word : (a b : List ℕ) (w : ℕ) → w < length a → get_or a w 0 < 2 ^ 64 → get_or b w 0 < 2 ^ 64
+    → ((v : ℕ) → v < w → get_or a v 0 ≡ get_or b v 0) → bit_xor (get_or a w 0) (get_or b w 0) ≢ 0
+    → DiffersFirstAt a b (64 * w + trailing_zeros w64 (bit_xor (get_or a w 0) (get_or b w 0)))
+DiffersFirstAt-from_word a b w lt fits_a fits_b same ne =
+    let x = bit_xor (get_or a w 0) (get_or b w 0) in
+    let first = bit_at-trailing_zeros w64 x (omega arith) (xor_lt 64 (get_or a w 0) (get_or b w 0) fits_a fits_b) in
+    let t = trailing_zeros w64 x in
+    let small : t < 64 = first.0 in
+    let word : (64 * w + t) / 64 ≡ w = omega arith in
+    let bit : (64 * w + t) % 64 ≡ t = omega arith in
+    record {
+      within = omega arith;
+      differs = λ e.
+          let bits : bit_at (get_or a w 0) t ≡ bit_at (get_or b w 0) t =
+          ap (λ v. bit_at (get_or a v 0) t) (sym word) ∙ ap (λ k. bit_at (get_or a ((64 * w + t) / 64) 0) k) (sym bit)
+          ∙ e ∙ ap (λ v. bit_at (get_or b v 0) ((64 * w + t) % 64)) word ∙ ap (λ k. bit_at (get_or b w 0) k) bit in
+          omega (arith, bit_at_xor (get_or a w 0) (get_or b w 0) t, first.1);
+      before = λ k below. elim (cases_lt (k / 64) w) [
+        | inl earlier ↦ ap (λ y. bit_at y (k % 64)) (same (k / 64) earlier)
+        | inr late ↦
+            let here : k / 64 ≡ w = omega arith in
+            let lower : k % 64 < t = omega arith in
+            ap (λ v. bit_at (get_or a v 0) (k % 64)) here
+            ∙ omega (
+              arith,
+              bit_at_xor (get_or a w 0) (get_or b w 0) (k % 64),
+              first.2 (k % 64) lower,
+              bit_at-lt (get_or a w 0) (k % 64),
+              bit_at-lt (get_or b w 0) (k % 64),
+            )
+            ∙ ap (λ v. bit_at (get_or b v 0) (k % 64)) (sym here)
+      ];
+    }
+
+-- a comparison of lists is settled by the first elements that differ
+first_settles : {X : Type 0} (R : X → X → Ordering) → ((x : X) → R x x ≡ Equal) → (xs ys : List X) (i : ℕ) (d : X)
+    → length xs ≡ length ys → i < length xs → ((k : ℕ) → k < i → get_or xs k d ≡ get_or ys k d)
+    → (R (get_or xs i d) (get_or ys i d) ≡ Equal → ⊥) → slice_cmp R xs ys ≡ R (get_or xs i d) (get_or ys i d)
+first_settles R same [] ys i d e lt before ne = absurd (omega arith)
+first_settles R same (x ∷ xs) [] i d e lt before ne = absurd (omega arith)
+first_settles R same (x ∷ xs) (y ∷ ys) zero d e lt before ne = settled (R x y) (slice_cmp R xs ys) ne
+  where
+    settled : (o p : Ordering) → (o ≡ Equal → ⊥) → ordering_then o p ≡ o
+    settled Less p h = refl
+    settled Equal p h = absurd (h refl)
+    settled Greater p h = refl
+first_settles R same (x ∷ xs) (y ∷ ys) (suc i) d e lt before ne =
+    ap (λ z. ordering_then (R x z) (slice_cmp R xs ys)) (sym (before 0 (omega arith)))
+    ∙ ap (λ o. ordering_then o (slice_cmp R xs ys)) (same x)
+    ∙ first_settles R same xs ys i d (omega arith) (omega arith) (λ k below. before (suc k) (omega arith)) ne
+
+-- ---- symbols
+
+pub input_bit : (ss : List Symbol) (ws : List ℕ) → PacksInputs ss ws → (k : ℕ) → k < 64 * length ws
+    → bit_of_words ws k ≡ bit_of (agrees (get_or ss (k / 2) Dash) (eqb (k % 2) 1))
+input_bit ss ws p k lt =
+    let at : 32 * (k / 64) + k % 64 / 2 ≡ k / 2 = omega arith in
+    let parity : k % 64 % 2 ≡ k % 2 = omega arith in
+    input_bit_at ss (k / 64) (get_or ws (k / 64) 0) (p.each (k / 64) (omega (arith, p.words_len))) (k % 64) (omega arith)
+    ∙ ap (λ i. bit_of (agrees (get_or ss i Dash) (eqb (k % 64 % 2) 1))) at
+    ∙ ap (λ r. bit_of (agrees (get_or ss (k / 2) Dash) (eqb r 1))) parity
+
+symbol_differs : (s t : Symbol) → s ≢ t → symbol_cmp s t ≡ Equal → ⊥
+symbol_differs Dash Dash ne e = ne refl
+symbol_differs Dash Zero ne e = cc e
+symbol_differs Dash One ne e = cc e
+symbol_differs Zero Dash ne e = cc e
+symbol_differs Zero Zero ne e = ne refl
+symbol_differs Zero One ne e = cc e
+symbol_differs One Dash ne e = cc e
+symbol_differs One Zero ne e = cc e
+symbol_differs One One ne e = ne refl
+
+module _ (ss ts : List Symbol) (e : length ss ≡ length ts) (ws vs : List ℕ) (p : PacksInputs ss ws) (q : PacksInputs ts vs) where
+  same_symbol_at : (i : ℕ) → i < length ss → bit_of_words ws (2 * i) ≡ bit_of_words vs (2 * i)
+      → bit_of_words ws (2 * i + 1) ≡ bit_of_words vs (2 * i + 1) → get_or ss i Dash ≡ get_or ts i Dash
+  same_symbol_at i lt low high =
+      let half : 2 * i / 2 ≡ i = omega arith in
+      let half' : (2 * i + 1) / 2 ≡ i = omega arith in
+      let even : 2 * i % 2 ≡ 0 = omega arith in
+      let odd : (2 * i + 1) % 2 ≡ 1 = omega arith in
+      let low_s = input_bit ss ws p (2 * i) (omega (arith, p.words_len)) in
+      let low_t = input_bit ts vs q (2 * i) (omega (arith, q.words_len)) in
+      let high_s = input_bit ss ws p (2 * i + 1) (omega (arith, p.words_len)) in
+      let high_t = input_bit ts vs q (2 * i + 1) (omega (arith, q.words_len)) in
+      symbol_from_bits (get_or ss i Dash) (get_or ts i Dash)
+      (rw (half, even) at (sym low_s ∙ low ∙ low_t))
+      (rw (half', odd) at (sym high_s ∙ high ∙ high_t))
+
+  -- the symbols at the first bit that differs are the first that differ
+  pub symbols_cmp-first : (at : ℕ) → DiffersFirstAt ws vs at
+      → (at / 2 < length ss) × (slice_cmp symbol_cmp ss ts ≡ symbol_cmp (get_or ss (at / 2) Dash) (get_or ts (at / 2) Dash))
+  symbols_cmp-first at d =
+      let inside : at < 64 * length vs = omega (arith, d.within, p.words_len, q.words_len) in
+      let differ : get_or ss (at / 2) Dash ≢ get_or ts (at / 2) Dash =
+      λ same. d.differs (input_bit ss ws p at d.within ∙ ap (λ s. bit_of (agrees s (eqb (at % 2) 1))) same ∙ sym (input_bit ts vs q at inside)) in
+      let within : at / 2 < length ss = elim (cases_lt (at / 2) (length ss)) [
+        | inl lt ↦ lt
+        | inr past ↦
+            let past_t : length ts ≤ at / 2 = omega arith in
+            absurd (differ (get_or_past ss (at / 2) Dash past ∙ sym (get_or_past ts (at / 2) Dash past_t)))
+      ] in (
+        within,
+        first_settles symbol_cmp symbol_same ss ts (at / 2) Dash e within
+            (λ k below. same_symbol_at k (omega arith) (d.before (2 * k) (omega arith)) (d.before (2 * k + 1) (omega arith)))
+            (symbol_differs (get_or ss (at / 2) Dash) (get_or ts (at / 2) Dash) differ),
+      )
+
+  pub symbols_cmp-same : ws ≡ vs → slice_cmp symbol_cmp ss ts ≡ Equal
+  symbols_cmp-same same =
+      ap (λ l. slice_cmp symbol_cmp ss l)
+      (sym (ext_get_or Dash ss ts e (λ i lt. same_symbol_at i lt (ap (λ l. bit_of_words l (2 * i)) same) (ap (λ l. bit_of_words l (2 * i + 1)) same))))
+      ∙ slice_same symbol_cmp symbol_same ss
+
+-- ---- outputs
+
+output_bit_at : (os : List Bool) (ws : List ℕ) → PacksOutputs os ws → (k : ℕ) → k < 64 * length ws
+    → bit_of_words ws k ≡ bit_of (get_or os k false)
+output_bit_at os ws p k lt =
+    let at : 64 * (k / 64) + k % 64 ≡ k = omega arith in
+    (p.each (k / 64) (omega (arith, p.words_len))).bits (k % 64) (omega arith) ∙ ap (λ i. bit_of (get_or os i false)) at
+
+same_output_bit : (x y : Bool) → bit_of x ≡ bit_of y → x ≡ y
+same_output_bit true true e = refl
+same_output_bit true false e = absurd (omega arith)
+same_output_bit false true e = absurd (omega arith)
+same_output_bit false false e = refl
+
+output_differs : (x y : Bool) → x ≢ y → bool_cmp x y ≡ Equal → ⊥
+output_differs true true ne e = ne refl
+output_differs true false ne e = cc e
+output_differs false true ne e = cc e
+output_differs false false ne e = ne refl
+
+module _ (bs os : List Bool) (e : length bs ≡ length os) (ws vs : List ℕ) (p : PacksOutputs bs ws) (q : PacksOutputs os vs) where
+  same_output_at : (j : ℕ) → j < length bs → bit_of_words ws j ≡ bit_of_words vs j → get_or bs j false ≡ get_or os j false
+  same_output_at j lt same =
+      same_output_bit (get_or bs j false) (get_or os j false)
+      (sym (output_bit_at bs ws p j (omega (arith, p.words_len))) ∙ same ∙ output_bit_at os vs q j (omega (arith, q.words_len)))
+
+  -- the outputs at the first bit that differs are the first that differ
+  pub outputs_cmp-first : (at : ℕ) → DiffersFirstAt ws vs at
+      → (at < length bs) × (slice_cmp bool_cmp bs os ≡ bool_cmp (get_or bs at false) (get_or os at false))
+  outputs_cmp-first at d =
+      let inside : at < 64 * length vs = omega (arith, d.within, p.words_len, q.words_len) in
+      let differ : get_or bs at false ≢ get_or os at false =
+      λ same. d.differs (output_bit_at bs ws p at d.within ∙ ap (λ x. bit_of x) same ∙ sym (output_bit_at os vs q at inside)) in
+      let within : at < length bs = elim (cases_lt at (length bs)) [
+        | inl lt ↦ lt
+        | inr past ↦
+            let past_o : length os ≤ at = omega arith in
+            absurd (differ (get_or_past bs at false past ∙ sym (get_or_past os at false past_o)))
+      ] in (
+        within,
+        first_settles bool_cmp bool_same bs os at false e within (λ k below. same_output_at k (omega arith) (d.before k below))
+            (output_differs (get_or bs at false) (get_or os at false) differ),
+      )
+
+  pub outputs_cmp-same : ws ≡ vs → slice_cmp bool_cmp bs os ≡ Equal
+  outputs_cmp-same same =
+      ap (λ l. slice_cmp bool_cmp bs l) (sym (ext_get_or false bs os e (λ j lt. same_output_at j lt (ap (λ l. bit_of_words l j) same))))
+      ∙ slice_same bool_cmp bool_same bs

@@ -1,0 +1,30 @@
+use Rattle.std.proofs.Common.{◌≡◌, ◌<◌, ◌≤◌, rules, length, ap, sym, ◌∙◌, arith}
+use Rattle.cube.specs.Sharp.{rest_row}
+use Rattle.cube.specs.Packing.{input_words, IsPacked, unpacked}
+use Rattle.cube.proofs.PackingLemmas.{length-symbols, length-outputs, length-words}
+use Rattle.cube.proofs.RestLemmas.{IsPacked-rest_row}
+use Rattle.cube.proofs.cube.Cube.without_outputs.Goals as goal
+
+packed : (c : goal.After-result-1)
+    → IsPacked c.self.inside.shape.inputs c.self.inside.shape.outputs c.in_ok-words.words.items
+    × (unpacked c.self.inside.shape.inputs c.self.inside.shape.outputs c.in_ok-words.words.items ≡ rest_row c.args.self.now c.args.other.now)
+packed c =
+    let start : c.input_words-start.result ≡ input_words (length c.args.self.now.symbols) =
+    c.input_words-start.ensures.value ∙ ap (λ n. input_words n) (sym (length-symbols _ _ _ _ c.self.view_is)) in
+    IsPacked-rest_row _ _ _ _ _ _ _ c.requires.size (length-symbols _ _ _ _ c.self.view_is) (length-outputs _ _ _ _ c.self.view_is)
+    c.words.ensures.packs c.words-2.ensures.packs c.requires.some c.in_ok-words.ensures.len
+    (λ k lt.
+    let within : k < length c.words.result.now = omega (arith, length-words _ _ c.words.ensures.packs) in
+    let below : k < c.input_words-start.result = omega arith in
+    let h = c.in_ok-words.ensures.words k within in
+    search (rules, h))
+    (λ k le lt.
+    let above : c.input_words-start.result ≤ k = omega arith in
+    let h = c.in_ok-words.ensures.words k lt in
+    search (rules, h))
+
+pub invariant_of-result : goal.invariant_of-result
+invariant_of-result c = (packed c).0
+
+pub returns : goal.returns
+returns c = (packed c).1

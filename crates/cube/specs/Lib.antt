@@ -1,0 +1,12 @@
+pub mod Size
+pub mod Limits
+pub mod Pattern
+pub mod Cube
+pub mod Order
+pub mod Sum
+pub mod Packing
+pub mod Words
+pub mod Join
+pub mod Sharp
+pub mod Cofactor
+pub mod Laws

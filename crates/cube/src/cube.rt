@@ -1,0 +1,429 @@
+//! A cube, kept in words.
+ghost use Rattle.std.specs.Prelude.{◌≡◌, ℕ, ◌+◌, ◌<◌, ◌≤◌, ◌↔◌, IsTrue, IsOk, IsSome, IsNone, IfOk, IfSome, IfNone, OnOk, MatchOption, ◌++◌, length, slice_get, slice_index_or, Some, Contains, true, false};
+ghost use Rattle.cube.specs.Cube.{HasSize, IsCube, SameSize, IsSubset, IsDisjoint, Place, holds, intersection, difference, word_count, size_of, with_symbol as cube_with_symbol, literals as literals_of, IsUniversal, IsNextLiteral, IsPlace};
+ghost use Rattle.cube.specs.Size.{words_of_size};
+ghost use Rattle.cube.specs.Join.{supercube};
+ghost use Rattle.cube.specs.Cofactor.{cofactor as cofactor_of};
+ghost use Rattle.cube.specs.Sharp.{minus, rest_row, rest_rows, pieces_below, splits, piece as piece_row};
+ghost use Rattle.cube.specs.Sum.{complete_sum};
+ghost use Rattle.std.specs.List.{list_any};
+ghost use Rattle.cube.specs.Order.{row_cmp as row_order, symbol_cmp};
+ghost use Rattle.std.specs.Ordering.{bool_cmp};
+ghost use Rattle.std.specs.Cmp.Lexicographic.{slice_cmp};
+ghost use Rattle.cube.specs.Packing.{Packs, PacksInputs, PacksOutputs};
+
+use crate::pack::{input_word, input_words, output_word, output_words};
+use crate::shape::Shape;
+use crate::symbol::Symbol;
+use crate::words::{
+    count_clear, covers_words, first_clear, first_difference, freed_word, has_all, minus_word,
+    pairs_meet, share_bit, widened_word, with_bit, with_word, zip_words,
+};
+use smallvec::SmallVec;
+use std::alloc::{AllocError, Global};
+use std::cmp::Ordering;
+use std::marker::Model;
+
+/// A symbol for each input, and a set of outputs that is not empty.
+///
+/// The cube holds a place where each symbol agrees with the point's bit and the cube has the
+/// output. Methods that make a cube use the allocator of this one. Where [`Shape`]'s inputs and
+/// outputs make at most four words (say 96 inputs and 64 outputs, or 64 and 128) only
+/// [`Cube::sharp`] takes memory, for its list.
+#[derive(Drop)]
+pub struct Cube {
+    shape: Shape,
+    words: SmallVec<u64, 4>,
+}
+
+impl Model for Cube {
+    ghost use Rattle.cube.specs.Cube.{Cube as Row};
+    ghost use Rattle.cube.specs.Packing.{unpacked, IsPacked};
+
+    ghost Value = { Row };
+
+    ghost view = { λ c. unpacked c.shape.inputs c.shape.outputs c.words.items };
+
+    ghost invariant = { λ c. IsPacked c.shape.inputs c.shape.outputs c.words.items };
+}
+
+impl Cube {
+    /// The cube of these symbols and outputs, as many as the shape has, or `None` where no output
+    /// is set.
+    pub fn from_symbols(
+        alloc: Global,
+        shape: Shape,
+        symbols: &[Symbol],
+        outputs: &[bool],
+    ) -> Result<Option<Cube>, AllocError>
+        requires inputs { length symbols.now ≡ shape.inputs }
+        requires outputs { length outputs.now ≡ shape.outputs }
+        ensures found { IfOk result (λ found. IsSome found ↔ Contains outputs.now true) }
+        ensures value { IfOk result (λ found. IfSome found (λ c. c ≡ record { symbols = symbols.now; outputs = outputs.now })) }
+        ensures inline { words_of_size shape ≤ 4 → IsOk result }
+    {
+        if !outputs.contains(&true) {
+            return Ok(None);
+        }
+        let inputs_end = input_words(shape);
+        let outputs_end = output_words(shape);
+        let mut words = SmallVec::with_capacity(alloc, inputs_end + outputs_end)?;
+        for w in 0..inputs_end + outputs_end {
+            words.push_reserved(if w < inputs_end {
+                input_word(symbols, w)
+            } else {
+                output_word(outputs, w - inputs_end)
+            });
+        }
+        Ok(Some(Cube { shape, words }))
+    }
+
+    /// How many inputs and outputs the cube has.
+    pub fn shape(&self) -> Shape
+        ensures size { HasSize self.now result }
+        ensures is_cube { IsCube result self.now }
+    {
+        self.shape
+    }
+
+    /// The symbol of input `i`, from 0 on.
+    pub fn symbol(&self, i: usize) -> Symbol
+        requires { i < length self.now.symbols }
+        ensures { slice_get self.now.symbols i ≡ Some result }
+    {
+        let word = self.words.as_slice()[i / 32];
+        let at = 2 * (i % 32);
+        let low = (word >> at) & 1;
+        let high = (word >> (at + 1)) & 1;
+        if low == high {
+            Symbol::Dash
+        } else if low == 1 {
+            Symbol::Zero
+        } else {
+            Symbol::One
+        }
+    }
+
+    /// Whether the cube has output `j`, from 0 on.
+    pub fn output(&self, j: usize) -> bool
+        requires { j < length self.now.outputs }
+        ensures { slice_get self.now.outputs j ≡ Some result }
+    {
+        let word = self.words.as_slice()[input_words(self.shape) + j / 64];
+        (word >> (j % 64)) & 1 == 1
+    }
+
+    /// How many inputs have a literal, `0` or `1`.
+    pub fn literals(&self) -> usize
+        ensures value { result ≡ literals_of self.now }
+        ensures at_most { result ≤ length self.now.symbols }
+    {
+        let words = self.input_part();
+        count_clear(words)
+    }
+
+    /// The first input from `from` on that has a literal, or `None` where each of them has `-`.
+    ///
+    /// It costs a look at each word on the way, not at each symbol.
+    pub fn next_literal(&self, from: usize) -> Option<usize>
+        requires { from ≤ length self.now.symbols }
+        ensures found { IfSome result (λ i. IsNextLiteral self.now from i) }
+        ensures none { IfNone result ((k : ℕ) → from ≤ k → slice_index_or self.now.symbols k Symbol.Dash ≡ Symbol.Dash) }
+    {
+        let words = self.input_part();
+        match first_clear(words, 2 * from) {
+            Some(at) => Some(at / 2),
+            None => None,
+        }
+    }
+
+    /// Whether the cube holds each place of its shape: it has no literal, and all outputs.
+    pub fn is_universal(&self) -> bool
+        ensures row { IsTrue result ↔ IsUniversal self.now }
+        ensures places { IsTrue result ↔ ((p : Place) → IsPlace (size_of self.now) p → IsTrue (holds self.now p)) }
+    {
+        let shape = self.shape();
+        has_all(2 * shape.inputs(), self.input_part())
+            && has_all(shape.outputs(), self.output_part())
+    }
+
+    /// Whether each place of `other` is in this cube.
+    pub fn contains(&self, other: &Cube) -> bool
+        requires { SameSize self.now other.now }
+        ensures { IsTrue result ↔ IsSubset (holds other.now) (holds self.now) }
+    {
+        covers_words(self.words(), other.words())
+    }
+
+    /// Whether no place is in both.
+    pub fn disjoint(&self, other: &Cube) -> bool
+        requires { SameSize self.now other.now }
+        ensures { IsTrue result ↔ IsDisjoint (holds self.now) (holds other.now) }
+    {
+        if !pairs_meet(self.input_part(), other.input_part()) {
+            return true;
+        }
+        !share_bit(self.output_part(), other.output_part())
+    }
+
+    /// The cube of the places that are in both, or `None` where there is none.
+    pub fn meet(&self, other: &Cube) -> Result<Option<Cube>, AllocError>
+        requires { SameSize self.now other.now }
+        ensures none { IfOk result (λ found. IsNone found ↔ IsDisjoint (holds self.now) (holds other.now)) }
+        ensures size { IfOk result (λ found. IfSome found (λ c. SameSize c self.now)) }
+        ensures places { IfOk result (λ found. IfSome found (λ c. (p : Place)
+            → holds c p ≡ intersection (holds self.now) (holds other.now) p)) }
+        ensures inline { word_count self.now ≤ 4 → IsOk result }
+    {
+        if self.disjoint(other) {
+            return Ok(None);
+        }
+        let words = zip_words(
+            *self.words.allocator(),
+            self.words(),
+            other.words(),
+            |_, mine, theirs| mine & theirs,
+        )?;
+        Ok(Some(Cube {
+            shape: self.shape,
+            words,
+        }))
+    }
+
+    /// The cofactor by `other`: this cube with `-` at the inputs where `other` has a literal, and
+    /// with the outputs that `other` lacks besides its own; `None` where the two are disjoint.
+    ///
+    /// A list of cubes holds all of `other` exactly where their cofactors by it hold every place.
+    pub fn cofactor(&self, other: &Cube) -> Result<Option<Cube>, AllocError>
+        requires { SameSize self.now other.now }
+        ensures none { IfOk result (λ found. IsNone found ↔ IsDisjoint (holds self.now) (holds other.now)) }
+        ensures value { IfOk result (λ found. IfSome found (λ c. c ≡ cofactor_of self.now other.now)) }
+        ensures size { IfOk result (λ found. IfSome found (λ c. SameSize c self.now)) }
+        ensures inline { word_count self.now ≤ 4 → IsOk result }
+    {
+        if self.disjoint(other) {
+            return Ok(None);
+        }
+        let outputs = self.shape().outputs();
+        let start = input_words(self.shape);
+        let words = zip_words(
+            *self.words.allocator(),
+            self.words(),
+            other.words(),
+            |k, mine, theirs| {
+                if k < start {
+                    freed_word(mine, theirs)
+                } else {
+                    widened_word(outputs, k - start, mine, theirs)
+                }
+            },
+        )?;
+        Ok(Some(Cube {
+            shape: self.shape,
+            words,
+        }))
+    }
+
+    /// The smallest cube that holds both (the supercube): the symbols that both have, `-` where
+    /// they differ, and the outputs of either.
+    pub fn join(&self, other: &Cube) -> Result<Cube, AllocError>
+        requires { SameSize self.now other.now }
+        ensures value { IfOk result (λ c. c ≡ supercube self.now other.now) }
+        ensures size { IfOk result (λ c. SameSize c self.now) }
+        ensures inline { word_count self.now ≤ 4 → IsOk result }
+    {
+        let words = zip_words(
+            *self.words.allocator(),
+            self.words(),
+            other.words(),
+            |_, mine, theirs| mine | theirs,
+        )?;
+        Ok(Cube {
+            shape: self.shape,
+            words,
+        })
+    }
+
+    /// This cube with `symbol` at input `i`, and otherwise as it is.
+    pub fn with_symbol(&self, i: usize, symbol: Symbol) -> Result<Cube, AllocError>
+        requires { i < length self.now.symbols }
+        ensures value { IfOk result (λ c. c ≡ cube_with_symbol self.now i symbol) }
+        ensures size { IfOk result (λ c. SameSize c self.now) }
+        ensures inline { word_count self.now ≤ 4 → IsOk result }
+    {
+        let at = 2 * (i % 32);
+        let words = self.words();
+        let word = with_bit(words[i / 32], at, symbol.allows(false));
+        let word = with_bit(word, at + 1, symbol.allows(true));
+        let words = with_word(*self.words.allocator(), words, i / 32, word)?;
+        Ok(Cube {
+            shape: self.shape,
+            words,
+        })
+    }
+
+    /// An equal cube.
+    pub fn try_clone(&self) -> Result<Cube, AllocError>
+        ensures value { IfOk result (λ c. c ≡ self.now) }
+        ensures inline { word_count self.now ≤ 4 → IsOk result }
+    {
+        let words = SmallVec::from_slice(*self.words.allocator(), self.words())?;
+        Ok(Cube {
+            shape: self.shape,
+            words,
+        })
+    }
+
+    /// The order of rows: by the symbols from the first input on, with `-` below `0` below `1`, and
+    /// then by the outputs from the first on, with absent below present.
+    pub fn row_cmp(&self, other: &Cube) -> Ordering
+        requires { SameSize self.now other.now }
+        ensures { result ≡ row_order self.now other.now }
+    {
+        match self.symbols_cmp(other) {
+            Ordering::Equal => self.outputs_cmp(other),
+            order => order,
+        }
+    }
+
+    // By the symbols from the first on.
+    fn symbols_cmp(&self, other: &Cube) -> Ordering
+        requires { SameSize self.now other.now }
+        ensures { result ≡ slice_cmp symbol_cmp self.now.symbols other.now.symbols }
+    {
+        match first_difference(self.input_part(), other.input_part()) {
+            None => Ordering::Equal,
+            Some(at) => self.symbol(at / 2).order(other.symbol(at / 2)),
+        }
+    }
+
+    // By the outputs from the first on.
+    fn outputs_cmp(&self, other: &Cube) -> Ordering
+        requires { SameSize self.now other.now }
+        ensures { result ≡ slice_cmp bool_cmp self.now.outputs other.now.outputs }
+    {
+        match first_difference(self.output_part(), other.output_part()) {
+            None => Ordering::Equal,
+            Some(at) => self.output(at).cmp(&other.output(at)),
+        }
+    }
+
+    /// The complete sum of the places that are in this cube and not in the other: all cubes that
+    /// hold only such places and lie within no other such cube, in row order.
+    ///
+    /// Where the two meet, these are this cube with the outputs that the other lacks, if any, and
+    /// for each input where the other has a literal and this cube `-`, this cube with the opposite
+    /// literal; such a cube comes before those at inputs to its left. So the list has at most one
+    /// cube more than there are inputs.
+    pub fn sharp(&self, other: &Cube) -> Result<Vec<Cube>, AllocError>
+        requires { SameSize self.now other.now }
+        ensures { IfOk result (λ rows. rows.items ≡ complete_sum (size_of self.now) (difference (holds self.now) (holds other.now))) }
+    {
+        let mut rows = Vec::new(*self.words.allocator());
+        if self.disjoint(other) {
+            rows.push(self.try_clone()?)?;
+            return Ok(rows);
+        }
+        self.push_rest(other, &mut rows)?;
+        self.push_pieces(other, &mut rows)?;
+        Ok(rows)
+    }
+
+    // Adds the row with the outputs that the other lacks.
+    fn push_rest(&self, other: &Cube, rows: &mut Vec<Cube>) -> Result<(), AllocError>
+        requires { SameSize self.now other.now }
+        ensures { OnOk result (rows.new.items ≡ rows.old.items ++ rest_rows self.now other.now) }
+    {
+        if self.has_more_outputs(other) {
+            rows.push(self.without_outputs(other)?)?;
+        }
+        Ok(())
+    }
+
+    // Adds the pieces, the last input first.
+    fn push_pieces(&self, other: &Cube, rows: &mut Vec<Cube>) -> Result<(), AllocError>
+        requires { SameSize self.now other.now }
+        ensures { OnOk result (rows.new.items ≡ rows.old.items ++ pieces_below self.now other.now (length self.now.symbols)) }
+    {
+        let shape = self.shape();
+        for i in (0..shape.inputs()).rev() {
+            if let Some(row) = self.piece(other, i)? {
+                rows.push(row)?;
+            }
+        }
+        Ok(())
+    }
+
+    // The piece at input `i`, if the other has a literal there and this cube none.
+    fn piece(&self, other: &Cube, i: usize) -> Result<Option<Cube>, AllocError>
+        requires size { SameSize self.now other.now }
+        requires in_range { i < length self.now.symbols }
+        ensures { IfOk result (λ found. MatchOption found (splits self.now other.now i ≡ false)
+            (λ c. (splits self.now other.now i ≡ true) × (c ≡ piece_row self.now other.now i))) }
+    {
+        match (self.symbol(i), other.symbol(i)) {
+            (Symbol::Dash, Symbol::Zero) => Ok(Some(self.with_symbol(i, Symbol::One)?)),
+            (Symbol::Dash, Symbol::One) => Ok(Some(self.with_symbol(i, Symbol::Zero)?)),
+            _ => Ok(None),
+        }
+    }
+
+    // Whether this cube has an output that the other lacks.
+    fn has_more_outputs(&self, other: &Cube) -> bool
+        requires { SameSize self.now other.now }
+        ensures { IsTrue result ↔ IsTrue (list_any (λ b. b) (minus self.now.outputs other.now.outputs)) }
+    {
+        !covers_words(other.output_part(), self.output_part())
+    }
+
+    // This cube without the outputs of the other.
+    fn without_outputs(&self, other: &Cube) -> Result<Cube, AllocError>
+        requires size { SameSize self.now other.now }
+        requires some { IsTrue (list_any (λ b. b) (minus self.now.outputs other.now.outputs)) }
+        ensures { IfOk result (λ c. c ≡ rest_row self.now other.now) }
+    {
+        let start = input_words(self.shape);
+        let words = zip_words(
+            *self.words.allocator(),
+            self.words(),
+            other.words(),
+            |k, mine, theirs| {
+                if k < start {
+                    mine
+                } else {
+                    minus_word(mine, theirs)
+                }
+            },
+        )?;
+        Ok(Cube {
+            shape: self.shape,
+            words,
+        })
+    }
+
+    // All words.
+    fn words(&self) -> &[u64]
+        ensures packs { Packs self.now result.now }
+        ensures some_output { (j : ℕ) × (slice_index_or self.now.outputs j false ≡ true) }
+    {
+        self.words.as_slice()
+    }
+
+    // The words of the inputs.
+    fn input_part(&self) -> &[u64]
+        ensures packs { PacksInputs self.now.symbols result.now }
+        ensures few { length result.now ≤ 32 }
+    {
+        let (inputs, _) = self.words().split_at(input_words(self.shape));
+        inputs
+    }
+
+    // The words of the outputs.
+    fn output_part(&self) -> &[u64]
+        ensures packs { PacksOutputs self.now.outputs result.now }
+        ensures few { length result.now ≤ 16 }
+    {
+        let (_, outputs) = self.words().split_at(input_words(self.shape));
+        outputs
+    }
+}

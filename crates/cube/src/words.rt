@@ -1,0 +1,201 @@
+//! Kernels over words, which know nothing of symbols. Each looks at each word once.
+ghost use Rattle.std.specs.Prelude.{◌≡◌, ℕ, ◌↔◌, ◌≤◌, ◌<◌, ◌+◌, ◌^◌, IsTrue, IsOk, IfOk, IfSome, IfNone, length, slice_index, slice_set, ◌≢◌, if◌then◌else◌, max, ◌-◌, ◌*◌, sum_by};
+ghost use Rattle.std.specs.Int.{bit_at, count_zeros, w64};
+ghost use Rattle.cube.specs.Words.{CoversWords, PairsMeet, ShareBit, IsBitDifference, freed_bit, HasAll, DiffersFirstAt, IsFirstClear, bit_of_words};
+
+use smallvec::SmallVec;
+use std::alloc::{AllocError, Global};
+
+// The lower bit of each pair.
+const LOWER_BITS: u64 = 0x5555_5555_5555_5555;
+
+/// Whether each bit of `b` is in `a`.
+pub(crate) fn covers_words(a: &[u64], b: &[u64]) -> bool
+    requires { length a.now ≡ length b.now }
+    ensures { IsTrue result ↔ CoversWords a.now b.now }
+{
+    for k in 0..a.len() {
+        if b[k] & !a[k] != 0 {
+            return false;
+        }
+    }
+    true
+}
+
+/// Whether each pair of bits has one that is in both.
+pub(crate) fn pairs_meet(a: &[u64], b: &[u64]) -> bool
+    requires { length a.now ≡ length b.now }
+    ensures { IsTrue result ↔ PairsMeet a.now b.now }
+{
+    for k in 0..a.len() {
+        let both = a[k] & b[k];
+        if (both | (both >> 1)) & LOWER_BITS != LOWER_BITS {
+            return false;
+        }
+    }
+    true
+}
+
+/// Whether some bit is in both.
+pub(crate) fn share_bit(a: &[u64], b: &[u64]) -> bool
+    requires { length a.now ≡ length b.now }
+    ensures { IsTrue result ↔ ShareBit a.now b.now }
+{
+    for k in 0..a.len() {
+        if a[k] & b[k] != 0 {
+            return true;
+        }
+    }
+    false
+}
+
+/// What `op` makes of the words of both lists, number by number.
+pub(crate) fn zip_words<F: Fn(usize, u64, u64) -> u64>(
+    alloc: Global,
+    a: &[u64],
+    b: &[u64],
+    op: F,
+) -> Result<SmallVec<u64, 4>, AllocError>
+    requires same_len { length a.now ≡ length b.now }
+    requires callable { F.IsAlwaysCallable op }
+    ensures len { IfOk result (λ v. length v.items ≡ length a.now) }
+    ensures words { IfOk result (λ v. (k : ℕ) → k < length a.now → F.post op k (slice_index a.now k) (slice_index b.now k) (slice_index v.items k)) }
+    ensures inline { length a.now ≤ 4 → IsOk result }
+{
+    let mut words = SmallVec::with_capacity(alloc, a.len())?;
+    for k in 0..a.len() {
+        words.push_reserved(op(k, a[k], b[k]));
+    }
+    Ok(words)
+}
+
+/// The words with one of them replaced.
+pub(crate) fn with_word(
+    alloc: Global,
+    words: &[u64],
+    at: usize,
+    word: u64,
+) -> Result<SmallVec<u64, 4>, AllocError>
+    requires { at < length words.now }
+    ensures value { IfOk result (λ v. v.items ≡ slice_set words.now at word) }
+    ensures inline { length words.now ≤ 4 → IsOk result }
+{
+    let mut new = SmallVec::from_slice(alloc, words)?;
+    new.as_mut_slice()[at] = word;
+    Ok(new)
+}
+
+/// The word with bit `at` as given.
+pub(crate) fn with_bit(word: u64, at: usize, bit: bool) -> u64
+    requires { at < 64 }
+    ensures same { bit_at result at ≡ (if bit then 1 else 0) }
+    ensures others { (k : ℕ) → k < 64 → k ≢ at → bit_at result k ≡ bit_at word k }
+{
+    if bit {
+        word | (1 << at)
+    } else {
+        word & !(1 << at)
+    }
+}
+
+/// The bits of `a` that are not in `b`.
+pub(crate) fn minus_word(a: u64, b: u64) -> u64
+    ensures { IsBitDifference result a b }
+{
+    a & !b
+}
+
+/// The pairs of `a` where those of `b` have both bits, and elsewhere both bits.
+pub(crate) fn freed_word(a: u64, b: u64) -> u64
+    ensures low { (k : ℕ) → k < 32 → bit_at result (2 * k) ≡ freed_bit (bit_at a (2 * k)) b k }
+    ensures high { (k : ℕ) → k < 32 → bit_at result (2 * k + 1) ≡ freed_bit (bit_at a (2 * k + 1)) b k }
+{
+    let dashes = b & (b >> 1) & LOWER_BITS;
+    a | !(dashes | (dashes << 1))
+}
+
+/// Word `w` of a set that has all of `len` bits.
+pub(crate) fn full_word(len: usize, w: usize) -> u64
+    ensures within { (k : ℕ) → k < 64 → 64 * w + k < len → bit_at result k ≡ 1 }
+    ensures past { (k : ℕ) → k < 64 → len ≤ 64 * w + k → bit_at result k ≡ 0 }
+{
+    if w < len / 64 {
+        u64::MAX
+    } else if w == len / 64 {
+        (1 << (len % 64)) - 1
+    } else {
+        0
+    }
+}
+
+/// Word `w` of a set of `len` bits: the bits of `a`, and those that are not in `b`.
+pub(crate) fn widened_word(len: usize, w: usize, a: u64, b: u64) -> u64
+    ensures within { (k : ℕ) → k < 64 → 64 * w + k < len → bit_at result k ≡ max (bit_at a k) (1 - bit_at b k) }
+    ensures past { (k : ℕ) → k < 64 → len ≤ 64 * w + k → bit_at result k ≡ bit_at a k }
+{
+    a | (full_word(len, w) & !b)
+}
+
+/// Whether the lowest `len` bits of the words are all set, as far as the words go.
+pub(crate) fn has_all(len: usize, words: &[u64]) -> bool
+    ensures { IsTrue result ↔ HasAll len words.now }
+{
+    for w in 0..words.len() {
+        if full_word(len, w) & !words[w] != 0 {
+            return false;
+        }
+    }
+    true
+}
+
+/// How many bits are clear.
+pub(crate) fn count_clear(words: &[u64]) -> usize
+    requires { length words.now < 2 ^ 32 }
+    ensures { result ≡ sum_by (count_zeros w64) words.now }
+{
+    let mut count = 0;
+    for word in words {
+        count += word.count_zeros() as usize;
+    }
+    count
+}
+
+/// The number of the first bit in which the words differ, each word's lowest bit first.
+pub(crate) fn first_difference(a: &[u64], b: &[u64]) -> Option<usize>
+    requires same_len { length a.now ≡ length b.now }
+    requires few { length a.now < 2 ^ 32 }
+    ensures found { IfSome result (λ at. DiffersFirstAt a.now b.now at) }
+    ensures none { IfNone result (a.now ≡ b.now) }
+{
+    for w in 0..a.len() {
+        let difference = a[w] ^ b[w];
+        if difference != 0 {
+            return Some(64 * w + difference.trailing_zeros() as usize);
+        }
+    }
+    None
+}
+
+/// The bits of a word from `bit` on that are clear, as bits that are set.
+pub(crate) fn clear_from(word: u64, bit: usize) -> u64
+    requires { bit < 64 }
+    ensures from_on { (k : ℕ) → bit ≤ k → k < 64 → bit_at result k ≡ 1 - bit_at word k }
+    ensures before { (k : ℕ) → k < bit → bit_at result k ≡ 0 }
+{
+    !word & (u64::MAX << bit)
+}
+
+/// The number of the first clear bit from `from` on, each word's lowest bit first.
+pub(crate) fn first_clear(words: &[u64], from: usize) -> Option<usize>
+    requires { length words.now < 2 ^ 32 }
+    ensures found { IfSome result (λ at. IsFirstClear words.now from at) }
+    ensures none { IfNone result ((k : ℕ) → from ≤ k → k < 64 * length words.now → bit_of_words words.now k ≡ 1) }
+{
+    for w in from / 64..words.len() {
+        let clear = clear_from(words[w], from.saturating_sub(64 * w));
+        if clear != 0 {
+            return Some(64 * w + clear.trailing_zeros() as usize);
+        }
+    }
+    None
+}

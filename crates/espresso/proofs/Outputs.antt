@@ -1,0 +1,50 @@
+-- What an output took, from one step to the next.
+use Rattle.std.proofs.Common.{◌≡◌, ◌∙◌, ℕ, ◌≤◌, refl, sym, ap, arith, List, [], ◌++◌, Option, Some, None, append_assoc, append-nil}
+use Rattle.std.specs.Io.KnownBytes.{Appends, Keeps}
+use Rattle.pla.specs.Device.{AppendsFront, HasFailed, one_more}
+
+-- a text behind a text
+pub appends_more : (old mid new : Option (List ℕ)) (a b : List ℕ) → Appends old mid a → Appends mid new b → Appends old new (a ++ b)
+appends_more None mid new a b h k = tt
+appends_more (Some xs) None new a b h k = absurd h
+appends_more (Some xs) (Some ys) None a b h k = absurd k
+appends_more (Some xs) (Some ys) (Some zs) a b h k = k ∙ ap (λ t. t ++ b) h ∙ append_assoc xs a b
+
+-- and then nothing more
+pub appends_kept : (old mid new : Option (List ℕ)) (a : List ℕ) → Appends old mid a → Keeps mid new → Appends old new a
+appends_kept None mid new a h k = tt
+appends_kept (Some xs) None new a h k = absurd h
+appends_kept (Some xs) (Some ys) None a h k = absurd k
+appends_kept (Some xs) (Some ys) (Some zs) a h k = k ∙ h
+
+-- an output that is as it was took nothing
+pub appends_nothing : (old : Option (List ℕ)) → Appends old old []
+appends_nothing None = tt
+appends_nothing (Some xs) = sym (append-nil xs)
+
+-- and so a beginning of any text
+pub front_nothing : (old : Option (List ℕ)) (a : List ℕ) → AppendsFront old old a
+front_nothing old a = ([], a, refl, appends_nothing old)
+
+-- the whole of a text is a beginning of it
+pub front_whole : (old new : Option (List ℕ)) (a : List ℕ) → Appends old new a → AppendsFront old new a
+front_whole old new a h = (a, [], sym (append-nil a), h)
+
+-- a text, and then a beginning
+pub front_more : (old mid new : Option (List ℕ)) (a b : List ℕ) → Appends old mid a → AppendsFront mid new b → AppendsFront old new (a ++ b)
+front_more old mid new a b h k = (a ++ k.0, k.1, ap (λ t. a ++ t) k.2 ∙ sym (append_assoc a k.0 k.1), appends_more old mid new a k.0 h k.3)
+
+-- a beginning, and then nothing more
+pub front_kept : (old mid new : Option (List ℕ)) (a : List ℕ) → AppendsFront old mid a → Keeps mid new → AppendsFront old new a
+front_kept old mid new a h k = (h.0, h.1, h.2, appends_kept old mid new h.0 h.3 k)
+
+-- a failure after any number of failures is a failure
+pub failed_now : (before mid after : ℕ) → mid ≡ before → after ≡ one_more mid → HasFailed before after
+failed_now before mid after e h = omega arith
+
+-- a failure stays one, whatever the next call does
+pub failed_before : (before mid after : ℕ) → HasFailed before mid → mid ≤ after → HasFailed before after
+failed_before before mid after h k = omega arith
+
+pub failed_again : (before mid after : ℕ) → HasFailed before mid → after ≡ one_more mid → HasFailed before after
+failed_again before mid after h e = omega arith

@@ -1,0 +1,22 @@
+use Rattle.std.proofs.Common.{rules, ◌≡◌, ◌∙◌, ap, ap₂, codes, true}
+use Rattle.std.proofs.lemmas.Result.{IfOk-weaker}
+use Rattle.clap.specs.Words.{app_of, rule_of, with_rule}
+use Rattle.clap.specs.Simple.{Shape, app_of_fields, on_top}
+use Rattle.espresso.specs.Parser.{bare_app, files_arg, option_arg}
+use Rattle.espresso.proofs.parser.espresso_command.Goals as goal
+
+pub returns : goal.returns
+returns c =
+    let command_is : rule_of c.short-command.result ≡ option_arg (codes "command") 68 = search rules in
+    let out_is : rule_of c.short-out.result ≡ option_arg (codes "type") 111 = search rules in
+    let eat_is : rule_of c.short-eat.result ≡ option_arg (codes "eat") 101 = search rules in
+    let files_is : rule_of c.action-files.result ≡ files_arg = search rules in
+    let bare_is : app_of c.disable_version_flag.result ≡ bare_app =
+    ap app_of_fields c.disable_version_flag.ensures
+    ∙ ap (on_top (λ (s : Shape). record s { disable_version_flag = true })) (ap app_of_fields c.disable_help_flag.ensures
+    ∙ ap (on_top (λ (s : Shape). record s { disable_help_flag = true })) (ap app_of_fields c.no_binary_name.ensures
+    ∙ ap (on_top (λ (s : Shape). record s { no_binary_name = true })) c.new-5.ensures.app)) in
+    let one = c.in_ok-arg.ensures.shape (search rules) ∙ ap₂ with_rule bare_is command_is in
+    let two = c.in_ok-arg-2.ensures.shape (search rules) ∙ ap₂ with_rule one out_is in
+    let three = c.in_ok-arg-3.ensures.shape (search rules) ∙ ap₂ with_rule two eat_is in
+    IfOk-weaker c.arg-4.result _ _ (λ r h. h.shape (search rules) ∙ ap₂ with_rule three files_is) c.arg-4.ensures

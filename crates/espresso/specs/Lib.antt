@@ -1,0 +1,9 @@
+pub mod Words
+pub mod Parser
+pub mod Matches
+pub mod WordVectors
+pub mod Messages
+pub mod Tool
+pub mod Run
+pub mod Steps
+pub mod ToolExamples

@@ -1,0 +1,146 @@
+-- Lists of words whose meaning is computed: what is taken, and what is refused.
+use Rattle.std.specs.Prelude.{◌≡◌, refl, [], ◌∷◌, Some, None, codes, true, false}
+use Rattle.espresso.specs.declared.command.Command.TheVariants.{Echo, Contain, Tautology}
+use Rattle.pla.specs.declared.out_type.OutType.TheVariants.{F}
+use Rattle.espresso.specs.Words.{line_of, meaning_by}
+
+takes_a_command_in_one_word : line_of (codes "-Decho" ∷ []) ≡ Some (meaning_by Echo F false ([]))
+takes_a_command_in_one_word = refl
+
+takes_a_command_in_the_next_word : line_of (codes "-D" ∷ codes "echo" ∷ codes "f" ∷ []) ≡ Some (meaning_by Echo F false (codes "f" ∷ []))
+takes_a_command_in_the_next_word = refl
+
+takes_a_command_after_an_equals_sign : line_of (codes "-D=echo" ∷ codes "f" ∷ []) ≡ Some (meaning_by Echo F false (codes "f" ∷ []))
+takes_a_command_after_an_equals_sign = refl
+
+takes_an_option_after_the_file : line_of (codes "f" ∷ codes "-Decho" ∷ []) ≡ Some (meaning_by Echo F false (codes "f" ∷ []))
+takes_an_option_after_the_file = refl
+
+takes_comments_left_out : line_of (codes "-Decho" ∷ codes "-e" ∷ codes "eat" ∷ codes "f" ∷ []) ≡ Some (meaning_by Echo F true (codes "f" ∷ []))
+takes_comments_left_out = refl
+
+takes_options_in_any_order : line_of (codes "-eeat" ∷ codes "-Decho" ∷ codes "f" ∷ []) ≡ Some (meaning_by Echo F true (codes "f" ∷ []))
+takes_options_in_any_order = refl
+
+takes_an_equals_sign_before_the_value_of_each_option : line_of (codes "-e=eat" ∷ codes "-o=f" ∷ codes "-D=echo" ∷ []) ≡ Some (meaning_by Echo F true ([]))
+takes_an_equals_sign_before_the_value_of_each_option = refl
+
+takes_an_output_type_in_one_word : line_of (codes "-of" ∷ codes "-Decho" ∷ []) ≡ Some (meaning_by Echo F false ([]))
+takes_an_output_type_in_one_word = refl
+
+takes_an_output_type_in_the_next_word : line_of (codes "-Decho" ∷ codes "-o" ∷ codes "f" ∷ codes "a" ∷ []) ≡ Some (meaning_by Echo F false (codes "a" ∷ []))
+takes_an_output_type_in_the_next_word = refl
+
+takes_a_file_with_a_hyphen_after_two_hyphens : line_of (codes "-Decho" ∷ codes "--" ∷ codes "-x" ∷ []) ≡ Some (meaning_by Echo F false (codes "-x" ∷ []))
+takes_a_file_with_a_hyphen_after_two_hyphens = refl
+
+takes_two_hyphens_as_a_file : line_of (codes "-Decho" ∷ codes "--" ∷ codes "--" ∷ []) ≡ Some (meaning_by Echo F false (codes "--" ∷ []))
+takes_two_hyphens_as_a_file = refl
+
+takes_two_hyphens_and_no_file : line_of (codes "-Decho" ∷ codes "--" ∷ []) ≡ Some (meaning_by Echo F false ([]))
+takes_two_hyphens_and_no_file = refl
+
+takes_standard_input_by_name : line_of (codes "-Decho" ∷ codes "-" ∷ []) ≡ Some (meaning_by Echo F false (codes "-" ∷ []))
+takes_standard_input_by_name = refl
+
+takes_standard_input_by_name_after_two_hyphens : line_of (codes "-Decho" ∷ codes "--" ∷ codes "-" ∷ []) ≡ Some (meaning_by Echo F false (codes "-" ∷ []))
+takes_standard_input_by_name_after_two_hyphens = refl
+
+takes_a_file_whose_name_is_empty : line_of (codes "-Decho" ∷ codes "" ∷ []) ≡ Some (meaning_by Echo F false (codes "" ∷ []))
+takes_a_file_whose_name_is_empty = refl
+
+takes_contain : line_of (codes "-Dcontain" ∷ []) ≡ Some (meaning_by Contain F false [])
+takes_contain = refl
+
+takes_tautology : line_of (codes "-D" ∷ codes "tautology" ∷ codes "f" ∷ []) ≡ Some (meaning_by Tautology F false (codes "f" ∷ []))
+takes_tautology = refl
+
+refuses_no_words : line_of ([]) ≡ None
+refuses_no_words = refl
+
+refuses_no_command : line_of (codes "-e" ∷ codes "eat" ∷ []) ≡ None
+refuses_no_command = refl
+
+refuses_a_file_alone : line_of (codes "f" ∷ []) ≡ None
+refuses_a_file_alone = refl
+
+refuses_a_command_without_a_name : line_of (codes "-D" ∷ []) ≡ None
+refuses_a_command_without_a_name = refl
+
+refuses_a_command_with_an_empty_name : line_of (codes "-D=" ∷ []) ≡ None
+refuses_a_command_with_an_empty_name = refl
+
+refuses_two_equals_signs : line_of (codes "-D==echo" ∷ []) ≡ None
+refuses_two_equals_signs = refl
+
+refuses_a_name_that_is_no_command : line_of (codes "-Dprimes" ∷ []) ≡ None
+refuses_a_name_that_is_no_command = refl
+
+refuses_a_name_in_capitals : line_of (codes "-DECHO" ∷ []) ≡ None
+refuses_a_name_in_capitals = refl
+
+refuses_a_command_with_more_behind_it : line_of (codes "-Dechoes" ∷ []) ≡ None
+refuses_a_command_with_more_behind_it = refl
+
+refuses_a_command_twice : line_of (codes "-Decho" ∷ codes "-D" ∷ codes "echo" ∷ []) ≡ None
+refuses_a_command_twice = refl
+
+refuses_an_option_as_the_value_of_a_command : line_of (codes "-D" ∷ codes "-Decho" ∷ []) ≡ None
+refuses_an_option_as_the_value_of_a_command = refl
+
+refuses_two_hyphens_as_the_value_of_a_command : line_of (codes "-D" ∷ codes "--" ∷ codes "echo" ∷ []) ≡ None
+refuses_two_hyphens_as_the_value_of_a_command = refl
+
+refuses_a_word_with_a_hyphen_as_the_value_of_a_command : line_of (codes "-D" ∷ codes "-x" ∷ []) ≡ None
+refuses_a_word_with_a_hyphen_as_the_value_of_a_command = refl
+
+refuses_a_command_after_two_hyphens : line_of (codes "--" ∷ codes "-Decho" ∷ []) ≡ None
+refuses_a_command_after_two_hyphens = refl
+
+refuses_comments_left_out_twice : line_of (codes "-Decho" ∷ codes "-e" ∷ codes "eat" ∷ codes "-e" ∷ codes "eat" ∷ []) ≡ None
+refuses_comments_left_out_twice = refl
+
+refuses_another_word_than_eat : line_of (codes "-Decho" ∷ codes "-e" ∷ codes "x" ∷ []) ≡ None
+refuses_another_word_than_eat = refl
+
+refuses_no_word_behind_e : line_of (codes "-Decho" ∷ codes "-e" ∷ []) ≡ None
+refuses_no_word_behind_e = refl
+
+refuses_another_output_type : line_of (codes "-Decho" ∷ codes "-o" ∷ codes "fd" ∷ []) ≡ None
+refuses_another_output_type = refl
+
+refuses_an_output_type_of_inputs_alone : line_of (codes "-Decho" ∷ codes "-o" ∷ codes "r" ∷ []) ≡ None
+refuses_an_output_type_of_inputs_alone = refl
+
+refuses_an_output_type_twice : line_of (codes "-Decho" ∷ codes "-of" ∷ codes "-o" ∷ codes "f" ∷ []) ≡ None
+refuses_an_output_type_twice = refl
+
+refuses_no_output_type_behind_o : line_of (codes "-Decho" ∷ codes "-o" ∷ []) ≡ None
+refuses_no_output_type_behind_o = refl
+
+refuses_an_option_that_is_not_known : line_of (codes "-Decho" ∷ codes "-s" ∷ []) ≡ None
+refuses_an_option_that_is_not_known = refl
+
+refuses_a_number_as_an_option : line_of (codes "-Decho" ∷ codes "-1" ∷ []) ≡ None
+refuses_a_number_as_an_option = refl
+
+refuses_help_by_a_letter : line_of (codes "-h" ∷ []) ≡ None
+refuses_help_by_a_letter = refl
+
+refuses_help_by_its_name : line_of (codes "--help" ∷ []) ≡ None
+refuses_help_by_its_name = refl
+
+refuses_help_beside_a_command : line_of (codes "-Decho" ∷ codes "--help" ∷ []) ≡ None
+refuses_help_beside_a_command = refl
+
+refuses_a_long_option : line_of (codes "-Decho" ∷ codes "--=x" ∷ []) ≡ None
+refuses_a_long_option = refl
+
+refuses_two_files : line_of (codes "-Decho" ∷ codes "a" ∷ codes "b" ∷ []) ≡ None
+refuses_two_files = refl
+
+refuses_standard_input_twice : line_of (codes "-Decho" ∷ codes "-" ∷ codes "-" ∷ []) ≡ None
+refuses_standard_input_twice = refl
+
+refuses_two_files_after_two_hyphens : line_of (codes "-Decho" ∷ codes "--" ∷ codes "a" ∷ codes "-x" ∷ []) ≡ None
+refuses_two_files_after_two_hyphens = refl

@@ -1,0 +1,57 @@
+//! What a command line can ask for.
+ghost use Rattle.std.specs.Prelude.{◌≡◌};
+ghost use Rattle.espresso.specs.Words.{command_named, eat_named, takes_two, type_named};
+
+use pla::OutType;
+
+/// A command: what is printed of the files that were read.
+#[derive(Clone, Copy, Debug, PartialEq, Eq)]
+pub enum Command {
+    /// The PLA with its lists as given.
+    Echo,
+    /// The PLA without the cubes of its ON list that lie in others of it.
+    Contain,
+    /// Whether the ON-set is everything.
+    Tautology,
+}
+
+// The command of this name.
+pub(crate) fn command_of(name: &str) -> Option<Command>
+    ensures { result ≡ command_named name.now }
+{
+    match name {
+        "echo" => Some(Command::Echo),
+        "contain" => Some(Command::Contain),
+        "tautology" => Some(Command::Tautology),
+        _ => None,
+    }
+}
+
+// The output type of this name.
+pub(crate) fn out_type_of(name: &str) -> Option<OutType>
+    ensures { result ≡ type_named name.now }
+{
+    match name {
+        "f" => Some(OutType::F),
+        _ => None,
+    }
+}
+
+// The one word that `-e` takes.
+pub(crate) fn eat_of(name: &str) -> Option<bool>
+    ensures { result ≡ eat_named name.now }
+{
+    match name {
+        "eat" => Some(true),
+        _ => None,
+    }
+}
+
+// The command takes two files.
+pub(crate) fn is_pair(command: Command) -> bool
+    ensures { result ≡ takes_two command }
+{
+    match command {
+        Command::Echo | Command::Contain | Command::Tautology => false,
+    }
+}

@@ -1,0 +1,84 @@
+//! espresso: a two-level logic tool on PLA files.
+//!
+//! A command line names a command and a file. [`Line::read`] takes the words after the program's name, and
+//! [`run`] reads the file, passes its comments on, and prints what the command answers; where the words
+//! say no line, [`refuse`] says so. Together they answer what `specs/Tool.antt` defines as `tool`: what
+//! goes to standard output, the one line that may go to standard error, and the exit status.
+//!
+//! With the file
+//!
+//! ```text
+//! # a comment
+//! .i 3
+//! .o 2
+//! 1-
+//! 0 1
+//! 1
+//! ```
+//!
+//! the words `-Decho -` print
+//!
+//! ```text
+//! # a comment
+//! .i 3
+//! .o 2
+//! .p 1
+//! 1-0 11
+//! .e
+//! ```
+//!
+//! A run reads its file once, in pieces of 4,096 bytes, and holds its rows as packed cubes.
+#![tactic(auto)]
+
+mod answer;
+mod command;
+mod content;
+mod laws;
+mod line;
+mod parser;
+mod source;
+mod status;
+mod stop;
+#[cfg(test)]
+mod tests;
+mod tool;
+
+pub use command::Command;
+use content::{opened, words_of};
+pub use laws::tool_in_parts;
+pub use line::{Line, LineFault};
+use pla::{Output, Writing};
+pub use source::Source;
+pub use status::Status;
+use std::io::BufWriter;
+use std::process::ExitCode;
+pub use tool::{refuse, run};
+
+// How many bytes of the answer are held back until they are written at once.
+const OUTPUT_BYTES: usize = 65536;
+
+// Reads the words, opens the file that they name, and runs the line.
+fn main(rt: HostRuntime) -> ExitCode {
+    let mut err = Writing::new(rt.stderr());
+    ExitCode::from(answered(rt, &mut err).code())
+}
+
+fn answered<E: Output>(rt: HostRuntime, err: &mut E) -> Status {
+    let alloc = rt.alloc();
+    let line = match words_of(&rt) {
+        Ok(words) => Line::read(alloc, &words),
+        Err(fault) => Err(fault),
+    };
+    let line = match line {
+        Ok(line) => line,
+        Err(fault) => return refuse(&fault, err),
+    };
+    let Ok(mut source) = opened(&rt, rt.stdin(), &line) else {
+        return refuse(&LineFault::Memory, err);
+    };
+    let Ok(buffer) = BufWriter::with_capacity(alloc, OUTPUT_BYTES, rt.stdout()) else {
+        return refuse(&LineFault::Memory, err);
+    };
+    let mut out = Writing::new(buffer);
+    run(alloc, &line, &mut source, &mut None, &mut out, err)
+}

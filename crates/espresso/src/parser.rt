@@ -1,0 +1,136 @@
+//! The parse of the words by `clap`, and the line that its matches say.
+ghost use Rattle.std.specs.Prelude.{◌≡◌, IfOk, Some, None, Err, map, string_bytes, codes, false, option_and_then};
+ghost use Rattle.std.specs.Option.{option_map_or};
+ghost use Rattle.clap.specs.Words.{app_of, first_value, found_of, kind_of};
+ghost use Rattle.espresso.specs.Parser.{espresso_app};
+ghost use Rattle.espresso.specs.Matches.{meaning_in};
+ghost use Rattle.espresso.specs.Words.{eat_named, fits, meaning, command_named, type_named};
+
+use crate::command::{Command, command_of, eat_of, is_pair, out_type_of};
+use crate::line::{Line, LineFault};
+use clap::error::ErrorKind;
+use clap::{Arg, ArgAction, ArgMatches, Error};
+use pla::OutType;
+use std::alloc::{AllocError, Global};
+
+// Three options with a value each, and files.
+pub(crate) fn espresso_command<'a>(alloc: Global) -> Result<clap::Command<'a>, AllocError>
+    ensures { IfOk result (λ c. app_of c ≡ espresso_app) }
+{
+    let command = Arg::new(alloc, "command").short('D');
+    let out = Arg::new(alloc, "type").short('o');
+    let eat = Arg::new(alloc, "eat").short('e');
+    let files = Arg::new(alloc, "files").action(ArgAction::Append);
+    clap::Command::new(alloc, "espresso")
+        .no_binary_name(true)
+        .disable_help_flag(true)
+        .disable_version_flag(true)
+        .arg(command)?
+        .arg(out)?
+        .arg(eat)?
+        .arg(files)
+}
+
+// Want of memory where that is what the parse wanted, and else a usage fault.
+pub(crate) fn fault_from(error: &Error) -> LineFault
+    ensures { result ≡ LineFault.Usage → kind_of error.now ≡ ErrorKind.OutOfMemory → ⊥ }
+{
+    match error.kind() {
+        ErrorKind::OutOfMemory => LineFault::Memory,
+        _ => LineFault::Usage,
+    }
+}
+
+// The line that the matches say.
+pub(crate) fn line_in(alloc: Global, matches: &ArgMatches<'_>) -> Result<Line, LineFault>
+    ensures ok { IfOk result (λ l. meaning_in (found_of matches.now) ≡ Some l) }
+    ensures usage { result ≡ Err LineFault.Usage → meaning_in (found_of matches.now) ≡ None }
+{
+    let command = given_command(matches);
+    let out = given_type(matches);
+    let eat = given_eat(matches);
+    match matches.get_raw("files") {
+        Some(names) => line_with(alloc, command, out, eat, names),
+        None => line_with(alloc, command, out, eat, &[]),
+    }
+}
+
+fn given_command(matches: &ArgMatches<'_>) -> Option<Command>
+    ensures { result ≡ option_and_then command_named (first_value (found_of matches.now) (codes "command")) }
+{
+    match matches.get_str("command") {
+        Some(name) => command_of(name),
+        None => None,
+    }
+}
+
+fn given_type(matches: &ArgMatches<'_>) -> Option<OutType>
+    ensures { result ≡ option_map_or type_named (first_value (found_of matches.now) (codes "type")) (Some OutType.F) }
+{
+    match matches.get_str("type") {
+        Some(name) => out_type_of(name),
+        None => Some(OutType::F),
+    }
+}
+
+fn given_eat(matches: &ArgMatches<'_>) -> Option<bool>
+    ensures { result ≡ option_map_or eat_named (first_value (found_of matches.now) (codes "eat")) (Some false) }
+{
+    match matches.get_str("eat") {
+        Some(name) => eat_of(name),
+        None => Some(false),
+    }
+}
+
+// The line of these values, where they make one.
+fn line_with(
+    alloc: Global,
+    command: Option<Command>,
+    out: Option<OutType>,
+    eat: Option<bool>,
+    names: &[&str],
+) -> Result<Line, LineFault>
+    ensures ok { IfOk result (λ l. meaning command out eat (map (λ s. s.now) names.now) ≡ Some l) }
+    ensures usage { result ≡ Err LineFault.Usage
+        → meaning command out eat (map (λ s. s.now) names.now) ≡ None }
+{
+    let Some(command) = command else {
+        return Err(LineFault::Usage);
+    };
+    let Some(out) = out else {
+        return Err(LineFault::Usage);
+    };
+    let Some(eat) = eat else {
+        return Err(LineFault::Usage);
+    };
+    if !is_fitting(command, names) {
+        return Err(LineFault::Usage);
+    }
+    match copied(alloc, names) {
+        Ok(files) => Ok(Line::new(command, out, eat, files)),
+        Err(_) => Err(LineFault::Memory),
+    }
+}
+
+// As many files as the command takes, with standard input once at most.
+fn is_fitting(command: Command, files: &[&str]) -> bool
+    ensures { result ≡ fits command (map (λ s. s.now) files.now) }
+{
+    let is_count = if is_pair(command) {
+        files.len() == 2
+    } else {
+        files.len() <= 1
+    };
+    let inputs = files.iter().filter(|file| **file == "-").count();
+    is_count && inputs <= 1
+}
+
+fn copied(alloc: Global, names: &[&str]) -> Result<Vec<String>, AllocError>
+    ensures { IfOk result (λ v. map string_bytes v.items ≡ map (λ s. s.now) names.now) }
+{
+    let mut files = Vec::new(alloc);
+    for name in names {
+        files.push(String::from_str(alloc, name)?)?;
+    }
+    Ok(files)
+}

@@ -1,0 +1,125 @@
+//! What stops a run, and what is said of it.
+ghost use Rattle.std.specs.Prelude.{◌≡◌, decimal};
+ghost use Rattle.pla.specs.Device.{Continues, CountsOn, TellsFailure, Writes};
+ghost use Rattle.espresso.specs.Messages.{kind_text};
+ghost use Rattle.espresso.specs.Run.{Says, told};
+ghost use Rattle.espresso.specs.Steps.{message_of, status_of, stop_by};
+
+use crate::status::Status;
+use itoa::Buffer;
+use pla::{Output, ReadFault, ReadKind, WriteFault, then, write_bytes};
+
+// What stops a run before its answer was printed.
+#[derive(Clone, Copy, Debug, PartialEq, Eq)]
+pub(crate) enum Stop {
+    NotOpened,
+    Faulty(ReadFault),
+    WriteFailed,
+    OutOfMemory,
+}
+
+impl Stop {
+    // By the fault of a reading, which tells failed writes and want of memory too.
+    pub(crate) fn by(fault: ReadFault) -> Stop
+        ensures { result ≡ stop_by fault fault.kind }
+    {
+        match fault.kind {
+            ReadKind::WriteFailed => Stop::WriteFailed,
+            ReadKind::OutOfMemory => Stop::OutOfMemory,
+            _ => Stop::Faulty(fault),
+        }
+    }
+
+    pub(crate) fn status(self) -> Status
+        ensures { result ≡ status_of self }
+    {
+        match self {
+            Stop::OutOfMemory => Status::Memory,
+            Stop::NotOpened | Stop::Faulty(_) | Stop::WriteFailed => Status::Fault,
+        }
+    }
+
+    // Says on standard error what stopped the run. A failure there is ignored.
+    pub(crate) fn say<E: Output>(self, name: &[u8], err: &mut E)
+        ensures { Says (told (E.taken err.old) (E.taken err.new) (E.failures err.old) (E.failures err.new))
+            (message_of name.now self) }
+    {
+        let _ = match self {
+            Stop::NotOpened => say_closed(name, err),
+            Stop::Faulty(fault) => say_fault(name, fault, err),
+            Stop::WriteFailed => write_bytes(err, b"espresso: write failed\n"),
+            Stop::OutOfMemory => write_bytes(err, b"espresso: out of memory\n"),
+        };
+    }
+}
+
+fn say_closed<E: Output>(name: &[u8], err: &mut E) -> Result<(), WriteFault>
+    ensures bytes { Writes (E.taken err.old) (E.taken err.new) result (message_of name.now Stop.NotOpened) }
+    ensures count { TellsFailure (E.failures err.old) (E.failures err.new) result }
+{
+    let done = write_bytes(err, b"espresso: cannot open ");
+    let done = then(err, done, name);
+    then(err, done, b"\n")
+}
+
+fn say_fault<E: Output>(name: &[u8], fault: ReadFault, err: &mut E) -> Result<(), WriteFault>
+    ensures bytes { Writes (E.taken err.old) (E.taken err.new) result (message_of name.now (Stop.Faulty fault)) }
+    ensures count { TellsFailure (E.failures err.old) (E.failures err.new) result }
+{
+    let done = write_bytes(err, b"espresso: ");
+    let done = then(err, done, name);
+    let done = then(err, done, b":");
+    let done = then_number(err, done, fault.line);
+    let done = then(err, done, b": ");
+    let done = then_kind(err, done, fault.kind);
+    then(err, done, b"\n")
+}
+
+// The number in decimal, behind what was written.
+fn then_number<E: Output>(
+    err: &mut E,
+    done: Result<(), WriteFault>,
+    number: u64,
+) -> Result<(), WriteFault>
+    ensures bytes { Continues (E.taken err.old) done (E.taken err.new) result (decimal number) }
+    ensures count { CountsOn (E.failures err.old) done (E.failures err.new) result }
+{
+    let mut digits = Buffer::new();
+    then(err, done, digits.format(number).as_bytes())
+}
+
+// What the kind is called, behind what was written.
+fn then_kind<E: Output>(
+    err: &mut E,
+    done: Result<(), WriteFault>,
+    kind: ReadKind,
+) -> Result<(), WriteFault>
+    ensures bytes { Continues (E.taken err.old) done (E.taken err.new) result (kind_text kind) }
+    ensures count { CountsOn (E.failures err.old) done (E.failures err.new) result }
+{
+    then(err, done, text_of_kind(kind))
+}
+
+fn text_of_kind(kind: ReadKind) -> &'static [u8]
+    ensures { result.now ≡ kind_text kind }
+{
+    match kind {
+        ReadKind::TooManyLines => b"more than 16777216 lines",
+        ReadKind::LineTooLong => b"line longer than 131072 bytes",
+        ReadKind::RefusedKeyword => b"keyword outside the profile",
+        ReadKind::KeywordInsideRow => b"keyword inside a row",
+        ReadKind::KeywordRepeated => b"keyword repeated",
+        ReadKind::BadNumber => b"bad number",
+        ReadKind::NamesBeforeShape => b"names before .i and .o",
+        ReadKind::WrongNumberOfNames => b"wrong number of names",
+        ReadKind::TypeAfterRow => b"type after a row",
+        ReadKind::BadType => b"bad type",
+        ReadKind::RowBeforeShape => b"row before .i and .o",
+        ReadKind::BadSymbol => b"bad symbol",
+        ReadKind::ShapeMissing => b".i or .o missing",
+        ReadKind::UnfinishedRow => b"unfinished row",
+        ReadKind::ReadFailed => b"read failed",
+        ReadKind::WriteFailed => b"write failed",
+        ReadKind::OutOfMemory => b"out of memory",
+    }
+}

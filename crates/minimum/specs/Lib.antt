@@ -1,0 +1,9 @@
+pub mod Table
+pub mod Cover
+pub mod Steps
+pub mod Search
+pub mod Choices
+pub mod Laws
+pub mod Weights
+pub mod Reduce
+pub mod Primes

@@ -1,0 +1,78 @@
+-- What a search within a budget answers.
+use Rattle.std.specs.Prelude.{◌≡◌, ℕ, ◌<◌, ◌≤◌, ◌⊎◌, Bool, true, false, ◌==◌, List, ◌∷◌, length, map, filter, slice_index_or, Option, Some, None}
+use Rattle.minimum.specs.declared.choice.Choice.{Choice}
+use Rattle.minimum.specs.declared.choice.Choice.TheVariants.{Literals}
+use Rattle.minimum.specs.Table.{Grid, has}
+use Rattle.minimum.specs.Cover.{IsCover, IsLeast, counted, sum_over}
+
+-- more than so many columns, or columns that count more
+abbrev pub IsBeyond : (ℕ → ℕ) → ℕ → ℕ → List ℕ → Type 0
+IsBeyond count k w x = (k < length x) ⊎ (w < sum_over count x)
+
+-- no cover has so few columns that count so little
+abbrev pub NoneWithin : Choice → Grid → ℕ → ℕ → Type 0
+NoneWithin choice t k w = (x : List ℕ) → IsCover t x → IsBeyond (counted choice t.weights) k w x
+
+-- every cover has at least k columns, and if it has k they count at least w
+abbrev pub NoneBelow : Choice → Grid → ℕ → ℕ → Type 0
+NoneBelow choice t k w = (x : List ℕ) → IsCover t x → (k < length x) ⊎ ((length x ≡ k) × (w ≤ sum_over (counted choice t.weights) x))
+
+-- a cover within the budget, the least where none is below it
+pub record IsAnswer (choice : Choice) (t : Grid) (k w : ℕ) (s : List ℕ) : Type 0 where
+  pub cover : IsCover t s
+  pub fits : length s ≤ k
+  pub counts : sum_over (counted choice t.weights) s ≤ w
+  pub least : NoneBelow choice t k w → IsLeast choice t s
+
+-- a cover within the budget, or none because there is none
+abbrev pub Answers : Choice → Grid → ℕ → ℕ → Option (List ℕ) → Type 0
+Answers choice t k w None = NoneWithin choice t k w
+Answers choice t k w (Some s) = IsAnswer choice t k w s
+
+-- what is answered for the second table is right for the first
+abbrev pub Leads : Choice → ℕ → ℕ → Grid → Grid → Type 0
+Leads choice k w t u = (o : Option (List ℕ)) → Answers choice u k w o → Answers choice t k w o
+
+-- every cover with the column is beyond the budget
+abbrev pub IsOutside : Choice → Grid → ℕ → ℕ → ℕ → Type 0
+IsOutside choice t k w c = (x : List ℕ) → IsCover t x → has c x ≡ true → IsBeyond (counted choice t.weights) k w x
+
+-- the table with no columns left but those that the test passes
+abbrev pub keep_columns : (ℕ → Bool) → Grid → Grid
+keep_columns test t = record { columns = t.columns; taken = t.taken; live = filter test t.live; rows = map (filter test) t.rows; weights = t.weights }
+
+-- whether the row has no column
+abbrev pub is_blank : List ℕ → Bool
+is_blank row = length row == 0
+
+-- whether the place has a mark
+abbrev pub marked : List Bool → ℕ → Bool
+marked marks c = slice_index_or marks c false
+
+-- a table in which to search instead, with no more live columns
+pub record IsNarrowed (choice : Choice) (k w : ℕ) (t u : Grid) : Type 0 where
+  pub leads : Leads choice k w t u
+  pub live : length u.live ≤ length t.live
+
+-- no cover goes without the column
+abbrev pub IsForced : Grid → ℕ → Type 0
+IsForced t c = (x : List ℕ) → IsCover t x → has c x ≡ true
+
+-- the list's first is x
+abbrev pub BeginsWith : List ℕ → ℕ → Type 0
+BeginsWith xs x = (rest : List ℕ) × (xs ≡ x ∷ rest)
+
+-- every cover has more columns, or as many literals
+abbrev pub IsFewest : Grid → ℕ → ℕ → Type 0
+IsFewest t k w = (x : List ℕ) → IsCover t x → (k < length x) ⊎ (w ≤ sum_over (counted Literals t.weights) x)
+
+-- a cover of no more columns with fewer literals
+pub record HasFewer (t : Grid) (k w : ℕ) (s : List ℕ) : Type 0 where
+  pub cover : IsCover t s
+  pub fits : length s ≤ k
+  pub fewer : sum_over (counted Literals t.weights) s < w
+
+-- every cover has k columns at least, and some cover has them and counts w
+pub record IsReached (t : Grid) (k w : ℕ) : Type 0 where
+  pub low : (x : List ℕ) → IsCover t x → k ≤ length x
+  pub some : (s : List ℕ) × IsCover t s × (length s ≤ k) × (sum_over (counted Literals t.weights) s ≤ w)

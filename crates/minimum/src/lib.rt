@@ -1,0 +1,41 @@
+//! Covering tables: reductions and the least cover.
+//!
+//! A table has columns, some taken and some live, and rows, each a list of live columns. A cover is a rising list of
+//! columns with all taken ones and a column of each row. The least cover is the first of the shortest, where lists are
+//! compared number by number; with `Choice::Literals` those with the fewest literals come before.
+//!
+//! - `Table::new` makes a table of rows and of each column's number of literals.
+//! - `reduce` applies the steps of a reduction until none applies; the least cover stays.
+//! - `Table::least_cover` gives the least cover. `Table::least_cover_plain` gives it too, by trying all choices.
+//!
+//! The function 000, 001, 010, 101, 110, 111 of three inputs has six primes, each of two points, in a ring. Its table
+//! has the rows {0,3}, {0,4}, {1,2}, {1,5}, {2,3} and {4,5}; no step reduces it, and its least cover is 0, 2, 5: the
+//! other cover of three columns, 1, 3, 4, comes later.
+//!
+//! A reduction costs some passes over all rows, in each of which a row or a column is compared with those that share
+//! its rarest column or its shortest row (Rudell, Logic synthesis for VLSI design, 1989). The search branches on the
+//! first live column, taken and then dropped, within budgets that rise from nothing, so that the first cover that it
+//! finds is the least and no two covers are ever compared. Each table of the search is reduced, and bounded by weights
+//! of its rows in whole numbers (Coudert, On solving covering problems, 1996): the weights are wished for by a
+//! heuristic and checked as they are given. Unlike there, ties are kept in list order: a column leaves only under an
+//! earlier one, or one with fewer literals. The number of branches is not bounded by less than the number of covers.
+#![tactic(auto)]
+
+mod bound;
+mod choice;
+mod implicants;
+mod laws;
+mod lists;
+mod plain;
+mod reduction;
+mod search;
+mod table;
+#[cfg(test)]
+mod tests;
+mod wishes;
+
+pub use choice::Choice;
+pub use implicants::primes;
+pub use laws::least_is_unique;
+pub use reduction::reduce;
+pub use table::Table;

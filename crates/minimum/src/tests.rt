@@ -1,0 +1,172 @@
+//! Tables of worked functions, written as rows.
+use crate::choice::Choice;
+use crate::reduction::reduce;
+use crate::table::Table;
+use std::alloc::{AllocError, Global};
+use std::test::Fail;
+
+/// The table of these rows; `None` where they aren't rows.
+fn table(alloc: Global, rows: &[&[usize]], weights: &[u32]) -> Result<Option<Table>, AllocError> {
+    let mut lists = Vec::new(alloc);
+    for row in rows {
+        let row: &[usize] = *row;
+        lists.push(row.to_vec(alloc)?)?;
+    }
+    Table::new(alloc, lists, weights.to_vec(alloc)?)
+}
+
+/// Six columns in a ring, each row two neighbours: the function 000, 001, 010, 101, 110, 111.
+#[test]
+fn ring_takes_the_first_of_two(rt: HostRuntime) -> Result<(), Fail> {
+    let rows: [&[usize]; 6] = [&[2, 3], &[0, 3], &[1, 2], &[0, 4], &[1, 5], &[4, 5]];
+    let ring = table(rt.alloc(), &rows, &[2, 2, 2, 2, 2, 2])?.ok_or("rows")?;
+    assert_eq!(rt; ring.columns(), 6);
+    let least = ring.least_cover(rt.alloc(), Choice::First)?;
+    assert_eq!(rt; least.as_slice(), [0, 2, 5].as_slice());
+    let plain = ring.least_cover_plain(rt.alloc(), Choice::First)?;
+    assert_eq!(rt; plain.as_slice(), [0, 2, 5].as_slice());
+    let least = ring.least_cover(rt.alloc(), Choice::Literals)?;
+    assert_eq!(rt; least.as_slice(), [0, 2, 5].as_slice());
+    let reduced = reduce(rt.alloc(), ring, Choice::First)?;
+    assert_eq!(rt; reduced.row_count(), 6);
+    assert_eq!(rt; reduced.columns(), 6);
+    Ok(())
+}
+
+/// Three columns; the last stands where the first does and once more, and yet the first is taken.
+#[test]
+fn an_earlier_column_stays(rt: HostRuntime) -> Result<(), Fail> {
+    let rows: [&[usize]; 3] = [&[0, 2], &[1, 2], &[1]];
+    let made = table(rt.alloc(), &rows, &[2, 2, 2])?.ok_or("rows")?;
+    let least = made.least_cover(rt.alloc(), Choice::First)?;
+    assert_eq!(rt; least.as_slice(), [0, 1].as_slice());
+    let reduced = reduce(rt.alloc(), made, Choice::First)?;
+    assert_eq!(rt; reduced.row_count(), 0);
+    assert_eq!(rt; reduced.columns(), 3);
+    assert!(rt; 1 < reduced.columns());
+    assert!(rt; reduced.is_taken(0) && reduced.is_taken(1));
+    assert!(rt; !reduced.is_live(0) && !reduced.is_live(1));
+    Ok(())
+}
+
+/// One row with two columns, of which the second has fewer literals.
+#[test]
+fn fewer_literals_are_taken(rt: HostRuntime) -> Result<(), Fail> {
+    let rows: [&[usize]; 1] = [&[0, 1]];
+    let made = table(rt.alloc(), &rows, &[2, 1])?.ok_or("rows")?;
+    let least = made.least_cover(rt.alloc(), Choice::First)?;
+    assert_eq!(rt; least.as_slice(), [0].as_slice());
+    let least = made.least_cover(rt.alloc(), Choice::Literals)?;
+    assert_eq!(rt; least.as_slice(), [1].as_slice());
+    let plain = made.least_cover_plain(rt.alloc(), Choice::Literals)?;
+    assert_eq!(rt; plain.as_slice(), [1].as_slice());
+    let reduced = reduce(rt.alloc(), made, Choice::Literals)?;
+    let taken = reduced.least_cover(rt.alloc(), Choice::First)?;
+    assert_eq!(rt; reduced.row_count(), 0);
+    assert_eq!(rt; taken.as_slice(), [1].as_slice());
+    Ok(())
+}
+
+#[test]
+fn a_row_that_does_not_rise_is_refused(rt: HostRuntime) -> Result<(), Fail> {
+    let falling: [&[usize]; 1] = [&[1, 0]];
+    assert!(rt; table(rt.alloc(), &falling, &[2, 1])?.is_none());
+    let empty: [&[usize]; 1] = [&[]];
+    assert!(rt; table(rt.alloc(), &empty, &[2, 1])?.is_none());
+    let far: [&[usize]; 1] = [&[0, 2]];
+    assert!(rt; table(rt.alloc(), &far, &[2, 1])?.is_none());
+    Ok(())
+}
+
+/// Eight rings side by side.
+fn rings(alloc: Global) -> Result<Option<Table>, AllocError> {
+    let ring: [[usize; 2]; 6] = [[2, 3], [0, 3], [1, 2], [0, 4], [1, 5], [4, 5]];
+    let mut rows: Vec<Vec<usize>> = Vec::new(alloc);
+    for k in 0..8usize {
+        for pair in &ring {
+            let mut row = Vec::new(alloc);
+            row.push(pair[0].wrapping_add(6 * k))?;
+            row.push(pair[1].wrapping_add(6 * k))?;
+            rows.push(row)?;
+        }
+    }
+    let weights: Vec<u32> = vec![in alloc; 6; 48]?;
+    Table::new(alloc, rows, weights)
+}
+
+#[test]
+fn eight_rings_are_solved(rt: HostRuntime) -> Result<(), Fail> {
+    let mut wanted: Vec<usize> = Vec::new(rt.alloc());
+    for k in 0..8usize {
+        wanted.push(6 * k)?;
+        wanted.push(6 * k + 2)?;
+        wanted.push(6 * k + 5)?;
+    }
+    let made = rings(rt.alloc())?.ok_or("rows")?;
+    let least = made.least_cover(rt.alloc(), Choice::First)?;
+    assert_eq!(rt; least.as_slice(), wanted.as_slice());
+    let least = made.least_cover(rt.alloc(), Choice::Literals)?;
+    assert_eq!(rt; least.as_slice(), wanted.as_slice());
+    let reduced = reduce(rt.alloc(), made, Choice::First)?;
+    let least = reduced.least_cover(rt.alloc(), Choice::First)?;
+    assert_eq!(rt; least.as_slice(), wanted.as_slice());
+    Ok(())
+}
+
+/// The next number of a fixed sequence.
+fn shuffled(seed: u64) -> u64 {
+    let x = seed
+        .wrapping_mul(6364136223846793005)
+        .wrapping_add(1442695040888963407);
+    x ^ (x >> 29)
+}
+
+/// A table of seven columns whose rows and weights go by the seed.
+fn drawn(alloc: Global, seed: u64) -> Result<Option<Table>, AllocError> {
+    let mut state = shuffled(seed);
+    let mut rows: Vec<Vec<usize>> = Vec::new(alloc);
+    for _ in 0..6 {
+        state = shuffled(state);
+        let mut row: Vec<usize> = Vec::new(alloc);
+        for column in 0..7usize {
+            if (state >> (8 * column)) % 3 == 0 {
+                row.push(column)?;
+            }
+        }
+        if row.is_empty() {
+            row.push(3)?;
+        }
+        rows.push(row)?;
+    }
+    let mut weights: Vec<u32> = Vec::new(alloc);
+    for column in 0..7u64 {
+        weights.push(if (state >> column) % 2 == 0 { 2 } else { 1 })?;
+    }
+    Table::new(alloc, rows, weights)
+}
+
+/// Whether both searches answer the same, on the table as drawn and as reduced.
+fn searches_agree(alloc: Global, seed: u64, choice: Choice) -> Result<bool, AllocError> {
+    let Some(made) = drawn(alloc, seed)? else {
+        return Ok(false);
+    };
+    let plain = made.least_cover_plain(alloc, choice)?;
+    let least = made.least_cover(alloc, choice)?;
+    let reduced = reduce(alloc, made, choice)?;
+    let again = reduced.least_cover(alloc, choice)?;
+    let plainly = reduced.least_cover_plain(alloc, choice)?;
+    Ok(
+        least.as_slice() == plain.as_slice()
+            && again.as_slice() == plain.as_slice()
+            && plainly.as_slice() == plain.as_slice(),
+    )
+}
+
+#[test]
+fn searches_agree_on_drawn_tables(rt: HostRuntime) -> Result<(), Fail> {
+    for seed in 0..300u64 {
+        assert!(rt; searches_agree(rt.alloc(), seed, Choice::First)?);
+        assert!(rt; searches_agree(rt.alloc(), seed, Choice::Literals)?);
+    }
+    Ok(())
+}

@@ -1,0 +1,76 @@
+use Rattle.std.proofs.Common.{◌≡◌, ℕ, ◌+◌, List, [], ◌∷◌, ◌++◌, false, refl, ap, sym, ◌∙◌, subst}
+use Rattle.std.proofs.lemmas.Result.{err_from_is_err_and}
+use Rattle.cube.specs.Limits.{format_limits}
+use Rattle.pla.specs.declared.parser.Parser.TheInside.{Inside}
+use Rattle.pla.specs.Lines.{row_code}
+use Rattle.pla.specs.Header.{Header}
+use Rattle.pla.specs.Fault.{is_past_limit, is_too_long}
+use Rattle.pla.specs.State.{Parsed, StandsForLines}
+use Rattle.pla.specs.HeadView.{seen, with_keyword}
+use Rattle.pla.specs.Parsing.{IsTied, parsed_by, unfinished_of, with_row_code}
+use Rattle.pla.proofs.KeywordTaken.{Before, keyword_taken}
+use Rattle.pla.proofs.RowTaken.{row_taken, empty_taken}
+use Rattle.pla.proofs.Refusals.{many_refused, long_refused, keyword_refuses, row_refuses}
+use Rattle.pla.proofs.parser.Parser.take.Goals as goal
+use Rattle.pla.proofs.parser.Parser.take.Goals.{in-Empty, in-Keyword+in_ok-take_keyword-in-Keyword, in-Row+in_ok-take_row-in-Row}
+
+-- what is known of the fields before the line
+known : (parser : Inside) (value : Parsed) (before : List (List ℕ)) → parsed_by (seen parser.head (unfinished_of parser.rows)) parser.rows ≡ value → IsTied (seen parser.head 0) parser.rows → value.header.ended ≡ false
+    → StandsForLines format_limits value before → Before format_limits before parser.head parser.rows
+known parser value before view tied going st = record { stands = subst (λ p. StandsForLines format_limits p before) (sym view) st; tied = tied; going = ap (λ p. p.header.ended) view ∙ going }
+
+pub returns-then-past_limit-clause-stands : goal.returns-then-past_limit-clause-stands
+returns-then-past_limit-clause-stands c = λ before st.
+    many_refused format_limits before c.args.line.now c.self.inside.head c.self.inside.rows (known c.self.inside c.args.self.now before c.self.view_is c.self.invariant c.requires st)
+    (sym (c.past_limit.ensures.value (unfinished_of c.self.inside.rows)) ∙ c.if-past_limit.true)
+
+pub returns-then-too_long-clause-stands : goal.returns-then-too_long-clause-stands
+returns-then-too_long-clause-stands c = λ before st.
+    long_refused format_limits before c.args.line.now c.self.inside.head c.self.inside.rows (known c.self.inside c.args.self.now before c.self.view_is c.self.invariant c.requires st)
+    (sym (c.past_limit.ensures.value (unfinished_of c.self.inside.rows)) ∙ c.if-past_limit.false) (sym (c.too_long.ensures (unfinished_of c.self.inside.rows)) ∙ c.if-too_long.true)
+
+pub returns-in_err-take_keyword-in-Keyword-clause-stands : goal.returns-in_err-take_keyword-in-Keyword-clause-stands
+returns-in_err-take_keyword-in-Keyword-clause-stands c =
+    let p = err_from_is_err_and c.from_residual.result c.from_residual.ensures.1 in
+    rw (p.1, p.2) (λ before st.
+    keyword_refuses format_limits before c.args.line.now c.self.inside.head c.self.inside.rows _ (known c.self.inside c.args.self.now before c.self.view_is c.self.invariant c.requires st) (sym c.kind_of.ensures ∙ c.in-Keyword.is)
+    (sym (c.past_limit.ensures.value (unfinished_of c.self.inside.rows)) ∙ c.if-past_limit.false) (sym (c.too_long.ensures (unfinished_of c.self.inside.rows)) ∙ c.if-too_long.false)
+    c.in_err-take_keyword-in-Keyword.ensures.fault)
+
+pub returns-in_err-take_row-in-Row-clause-stands : goal.returns-in_err-take_row-in-Row-clause-stands
+returns-in_err-take_row-in-Row-clause-stands c =
+    let p = err_from_is_err_and c.from_residual-in_err-take_row-in-Row.result c.from_residual-in_err-take_row-in-Row.ensures.1 in
+    rw (p.1, p.2) (λ before st.
+    row_refuses format_limits before c.args.line.now c.self.inside.head c.self.inside.rows _ (known c.self.inside c.args.self.now before c.self.view_is c.self.invariant c.requires st) (sym c.kind_of.ensures ∙ c.in-Row.is)
+    (sym (c.past_limit.ensures.value (unfinished_of c.self.inside.rows)) ∙ c.if-past_limit.false) (sym (c.too_long.ensures (unfinished_of c.self.inside.rows)) ∙ c.if-too_long.false)
+    c.in_err-take_row-in-Row.ensures.fault)
+
+-- what is to be shown of the fields after the line
+Taken : List (List ℕ) → List ℕ → Inside → Type 0
+Taken before line parser = StandsForLines format_limits (parsed_by (record (seen parser.head (unfinished_of parser.rows)) { lines = parser.head.lines + 1 }) parser.rows) (before ++ line ∷ [])
+
+pub returns-clause-stands : goal.returns-clause-stands
+unfolding Taken
+returns-clause-stands c = λ before st.
+    let line = c.args.line.now in
+    let head = c.self.inside.head in
+    let rows = c.self.inside.rows in
+    let u = unfinished_of rows in
+    let b = known c.self.inside c.args.self.now before c.self.view_is c.self.invariant c.requires st in
+    let few : is_past_limit format_limits (seen head u) line ≡ false = sym (c.past_limit.ensures.value u) ∙ c.if-past_limit.false in
+    let short : is_too_long format_limits (seen head u) line ≡ false = sym (c.too_long.ensures u) ∙ c.if-too_long.false in
+    elim c.match-kind_of.branch [
+      | in-Empty w ↦ subst (Taken before line) (sym w.self-inside-is)
+          (empty_taken format_limits before line head (λ v. record (seen head v) { lines = head.lines + 1 }) rows b (sym c.kind_of.ensures ∙ w.in-Empty.is) few short (λ v. refl))
+      | in-Keyword+in_ok-take_keyword-in-Keyword w ↦ subst (Taken before line) (sym w.self-inside-is)
+          (let new = w.take_keyword.new.head in
+          let given = w.in_ok-take_keyword-in-Keyword.ensures in
+          keyword_taken format_limits before line head (λ v. record (seen new v) { lines = new.lines + 1 }) rows w.take_keyword.new.rows b (sym c.kind_of.ensures ∙ w.in-Keyword.is) few short given.faultless
+          (λ v. ap (λ (x : Header). record x { lines = new.lines + 1; unfinished = v }) (given.head u) ∙ ap (λ (n : ℕ). record (with_keyword format_limits (seen head u) line) { lines = n + 1; unfinished = v }) given.lines)
+          given.rows)
+      | in-Row+in_ok-take_row-in-Row w ↦ subst (Taken before line) (sym w.self-inside-is)
+          (let new = w.take_row.new.head in
+          let given = w.in_ok-take_row-in-Row.ensures in
+          row_taken format_limits before line head (λ v. record (seen new v) { lines = new.lines + 1 }) rows w.take_row.new.rows b (sym c.kind_of.ensures ∙ w.in-Row.is) few short given.rows
+          (λ v. ap (λ (x : Header). record x { lines = new.lines + 1; unfinished = v }) (given.head u) ∙ ap (λ (n : ℕ). record (with_row_code (seen head u) (row_code line)) { lines = n + 1; unfinished = v }) given.lines))
+    ]

@@ -1,0 +1,42 @@
+-- The three lists of a file, as given by its rows.
+use Rattle.std.specs.Prelude.{ℕ, Bool, List, [], ◌==◌, take, drop, map, filter_map, if◌then◌else◌, Option, Some, None, codes}
+use Rattle.std.specs.List.{list_any}
+use Rattle.cube.specs.declared.symbol.Symbol.{Symbol}
+use Rattle.cube.specs.declared.symbol.Symbol.TheVariants.{Dash, Zero, One}
+use Rattle.cube.specs.Cube.{Cube}
+use Rattle.cube.specs.Size.{Size}
+use Rattle.pla.specs.declared.fault.FileType.{FileType}
+use Rattle.pla.specs.declared.fault.FileType.TheVariants.{Fd, Fr, Fdr}
+use Rattle.pla.specs.declared.rows.Part.{Part}
+use Rattle.pla.specs.declared.rows.Part.TheVariants.{On, DontCare, Off}
+use Rattle.pla.specs.Symbols.{is_byte_of, rows}
+
+-- the symbols that put an output into a list, under the type
+abbrev pub part_symbols : FileType → Part → List ℕ
+part_symbols _ On = codes "14"
+part_symbols Fd DontCare = codes "-2"
+part_symbols Fdr DontCare = codes "-2"
+part_symbols Fr Off = codes "0"
+part_symbols Fdr Off = codes "0"
+part_symbols _ _ = []
+
+-- what a symbol asks of an input: 2 means -
+abbrev pub input_symbol : ℕ → Symbol
+input_symbol b = if b == 48 then Zero else if b == 49 then One else Dash
+
+-- the cube of these inputs and outputs, where it has an output
+abbrev pub cube_by : List Symbol → List Bool → Option Cube
+cube_by symbols outputs = if list_any (λ out. out) outputs then Some (record { symbols = symbols; outputs = outputs }) else None
+
+-- a row's cube in a list: its inputs, and the outputs that have one of the list's symbols
+abbrev pub given_cube : ℕ → List ℕ → List ℕ → Option Cube
+given_cube n letters row = cube_by (map input_symbol (take n row)) (map (is_byte_of letters) (drop n row))
+
+-- the cubes of whole rows in a list
+abbrev pub cubes_of_rows : FileType → Part → ℕ → List (List ℕ) → List Cube
+cubes_of_rows type part n whole = filter_map (given_cube n (part_symbols type part)) whole
+
+-- a list, as the symbols give it: nothing while the size isn't given
+abbrev pub given_list : FileType → Part → Option Size → List ℕ → List Cube
+given_list type part None symbols = []
+given_list type part (Some size) symbols = cubes_of_rows type part size.inputs (rows size symbols)

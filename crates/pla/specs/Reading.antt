@@ -1,0 +1,61 @@
+-- Rows, symbol by symbol.
+use Rattle.std.specs.Prelude.{◌≡◌, ⊤, ℕ, List, [], ◌∷◌, ◌++◌, length, ◌==◌, if◌then◌else◌, Option, Some, None, option_to_list}
+use Rattle.cube.specs.Cube.{Cube}
+use Rattle.cube.specs.Size.{Size}
+use Rattle.pla.specs.declared.fault.FileType.{FileType}
+use Rattle.pla.specs.declared.fault.LineError.{LineError}
+use Rattle.pla.specs.declared.fault.LineError.TheVariants.{Memory, Fault}
+use Rattle.pla.specs.declared.fault.ReadKind.TheVariants.{BadSymbol}
+use Rattle.pla.specs.declared.rows.Part.TheVariants.{On, DontCare, Off}
+use Rattle.pla.specs.Lines.{is_row_blank}
+use Rattle.pla.specs.Symbols.{is_symbol_at, width, unfinished_row}
+use Rattle.pla.specs.Lists.{part_symbols, given_cube, given_list}
+
+-- the symbols since the last whole row, and the lists of the whole rows
+pub record RowsRead : Type 0 where
+  pub size : Size
+  pub pending : List ℕ
+  pub on : List Cube
+  pub dc : List Cube
+  pub off : List Cube
+
+-- what symbols give
+abbrev pub rows_of : FileType → Size → List ℕ → RowsRead
+rows_of type size symbols = record {
+  size = size;
+  pending = unfinished_row (Some size) symbols;
+  on = given_list type On (Some size) symbols;
+  dc = given_list type DontCare (Some size) symbols;
+  off = given_list type Off (Some size) symbols;
+}
+
+-- one more row, which the pending symbols are
+abbrev pub with_row : FileType → RowsRead → List ℕ → RowsRead
+with_row type r row = record {
+  size = r.size;
+  pending = [];
+  on = r.on ++ option_to_list (given_cube r.size.inputs (part_symbols type On) row);
+  dc = r.dc ++ option_to_list (given_cube r.size.inputs (part_symbols type DontCare) row);
+  off = r.off ++ option_to_list (given_cube r.size.inputs (part_symbols type Off) row);
+}
+
+-- one more symbol
+abbrev pub with_symbol : FileType → RowsRead → ℕ → RowsRead
+with_symbol type r b = let pending = r.pending ++ b ∷ [] in
+    if length pending == width r.size then with_row type r pending else record r { pending = pending }
+
+-- more symbols, unless one isn't of its place
+abbrev pub read_symbols : FileType → RowsRead → List ℕ → Option RowsRead
+read_symbols type r [] = Some r
+read_symbols type r (b ∷ bytes) = if is_symbol_at r.size.inputs (length r.pending) b then read_symbols type (with_symbol type r b) bytes else None
+
+-- the symbols of a row line's code
+abbrev pub read_code : FileType → RowsRead → List ℕ → Option RowsRead
+read_code type r [] = Some r
+read_code type r (b ∷ bytes) = if is_row_blank b then read_code type r bytes
+    else if is_symbol_at r.size.inputs (length r.pending) b then read_code type (with_symbol type r b) bytes else None
+
+-- the code was refused for want of memory, or a byte isn't a symbol of its place
+abbrev pub IsBadCode : FileType → RowsRead → List ℕ → LineError → Type 0
+IsBadCode type r code Memory = ⊤
+IsBadCode type r code (Fault kind) = (kind ≡ BadSymbol) × (read_code type r code ≡ None)

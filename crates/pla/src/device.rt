@@ -1,0 +1,61 @@
+//! What a reader reads from and a writer writes to.
+ghost use Rattle.std.specs.Prelude.{◌≡◌, ℕ, List, Option, ◌≤◌, ◌<◌, length, IfOk};
+ghost use Rattle.std.specs.Io.KnownBytes.{Keeps, ReadConsumes, WriteAppends};
+ghost use Rattle.pla.specs.Device.{CountsFailure};
+
+/// A read, a write or a flush that failed. It delivered and took nothing.
+#[derive(Clone, Copy, Debug, PartialEq, Eq)]
+pub struct Broken;
+
+/// Where bytes come from. A contract sees the bytes that are left, where the device tells them, and
+/// how many reads failed.
+pub trait Input {
+    /// The bytes that reads will deliver from here on, where the device tells them. A device tells
+    /// them throughout or not at all.
+    ghost left: { Self → Option (List ℕ) };
+
+    /// How many reads failed, up to the last value of a u64, at which it stays.
+    ghost failures: { Self → ℕ };
+
+    /// Puts the next bytes at the front of the buffer, and answers how many. None for a buffer with
+    /// room is the end.
+    ///
+    /// # Errors
+    ///
+    /// `Broken` where the device fails; nothing was delivered then.
+    fn read(&mut self, buffer: &mut [u8]) -> Result<usize, Broken>
+        ensures bound { IfOk result (λ n. n ≤ length buffer.new) }
+        ensures bytes { ReadConsumes (left self.old) (left self.new) result buffer.new }
+        ensures count { CountsFailure (failures self.old) (failures self.new) result };
+}
+
+/// Where bytes go. A contract sees the bytes that were taken, where the device tells them, and how
+/// many writes and flushes failed.
+pub trait Output {
+    /// The bytes that were taken so far, where the device tells them. A device tells them throughout
+    /// or not at all.
+    ghost taken: { Self → Option (List ℕ) };
+
+    /// How many writes and flushes failed, up to the last value of a u64, at which it stays.
+    ghost failures: { Self → ℕ };
+
+    /// Takes bytes from the front, and answers how many: at least one, where there is one.
+    ///
+    /// # Errors
+    ///
+    /// `Broken` where the device fails or takes nothing; nothing was taken then.
+    fn write(&mut self, bytes: &[u8]) -> Result<usize, Broken>
+        ensures bound { IfOk result (λ n. n ≤ length bytes.now) }
+        ensures some { IfOk result (λ n. 0 < length bytes.now → 0 < n) }
+        ensures bytes { WriteAppends (taken self.old) (taken self.new) result bytes.now }
+        ensures count { CountsFailure (failures self.old) (failures self.new) result };
+
+    /// Asks for what was taken to be passed on.
+    ///
+    /// # Errors
+    ///
+    /// `Broken` where the device fails; what was taken stays taken.
+    fn flush(&mut self) -> Result<(), Broken>
+        ensures bytes { Keeps (taken self.old) (taken self.new) }
+        ensures count { CountsFailure (failures self.old) (failures self.new) result };
+}

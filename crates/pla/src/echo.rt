@@ -1,0 +1,86 @@
+//! The echo of a line: what of it is passed on.
+ghost use Rattle.std.specs.Prelude.{◌≡◌, ◌++◌, ◌∷◌, [], if◌then◌else◌, codes};
+ghost use Rattle.pla.specs.Device.{TellsFailure, Writes};
+ghost use Rattle.pla.specs.Lines.{code, comment};
+ghost use Rattle.pla.specs.Keywords.{is_unknown as is_unknown_line, is_one_of, settings, endings, refused_keywords};
+ghost use Rattle.pla.specs.Echoes.{echo_of, kept_comment};
+
+use crate::device::Output;
+use crate::fault::Echo;
+use crate::line::{LineKind, keyword_code_of, keyword_of, kind_of, row_code_of};
+use crate::writing::{WriteFault, then, write_bytes};
+
+/// What stands before the comment.
+fn code_of(line: &[u8]) -> &[u8]
+    ensures { result.now ≡ code line.now }
+{
+    match kind_of(line) {
+        LineKind::Empty => line,
+        LineKind::Keyword => keyword_code_of(line),
+        LineKind::Row => row_code_of(line),
+    }
+}
+
+/// The comment, from its `#` to the line's end: empty where the line has none.
+fn comment_of(line: &[u8]) -> &[u8]
+    ensures { result.now ≡ comment line.now }
+{
+    let end = code_of(line).len();
+    &line[end.min(line.len())..]
+}
+
+/// Whether the line's keyword means nothing here.
+fn is_unknown(line: &[u8]) -> bool
+    ensures { result ≡ is_unknown_line line.now }
+{
+    let keyword = keyword_of(line);
+    !(keyword.is_empty() || is_known(keyword))
+}
+
+/// Whether the keyword is one of this format or one that it refuses.
+fn is_known(keyword: &[u8]) -> bool
+    ensures { result ≡ is_one_of (settings ++ endings ++ refused_keywords ++ codes ".p" ∷ []) keyword.now }
+{
+    keyword == b".i".as_slice()
+        || keyword == b".o".as_slice()
+        || keyword == b".ilb".as_slice()
+        || keyword == b".ob".as_slice()
+        || keyword == b".type".as_slice()
+        || keyword == b".e".as_slice()
+        || keyword == b".end".as_slice()
+        || keyword == b".mv".as_slice()
+        || keyword == b".label".as_slice()
+        || keyword == b".phase".as_slice()
+        || keyword == b".pair".as_slice()
+        || keyword == b".symbolic".as_slice()
+        || keyword == b".symbolic-output".as_slice()
+        || keyword == b".kiss".as_slice()
+        || keyword == b".p".as_slice()
+}
+
+/// What is passed on of a line, without a line feed.
+fn echo_text(echo: Echo, line: &[u8]) -> &[u8]
+    ensures { result.now ≡ (if is_unknown_line line.now then line.now else kept_comment echo line.now) }
+{
+    if is_unknown(line) {
+        return line;
+    }
+    match echo {
+        Echo::Keep => comment_of(line),
+        Echo::Eat => &[],
+    }
+}
+
+/// Writes the echo of a line: the whole line where its keyword is unknown, otherwise its comment
+/// where it has one and comments are kept, with a line feed. Takes no memory.
+pub fn write_echo<W: Output>(echo: Echo, line: &[u8], output: &mut W) -> Result<(), WriteFault>
+    ensures bytes { Writes (W.taken output.old) (W.taken output.new) result (echo_of echo line.now) }
+    ensures count { TellsFailure (W.failures output.old) (W.failures output.new) result }
+{
+    let text = echo_text(echo, line);
+    if text.is_empty() {
+        return Ok(());
+    }
+    let done = write_bytes(output, text);
+    then(output, done, b"\n")
+}

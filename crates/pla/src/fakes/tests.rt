@@ -1,0 +1,41 @@
+//! Reads and writes of the devices for tests.
+use crate::{Broken, Ending, Given, Input, Output, Taken};
+use std::test::Fail;
+
+#[test]
+fn delivers_in_pieces(rt: HostRuntime) -> Result<(), Fail> {
+    let bytes = Vec::from_slice(rt.alloc(), b"abcde")?;
+    let mut given = Given::new(bytes, 2, Ending::End);
+    let mut buffer = [0; 3];
+    assert_eq!(rt; given.read(&mut buffer)?, 2);
+    assert_eq!(rt; buffer.as_slice(), b"ab\0".as_slice());
+    assert_eq!(rt; given.read(&mut buffer)?, 2);
+    assert_eq!(rt; given.read(&mut buffer)?, 1);
+    assert_eq!(rt; buffer.as_slice(), b"ed\0".as_slice());
+    assert_eq!(rt; given.read(&mut buffer)?, 0);
+    assert_eq!(rt; given.delivered(), 5);
+    Ok(())
+}
+
+#[test]
+fn fails_behind_its_bytes(rt: HostRuntime) -> Result<(), Fail> {
+    let bytes = Vec::from_slice(rt.alloc(), b"a")?;
+    let mut given = Given::new(bytes, 8, Ending::Failed);
+    let mut buffer = [0; 3];
+    assert_eq!(rt; given.read(&mut buffer)?, 1);
+    assert_eq!(rt; given.read(&mut buffer), Err(Broken));
+    assert_eq!(rt; given.delivered(), 1);
+    Ok(())
+}
+
+#[test]
+fn takes_up_to_its_room(rt: HostRuntime) -> Result<(), Fail> {
+    let mut taken = Taken::new(rt.alloc(), 5, 3, true)?;
+    assert_eq!(rt; taken.write(b"abcd")?, 3);
+    assert_eq!(rt; taken.write(b"efgh")?, 2);
+    assert_eq!(rt; taken.write(b"i"), Err(Broken));
+    assert_eq!(rt; taken.write(b"")?, 0);
+    assert_eq!(rt; taken.flush(), Err(Broken));
+    assert_eq!(rt; taken.bytes(), b"abcef".as_slice());
+    Ok(())
+}

@@ -1,0 +1,308 @@
+//! What the lines so far have given, and the tests of a line under it.
+ghost use Rattle.std.specs.Prelude.{◌≡◌, ℕ, ◌+◌, ◌<◌, ◌≤◌, ◌^◌, [], IfOk, OnOk, OnErr, Some, None, slice_index_or, drop, length, true, false};
+ghost use Rattle.std.specs.Option.{ForSome};
+ghost use Rattle.cube.specs.Limits.{format_limits};
+ghost use Rattle.pla.specs.Keywords.{texts, is_one_of, endings, type_named, type_by};
+ghost use Rattle.pla.specs.Fault.{differs_count};
+ghost use Rattle.pla.specs.Names.{name_bytes};
+
+use crate::fault::{FileType, ReadKind};
+use crate::line::number_in;
+use cube::Shape;
+use cube::limits::{INPUTS, LINE_BYTES, LINES, OUTPUTS};
+use std::alloc::{AllocError, Global};
+
+/// What lines without a fault have given.
+#[derive(Drop)]
+pub struct Head {
+    pub lines: u64,
+    pub inputs: Option<usize>,
+    pub outputs: Option<usize>,
+    pub input_names: Option<Vec<Vec<u8>>>,
+    pub output_names: Option<Vec<Vec<u8>>>,
+    pub file_type: Option<FileType>,
+    pub has_symbols: bool,
+    pub ended: bool,
+    ghost inputs_fit: { ForSome inputs (λ n. n ≤ 1024) },
+    ghost outputs_fit: { ForSome outputs (λ m. (1 ≤ m) × (m ≤ 1024)) },
+    ghost lines_fit: { lines ≤ 16777216 },
+}
+
+/// The keyword of a keyword line's words.
+pub fn first<'a>(words: &[&'a [u8]]) -> &'a [u8]
+    ensures { result.now ≡ slice_index_or (texts words.now) 0 [] }
+{
+    match words.first() {
+        Some(word) => *word,
+        None => &[],
+    }
+}
+
+/// The words after the keyword.
+fn rest<'a, 'b>(words: &'b [&'a [u8]]) -> &'b [&'a [u8]]
+    ensures { texts result.now ≡ drop 1 (texts words.now) }
+{
+    if words.is_empty() { words } else { &words[1..] }
+}
+
+fn is_other(count: usize, wanted: Option<usize>) -> bool
+    ensures { result ≡ differs_count count wanted }
+{
+    match wanted {
+        Some(n) => count != n,
+        None => false,
+    }
+}
+
+/// The type of this name.
+fn named_type(word: &[u8]) -> Option<FileType>
+    ensures { result ≡ type_named word.now }
+{
+    if word == b"f".as_slice() {
+        Some(FileType::F)
+    } else if word == b"fd".as_slice() {
+        Some(FileType::Fd)
+    } else if word == b"fr".as_slice() {
+        Some(FileType::Fr)
+    } else if word == b"fdr".as_slice() {
+        Some(FileType::Fdr)
+    } else {
+        None
+    }
+}
+
+/// The type that one word names.
+fn type_of(words: &[&[u8]]) -> Option<FileType>
+    ensures { result ≡ type_by (texts words.now) }
+{
+    let [word] = words else {
+        return None;
+    };
+    named_type(word)
+}
+
+/// A copy of the words.
+fn names_of(alloc: Global, words: &[&[u8]]) -> Result<Vec<Vec<u8>>, AllocError>
+    ensures { IfOk result (λ names. name_bytes names.items ≡ texts words.now) }
+{
+    let mut names = Vec::with_capacity(alloc, words.len())?;
+    for word in words {
+        names.push(Vec::from_slice(alloc, word)?)?;
+    }
+    Ok(names)
+}
+
+/// Whether the description ends with this keyword.
+pub fn is_end(keyword: &[u8]) -> bool
+    ensures { result ≡ is_one_of endings keyword.now }
+{
+    keyword == b".e".as_slice() || keyword == b".end".as_slice()
+}
+
+impl Head {
+    ghost use Rattle.pla.specs.Lines.{keyword as keyword_on, arguments as arguments_on, keyword_words};
+    ghost use Rattle.pla.specs.Fault.{is_past_limit, is_too_long, is_refused, is_inside_row, is_repeated, is_bad_number, is_name_too_early, is_wrong_count, is_type_too_late, is_bad_type};
+    ghost use Rattle.pla.specs.Header.{header_of, size_in, type_in};
+    ghost use Rattle.pla.specs.HeadView.{seen, keyword_fault, with_keyword};
+
+    /// No line yet.
+    pub fn new() -> Head
+        ensures { seen result 0 ≡ header_of format_limits [] }
+    {
+        Head {
+            lines: 0,
+            inputs: None,
+            outputs: None,
+            input_names: None,
+            output_names: None,
+            file_type: None,
+            has_symbols: false,
+            ended: false,
+        }
+    }
+
+    /// The shape, once both numbers are given.
+    pub fn shape(&self) -> Option<Shape>
+        ensures { (unfinished : ℕ) → result ≡ size_in (seen self.now unfinished) }
+    {
+        match (self.inputs, self.outputs) {
+            (Some(inputs), Some(outputs)) => Shape::new(inputs, outputs),
+            _ => None,
+        }
+    }
+
+    /// The type of the rows: fd where none is given.
+    pub fn rows_type(&self) -> FileType
+        ensures { (unfinished : ℕ) → result ≡ type_in (seen self.now unfinished) }
+    {
+        self.file_type.unwrap_or(FileType::Fd)
+    }
+
+    #[tactic(auto, unfolding(crate::specs::Fault::is_past_limit))]
+    pub fn past_limit(&self, line: &[u8]) -> bool
+        ensures value { (unfinished : ℕ) → result ≡ is_past_limit format_limits (seen self.now unfinished) line.now }
+        ensures room { result ≡ false → self.now.lines < 16777216 }
+    {
+        self.lines >= LINES
+    }
+
+    #[tactic(auto, unfolding(crate::specs::Fault::is_too_long))]
+    pub fn too_long(&self, line: &[u8]) -> bool
+        ensures { (unfinished : ℕ) → result ≡ is_too_long format_limits (seen self.now unfinished) line.now }
+    {
+        line.len() > LINE_BYTES
+    }
+
+    #[tactic(auto, unfolding(crate::specs::Fault::is_refused))]
+    fn refused(&self, unfinished: usize, line: &[u8], keyword: &[u8]) -> bool
+        requires { keyword.now ≡ keyword_on line.now }
+        ensures { result ≡ is_refused (seen self.now unfinished) line.now }
+    {
+        keyword == b".mv".as_slice()
+            || keyword == b".label".as_slice()
+            || keyword == b".phase".as_slice()
+            || keyword == b".pair".as_slice()
+            || keyword == b".symbolic".as_slice()
+            || keyword == b".symbolic-output".as_slice()
+            || keyword == b".kiss".as_slice()
+    }
+
+    #[tactic(auto, unfolding(crate::specs::Fault::is_inside_row))]
+    fn inside_row(&self, unfinished: usize, line: &[u8], keyword: &[u8]) -> bool
+        requires { keyword.now ≡ keyword_on line.now }
+        ensures { result ≡ is_inside_row (seen self.now unfinished) line.now }
+    {
+        !keyword.is_empty() && !is_end(keyword) && unfinished > 0
+    }
+
+    #[tactic(auto, unfolding(crate::specs::Fault::is_repeated))]
+    fn repeated(&self, unfinished: usize, line: &[u8], keyword: &[u8]) -> bool
+        requires { keyword.now ≡ keyword_on line.now }
+        ensures { result ≡ is_repeated (seen self.now unfinished) line.now }
+    {
+        keyword == b".i".as_slice() && self.inputs.is_some()
+            || keyword == b".o".as_slice() && self.outputs.is_some()
+            || keyword == b".ilb".as_slice() && self.input_names.is_some()
+            || keyword == b".ob".as_slice() && self.output_names.is_some()
+            || keyword == b".type".as_slice() && self.file_type.is_some()
+    }
+
+    #[tactic(auto, unfolding(crate::specs::Fault::is_bad_number))]
+    fn bad_number(
+        &self,
+        unfinished: usize,
+        line: &[u8],
+        keyword: &[u8],
+        arguments: &[&[u8]],
+    ) -> bool
+        requires keyword { keyword.now ≡ keyword_on line.now }
+        requires arguments { texts arguments.now ≡ arguments_on line.now }
+        ensures { result ≡ is_bad_number format_limits (seen self.now unfinished) line.now }
+    {
+        keyword == b".i".as_slice() && number_in(0, INPUTS, arguments).is_none()
+            || keyword == b".o".as_slice() && number_in(1, OUTPUTS, arguments).is_none()
+    }
+
+    #[tactic(auto, unfolding(crate::specs::Fault::is_name_too_early))]
+    fn name_too_early(&self, unfinished: usize, line: &[u8], keyword: &[u8]) -> bool
+        requires { keyword.now ≡ keyword_on line.now }
+        ensures { result ≡ is_name_too_early (seen self.now unfinished) line.now }
+    {
+        (keyword == b".ilb".as_slice() || keyword == b".ob".as_slice())
+            && (self.inputs.is_none() || self.outputs.is_none())
+    }
+
+    #[tactic(auto, unfolding(crate::specs::Fault::is_wrong_count))]
+    fn wrong_count(
+        &self,
+        unfinished: usize,
+        line: &[u8],
+        keyword: &[u8],
+        arguments: &[&[u8]],
+    ) -> bool
+        requires keyword { keyword.now ≡ keyword_on line.now }
+        requires arguments { texts arguments.now ≡ arguments_on line.now }
+        ensures { result ≡ is_wrong_count (seen self.now unfinished) line.now }
+    {
+        let count = arguments.len();
+        keyword == b".ilb".as_slice() && is_other(count, self.inputs)
+            || keyword == b".ob".as_slice() && is_other(count, self.outputs)
+    }
+
+    #[tactic(auto, unfolding(crate::specs::Fault::is_type_too_late))]
+    fn type_too_late(&self, unfinished: usize, line: &[u8], keyword: &[u8]) -> bool
+        requires { keyword.now ≡ keyword_on line.now }
+        ensures { result ≡ is_type_too_late (seen self.now unfinished) line.now }
+    {
+        keyword == b".type".as_slice() && self.has_symbols
+    }
+
+    #[tactic(auto, unfolding(crate::specs::Fault::is_bad_type))]
+    fn bad_type(&self, unfinished: usize, line: &[u8], keyword: &[u8], arguments: &[&[u8]]) -> bool
+        requires keyword { keyword.now ≡ keyword_on line.now }
+        requires arguments { texts arguments.now ≡ arguments_on line.now }
+        ensures { result ≡ is_bad_type (seen self.now unfinished) line.now }
+    {
+        keyword == b".type".as_slice() && type_of(arguments).is_none()
+    }
+
+    /// The first kind that stands on a keyword line of these words.
+    #[tactic(auto, unfolding(crate::specs::HeadView::keyword_fault))]
+    pub fn keyword_fault(&self, unfinished: usize, line: &[u8], words: &[&[u8]]) -> Option<ReadKind>
+        requires { texts words.now ≡ keyword_words line.now }
+        ensures { result ≡ keyword_fault format_limits (seen self.now unfinished) line.now }
+    {
+        let keyword = first(words);
+        let arguments = rest(words);
+        if self.refused(unfinished, line, keyword) {
+            return Some(ReadKind::RefusedKeyword);
+        }
+        if self.inside_row(unfinished, line, keyword) {
+            return Some(ReadKind::KeywordInsideRow);
+        }
+        if self.repeated(unfinished, line, keyword) {
+            return Some(ReadKind::KeywordRepeated);
+        }
+        if self.bad_number(unfinished, line, keyword, arguments) {
+            return Some(ReadKind::BadNumber);
+        }
+        if self.name_too_early(unfinished, line, keyword) {
+            return Some(ReadKind::NamesBeforeShape);
+        }
+        if self.wrong_count(unfinished, line, keyword, arguments) {
+            return Some(ReadKind::WrongNumberOfNames);
+        }
+        if self.type_too_late(unfinished, line, keyword) {
+            return Some(ReadKind::TypeAfterRow);
+        }
+        if self.bad_type(unfinished, line, keyword, arguments) {
+            return Some(ReadKind::BadType);
+        }
+        None
+    }
+
+    /// Takes what a keyword line of these words gives.
+    pub fn set(&mut self, alloc: Global, line: &[u8], words: &[&[u8]]) -> Result<(), AllocError>
+        requires { texts words.now ≡ keyword_words line.now }
+        ensures ok { OnOk result ((unfinished : ℕ) → seen self.new unfinished ≡ with_keyword format_limits (seen self.old unfinished) line.now) }
+        ensures err { OnErr result ((unfinished : ℕ) → seen self.new unfinished ≡ seen self.old unfinished) }
+        ensures lines { self.new.lines ≡ self.old.lines }
+    {
+        let keyword = first(words);
+        let arguments = rest(words);
+        if keyword == b".i".as_slice() {
+            self.inputs = number_in(0, INPUTS, arguments);
+        } else if keyword == b".o".as_slice() {
+            self.outputs = number_in(1, OUTPUTS, arguments);
+        } else if keyword == b".ilb".as_slice() {
+            self.input_names = Some(names_of(alloc, arguments)?);
+        } else if keyword == b".ob".as_slice() {
+            self.output_names = Some(names_of(alloc, arguments)?);
+        } else if keyword == b".type".as_slice() {
+            self.file_type = type_of(arguments);
+        } else {
+            self.ended = is_end(keyword);
+        }
+        Ok(())
+    }
+}

@@ -1,0 +1,127 @@
+//! What a line is and holds.
+ghost use Rattle.std.specs.Prelude.{◌≡◌, [], slice_index_or, ◌++◌, ◌<◌, ◌^◌, IfOk, map, drop, find, position, ◌==◌, not, filter, OnErr};
+ghost use Rattle.std.specs.List.{list_any};
+ghost use Rattle.pla.specs.Lines.{is_blank, is_row_blank, kind, words, is_empty, row_code, keyword_code, keyword_words, keyword};
+ghost use Rattle.pla.specs.Keywords.{texts, number_within};
+
+use std::alloc::{AllocError, Global};
+
+/// What a line is, by its first byte that is no blank.
+#[derive(Clone, Copy, Debug, PartialEq, Eq)]
+pub enum LineKind {
+    Empty,
+    Keyword,
+    Row,
+}
+
+pub fn blank(b: u8) -> bool
+    ensures { result ≡ is_blank b }
+{
+    matches!(b, b' ' | b'\t' | 11 | 12 | b'\r')
+}
+
+pub fn row_blank(b: u8) -> bool
+    ensures { result ≡ is_row_blank b }
+{
+    blank(b) || b == b'|'
+}
+
+pub fn first_not_blank(line: &[u8]) -> Option<u8>
+    ensures { result ≡ find (λ b. not (is_blank b)) line.now }
+{
+    line.iter().copied().find(|b| !blank(*b))
+}
+
+pub fn kind_of(line: &[u8]) -> LineKind
+    ensures { result ≡ kind line.now }
+{
+    match first_not_blank(line) {
+        None => LineKind::Empty,
+        Some(b'.') => LineKind::Keyword,
+        Some(_) => LineKind::Row,
+    }
+}
+
+pub fn words_of(alloc: Global, line: &[u8]) -> Result<Vec<&[u8]>, AllocError>
+    ensures { IfOk result (λ v. texts v.items ≡ words line.now) }
+{
+    line.split(|b| blank(*b))
+        .filter(|word| !word.is_empty())
+        .collect(alloc)
+}
+
+/// Whether a row line's code has a symbol.
+pub fn has_symbol(code: &[u8]) -> bool
+    ensures { result ≡ list_any (λ b. not (is_row_blank b)) code.now }
+{
+    code.iter().any(|b| !row_blank(*b))
+}
+
+pub fn number_in(low: usize, high: usize, words: &[&[u8]]) -> Option<usize>
+    requires { high < 2 ^ 32 }
+    ensures { result ≡ number_within low high (texts words.now) }
+{
+    let [word] = words else {
+        return None;
+    };
+    let mut number: usize = 0;
+    for b in *word {
+        if !b.is_ascii_digit() {
+            return None;
+        }
+        number = number
+            .saturating_mul(10)
+            .saturating_add((*b - b'0') as usize);
+    }
+    if low <= number && number <= high {
+        Some(number)
+    } else {
+        None
+    }
+}
+
+fn comment_at(line: &[u8]) -> Option<usize>
+    ensures { result ≡ position (λ b. b == 35) line.now }
+{
+    line.iter().position(|b| *b == b'#')
+}
+
+pub fn row_code_of(line: &[u8]) -> &[u8]
+    ensures { result.now ≡ row_code line.now }
+{
+    match comment_at(line) {
+        Some(end) if end <= line.len() => &line[..end],
+        _ => line,
+    }
+}
+
+pub fn keyword_code_of(line: &[u8]) -> &[u8]
+    ensures { result.now ≡ keyword_code line.now }
+{
+    for (i, b) in line.iter().enumerate() {
+        if i > 0 && *b == b'#' && blank(line[i - 1]) {
+            return &line[..i];
+        }
+    }
+    line
+}
+
+/// The first word, or nothing where there is none.
+fn first_word(code: &[u8]) -> &[u8]
+    ensures { result.now ≡ slice_index_or (words code.now) 0 [] }
+{
+    match code.split(|b| blank(*b)).find(|word| !word.is_empty()) {
+        Some(word) => word,
+        None => &[],
+    }
+}
+
+/// The keyword with its dot: empty where the line has none.
+pub fn keyword_of(line: &[u8]) -> &[u8]
+    ensures { result.now ≡ keyword line.now }
+{
+    match kind_of(line) {
+        LineKind::Keyword => first_word(keyword_code_of(line)),
+        LineKind::Empty | LineKind::Row => &[],
+    }
+}

@@ -1,0 +1,173 @@
+//! A file, line by line.
+ghost use Rattle.std.specs.Prelude.{◌≡◌, ◌+◌, ◌<◌, ◌≤◌, ◌++◌, ◌∷◌, [], List, ℕ, Some, None, false, option_map, IfErr, MatchResult, OnOk};
+ghost use Rattle.std.specs.Option.{option_or};
+ghost use Rattle.cube.specs.Limits.{format_limits};
+ghost use Rattle.pla.specs.declared.line.LineKind.TheVariants.{Keyword};
+ghost use Rattle.pla.specs.Lines.{kind, row_code};
+ghost use Rattle.pla.specs.State.{StandsForLines, Refuses};
+ghost use Rattle.pla.specs.Header.{header_of, type_in};
+ghost use Rattle.pla.specs.HeadView.{seen, keyword_fault, with_keyword};
+ghost use Rattle.pla.specs.Reading.{rows_of};
+ghost use Rattle.pla.specs.Parsing.{IsTied, unfinished_of, opened, with_row_code, read_row, IsBadRow, IsKeywordFault};
+ghost use Rattle.pla.specs.Fault.{end_kind};
+ghost use Rattle.pla.specs.Description.{description_of};
+
+use crate::description::Pla;
+use crate::fault::{FileType, LineError, ReadKind};
+use crate::header::Head;
+use crate::line::{LineKind, has_symbol, keyword_code_of, kind_of, row_code_of, words_of};
+use crate::rows::Rows;
+use cube::Shape;
+use std::alloc::Global;
+use std::marker::Model;
+
+/// What the lines so far have given: the settings of keyword lines, and the cubes of rows.
+#[derive(Drop)]
+pub struct Parser {
+    head: Head,
+    rows: Option<Rows>,
+    alloc: Global,
+}
+
+impl Model for Parser {
+    ghost use Rattle.pla.specs.State.{Parsed};
+
+    ghost Value = { Parsed };
+
+    ghost use Rattle.pla.specs.HeadView.{seen};
+    ghost use Rattle.pla.specs.Parsing.{IsTied, unfinished_of, parsed_by};
+
+    ghost view = { λ p. parsed_by (seen p.head (unfinished_of p.rows)) p.rows };
+
+    ghost invariant = { λ p. IsTied (seen p.head 0) p.rows };
+}
+
+/// Takes a keyword line.
+fn take_keyword(
+    head: &mut Head,
+    rows: &mut Option<Rows>,
+    alloc: Global,
+    line: &[u8],
+) -> Result<(), LineError>
+    requires { kind line.now ≡ Keyword }
+    ensures lines { head.new.lines ≡ head.old.lines }
+    ensures tied { IsTied (seen head.old 0) rows.old → IsTied (seen head.new 0) rows.new }
+    ensures faultless { OnOk result (keyword_fault format_limits (seen head.old (unfinished_of rows.old)) line.now ≡ None) }
+    ensures head { OnOk result ((unfinished : ℕ) → seen head.new unfinished ≡ with_keyword format_limits (seen head.old unfinished) line.now) }
+    ensures rows { OnOk result (rows.new ≡ opened rows.old (seen head.new 0)) }
+    ensures fault { IfErr result (IsKeywordFault format_limits (seen head.old (unfinished_of rows.old)) line.now) }
+{
+    let words = words_of(alloc, keyword_code_of(line))?;
+    let unfinished = unfinished_in(rows);
+    if let Some(kind) = head.keyword_fault(unfinished, line, &words) {
+        return Err(LineError::Fault(kind));
+    }
+    head.set(alloc, line, &words)?;
+    open_rows(rows, alloc, head.shape());
+    Ok(())
+}
+
+/// How many symbols stand in an unfinished row.
+fn unfinished_in(rows: &Option<Rows>) -> usize
+    ensures { result ≡ unfinished_of rows.now }
+{
+    match rows {
+        Some(rows) => rows.unfinished(),
+        None => 0,
+    }
+}
+
+/// Makes room for rows, once the shape is given.
+fn open_rows(rows: &mut Option<Rows>, alloc: Global, shape: Option<Shape>)
+    ensures { rows.new ≡ option_or rows.old (option_map (λ size. rows_of FileType.Fd size []) shape) }
+{
+    if let (None, Some(shape)) = (&rows, shape) {
+        *rows = Some(Rows::new(alloc, shape));
+    }
+}
+
+/// Takes a row line.
+fn take_row(head: &mut Head, rows: &mut Option<Rows>, line: &[u8]) -> Result<(), LineError>
+    ensures lines { head.new.lines ≡ head.old.lines }
+    ensures tied { IsTied (seen head.old 0) rows.old → IsTied (seen head.new 0) rows.new }
+    ensures head { OnOk result ((unfinished : ℕ) → seen head.new unfinished ≡ with_row_code (seen head.old unfinished) (row_code line.now)) }
+    ensures rows { OnOk result (read_row (type_in (seen head.old 0)) rows.old (row_code line.now) ≡ Some rows.new) }
+    ensures fault { IfErr result (IsBadRow (type_in (seen head.old 0)) rows.old (row_code line.now)) }
+{
+    let code = row_code_of(line);
+    let has_symbols = has_symbol(code);
+    match rows {
+        Some(rows) => rows.take(head.rows_type(), code)?,
+        None if has_symbols => return Err(LineError::Fault(ReadKind::RowBeforeShape)),
+        None => {}
+    }
+    head.has_symbols |= has_symbols;
+    Ok(())
+}
+
+impl Parser {
+    /// No line yet.
+    pub fn new(alloc: Global) -> Parser
+        ensures { StandsForLines format_limits result [] }
+    {
+        Parser {
+            head: Head::new(),
+            rows: None,
+            alloc,
+        }
+    }
+
+    /// Whether a line has ended the description.
+    pub fn is_ended(&self) -> bool
+        ensures { result ≡ self.now.header.ended }
+    {
+        self.head.ended
+    }
+
+    /// How many lines there were.
+    pub fn lines(&self) -> u64
+        ensures value { result ≡ self.now.header.lines }
+        ensures fits { result ≤ 16777216 }
+    {
+        self.head.lines
+    }
+
+    /// Takes the next line.
+    pub fn take(&mut self, line: &[u8]) -> Result<(), LineError>
+        requires { self.old.header.ended ≡ false }
+        ensures stands { (before : List (List ℕ)) → StandsForLines format_limits self.old before →
+            MatchResult result (λ _. StandsForLines format_limits self.new (before ++ line.now ∷ [])) (Refuses format_limits before line.now) }
+        ensures onward { OnOk result ((self.new.header.lines ≡ self.old.header.lines + 1) × (self.old.header.lines < 16777216)) }
+    {
+        if self.head.past_limit(line) {
+            return Err(LineError::Fault(ReadKind::TooManyLines));
+        }
+        if self.head.too_long(line) {
+            return Err(LineError::Fault(ReadKind::LineTooLong));
+        }
+        match kind_of(line) {
+            LineKind::Empty => {}
+            LineKind::Keyword => take_keyword(&mut self.head, &mut self.rows, self.alloc, line)?,
+            LineKind::Row => take_row(&mut self.head, &mut self.rows, line)?,
+        }
+        self.head.lines += 1;
+        Ok(())
+    }
+
+    /// The description, once all lines are taken.
+    pub fn finish(self) -> Result<Pla, ReadKind>
+        ensures { (lines : List (List ℕ)) → StandsForLines format_limits self lines →
+            MatchResult result
+            (λ pla. (end_kind (header_of format_limits lines) ≡ None) × (pla ≡ description_of format_limits lines))
+            (λ kind. end_kind (header_of format_limits lines) ≡ Some kind) }
+    {
+        let Parser { head, rows, .. } = self;
+        let Some(rows) = rows else {
+            return Err(ReadKind::ShapeMissing);
+        };
+        if rows.is_unfinished() {
+            return Err(ReadKind::UnfinishedRow);
+        }
+        Ok(rows.into_pla(head))
+    }
+}

@@ -1,0 +1,251 @@
+//! The printed text of a description.
+//!
+//! A text begins with the shape, the names and the output type, and counts its rows before it gives
+//! them. Each row is put together in one buffer on the stack and handed to the output in one call,
+//! so printing takes no memory, and its time grows with the symbols of the rows alone.
+ghost use Rattle.std.specs.Prelude.{◌≡◌, ◌+◌, ◌≤◌, ◌∷◌, ◌++◌, length, map, flat_map, take, sum_by, if◌then◌else◌};
+ghost use Rattle.pla.specs.Device.{Continues, CountsOn, TellsFailure, Writes};
+ghost use Rattle.pla.specs.Names.{lent_names, name_bytes};
+ghost use Rattle.pla.specs.Sets.{lists_of};
+ghost use Rattle.pla.specs.Text.{Section, elsewhere, names_text, row_text, rows_text, sections, symbol_byte, text_of, type_text};
+
+use crate::description::Pla;
+use crate::device::Output;
+use crate::out_type::OutType;
+use crate::sets::Sets;
+use crate::writing::{WriteFault, then, write_bytes};
+use cover::Cover;
+use cube::limits::{INPUTS, OUTPUTS};
+use cube::{Cube, Symbol};
+use itoa::Buffer;
+
+// The longest row: the inputs, a space, the outputs and a line feed.
+const ROW_BYTES: usize = INPUTS + 1 + OUTPUTS + 1;
+
+/// Writes the description's shape and names, and of the sets those lists that the output type names, as
+/// espresso(5) has them. Takes no memory, and calls the output once for each row.
+///
+/// # Errors
+///
+/// `WriteFault` where the output fails; it took a beginning of the text then.
+pub fn write_pla<W: Output>(
+    pla: &Pla,
+    sets: &Sets,
+    out_type: OutType,
+    out: &mut W,
+) -> Result<(), WriteFault>
+    requires { sets.now.size ≡ pla.now.size }
+    ensures bytes { Writes (W.taken out.old) (W.taken out.new) result (text_of pla.now out_type sets.now) }
+    ensures count { TellsFailure (W.failures out.old) (W.failures out.new) result }
+{
+    write_covers(pla, out_type, sets.on(), sets.dc(), sets.off(), out)
+}
+
+/// Writes what [`write_pla`] does, with lists that stand apart: an echo lends the description's own, and
+/// so holds its rows once.
+///
+/// # Errors
+///
+/// `WriteFault` where the output fails; it took a beginning of the text then.
+pub fn write_covers<W: Output>(
+    pla: &Pla,
+    out_type: OutType,
+    on: &Cover,
+    dc: &Cover,
+    off: &Cover,
+    out: &mut W,
+) -> Result<(), WriteFault>
+    requires on_size { on.now.size ≡ pla.now.size }
+    requires dc_size { dc.now.size ≡ pla.now.size }
+    requires off_size { off.now.size ≡ pla.now.size }
+    ensures bytes { Writes (W.taken out.old) (W.taken out.new) result (text_of pla.now out_type (lists_of on.now dc.now off.now)) }
+    ensures count { TellsFailure (W.failures out.old) (W.failures out.new) result }
+{
+    let shape = pla.shape();
+    let mut digits = Buffer::new();
+    let done = write_bytes(out, b".i ");
+    let done = then(out, done, digits.format(shape.inputs()).as_bytes());
+    let done = then(out, done, b"\n.o ");
+    let done = then(out, done, digits.format(shape.outputs()).as_bytes());
+    let done = then(out, done, b"\n");
+    let done = write_names(out, done, b".ilb", pla.input_names());
+    let done = write_names(out, done, b".ob", pla.output_names());
+    let done = then(out, done, type_line(out_type));
+    let done = then(out, done, b".p ");
+    let rows = row_count(out_type, on, dc, off);
+    let done = then(out, done, digits.format(rows).as_bytes());
+    let done = then(out, done, b"\n");
+    let done = write_sections(out, done, out_type, on, dc, off);
+    then(out, done, b".e\n")
+}
+
+// The line that says the type, where there is one.
+fn type_line(out_type: OutType) -> &'static [u8]
+    ensures { result.now ≡ type_text out_type }
+{
+    match out_type {
+        OutType::F => b"",
+        OutType::Fd => b".type fd\n",
+        OutType::Fr => b".type fr\n",
+        OutType::Fdr => b".type fdr\n",
+    }
+}
+
+// How many rows are printed. Three counts may pass the last value of a u64.
+fn row_count(out_type: OutType, on: &Cover, dc: &Cover, off: &Cover) -> u128
+    ensures { result ≡ sum_by (λ section. length section.cubes) (sections out_type (lists_of on.now dc.now off.now)) }
+{
+    let on = on.len() as u128;
+    let dc = dc.len() as u128;
+    let off = off.len() as u128;
+    match out_type {
+        OutType::F => on,
+        OutType::Fd => on + dc,
+        OutType::Fr => on + off,
+        OutType::Fdr => on + dc + off,
+    }
+}
+
+// The keyword with each name behind a space, where there are names.
+fn write_names<W: Output>(
+    out: &mut W,
+    done: Result<(), WriteFault>,
+    keyword: &[u8],
+    names: Option<&[Vec<u8>]>,
+) -> Result<(), WriteFault>
+    ensures bytes { Continues (W.taken out.old) done (W.taken out.new) result (names_text keyword.now (lent_names names.entry)) }
+    ensures count { CountsOn (W.failures out.old) done (W.failures out.new) result }
+{
+    match names {
+        Some(names) => {
+            let done = then(out, done, keyword);
+            let done = write_each(out, done, names);
+            then(out, done, b"\n")
+        }
+        None => done,
+    }
+}
+
+// Each name behind a space.
+fn write_each<W: Output>(
+    out: &mut W,
+    done: Result<(), WriteFault>,
+    names: &[Vec<u8>],
+) -> Result<(), WriteFault>
+    ensures bytes { Continues (W.taken out.old) done (W.taken out.new) result (flat_map (λ name. 32 ∷ name) (name_bytes names.now)) }
+    ensures count { CountsOn (W.failures out.old) done (W.failures out.new) result }
+{
+    let mut done = done;
+    for name in names {
+        done = then(out, done, b" ");
+        done = then(out, done, name);
+    }
+    done
+}
+
+// The rows of each list that the type prints.
+fn write_sections<W: Output>(
+    out: &mut W,
+    done: Result<(), WriteFault>,
+    out_type: OutType,
+    on: &Cover,
+    dc: &Cover,
+    off: &Cover,
+) -> Result<(), WriteFault>
+    ensures bytes { Continues (W.taken out.old) done (W.taken out.new) result
+        (flat_map (rows_text (elsewhere out_type)) (sections out_type (lists_of on.now dc.now off.now))) }
+    ensures count { CountsOn (W.failures out.old) done (W.failures out.new) result }
+{
+    match out_type {
+        OutType::F => write_rows(out, done, on, b'1', b'0'),
+        OutType::Fd => {
+            let done = write_rows(out, done, on, b'1', b'~');
+            write_rows(out, done, dc, b'-', b'~')
+        }
+        OutType::Fr => {
+            let done = write_rows(out, done, on, b'1', b'~');
+            write_rows(out, done, off, b'0', b'~')
+        }
+        OutType::Fdr => {
+            let done = write_rows(out, done, on, b'1', b'~');
+            let done = write_rows(out, done, dc, b'-', b'~');
+            write_rows(out, done, off, b'0', b'~')
+        }
+    }
+}
+
+// The rows of a list: `mark` for an output in the cube, `other` for any other output.
+fn write_rows<W: Output>(
+    out: &mut W,
+    done: Result<(), WriteFault>,
+    list: &Cover,
+    mark: u8,
+    other: u8,
+) -> Result<(), WriteFault>
+    ensures bytes { Continues (W.taken out.old) done (W.taken out.new) result
+        (rows_text other (record { mark = mark; cubes = list.now.cubes })) }
+    ensures count { CountsOn (W.failures out.old) done (W.failures out.new) result }
+{
+    let mut row = [0; ROW_BYTES];
+    let mut done = done;
+    for cube in list.as_slice() {
+        if done.is_err() {
+            return done;
+        }
+        let end = put_row(&mut row, cube, mark, other);
+        done = then(out, done, &row[..end]);
+    }
+    done
+}
+
+// Puts a cube's row at the front, and answers how long it is.
+fn put_row(row: &mut [u8], cube: &Cube, mark: u8, other: u8) -> usize
+    requires { length row.old ≡ ROW_BYTES }
+    ensures fits { result ≤ length row.new }
+    ensures text { take result row.new ≡ row_text mark other cube.now }
+{
+    let shape = cube.shape();
+    let inputs = shape.inputs();
+    put_inputs(row, cube);
+    row[inputs] = b' ';
+    put_outputs(row, inputs + 1, cube, mark, other);
+    let end = inputs + 1 + shape.outputs();
+    row[end] = b'\n';
+    end + 1
+}
+
+// Puts the bytes of the inputs at the front.
+fn put_inputs(row: &mut [u8], cube: &Cube)
+    requires { length cube.now.symbols ≤ length row.old }
+    ensures { take (length cube.now.symbols) row.new ≡ map symbol_byte cube.now.symbols }
+{
+    for i in 0..cube.shape().inputs() {
+        row[i] = input_byte(cube.symbol(i));
+    }
+}
+
+// How an input is printed.
+fn input_byte(symbol: Symbol) -> u8
+    ensures { result ≡ symbol_byte symbol }
+{
+    match symbol {
+        Symbol::Dash => b'-',
+        Symbol::Zero => b'0',
+        Symbol::One => b'1',
+    }
+}
+
+// Puts the bytes of the outputs from index `at` on, and leaves those before.
+fn put_outputs(row: &mut [u8], at: usize, cube: &Cube, mark: u8, other: u8)
+    requires { at + length cube.now.outputs ≤ length row.old }
+    ensures { take (at + length cube.now.outputs) row.new
+        ≡ take at row.old ++ map (λ b. if b then mark else other) cube.now.outputs }
+{
+    for j in 0..cube.shape().outputs() {
+        let byte = if cube.output(j) { mark } else { other };
+        row[at + j] = byte;
+    }
+}
+
+#[cfg(test)]
+mod tests;
