@@ -76,6 +76,102 @@ def contained_rows(count, inputs, seed):
     return [cube + " 1" for cube in cubes]
 
 
+def function_rows(inputs, outputs, value):
+    """A row for each point at which some output is 1; `value` gives the outputs of the input bits as a number."""
+    for point in range(2 ** inputs):
+        bits = [point >> (inputs - 1 - i) & 1 for i in range(inputs)]
+        out = value(bits)
+        if out:
+            yield f"{point:0{inputs}b} {out:0{outputs}b}"
+
+
+def number(bits):
+    return int("".join(map(str, bits)), 2) if bits else 0
+
+
+def adder(width):
+    """Two numbers of `width` bits added: the sum has a bit more."""
+    return 2 * width, width + 1, lambda bits: number(bits[:width]) + number(bits[width:])
+
+
+def ones_within(inputs, low, high):
+    """1 where the number of ones is in the range."""
+    return inputs, 1, lambda bits: int(low <= sum(bits) <= high)
+
+
+def life(bits):
+    """The next state of the first cell of nine, by the number of its living neighbours."""
+    alive = sum(bits[1:])
+    return int(alive == 3 or (bits[0] == 1 and alive == 2))
+
+
+# Functions that the literature on two-level minimisation is measured by: inputs, outputs, value.
+FUNCTIONS = {
+    "rd53": (5, 3, sum),
+    "rd73": (7, 3, sum),
+    "rd84": (8, 4, sum),
+    "xor5": (5, 1, lambda bits: sum(bits) % 2),
+    "maj9": ones_within(9, 5, 9),
+    "life": (9, 1, life),
+    "adr4": adder(4),
+    "adr5": adder(5),
+    "adr6": adder(6),
+    "mlp4": (8, 8, lambda bits: number(bits[:4]) * number(bits[4:])),
+    "sqr6": (6, 12, lambda bits: number(bits) ** 2),
+    "sqr7": (7, 14, lambda bits: number(bits) ** 2),
+    "sqr8": (8, 16, lambda bits: number(bits) ** 2),
+    "9sym": ones_within(9, 3, 6),
+    "sym10": ones_within(10, 3, 6),
+    "sym11": ones_within(11, 4, 7),
+    "sym12": ones_within(12, 4, 8),
+}
+
+
+def function(name):
+    """The path of a file that lists the points of a known function."""
+    inputs, outputs, value = FUNCTIONS[name]
+    return write(f"{name}.pla", pla(inputs, outputs, function_rows(inputs, outputs, value)))
+
+
+def rings(count):
+    """Rings of six points side by side, each of six primes and no essential one: a selector of even parity picks the ring."""
+    width = (count - 1).bit_length() + 1
+    words = [f"{word:0{width}b}" for word in range(2 ** width) if bin(word).count("1") % 2 == 0]
+    ring = ("000", "001", "010", "101", "110", "111")
+    return width + 3, [f"{word}{point} 1" for word in words[:count] for point in ring]
+
+
+def sparse_rows(count, inputs, outputs, dashes, seed):
+    """Random cubes, of whose symbols this share are dashes."""
+    chance = random.Random(seed)
+    for _ in range(count):
+        symbols = "".join("-" if chance.random() < dashes else chance.choice("01") for _ in range(inputs))
+        bits = chance.randrange(1, 2 ** outputs)
+        yield f"{symbols} {bits:0{outputs}b}"
+
+
+def split_rows(cubes, count, seed):
+    """The same places in more cubes: some of them are cut in two until there are so many."""
+    chance = random.Random(seed)
+    cubes = list(cubes)
+    while len(cubes) < count:
+        at = chance.randrange(len(cubes))
+        free = [i for i, symbol in enumerate(cubes[at]) if symbol == "-"]
+        if free:
+            i = chance.choice(free)
+            cube = cubes[at]
+            cubes[at] = cube[:i] + "0" + cube[i + 1:]
+            cubes.append(cube[:i] + "1" + cube[i + 1:])
+    chance.shuffle(cubes)
+    return cubes
+
+
+def shuffled(rows, seed):
+    rows = list(rows)
+    random.Random(seed).shuffle(rows)
+    return rows
+
+
 def measured(program, words, feed=None):
     """Wall seconds, peak kilobytes and status of one run; its output is thrown away."""
     begin = time.perf_counter()
@@ -102,6 +198,60 @@ def file_case(words, path, goal):
     return lambda program: (*measured(program, [*words, path()]), goal)
 
 
+def pair_case(command, paths, goal):
+    return lambda program: (*measured(program, [command, *paths()]), goal)
+
+
+def prime_cases():
+    goals = {"9sym": 0.0042, "sym12": 0.060, "adr6": 0.027}
+    for name in ("9sym", "sym10", "sym11", "sym12", "adr5", "adr6"):
+        yield f"primes-{name}", file_case(["-Dprimes"], lambda name=name: function(name), goals.get(name))
+    for rows in (60, 120, 240):
+        yield f"primes-random-{rows}", file_case(
+            ["-Dprimes"],
+            lambda rows=rows: write(f"random-16-8-{rows}.pla", pla(16, 8, sparse_rows(rows, 16, 8, 0.45, rows))), None)
+
+
+def exact_cases():
+    goals = {"rd53": 0.06, "rd73": 0.06, "rd84": 0.06, "adr4": 0.06, "life": 0.06, "xor5": 0.06, "maj9": 0.06,
+             "sqr6": 0.12, "mlp4": 0.66, "adr6": 0.6}
+    for name in (*goals, "sqr7"):
+        yield f"exact-{name}", file_case(["-Dexact"], lambda name=name: function(name), goals.get(name))
+    yield "exact-rings-8", file_case(["-Dexact"], lambda: write("rings-8.pla", pla(rings(8)[0], 1, rings(8)[1])), None)
+    for name in ("adr4", "rd84", "adr6"):
+        yield f"essen-{name}", file_case(["-Dessen"], lambda name=name: function(name), None)
+
+
+def pair_cases():
+    for inputs in (64, 256):
+        leaves = partition(5000, inputs, inputs)
+        yield f"verify-{inputs}-inputs", pair_case(
+            "-Dverify",
+            lambda inputs=inputs, leaves=leaves: (
+                write(f"leaves-{inputs}.pla", pla(inputs, 1, [c + " 1" for c in leaves[: len(leaves) // 2]])),
+                write(f"leaves-{inputs}-split.pla",
+                      pla(inputs, 1, [c + " 1" for c in split_rows(leaves[: len(leaves) // 2], 5000, 7)]))),
+            0.27)
+        yield f"verify-{inputs}-inputs-whole", pair_case(
+            "-Dverify",
+            lambda inputs=inputs, leaves=leaves: (
+                write(f"whole-{inputs}.pla", pla(inputs, 1, [c + " 1" for c in leaves])),
+                write(f"whole-{inputs}-split.pla",
+                      pla(inputs, 1, [c + " 1" for c in split_rows(leaves, 10000, 7)]))),
+            0.27)
+    yield "verify-shuffled", pair_case(
+        "-Dverify",
+        lambda: (write("rows-10000.pla", pla(30, 4, random_rows(10 ** 4, 30, 4, 3))),
+                 write("rows-10000-shuffled.pla", pla(30, 4, shuffled(random_rows(10 ** 4, 30, 4, 3), 9)))),
+        None)
+    for command in ("sharp", "intersect"):
+        yield f"{command}-random", pair_case(
+            f"-D{command}",
+            lambda: (write("random-20-a.pla", pla(20, 1, sparse_rows(60, 20, 1, 0.6, 1))),
+                     write("random-20-b.pla", pla(20, 1, sparse_rows(60, 20, 1, 0.6, 2)))),
+            None)
+
+
 def cases():
     yield "echo-million-rows", file_case(
         ["-Decho"], lambda: write("rows-1000000.pla", pla(20, 4, random_rows(10 ** 6, 20, 4, 1))), 0.30)
@@ -122,6 +272,9 @@ def cases():
             ["-Dcontain"],
             lambda rows=rows: write(f"contain-{rows}.pla", pla(40, 1, contained_rows(rows, 40, rows))),
             9.9 if rows == 10 ** 5 else None)
+    yield from prime_cases()
+    yield from exact_cases()
+    yield from pair_cases()
 
 
 def main():
