@@ -43,11 +43,11 @@ def random_rows(count, inputs, outputs, seed):
         yield f"{symbols} {bits:0{outputs}b}"
 
 
-def partition(leaves, inputs, seed):
-    """The leaves of a random decision tree: cubes that split the whole space among them."""
+def split_rows(cubes, count, seed):
+    """The same places in more cubes: they are cut in two until there are so many."""
     chance = random.Random(seed)
-    cubes = ["-" * inputs]
-    while len(cubes) < leaves:
+    cubes = list(cubes)
+    while len(cubes) < count:
         at = chance.randrange(len(cubes))
         free = [i for i, symbol in enumerate(cubes[at]) if symbol == "-"]
         if free:
@@ -57,6 +57,11 @@ def partition(leaves, inputs, seed):
             cubes.append(cube[:i] + "1" + cube[i + 1:])
     chance.shuffle(cubes)
     return cubes
+
+
+def partition(leaves, inputs, seed):
+    """The leaves of a random decision tree: cubes that split the whole space among them."""
+    return split_rows(["-" * inputs], leaves, seed)
 
 
 def contained_rows(count, inputs, seed):
@@ -148,22 +153,6 @@ def sparse_rows(count, inputs, outputs, dashes, seed):
         symbols = "".join("-" if chance.random() < dashes else chance.choice("01") for _ in range(inputs))
         bits = chance.randrange(1, 2 ** outputs)
         yield f"{symbols} {bits:0{outputs}b}"
-
-
-def split_rows(cubes, count, seed):
-    """The same places in more cubes: some of them are cut in two until there are so many."""
-    chance = random.Random(seed)
-    cubes = list(cubes)
-    while len(cubes) < count:
-        at = chance.randrange(len(cubes))
-        free = [i for i, symbol in enumerate(cubes[at]) if symbol == "-"]
-        if free:
-            i = chance.choice(free)
-            cube = cubes[at]
-            cubes[at] = cube[:i] + "0" + cube[i + 1:]
-            cubes.append(cube[:i] + "1" + cube[i + 1:])
-    chance.shuffle(cubes)
-    return cubes
 
 
 def shuffled(rows, seed):
