@@ -1,8 +1,8 @@
 -- The complete sum of two lists taken together.
-use Rattle.std.proofs.Common.{◌≡◌, ◌||◌, List, ◌++◌, ap, sym, ◌∙◌}
+use Rattle.std.proofs.Common.{◌≡◌, ◌||◌, List, ◌++◌, ap, ◌∙◌}
 use Rattle.std.proofs.lemmas.List.Folds.{list_any-append}
 use Rattle.cube.specs.Size.{Size}
-use Rattle.cube.specs.Cube.{Cube, Place, holds}
+use Rattle.cube.specs.Cube.{Cube, holds}
 use Rattle.cube.specs.Sum.{complete_sum}
 use Rattle.cube.proofs.SumLemmas.{complete_sum-same}
 use Rattle.cover.specs.Cubes.{Cubes}

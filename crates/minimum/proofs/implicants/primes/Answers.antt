@@ -1,4 +1,4 @@
-use Rattle.std.proofs.Common.{◌≡◌, ◌∙◌}
+use Rattle.std.proofs.Common.{◌∙◌}
 use Rattle.std.proofs.lemmas.Result.{IfOk-weaker}
 use Rattle.minimum.proofs.BothLists.{primes-from}
 use Rattle.minimum.proofs.implicants.primes.Goals as goal
