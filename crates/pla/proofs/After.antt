@@ -35,7 +35,8 @@ pub or_none : {X : Type 0} (o : Option X) → option_or o None ≡ o
 or_none None = refl
 or_none (Some x) = refl
 
-first_more : {X : Type 0} (f : List ℕ → Option X) (before : List (List ℕ)) (line : List ℕ) → first_given f (before ++ line ∷ []) ≡ option_or (first_given f before) (f line)
+-- what the first of one more line gives
+pub first_more : {X : Type 0} (f : List ℕ → Option X) (before : List (List ℕ)) (line : List ℕ) → first_given f (before ++ line ∷ []) ≡ option_or (first_given f before) (f line)
 first_more f [] line = or_none (f line)
 first_more f (l ∷ before) line = ap (λ o. option_or (f l) o) (first_more f before line) ∙ sym (or_later (f l) (first_given f before) (f line))
 

@@ -22,3 +22,4 @@ mod Feeding
 mod PieceLaws
 mod EndLaws
 mod ReadLaws
+mod WiderLimits

@@ -21,3 +21,4 @@ pub mod Description
 pub mod State
 pub mod Parsing
 pub mod Vectors
+pub mod WiderLimits

@@ -1,5 +1,6 @@
-//! Worked examples of the definitions.
+//! Worked examples and laws of the definitions, each as the contract of a function that does nothing.
 ghost use Rattle.pla.specs.Vectors.{KeywordFaults, RowFaults, Echoes, Descriptions};
+ghost use Rattle.pla.specs.WiderLimits.{WiderLimitsReadAlike, OlderLimitsReadAlike};
 
 /// Faults of keyword lines.
 pub fn keyword_faults()
@@ -19,4 +20,15 @@ pub fn echoes()
 /// What files describe.
 pub fn descriptions()
     ensures { Descriptions }
+{}
+
+/// Limits may be widened: a file that has no fault under limits has none under limits of which none is
+/// smaller, and describes the same there: the same shape, names, type of rows and lists. A fault stays,
+/// with its line and its kind, unless it comes from a limit that differs, as
+/// [`ReadKind::LineTooLong`](crate::ReadKind::LineTooLong) does: behind such a fault another may hide.
+/// The second clause says it of an older profile's limits, 256 inputs, 256 outputs and 65,536 bytes a
+/// line, and those of [`cube::limits`].
+pub fn wider_limits()
+    ensures all { WiderLimitsReadAlike }
+    ensures older { OlderLimitsReadAlike }
 {}
