@@ -18,9 +18,10 @@ use Rattle.espresso.specs.declared.status.Status.{Status}
 use Rattle.espresso.specs.declared.status.Status.TheVariants.{Fault}
 use Rattle.espresso.specs.declared.stop.Stop.{Stop}
 use Rattle.espresso.specs.declared.stop.Stop.TheVariants as stop
+use Rattle.espresso.specs.Answer.{Answer, answer_of}
 use Rattle.espresso.specs.Run.{Bytes, IsFileOf, TookBeginning, TookFront, told}
 use Rattle.espresso.specs.Steps.{Answers, Prints, PutsOut, Stands, StandsAfter, message_of, stop_by}
-use Rattle.espresso.specs.Tool.{Answer, File, after_reading, answer_of, echo_by, first_name, outcome_of}
+use Rattle.espresso.specs.Tool.{File, after_reading, echo_by, first_name, outcome_of}
 use Rattle.espresso.specs.Tool as tool
 use Rattle.espresso.specs.Words.{Meaning}
 use Rattle.espresso.proofs.Outputs.{appends_more, front_more}

@@ -3,6 +3,7 @@ pub mod Parser
 pub mod Matches
 pub mod WordVectors
 pub mod Messages
+pub mod Answer
 pub mod Tool
 pub mod Run
 pub mod Steps

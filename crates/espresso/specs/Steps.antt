@@ -7,10 +7,11 @@ use Rattle.espresso.specs.declared.stop.Stop.{Stop}
 use Rattle.espresso.specs.declared.stop.Stop.TheVariants as stop
 use Rattle.espresso.specs.declared.status.Status.{Status}
 use Rattle.espresso.specs.declared.status.Status.TheVariants.{Fault, Memory}
+use Rattle.espresso.specs.Answer.{Answer}
 use Rattle.espresso.specs.Messages.{closed_message, fault_message, memory_message, write_failed_message}
 use Rattle.pla.specs.declared.ending.Ending.{Ending}
 use Rattle.espresso.specs.Run.{Bytes, Delivers, Failed, Intake, IsFileOf, Says, Told, TookBeginning, Took, TookFront, told}
-use Rattle.espresso.specs.Tool.{Answer, File, Outcome, first_name, outcome_of}
+use Rattle.espresso.specs.Tool.{File, Outcome, first_name, outcome_of}
 use Rattle.espresso.specs.Words.{Meaning, Text}
 
 -- what stops a run, by the fault of its reading

@@ -3,8 +3,6 @@ use Rattle.std.specs.Prelude.{ℕ, Bool, true, false, List, [], ◌∷◌, ◌++
 use Rattle.std.specs.Option.{option_map_or}
 use Rattle.std.specs.Str.{bytes_eq}
 use Rattle.cube.specs.Limits.{format_limits}
-use Rattle.cover.specs.Contained.{contained}
-use Rattle.cover.specs.Places.{holds_all, places}
 use Rattle.pla.specs.declared.ending.Ending.{Ending}
 use Rattle.pla.specs.declared.fault.Echo.{Echo}
 use Rattle.pla.specs.declared.fault.Echo.TheVariants.{Keep, Eat}
@@ -14,15 +12,11 @@ use Rattle.pla.specs.Echoes.{due}
 use Rattle.pla.specs.Fault.{fault_of}
 use Rattle.pla.specs.Keywords.{looked_at}
 use Rattle.pla.specs.Lines.{lines_of}
-use Rattle.pla.specs.Sets.{given_lists}
-use Rattle.pla.specs.Text.{text_of}
-use Rattle.espresso.specs.declared.command.Command.{Command}
-use Rattle.espresso.specs.declared.command.Command.TheVariants as command
-use Rattle.pla.specs.declared.out_type.OutType.{OutType}
 use Rattle.espresso.specs.declared.line.LineFault.{LineFault}
 use Rattle.espresso.specs.declared.line.LineFault.TheVariants as line_fault
 use Rattle.espresso.specs.declared.status.Status.{Status}
-use Rattle.espresso.specs.declared.status.Status.TheVariants.{Done, No, Fault, Memory}
+use Rattle.espresso.specs.declared.status.Status.TheVariants.{Fault, Memory}
+use Rattle.espresso.specs.Answer.{answer_of}
 use Rattle.espresso.specs.Messages.{closed_message, fault_message, memory_message, usage_message}
 use Rattle.espresso.specs.Words.{Meaning, Text, line_of}
 
@@ -63,27 +57,6 @@ refused = stopped [] usage_message
 abbrev pub refusal_of : LineFault → Outcome
 refusal_of line_fault.Usage = refused
 refusal_of line_fault.Memory = record { output = []; message = memory_message; status = Memory }
-
--- what a command prints, and how it ends: it is done, or the answer is a no
-pub record Answer : Type 0 where
-  pub text : List ℕ
-  pub status : Status
-
--- a text, and nothing to judge
-abbrev pub printed : List ℕ → Answer
-printed text = record { text = text; status = Done }
-
--- a yes or a no, each in its words
-abbrev pub judged : Bool → List ℕ → List ℕ → Answer
-judged true affirmed denied = record { text = affirmed; status = Done }
-judged false affirmed denied = record { text = denied; status = No }
-
--- what each command answers on a description
-abbrev pub answer_of : Command → OutType → Description → Answer
-answer_of command.Echo out d = printed (text_of d out (given_lists d))
-answer_of command.Contain out d = printed (text_of d out (record (given_lists d) { on = contained d.size d.on }))
-answer_of command.Tautology out d = judged (holds_all d.size (places d.on))
-    (codes "ON-set is a tautology\n") (codes "ON-set is not a tautology\n")
 
 -- the file was read, and has a fault or none: the echoes come first
 abbrev pub after_reading : Meaning → List ℕ → Description → Option ReadFault → Outcome

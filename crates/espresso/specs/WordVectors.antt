@@ -1,7 +1,7 @@
 -- Lists of words whose meaning is computed: what is taken, and what is refused.
 use Rattle.std.specs.Prelude.{◌≡◌, refl, [], ◌∷◌, Some, None, codes, true, false}
 use Rattle.espresso.specs.declared.command.Command.TheVariants.{Echo, Contain, Tautology}
-use Rattle.pla.specs.declared.out_type.OutType.TheVariants.{F}
+use Rattle.pla.specs.declared.out_type.OutType.TheVariants.{F, Fd, Fr, Fdr}
 use Rattle.espresso.specs.Words.{line_of, meaning_by}
 
 takes_a_command_in_one_word : line_of (codes "-Decho" ∷ []) ≡ Some (meaning_by Echo F false ([]))
@@ -30,6 +30,15 @@ takes_an_output_type_in_one_word = refl
 
 takes_an_output_type_in_the_next_word : line_of (codes "-Decho" ∷ codes "-o" ∷ codes "f" ∷ codes "a" ∷ []) ≡ Some (meaning_by Echo F false (codes "a" ∷ []))
 takes_an_output_type_in_the_next_word = refl
+
+takes_the_type_with_a_dc_list : line_of (codes "-Decho" ∷ codes "-ofd" ∷ []) ≡ Some (meaning_by Echo Fd false [])
+takes_the_type_with_a_dc_list = refl
+
+takes_the_type_with_an_off_list : line_of (codes "-o" ∷ codes "fr" ∷ codes "-Dcontain" ∷ []) ≡ Some (meaning_by Contain Fr false [])
+takes_the_type_with_an_off_list = refl
+
+takes_the_type_with_all_lists : line_of (codes "-o=fdr" ∷ codes "-Dtautology" ∷ []) ≡ Some (meaning_by Tautology Fdr false [])
+takes_the_type_with_all_lists = refl
 
 takes_a_file_with_a_hyphen_after_two_hyphens : line_of (codes "-Decho" ∷ codes "--" ∷ codes "-x" ∷ []) ≡ Some (meaning_by Echo F false (codes "-x" ∷ []))
 takes_a_file_with_a_hyphen_after_two_hyphens = refl
@@ -106,8 +115,8 @@ refuses_another_word_than_eat = refl
 refuses_no_word_behind_e : line_of (codes "-Decho" ∷ codes "-e" ∷ []) ≡ None
 refuses_no_word_behind_e = refl
 
-refuses_another_output_type : line_of (codes "-Decho" ∷ codes "-o" ∷ codes "fd" ∷ []) ≡ None
-refuses_another_output_type = refl
+refuses_an_output_type_that_is_none : line_of (codes "-Decho" ∷ codes "-o" ∷ codes "dr" ∷ []) ≡ None
+refuses_an_output_type_that_is_none = refl
 
 refuses_an_output_type_of_inputs_alone : line_of (codes "-Decho" ∷ codes "-o" ∷ codes "r" ∷ []) ≡ None
 refuses_an_output_type_of_inputs_alone = refl

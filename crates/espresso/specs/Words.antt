@@ -1,5 +1,5 @@
 -- What a list of words asks for.
-use Rattle.std.specs.Prelude.{◌==◌, ◌&&◌, ℕ, Bool, true, false, List, [], ◌∷◌, map}
+use Rattle.std.specs.Prelude.{◌==◌, ◌&&◌, ◌||◌, not, ℕ, Bool, true, false, List, [], ◌∷◌, map}
 use Rattle.std.specs.Prelude.{length, nat_le, count_by, codes, Option, Some, None, if◌then◌else◌}
 use Rattle.std.specs.Prelude.{option_map, option_and_then}
 use Rattle.std.specs.Option.{option_map_or}
@@ -7,7 +7,7 @@ use Rattle.std.specs.Str.{bytes_eq}
 use Rattle.espresso.specs.declared.command.Command.{Command}
 use Rattle.espresso.specs.declared.command.Command.TheVariants.{Echo, Contain, Tautology}
 use Rattle.pla.specs.declared.out_type.OutType.{OutType}
-use Rattle.pla.specs.declared.out_type.OutType.TheVariants.{F}
+use Rattle.pla.specs.declared.out_type.OutType.TheVariants.{F, Fd, Fr, Fdr}
 
 -- a word, or a text, by its bytes
 abbrev pub Text : Type 0
@@ -108,7 +108,10 @@ command_named name = if bytes_eq name (codes "echo") then Some Echo
 
 -- the output type of a name
 abbrev pub type_named : Text → Option OutType
-type_named name = if bytes_eq name (codes "f") then Some F else None
+type_named name = if bytes_eq name (codes "f") then Some F
+    else (if bytes_eq name (codes "fd") then Some Fd
+    else (if bytes_eq name (codes "fr") then Some Fr
+    else (if bytes_eq name (codes "fdr") then Some Fdr else None)))
 
 -- whether comments are left out, by the one word that `-e` takes
 abbrev pub eat_named : Text → Option Bool
@@ -126,10 +129,24 @@ takes_two Echo = false
 takes_two Contain = false
 takes_two Tautology = false
 
--- as many files as the command takes, with standard input once at most
-abbrev pub fits : Command → List Text → Bool
-fits command files = (if takes_two command then length files == 2 else nat_le (length files) 1)
-    && nat_le (count_by (λ f. bytes_eq f (codes "-")) files) 1
+-- the command prints type f alone
+abbrev pub prints_only_f : Command → Bool
+prints_only_f Echo = false
+prints_only_f Contain = false
+prints_only_f Tautology = false
+
+-- the type is f
+abbrev pub is_f : OutType → Bool
+is_f F = true
+is_f Fd = false
+is_f Fr = false
+is_f Fdr = false
+
+-- a type that the command prints, and as many files as it takes, with standard input once at most
+abbrev pub fits : Command → OutType → List Text → Bool
+fits command out files = (is_f out || not (prints_only_f command))
+    && ((if takes_two command then length files == 2 else nat_le (length files) 1)
+    && nat_le (count_by (λ f. bytes_eq f (codes "-")) files) 1)
 
 -- what a command line says
 pub record Meaning : Type 0 where
@@ -145,7 +162,7 @@ meaning_by command out eat files =
 
 -- the meaning of these parts, where each is given and the files fit the command
 abbrev pub meaning : Option Command → Option OutType → Option Bool → List Text → Option Meaning
-meaning (Some command) (Some out) (Some eat) files = if fits command files
+meaning (Some command) (Some out) (Some eat) files = if fits command out files
     then Some (record { command = command; out = out; eat = eat; files = files }) else None
 meaning _ _ _ _ = None
 

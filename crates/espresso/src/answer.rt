@@ -1,56 +1,142 @@
 //! What each command answers on a description.
-ghost use Rattle.std.specs.Prelude.{◌≡◌};
+ghost use Rattle.std.specs.Prelude.{◌≡◌, IfOk, unwrap_or};
 ghost use Rattle.cover.specs.Contained.{contained};
-ghost use Rattle.pla.specs.Sets.{given_lists};
+ghost use Rattle.pla.specs.Completed.{dc_list, off_list};
+ghost use Rattle.pla.specs.Sets.{lists_of};
 ghost use Rattle.pla.specs.Text.{text_of};
+ghost use Rattle.espresso.specs.Answer.{answer_of, judged, printed, printed_with, prints_dc, prints_off};
 ghost use Rattle.espresso.specs.Run.{told};
 ghost use Rattle.espresso.specs.Steps.{PutsOut};
-ghost use Rattle.espresso.specs.Tool.{answer_of, judged, printed};
 
 use crate::command::Command;
 use crate::line::Line;
 use crate::status::Status;
 use crate::stop::Stop;
 use cover::{Cover, contain};
-use pla::{OutType, Output, Pla, WriteFault, write_bytes, write_covers};
+use pla::{OutType, Output, Pla, WriteFault, open_dc, open_off, write_bytes, write_covers};
+use std::alloc::{AllocError, Global};
 
 // Prints what the line's command answers.
-pub(crate) fn put_answer<W: Output>(line: &Line, pla: &Pla, out: &mut W) -> Result<Status, Stop>
+pub(crate) fn put_answer<W: Output>(
+    alloc: Global,
+    line: &Line,
+    pla: &Pla,
+    out: &mut W,
+) -> Result<Status, Stop>
     ensures { PutsOut (answer_of line.now.command line.now.out pla.now)
         (told (W.taken out.old) (W.taken out.new) (W.failures out.old) (W.failures out.new)) result }
 {
     match line.command() {
-        Command::Echo => put_lists(pla, line.out(), pla.on(), out),
-        Command::Contain => put_contained(pla, line.out(), out),
+        Command::Echo => put_lists(alloc, pla, line.out(), pla.on(), out),
+        Command::Contain => put_contained(alloc, pla, line.out(), out),
         Command::Tautology => put_tautology(pla, out),
     }
 }
 
-// The description with this list in place of its ON list.
+// The description with this list in place of its ON list, and the lists that the type prints beside it.
 fn put_lists<W: Output>(
+    alloc: Global,
     pla: &Pla,
     out_type: OutType,
     on: &Cover,
     out: &mut W,
 ) -> Result<Status, Stop>
     requires { on.now.size ≡ pla.now.size }
-    ensures { PutsOut (printed (text_of pla.now out_type (record (given_lists pla.now) { on = on.now.cubes })))
+    ensures { PutsOut (printed_with pla.now out_type on.now.cubes)
         (told (W.taken out.old) (W.taken out.new) (W.failures out.old) (W.failures out.new)) result }
 {
-    match write_covers(pla, out_type, on, pla.dc(), pla.off(), out) {
+    match open_lists(alloc, pla, out_type) {
+        Ok(open) => {
+            let dc = lent(&open.dc, pla.dc());
+            let off = lent(&open.off, pla.off());
+            put_covers(pla, out_type, on, dc, off, out)
+        }
+        Err(_) => Err(Stop::OutOfMemory),
+    }
+}
+
+// The lists that stand apart from a description's own.
+#[derive(Drop)]
+struct Open {
+    dc: Option<Cover>,
+    off: Option<Cover>,
+}
+
+// Those that are printed and not the description's own.
+fn open_lists(alloc: Global, pla: &Pla, out_type: OutType) -> Result<Open, AllocError>
+    ensures dc { IfOk result (λ lists. unwrap_or lists.dc (record { size = pla.now.size; cubes = pla.now.dc })
+        ≡ record { size = pla.now.size; cubes = dc_list pla.now.file_type (prints_dc out_type) pla.now }) }
+    ensures off { IfOk result (λ lists. unwrap_or lists.off (record { size = pla.now.size; cubes = pla.now.off })
+        ≡ record { size = pla.now.size; cubes = off_list pla.now.file_type (prints_off out_type) pla.now }) }
+{
+    let dc = open_dc(alloc, pla, is_dc_printed(out_type))?;
+    let off = open_off(alloc, pla, is_off_printed(out_type))?;
+    Ok(Open { dc, off })
+}
+
+// The description with these lists.
+fn put_covers<W: Output>(
+    pla: &Pla,
+    out_type: OutType,
+    on: &Cover,
+    dc: &Cover,
+    off: &Cover,
+    out: &mut W,
+) -> Result<Status, Stop>
+    requires on_size { on.now.size ≡ pla.now.size }
+    requires dc_size { dc.now.size ≡ pla.now.size }
+    requires off_size { off.now.size ≡ pla.now.size }
+    ensures { PutsOut (printed (text_of pla.now out_type (lists_of on.now dc.now off.now)))
+        (told (W.taken out.old) (W.taken out.new) (W.failures out.old) (W.failures out.new)) result }
+{
+    match write_covers(pla, out_type, on, dc, off, out) {
         Ok(()) => Ok(Status::Done),
         Err(WriteFault) => Err(Stop::WriteFailed),
     }
 }
 
+// The type prints a DC list.
+fn is_dc_printed(out_type: OutType) -> bool
+    ensures { result ≡ prints_dc out_type }
+{
+    match out_type {
+        OutType::Fd | OutType::Fdr => true,
+        OutType::F | OutType::Fr => false,
+    }
+}
+
+// The type prints an OFF list.
+fn is_off_printed(out_type: OutType) -> bool
+    ensures { result ≡ prints_off out_type }
+{
+    match out_type {
+        OutType::Fr | OutType::Fdr => true,
+        OutType::F | OutType::Fd => false,
+    }
+}
+
+// The list that was computed, or the given one where none was.
+fn lent<'a>(computed: &'a Option<Cover>, given: &'a Cover) -> &'a Cover
+    ensures { result.now ≡ unwrap_or computed.now given.now }
+{
+    match computed {
+        Some(list) => list,
+        None => given,
+    }
+}
+
 // The description without the cubes of its ON list that lie in others of it.
-fn put_contained<W: Output>(pla: &Pla, out_type: OutType, out: &mut W) -> Result<Status, Stop>
-    ensures { PutsOut (printed (text_of pla.now out_type
-        (record (given_lists pla.now) { on = contained pla.now.size pla.now.on })))
+fn put_contained<W: Output>(
+    alloc: Global,
+    pla: &Pla,
+    out_type: OutType,
+    out: &mut W,
+) -> Result<Status, Stop>
+    ensures { PutsOut (printed_with pla.now out_type (contained pla.now.size pla.now.on))
         (told (W.taken out.old) (W.taken out.new) (W.failures out.old) (W.failures out.new)) result }
 {
     match contain(pla.on()) {
-        Ok(on) => put_lists(pla, out_type, &on, out),
+        Ok(on) => put_lists(alloc, pla, out_type, &on, out),
         Err(_) => Err(Stop::OutOfMemory),
     }
 }

@@ -1,6 +1,6 @@
 //! What a command line can ask for.
 ghost use Rattle.std.specs.Prelude.{◌≡◌};
-ghost use Rattle.espresso.specs.Words.{command_named, eat_named, takes_two, type_named};
+ghost use Rattle.espresso.specs.Words.{command_named, eat_named, is_f as is_f_of, prints_only_f, takes_two, type_named};
 
 use pla::OutType;
 
@@ -33,6 +33,9 @@ pub(crate) fn out_type_of(name: &str) -> Option<OutType>
 {
     match name {
         "f" => Some(OutType::F),
+        "fd" => Some(OutType::Fd),
+        "fr" => Some(OutType::Fr),
+        "fdr" => Some(OutType::Fdr),
         _ => None,
     }
 }
@@ -52,6 +55,27 @@ pub(crate) fn is_pair(command: Command) -> bool
     ensures { result ≡ takes_two command }
 {
     match command {
+        Command::Echo => false,
+        Command::Contain => false,
+        Command::Tautology => false,
+    }
+}
+
+// The command prints type f alone.
+pub(crate) fn is_f_only(command: Command) -> bool
+    ensures { result ≡ prints_only_f command }
+{
+    match command {
         Command::Echo | Command::Contain | Command::Tautology => false,
+    }
+}
+
+// The type is f.
+pub(crate) fn is_f(out: OutType) -> bool
+    ensures { result ≡ is_f_of out }
+{
+    match out {
+        OutType::F => true,
+        OutType::Fd | OutType::Fr | OutType::Fdr => false,
     }
 }

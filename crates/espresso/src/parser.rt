@@ -6,7 +6,7 @@ ghost use Rattle.espresso.specs.Parser.{espresso_app};
 ghost use Rattle.espresso.specs.Matches.{meaning_in};
 ghost use Rattle.espresso.specs.Words.{eat_named, fits, meaning, command_named, type_named};
 
-use crate::command::{Command, command_of, eat_of, is_pair, out_type_of};
+use crate::command::{Command, command_of, eat_of, is_f, is_f_only, is_pair, out_type_of};
 use crate::line::{Line, LineFault};
 use clap::error::ErrorKind;
 use clap::{Arg, ArgAction, ArgMatches, Error};
@@ -103,7 +103,7 @@ fn line_with(
     let Some(eat) = eat else {
         return Err(LineFault::Usage);
     };
-    if !is_fitting(command, names) {
+    if !is_fitting(command, out, names) {
         return Err(LineFault::Usage);
     }
     match copied(alloc, names) {
@@ -112,17 +112,18 @@ fn line_with(
     }
 }
 
-// As many files as the command takes, with standard input once at most.
-fn is_fitting(command: Command, files: &[&str]) -> bool
-    ensures { result ≡ fits command (map (λ s. s.now) files.now) }
+// A type that the command prints, and as many files as it takes, with standard input once at most.
+fn is_fitting(command: Command, out: OutType, files: &[&str]) -> bool
+    ensures { result ≡ fits command out (map (λ s. s.now) files.now) }
 {
+    let is_printed = is_f(out) || !is_f_only(command);
     let is_count = if is_pair(command) {
         files.len() == 2
     } else {
         files.len() <= 1
     };
     let inputs = files.iter().filter(|file| **file == "-").count();
-    is_count && inputs <= 1
+    is_printed && is_count && inputs <= 1
 }
 
 fn copied(alloc: Global, names: &[&str]) -> Result<Vec<String>, AllocError>

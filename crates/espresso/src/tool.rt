@@ -87,7 +87,7 @@ fn answered<R: Input, W: Output>(
         line.now (told (W.taken out.old) (W.taken out.new) (W.failures out.old) (W.failures out.new)) result }
 {
     match read_pla(alloc, input, out, line.echo()) {
-        Ok(pla) => put_answer(line, &pla, out),
+        Ok(pla) => put_answer(alloc, line, &pla, out),
         Err(fault) => Err(Stop::by(fault)),
     }
 }

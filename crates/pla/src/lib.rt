@@ -4,7 +4,7 @@
 //!   unknown keywords on; what is wrong with a file it tells with the line. [`Scan`] does the same for
 //!   bytes that come in pieces from elsewhere.
 //! - [`Sets::of`] gives the lists of a description's three sets, and computes those that its type
-//!   leaves open.
+//!   leaves open; [`open_dc`] and [`open_off`] give those alone, and copy none.
 //! - [`write_pla`] prints a description with such lists.
 //! - [`Input`] and [`Output`] are what is read from and written to; [`Reading`] and [`Writing`] make
 //!   them of std's readers and writers, [`Given`] and [`Taken`] are such of bytes, for tests.
@@ -56,6 +56,6 @@ pub use out_type::OutType;
 pub use over_std::{Reading, Writing};
 pub use reading::read_pla;
 pub use scan::Scan;
-pub use sets::Sets;
+pub use sets::{Sets, open_dc, open_off};
 pub use text::{write_covers, write_pla};
 pub use writing::{WriteFault, then, write_bytes};

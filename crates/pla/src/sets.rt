@@ -1,5 +1,5 @@
 //! The ON-set, the DC-set and the OFF-set as lists of cubes.
-ghost use Rattle.std.specs.Prelude.{◌≡◌, ◌++◌, IfOk};
+ghost use Rattle.std.specs.Prelude.{◌≡◌, ◌++◌, IfOk, unwrap_or};
 ghost use Rattle.pla.specs.Completed.{dc_list, off_list, outside, sets_of};
 ghost use Rattle.pla.specs.Sets.{lists_of};
 
@@ -91,26 +91,58 @@ impl Sets {
     }
 }
 
-// The DC list of a description: one that its type leaves open is computed where it is asked for.
+// A copy of the DC list of a description; one that its type leaves open is computed where it is asked for.
 fn dc_of(alloc: Global, pla: &Pla, asked: bool) -> Result<Cover, AllocError>
     ensures { IfOk result (λ list. list ≡ record { size = pla.now.size; cubes = dc_list pla.now.file_type asked pla.now }) }
 {
-    match pla.file_type() {
-        FileType::Fd | FileType::Fdr => pla.dc().try_clone(),
-        FileType::Fr if asked => outside_both(pla.on(), pla.off()),
-        FileType::F | FileType::Fr => Ok(Cover::new(alloc, pla.shape())),
+    match open_dc(alloc, pla, asked)? {
+        Some(list) => Ok(list),
+        None => pla.dc().try_clone(),
     }
 }
 
-// The OFF list of a description, likewise.
+// A copy of the OFF list of a description, likewise.
 fn off_of(alloc: Global, pla: &Pla, asked: bool) -> Result<Cover, AllocError>
     ensures { IfOk result (λ list. list ≡ record { size = pla.now.size; cubes = off_list pla.now.file_type asked pla.now }) }
 {
+    match open_off(alloc, pla, asked)? {
+        Some(list) => Ok(list),
+        None => pla.off().try_clone(),
+    }
+}
+
+/// The DC list that [`Sets::of`] gives, where it is not the description's own; `None` where it is, under
+/// fd and fdr. Under fr it is computed where it is asked for.
+///
+/// # Errors
+///
+/// `AllocError` where memory was refused.
+pub fn open_dc(alloc: Global, pla: &Pla, asked: bool) -> Result<Option<Cover>, AllocError>
+    ensures { IfOk result (λ list. unwrap_or list (record { size = pla.now.size; cubes = pla.now.dc })
+        ≡ record { size = pla.now.size; cubes = dc_list pla.now.file_type asked pla.now }) }
+{
     match pla.file_type() {
-        FileType::Fr | FileType::Fdr => pla.off().try_clone(),
-        FileType::F if asked => pla.on().complement(),
-        FileType::Fd if asked => outside_both(pla.on(), pla.dc()),
-        FileType::F | FileType::Fd => Ok(Cover::new(alloc, pla.shape())),
+        FileType::Fd | FileType::Fdr => Ok(None),
+        FileType::Fr if asked => Ok(Some(outside_both(pla.on(), pla.off())?)),
+        FileType::F | FileType::Fr => Ok(Some(Cover::new(alloc, pla.shape()))),
+    }
+}
+
+/// The OFF list that [`Sets::of`] gives, where it is not the description's own; `None` where it is, under
+/// fr and fdr. Under f and fd it is computed where it is asked for.
+///
+/// # Errors
+///
+/// `AllocError` where memory was refused.
+pub fn open_off(alloc: Global, pla: &Pla, asked: bool) -> Result<Option<Cover>, AllocError>
+    ensures { IfOk result (λ list. unwrap_or list (record { size = pla.now.size; cubes = pla.now.off })
+        ≡ record { size = pla.now.size; cubes = off_list pla.now.file_type asked pla.now }) }
+{
+    match pla.file_type() {
+        FileType::Fr | FileType::Fdr => Ok(None),
+        FileType::F if asked => Ok(Some(pla.on().complement()?)),
+        FileType::Fd if asked => Ok(Some(outside_both(pla.on(), pla.dc())?)),
+        FileType::F | FileType::Fd => Ok(Some(Cover::new(alloc, pla.shape()))),
     }
 }
 

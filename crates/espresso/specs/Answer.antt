@@ -1,0 +1,58 @@
+-- What each command answers on a description.
+use Rattle.std.specs.Prelude.{ℕ, Bool, true, false, List, codes}
+use Rattle.cube.specs.Cube.{Cube}
+use Rattle.cover.specs.Contained.{contained}
+use Rattle.cover.specs.Places.{holds_all, places}
+use Rattle.pla.specs.declared.out_type.OutType.{OutType}
+use Rattle.pla.specs.declared.out_type.OutType.TheVariants.{F, Fd, Fr, Fdr}
+use Rattle.pla.specs.Completed.{sets_of}
+use Rattle.pla.specs.Description.{Description}
+use Rattle.pla.specs.Sets.{SetLists}
+use Rattle.pla.specs.Text.{text_of}
+use Rattle.espresso.specs.declared.command.Command.{Command}
+use Rattle.espresso.specs.declared.command.Command.TheVariants as command
+use Rattle.espresso.specs.declared.status.Status.{Status}
+use Rattle.espresso.specs.declared.status.Status.TheVariants.{Done, No}
+
+-- what a command prints, and how it ends: it is done, or the answer is a no
+pub record Answer : Type 0 where
+  pub text : List ℕ
+  pub status : Status
+
+-- a text, and nothing to judge
+abbrev pub printed : List ℕ → Answer
+printed text = record { text = text; status = Done }
+
+-- a yes or a no, each in its words
+abbrev pub judged : Bool → List ℕ → List ℕ → Answer
+judged true affirmed denied = record { text = affirmed; status = Done }
+judged false affirmed denied = record { text = denied; status = No }
+
+-- the lists of the three sets
+abbrev pub three_sets : Description → SetLists
+three_sets d = sets_of d true true
+
+-- the type prints a DC list
+abbrev pub prints_dc : OutType → Bool
+prints_dc F = false
+prints_dc Fd = true
+prints_dc Fr = false
+prints_dc Fdr = true
+
+-- the type prints an OFF list
+abbrev pub prints_off : OutType → Bool
+prints_off F = false
+prints_off Fd = false
+prints_off Fr = true
+prints_off Fdr = true
+
+-- the PLA with this list for its ON-set, and the others that the type prints
+abbrev pub printed_with : Description → OutType → List Cube → Answer
+printed_with d out on = printed (text_of d out (record (three_sets d) { on = on }))
+
+-- what each command answers on a description
+abbrev pub answer_of : Command → OutType → Description → Answer
+answer_of command.Echo out d = printed_with d out d.on
+answer_of command.Contain out d = printed_with d out (contained d.size d.on)
+answer_of command.Tautology out d = judged (holds_all d.size (places d.on))
+    (codes "ON-set is a tautology\n") (codes "ON-set is not a tautology\n")
