@@ -1,6 +1,6 @@
 -- The cofactor of a list holds every place where the list holds the cube.
-use Rattle.std.proofs.Common.{◌≡◌, ℕ, zero, suc, ◌+◌, ◌<◌, ◌≤◌, Bool, true, false, not, ◌&&◌, ◌||◌, cond, List, [], ◌∷◌, ◌++◌, length, map, take, replicate, get_or, All, refl, ap, sym, subst, ◌∙◌, arith, inl, inr, ◌⊎◌, ◌↔◌, IsTrue, filter}
-use Rattle.std.specs.List.{Contains, list_any}
+use Rattle.std.proofs.Common.{◌≡◌, ℕ, ◌+◌, ◌<◌, Bool, true, false, not, ◌||◌, cond, List, [], ◌∷◌, ◌++◌, length, map, take, get_or, refl, ap, sym, subst, ◌∙◌, arith, inl, inr, ◌⊎◌, ◌↔◌, IsTrue, filter}
+use Rattle.std.specs.List.{Contains}
 use Rattle.std.specs.Simd.Lanes.{zip2}
 use Rattle.std.proofs.lemmas.Bool.{cases_Bool, cases_lt, false≢true, and_parts, and_from, or_cases, or_left, or_right, not-true, not_from_false}
 use Rattle.std.proofs.lemmas.List.{get_or_past, length-replicate, take_more, map-append, append-nil}
@@ -10,7 +10,7 @@ use Rattle.cube.specs.declared.symbol.Symbol.{Symbol}
 use Rattle.cube.specs.declared.symbol.Symbol.TheVariants.{Dash, Zero, One}
 use Rattle.cube.specs.Size.{Size}
 use Rattle.cube.specs.Pattern.{agrees, matches}
-use Rattle.cube.specs.Cube.{Cube, Place, holds, HasSize, IsCube, SameSize, IsSubset, IsDisjoint}
+use Rattle.cube.specs.Cube.{Cube, Place, holds, HasSize, IsCube, IsSubset, IsDisjoint}
 use Rattle.cube.specs.Cofactor.{cofactor, cofactor_symbol}
 use Rattle.cube.proofs.HoldsLemmas.{length-matches, agrees_at-matches, matches-from_agrees}
 use Rattle.cube.proofs.Members.{Contains-map, Contains-map_cases, Contains-filter, Contains-filter_cases}

@@ -1,7 +1,7 @@
 -- Which cubes of a list lie in others of it, by their indices.
-use Rattle.std.proofs.Common.{◌≡◌, ◌≢◌, ℕ, zero, suc, ◌+◌, ◌<◌, ◌≤◌, Bool, true, false, not, ◌&&◌, ◌||◌, cond, nat_lt, nat_eq, List, [], ◌∷◌, ◌++◌, length, map, take, drop, get_or, All, refl, ap, sym, subst, ◌∙◌, arith, add-one, add-zero, zero-add, ◌-◌, replicate, append_assoc, inl, inr, ◌⊎◌, ◌↔◌, IsTrue, filter}
+use Rattle.std.proofs.Common.{◌≡◌, ℕ, zero, suc, ◌+◌, ◌<◌, ◌≤◌, Bool, true, false, not, ◌&&◌, ◌||◌, cond, nat_lt, nat_eq, List, [], ◌∷◌, ◌++◌, length, take, drop, get_or, All, refl, ap, sym, subst, ◌∙◌, arith, add-one, add-zero, zero-add, ◌-◌, replicate, append_assoc, inl, inr, ◌↔◌, IsTrue, filter}
 use Rattle.std.specs.List.{Contains, list_any, range_with_len}
-use Rattle.std.proofs.lemmas.Bool.{cases_Bool, cases_lt, eqb-true, eq-eqb, ltb-true, lt-ltb, false≢true, and_parts, and_from, or_cases, or_left, or_right}
+use Rattle.std.proofs.lemmas.Bool.{cases_Bool, eqb-true, eq-eqb, ltb-true, lt-ltb, false≢true, and_parts, and_from, or_cases, or_left, or_right}
 use Rattle.std.proofs.lemmas.List.{get_or_default, take_more, append-nil, drop_all, length-take, length-drop, get_or-take, get_or-drop, length-replicate, get_or-replicate}
 use Rattle.std.specs.Cmp.{both_ways}
 use Rattle.std.proofs.lemmas.List.FromFn.{length-range_with_len, get_or-range_with_len}
@@ -12,7 +12,7 @@ use Rattle.cube.specs.declared.symbol.Symbol.{Symbol}
 use Rattle.cube.specs.declared.symbol.Symbol.TheVariants.{Dash, Zero, One}
 use Rattle.cube.specs.Size.{Size}
 use Rattle.cube.specs.Pattern.{agrees}
-use Rattle.cube.specs.Cube.{Cube, Place, holds, HasSize, SameSize, IsCube, IsSubset}
+use Rattle.cube.specs.Cube.{Cube, holds, IsCube, IsSubset}
 use Rattle.cover.specs.Cubes.{AreCubes}
 use Rattle.cover.specs.Contained.{lies_in, is_contained, contained_after, contained}
 use Rattle.cover.specs.Marks.{cube_at, is_contained_at, leaves_for, symbol_at, is_symbol, is_over, Marks, MarksPart}

@@ -1,9 +1,9 @@
 -- A symbol put at an input of a cube, and a bit put at an input of a point.
-use Rattle.std.proofs.Common.{◌≡◌, ℕ, zero, suc, ◌+◌, ◌<◌, Bool, true, false, not, ◌&&◌, List, [], ◌∷◌, length, get_or, set, refl, ap, sym, subst, ◌∙◌, arith, inl, inr, ◌⊎◌}
+use Rattle.std.proofs.Common.{◌≡◌, ℕ, zero, suc, ◌<◌, Bool, true, false, ◌&&◌, List, [], ◌∷◌, length, get_or, set, refl, ap, sym, ◌∙◌, arith}
 use Rattle.std.proofs.lemmas.Bool.{and_right}
 use Rattle.std.proofs.lemmas.List.{set-get_or}
 use Rattle.cube.specs.declared.symbol.Symbol.{Symbol}
-use Rattle.cube.specs.declared.symbol.Symbol.TheVariants.{Dash, Zero, One}
+use Rattle.cube.specs.declared.symbol.Symbol.TheVariants.{Dash}
 use Rattle.cube.specs.Pattern.{agrees, matches}
 
 and_swap : (a b c : Bool) → (a && (b && c)) ≡ (b && (a && c))

@@ -10,6 +10,7 @@ pub mod Regions
 pub mod Tallying
 pub mod Everywhere
 pub mod Containment
+pub mod Agreement
 pub mod Cofactors
 pub mod SumMeets
 pub mod SumSorted

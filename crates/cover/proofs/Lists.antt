@@ -1,5 +1,5 @@
 -- Lists of references, and members that pass a test.
-use Rattle.std.proofs.Common.{◌≡◌, ℕ, zero, suc, ◌+◌, ◌<◌, Bool, true, false, ◌||◌, cond, List, [], ◌∷◌, ◌++◌, length, map, take, get_or, All, refl, ap, sym, subst, ◌∙◌, arith, inl, inr, ◌⊎◌}
+use Rattle.std.proofs.Common.{◌≡◌, ℕ, zero, suc, ◌+◌, ◌<◌, Bool, true, false, ◌||◌, List, [], ◌∷◌, ◌++◌, length, take, get_or, All, ap, sym, subst, ◌∙◌, arith, inl, inr, ◌⊎◌}
 use Rattle.std.specs.List.{Contains, list_any}
 use Rattle.std.specs.Borrow.{Bor}
 use Rattle.std.proofs.lemmas.Bool.{cases_Bool, false≢true, or_left, or_right}
@@ -101,3 +101,9 @@ pub lengths_of_cubes : (size : Size) (cubes : List Cube) → AreCubes size cubes
 lengths_of_cubes size cubes are lent e inputs same =
     all_behind (λ d. length d.symbols ≡ inputs) lent (λ d member.
     (all_members (IsCube size) cubes are d (subst (λ l. Contains l d) e member)).has_size.0 ∙ same)
+
+-- references to cubes of a size have it
+pub HasSize-lent : (size : Size) (cubes : List Cube) → AreCubes size cubes → (lent : List (Bor Cube)) → behind lent ≡ cubes
+    → All (λ d. HasSize d.now size) lent
+HasSize-lent size cubes are lent e =
+    all_behind (λ d. HasSize d size) lent (λ d member. (all_members (IsCube size) cubes are d (subst (λ l. Contains l d) e member)).has_size)

@@ -1,15 +1,13 @@
 -- The cubes of a list that have a place of a region.
-use Rattle.std.proofs.Common.{◌≡◌, ℕ, zero, suc, ◌+◌, ◌<◌, Bool, true, false, not, ◌&&◌, ◌||◌, cond, List, [], ◌∷◌, ◌++◌, length, map, take, get_or, refl, ap, sym, subst, ◌∙◌, arith, inl, inr, ◌⊎◌, ◌↔◌, IsTrue, ⊎_elim, append-nil}
-use Rattle.std.specs.List.{filter, list_any}
+use Rattle.std.proofs.Common.{◌≡◌, ℕ, ◌+◌, ◌<◌, Bool, true, false, not, cond, List, [], ◌∷◌, ◌++◌, length, take, get_or, ap, sym, ◌∙◌, arith, inl, inr, ◌↔◌, IsTrue, append-nil}
 use Rattle.std.specs.Borrow.{Bor}
-use Rattle.std.proofs.lemmas.Bool.{cases_Bool, false≢true, not-true, not_from_false, and_parts, and_from, or_cases, or_left, or_right}
+use Rattle.std.proofs.lemmas.Bool.{cases_Bool, false≢true, not-true, not_from_false}
 use Rattle.std.proofs.lemmas.List.{take-map, get_or-map, length-map, map-append}
 use Rattle.std.proofs.lemmas.List.Elements.{filter_more}
 use Rattle.cube.specs.Size.{Size}
-use Rattle.cube.specs.Cube.{Cube, Place, holds, HasSize, SameSize, IsSubset, IsDisjoint, size_of}
-use Rattle.cube.specs.Sum.{is_subset}
+use Rattle.cube.specs.Cube.{Cube, Place, holds, HasSize, SameSize, IsDisjoint, size_of}
 use Rattle.cube.proofs.SumLemmas.{IsSubset-from_test, is_subset-from_fact}
-use Rattle.cover.specs.Places.{places, is_disjoint, meeting, behind}
+use Rattle.cover.specs.Places.{is_disjoint, meeting, behind}
 
 -- the test decides, for cubes of the size
 pub is_disjoint-from_fact : (size : Size) (a b : Place → Bool) → IsDisjoint a b → is_disjoint size a b ≡ true

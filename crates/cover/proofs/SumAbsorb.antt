@@ -1,5 +1,5 @@
 -- Absorption, one cube at a time.
-use Rattle.std.proofs.Common.{◌≡◌, ℕ, zero, suc, ◌+◌, ◌<◌, ◌≤◌, Bool, true, false, List, [], ◌∷◌, ◌++◌, length, get_or, take, drop, refl, ap, sym, subst, ◌∙◌, arith, inl, inr, ◌⊎◌, All, IsTrue}
+use Rattle.std.proofs.Common.{◌≡◌, ℕ, zero, suc, ◌+◌, ◌<◌, List, [], ◌∷◌, ◌++◌, length, get_or, take, drop, refl, ap, sym, subst, ◌∙◌, arith, inl, inr, All}
 use Rattle.std.specs.List.{Contains}
 use Rattle.std.specs.List.Sorted.{IsStrictlySortedBy}
 use Rattle.std.specs.declared.cmp.Ordering.TheVariants.{Less}
@@ -8,7 +8,7 @@ use Rattle.std.proofs.lemmas.List.Elements.{Contains-append_left, Contains-appen
 use Rattle.cube.specs.Size.{Size}
 use Rattle.cube.specs.Cube.{Cube, holds, IsCube, IsSubset, SameSize}
 use Rattle.cube.specs.Order.{row_cmp}
-use Rattle.cube.proofs.Members.{Contains-here, Contains-nil, Contains-cases, sorted_append}
+use Rattle.cube.proofs.Members.{Contains-nil, Contains-cases, sorted_append}
 use Rattle.cover.specs.Cubes.{AreCubes}
 use Rattle.cover.specs.Reduced.{IsAbsorbed, HasSameCubes}
 use Rattle.cover.proofs.Lists.{all_members, members_all}

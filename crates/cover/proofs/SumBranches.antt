@@ -1,9 +1,7 @@
 -- The lists of the branches at an input stand for the set there.
-use Rattle.std.proofs.Common.{◌≡◌, ◌≢◌, ℕ, ◌<◌, Bool, true, false, not, ◌&&◌, ◌||◌, List, [], ◌∷◌, ◌++◌, length, get_or, refl, ap, sym, subst, ◌∙◌, inl, inr, ◌⊎◌, All}
-use Rattle.std.specs.List.{Contains, list_any}
-use Rattle.std.proofs.lemmas.Bool.{and_parts, and_from, or_from, cases_Bool, false≢true}
+use Rattle.std.proofs.Common.{◌≡◌, ℕ, ◌<◌, Bool, true, false, not, ◌&&◌, ◌||◌, List, ◌++◌, get_or, refl, ap, sym, subst, ◌∙◌}
+use Rattle.std.specs.List.{Contains}
 use Rattle.std.proofs.lemmas.List.Elements.{All-append}
-use Rattle.cube.specs.declared.symbol.Symbol.{Symbol}
 use Rattle.cube.specs.declared.symbol.Symbol.TheVariants.{Dash, Zero, One}
 use Rattle.cube.specs.Size.{Size}
 use Rattle.cube.specs.Cube.{Cube, Place, holds, IsCube, IsSubset}
@@ -13,7 +11,7 @@ use Rattle.cover.specs.Places.{places}
 use Rattle.cover.specs.Complete.{literal, at_input, at_both, at_either}
 use Rattle.cover.specs.Marks.{is_symbol}
 use Rattle.cover.specs.Parts.{part, has_literal}
-use Rattle.cover.specs.Reduced.{IsMeets, Frees, IsBranch, IsAbsorbed}
+use Rattle.cover.specs.Reduced.{IsMeets, IsBranch, IsAbsorbed}
 use Rattle.cover.proofs.Lists.{all_members, members_all, list_any_from, list_any_witness}
 use Rattle.cover.proofs.SumParts.{AreCubes-part, places-at_input, Frees-part, Frees-append, Frees-less}
 use Rattle.cover.proofs.SumMeets.{places-append}

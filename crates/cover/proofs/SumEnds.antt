@@ -1,17 +1,15 @@
 -- Where the recursion over inputs ends: no place, or places by their output alone.
-use Rattle.std.proofs.Common.{◌≡◌, ◌≢◌, ℕ, zero, suc, ◌+◌, ◌<◌, ◌≤◌, Bool, true, false, not, ◌&&◌, ◌||◌, cond, List, [], ◌∷◌, ◌++◌, length, map, take, get_or, replicate, refl, ap, sym, subst, ◌∙◌, arith, inl, inr, ◌⊎◌, All}
+use Rattle.std.proofs.Common.{◌≡◌, ℕ, zero, suc, ◌+◌, ◌<◌, Bool, true, false, not, ◌&&◌, ◌||◌, List, [], ◌∷◌, ◌++◌, length, map, take, get_or, replicate, refl, ap, sym, ◌∙◌, arith, inl, inr}
 use Rattle.std.specs.List.{Contains, list_any}
-use Rattle.std.specs.List.Sorted.{IsStrictlySortedBy}
 use Rattle.std.proofs.lemmas.Bool.{and_parts, and_from, or_parts, or_from, cases_Bool, cases_lt, false≢true}
 use Rattle.std.proofs.lemmas.List.{take_more, get_or_past, ext_get_or, length-replicate, get_or-replicate}
 use Rattle.std.proofs.lemmas.List.Elements.{All-head, All-tail}
 use Rattle.cube.specs.declared.symbol.Symbol.{Symbol}
 use Rattle.cube.specs.declared.symbol.Symbol.TheVariants.{Dash, Zero, One}
 use Rattle.cube.specs.Size.{Size}
-use Rattle.cube.specs.Pattern.{agrees, matches}
-use Rattle.cube.specs.Cube.{Cube, Place, IsPlace, holds, HasSize, IsCube, IsSubset, difference}
-use Rattle.cube.specs.Order.{row_cmp}
-use Rattle.cube.specs.Sum.{complete_sum, IsMaximal}
+use Rattle.cube.specs.Pattern.{matches}
+use Rattle.cube.specs.Cube.{Cube, Place, IsPlace, holds, IsCube, IsSubset, difference}
+use Rattle.cube.specs.Sum.{complete_sum}
 use Rattle.cube.proofs.HoldsLemmas.{length-matches, pick, matches-map_pick}
 use Rattle.cube.proofs.SharpLemmas.{some_true, complete_sum-holds}
 use Rattle.cube.proofs.SumLemmas.{complete_sum-from_members, Contains-complete_sum, sorted-complete_sum}

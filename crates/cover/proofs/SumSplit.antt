@@ -1,14 +1,14 @@
 -- The maximal cubes of a set of places, by their symbol at an input.
-use Rattle.std.proofs.Common.{◌≡◌, ℕ, ◌+◌, ◌<◌, Bool, true, false, not, ◌&&◌, List, length, get_or, set, refl, ap, sym, subst, ◌∙◌, arith, inl, inr, ◌⊎◌, ◌↔◌, IsTrue}
+use Rattle.std.proofs.Common.{◌≡◌, ℕ, ◌<◌, Bool, true, false, ◌&&◌, List, length, get_or, set, refl, ap, sym, subst, ◌∙◌, arith, inl, inr, ◌⊎◌}
 use Rattle.std.proofs.lemmas.Bool.{and_parts, and_from, cases_Bool, false≢true}
 use Rattle.std.proofs.lemmas.List.{set-set, set-get_or, length-set, get_or-set_same}
 use Rattle.cube.specs.declared.symbol.Symbol.{Symbol}
 use Rattle.cube.specs.declared.symbol.Symbol.TheVariants.{Dash, Zero, One}
 use Rattle.cube.specs.Size.{Size}
 use Rattle.cube.specs.Pattern.{agrees, matches}
-use Rattle.cube.specs.Cube.{Cube, Place, holds, HasSize, SameSize, IsCube, IsSubset, with_symbol}
+use Rattle.cube.specs.Cube.{Cube, Place, holds, SameSize, IsCube, IsSubset, with_symbol}
 use Rattle.cube.specs.Sum.{IsMaximal}
-use Rattle.cube.proofs.HoldsLemmas.{Covers, IsSubset-from_Covers, Covers-from_IsSubset}
+use Rattle.cube.proofs.HoldsLemmas.{Covers-from_IsSubset}
 use Rattle.cube.proofs.SharpLemmas.{Covers-antisym, some_true}
 use Rattle.cover.specs.Complete.{literal, put, at_input, at_both}
 use Rattle.cover.proofs.Inputs.{matches-set_symbol, matches-set_bit, matches-own}

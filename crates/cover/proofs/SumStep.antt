@@ -1,5 +1,5 @@
 -- The complete sum of a set from those at both values of an input, at `0` and at `1`.
-use Rattle.std.proofs.Common.{◌≡◌, ℕ, ◌<◌, Bool, true, false, not, ◌&&◌, ◌||◌, List, [], ◌∷◌, ◌++◌, length, get_or, refl, ap, sym, subst, ◌∙◌, arith, inl, inr, ◌⊎◌, ◌↔◌}
+use Rattle.std.proofs.Common.{◌≡◌, ℕ, ◌<◌, Bool, true, false, not, ◌&&◌, ◌||◌, List, [], ◌∷◌, ◌++◌, length, get_or, refl, ap, sym, subst, ◌∙◌, arith, inl, inr, ◌⊎◌}
 use Rattle.std.specs.List.{Contains}
 use Rattle.std.specs.List.Sorted.{IsStrictlySortedBy}
 use Rattle.cube.specs.declared.symbol.Symbol.{Symbol}
@@ -13,7 +13,7 @@ use Rattle.cube.specs.Sum.{complete_sum, IsMaximal}
 use Rattle.cube.proofs.SumLemmas.{Contains-complete_sum, sorted-complete_sum, complete_sum-from_members, complete_sum-same}
 use Rattle.cover.specs.Cubes.{Cubes, AreCubes}
 use Rattle.cover.specs.Places.{places, universal}
-use Rattle.cover.specs.Complete.{literal, put, at_input, at_both, at_either}
+use Rattle.cover.specs.Complete.{literal, at_input, at_both, at_either}
 use Rattle.cover.specs.Parts.{merged, placed, three_merged, has_literal, live}
 use Rattle.cover.specs.Reduced.{IsBranch, IsMeets, IsAbsorbed}
 use Rattle.cover.proofs.Lists.{members_all}

@@ -1,20 +1,19 @@
 -- A list with one literal at each input, and equal outputs, is complete.
-use Rattle.std.proofs.Common.{◌≡◌, ◌≢◌, ℕ, zero, suc, ◌+◌, ◌<◌, ◌≤◌, Bool, true, false, not, ◌&&◌, ◌||◌, List, [], ◌∷◌, length, get_or, refl, ap, sym, subst, ◌∙◌, arith, inl, inr, ◌⊎◌}
-use Rattle.std.specs.List.{Contains, list_any}
-use Rattle.std.specs.Ordering.{ordering_then, ordering_reverse, bool_cmp}
+use Rattle.std.proofs.Common.{◌≡◌, ℕ, zero, suc, ◌<◌, ◌≤◌, Bool, true, false, not, List, [], ◌∷◌, length, get_or, refl, ap, sym, subst, ◌∙◌, arith, inl, inr, ◌⊎◌}
+use Rattle.std.specs.List.{Contains}
+use Rattle.std.specs.Ordering.{ordering_then, bool_cmp}
 use Rattle.std.specs.Cmp.Lexicographic.{slice_cmp}
-use Rattle.std.specs.declared.cmp.Ordering.{Ordering}
-use Rattle.std.specs.declared.cmp.Ordering.TheVariants.{Less, Equal, Greater}
-use Rattle.std.proofs.lemmas.Bool.{and_parts, and_from, cases_Bool, cases_lt, false≢true}
+use Rattle.std.specs.declared.cmp.Ordering.TheVariants.{Less, Equal}
+use Rattle.std.proofs.lemmas.Bool.{and_parts, and_from, cases_lt, false≢true}
 use Rattle.std.proofs.lemmas.List.{get_or_past}
 use Rattle.cube.specs.declared.symbol.Symbol.{Symbol}
 use Rattle.cube.specs.declared.symbol.Symbol.TheVariants.{Dash, Zero, One}
 use Rattle.cube.specs.Size.{Size}
 use Rattle.cube.specs.Pattern.{agrees, matches}
-use Rattle.cube.specs.Cube.{Cube, Place, holds, IsCube, IsSubset}
+use Rattle.cube.specs.Cube.{Cube, holds, IsCube, IsSubset}
 use Rattle.cube.specs.Order.{symbol_cmp, row_cmp}
-use Rattle.cube.specs.Sum.{complete_sum, IsMaximal}
-use Rattle.cube.proofs.HoldsLemmas.{agrees_at-matches, Covers, IsSubset-from_Covers, Covers-from_IsSubset}
+use Rattle.cube.specs.Sum.{complete_sum}
+use Rattle.cube.proofs.HoldsLemmas.{agrees_at-matches, IsSubset-from_Covers, Covers-from_IsSubset}
 use Rattle.cube.proofs.SharpLemmas.{some_true}
 use Rattle.cube.proofs.SumLemmas.{complete_sum-from_members}
 use Rattle.cover.specs.Cubes.{AreCubes}
@@ -24,7 +23,6 @@ use Rattle.cover.specs.Parts.{has_symbol}
 use Rattle.cover.specs.Reduced.{IsAbsorbed, IsUnate}
 use Rattle.cover.proofs.Lists.{all_members, list_any_from, list_any_witness}
 use Rattle.cover.proofs.SumSplit.{same_size, same_cube}
-use Rattle.cover.proofs.SumOrder.{row_total, row_exact}
 
 -- ---- a point of a cube that lies against the literals of the list
 

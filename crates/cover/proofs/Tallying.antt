@@ -1,14 +1,14 @@
 -- The literals of one more cube.
-use Rattle.std.proofs.Common.{◌≡◌, ℕ, ◌+◌, ◌<◌, ◌≤◌, List, length, take, get_or, slice_get, Some, ◌≢◌, refl, ap, sym, subst, ◌∙◌, arith, inl, inr, ◌⊎◌}
+use Rattle.std.proofs.Common.{◌≡◌, ℕ, ◌+◌, ◌<◌, ◌≤◌, List, length, take, get_or, slice_get, Some, ap, sym, subst, ◌∙◌, arith, inl, inr}
 use Rattle.std.specs.List.{Contains}
 use Rattle.std.specs.Borrow.{Bor}
 use Rattle.std.proofs.lemmas.Bool.{cases_lt}
-use Rattle.std.proofs.lemmas.Option.{slice_get_within, slice_get-get_or, get_or_from_slice_get}
+use Rattle.std.proofs.lemmas.Option.{slice_get_within, slice_get-get_or}
 use Rattle.cube.specs.declared.symbol.Symbol.{Symbol}
 use Rattle.cube.specs.declared.symbol.Symbol.TheVariants.{Dash, Zero, One}
 use Rattle.cube.specs.Cube.{Cube, SameSize}
 use Rattle.cover.specs.Places.{behind}
-use Rattle.cover.specs.Splits.{Grows, Tallies, Splits, Narrows, SplitsAt, NoneBelow, IsHeaviest, IsAbsent}
+use Rattle.cover.specs.Splits.{Grows, Tallies, Splits, Narrows, SplitsAt, IsHeaviest, IsAbsent}
 use Rattle.cover.specs.declared.region.Split.{Split}
 use Rattle.cover.specs.declared.region.Split.TheVariants.{Done, Against, Both}
 use Rattle.cover.proofs.Lists.{behind-more_cases}

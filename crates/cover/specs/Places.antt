@@ -1,8 +1,8 @@
 -- The places of a list of cubes, and tests of sets of places.
-use Rattle.std.specs.Prelude.{Bool, true, false, not, List, [], ◌∷◌, map, replicate, refl, ◌≡◌}
+use Rattle.std.specs.Prelude.{Bool, true, false, not, ◌||◌, List, [], ◌∷◌, map, replicate, refl, ◌≡◌}
 use Rattle.std.specs.List.{list_any, list_all, filter}
+use Rattle.std.specs.Bool.{beq}
 use Rattle.std.specs.Borrow.{Bor}
-use Rattle.cube.specs.declared.symbol.Symbol.{Symbol}
 use Rattle.cube.specs.declared.symbol.Symbol.TheVariants.{Dash, Zero, One}
 use Rattle.cube.specs.Size.{Size}
 use Rattle.cube.specs.Cube.{Cube, Place, holds}
@@ -23,6 +23,14 @@ universal size = record { symbols = replicate size.inputs Dash; outputs = replic
 -- each place of the size that is in s is outside t
 abbrev pub is_disjoint : Size → (Place → Bool) → (Place → Bool) → Bool
 is_disjoint size s t = is_subset size s (λ p. not (t p))
+
+-- some place of the size is in both
+abbrev pub share_place : Size → (Place → Bool) → (Place → Bool) → Bool
+share_place size s t = not (is_disjoint size s t)
+
+-- each place of the size outside `free` is in both or in neither
+abbrev pub agree_outside : Size → (Place → Bool) → (Place → Bool) → (Place → Bool) → Bool
+agree_outside size s t free = holds_all size (λ p. free p || beq (s p) (t p))
 
 -- the cubes of a list that have a place of c, in their order
 abbrev pub meeting : Size → Cube → List Cube → List Cube
@@ -51,3 +59,17 @@ example_no_inputs = refl
 -- no row holds no place
 example_none : holds_all (record { inputs = 2; outputs = 1 }) (places []) ≡ false
 example_none = refl
+
+-- `1-` and `-1` agree but at `10` and `01`
+example_agree : agree_outside (record { inputs = 2; outputs = 1 })
+    (places (record { symbols = One ∷ Dash ∷ []; outputs = true ∷ [] } ∷ []))
+    (places (record { symbols = Dash ∷ One ∷ []; outputs = true ∷ [] } ∷ []))
+    (places (record { symbols = One ∷ Zero ∷ []; outputs = true ∷ [] } ∷ record { symbols = Zero ∷ One ∷ []; outputs = true ∷ [] } ∷ [])) ≡ true
+example_agree = refl
+
+-- without `01` they don't
+example_differ : agree_outside (record { inputs = 2; outputs = 1 })
+    (places (record { symbols = One ∷ Dash ∷ []; outputs = true ∷ [] } ∷ []))
+    (places (record { symbols = Dash ∷ One ∷ []; outputs = true ∷ [] } ∷ []))
+    (places (record { symbols = One ∷ Zero ∷ []; outputs = true ∷ [] } ∷ [])) ≡ false
+example_differ = refl

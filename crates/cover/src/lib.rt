@@ -8,6 +8,7 @@
 //! - [`Cover::cofactor`], the list inside a cube, and [`Cover::holds_cube`] and
 //!   [`Cover::tautology`], which ask whether a cube or everything is held;
 //! - [`contain`], the list without the cubes that lie in others of it;
+//! - [`Cover::intersects`] and [`agree_outside`], which compare two lists by their places;
 //! - [`complete_sum`], [`Cover::complement`], [`intersect`] and [`difference`], which answer the
 //!   complete sum of the places inside, outside, in both lists and in the first alone.
 //!
@@ -22,7 +23,11 @@
 //! references; `cofactor`, `contain` and `try_clone` also for the cubes of their answer.
 #![tactic(auto)]
 
+mod agree;
+mod apart;
 mod cofactor;
+#[cfg(test)]
+mod compare_tests;
 mod list;
 mod marking;
 mod region;
@@ -39,6 +44,7 @@ mod tautology;
 #[cfg(test)]
 mod tests;
 
+pub use agree::agree_outside;
 pub use list::Cover;
 pub use marking::contain;
 pub use sum::{complete_sum, difference, intersect};

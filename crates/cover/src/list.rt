@@ -107,6 +107,18 @@ impl Cover {
         }
     }
 
+    /// Adds the other list's cubes at the end, in their order. Where memory is refused, this list
+    /// stays as it was.
+    pub fn append(&mut self, other: &Cover) -> Result<(), AllocError>
+        requires { other.now.size ≡ self.old.size }
+        ensures size { self.new.size ≡ self.old.size }
+        ensures ok { OnOk result (self.new.cubes ≡ self.old.cubes ++ other.now.cubes) }
+        ensures err { OnErr result (self.new.cubes ≡ self.old.cubes) }
+    {
+        let mut cubes = other.try_clone()?.into_cubes();
+        self.cubes.append(&mut cubes)
+    }
+
     /// An equal list.
     pub fn try_clone(&self) -> Result<Cover, AllocError>
         ensures { IfOk result (λ c. c ≡ self.now) }

@@ -1,5 +1,5 @@
 //! Whether cubes hold every place, and whether they hold a cube.
-ghost use Rattle.std.specs.Prelude.{◌≡◌, true, IfOk, length, replicate};
+ghost use Rattle.std.specs.Prelude.{◌≡◌, true, IfOk, All, length, replicate};
 ghost use Rattle.cube.specs.Cube.{HasSize, holds};
 ghost use Rattle.cube.specs.Sum.{is_subset};
 ghost use Rattle.cover.specs.Places.{places, holds_all, behind, universal as universal_of};
@@ -18,6 +18,14 @@ pub(crate) fn references(alloc: Global, cubes: &[Cube]) -> Result<Vec<&Cube>, Al
         refs.push(cube)?;
     }
     Ok(refs)
+}
+
+// References to the cubes of a cover.
+pub(crate) fn lent(list: &Cover) -> Result<Vec<&Cube>, AllocError>
+    ensures cubes { IfOk result (λ refs. behind refs.items ≡ list.now.cubes) }
+    ensures sizes { IfOk result (λ refs. All (λ d. HasSize d.now list.now.size) refs.items) }
+{
+    references(list.allocator(), list.as_slice())
 }
 
 // The cube of every place.

@@ -1,7 +1,7 @@
-use Rattle.std.proofs.Common.{◌≡◌, ◌∙◌, ap, sym, subst, arith}
+use Rattle.std.proofs.Common.{◌∙◌, subst, arith}
 use Rattle.std.proofs.lemmas.Result.{on_ok_weaker}
 use Rattle.cover.specs.Cubes.{AreCubes}
-use Rattle.cover.specs.Marks.{Marks, MarksPart, is_symbol, is_over, symbol_at}
+use Rattle.cover.specs.Marks.{is_symbol, is_over, symbol_at}
 use Rattle.cover.proofs.Containment.{All-having, MarksPart-from_Marks}
 use Rattle.cover.proofs.marking.+mark.Goals as goal
 

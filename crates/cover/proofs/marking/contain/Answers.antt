@@ -1,4 +1,4 @@
-use Rattle.std.proofs.Common.{◌≡◌, ◌∙◌, length, ap, sym, subst, replicate, false, get_or, take, ◌++◌, rules, arith}
+use Rattle.std.proofs.Common.{◌≡◌, ◌∙◌, length, ap, sym, subst, replicate, false, get_or, rules, arith}
 use Rattle.std.specs.List.{range_with_len}
 use Rattle.cover.specs.Marks.{Marks}
 use Rattle.cover.proofs.Containment.{All-range, marks_contained, take_front}

@@ -1,4 +1,4 @@
-use Rattle.std.proofs.Common.{◌≡◌, ◌∙◌, ◌||◌, ap, sym, subst, get_or}
+use Rattle.std.proofs.Common.{◌∙◌, ◌||◌, ap, sym, get_or}
 use Rattle.std.proofs.lemmas.List.Folds.{list_any_at, list_any_more}
 use Rattle.cover.specs.Marks.{leaves_for}
 use Rattle.cover.proofs.marking.leaves_for_some.Goals as goal

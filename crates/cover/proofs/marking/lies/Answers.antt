@@ -1,4 +1,4 @@
-use Rattle.std.proofs.Common.{◌≡◌, ◌∙◌, ap, sym, subst, get_or}
+use Rattle.std.proofs.Common.{◌∙◌, ap, subst, get_or}
 use Rattle.cover.specs.Cubes.{AreCubes}
 use Rattle.cover.proofs.Containment.{lies_from_answer}
 use Rattle.cover.proofs.marking.lies.Goals as goal

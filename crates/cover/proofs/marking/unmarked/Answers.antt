@@ -1,4 +1,4 @@
-use Rattle.std.proofs.Common.{◌≡◌, ◌+◌, ◌<◌, ◌∙◌, ◌++◌, ◌∷◌, [], length, ap, sym, subst, get_or, arith}
+use Rattle.std.proofs.Common.{◌+◌, ◌<◌, ◌∙◌, ◌++◌, ◌∷◌, [], length, ap, sym, subst, get_or}
 use Rattle.cover.specs.Cubes.{AreCubes}
 use Rattle.cover.specs.Marks.{cube_at}
 use Rattle.cover.proofs.Containment.{KeepsUnmarked, KeepsUnmarked-keep, KeepsUnmarked-skip, cube_at-self}

@@ -1,5 +1,4 @@
-use Rattle.std.proofs.Common.{subst, sym, refl}
-use Rattle.cube.specs.Cube.{SameSize}
+use Rattle.std.proofs.Common.{refl}
 use Rattle.cover.specs.Places.{behind}
 use Rattle.cover.proofs.Lists.{behind_member}
 use Rattle.cover.proofs.Regions.{held_by_one}

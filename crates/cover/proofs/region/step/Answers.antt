@@ -1,4 +1,4 @@
-use Rattle.std.proofs.Common.{◌≡◌, length, subst, ◌∙◌, sym}
+use Rattle.std.proofs.Common.{subst, ◌∙◌, sym}
 use Rattle.cube.specs.Cube.{SameSize}
 use Rattle.cover.specs.Places.{behind}
 use Rattle.cover.specs.Splits.{Tallies}

@@ -1,12 +1,11 @@
-use Rattle.std.proofs.Common.{◌≡◌, ◌∙◌, ◌<◌, ap, sym, subst, arith, ℕ, length, true, false, vec_len}
+use Rattle.std.proofs.Common.{◌∙◌, ◌<◌, ap, sym, subst, arith, true, false, vec_len}
 use Rattle.std.proofs.lemmas.Bool.{eqb-true}
 use Rattle.std.proofs.lemmas.Result.{IfOk-weaker}
-use Rattle.std.proofs.lemmas.List.Elements.{All-same}
-use Rattle.cube.specs.Cube.{IsCube, difference}
+use Rattle.cube.specs.Cube.{difference}
 use Rattle.cube.specs.Sum.{complete_sum}
 use Rattle.cover.specs.Places.{places}
 use Rattle.cover.specs.Complete.{at_input, at_both, at_either}
-use Rattle.cover.specs.Parts.{live, has_literal}
+use Rattle.cover.specs.Parts.{live}
 use Rattle.cover.specs.Reduced.{IsUnate}
 use Rattle.cover.proofs.SumRows.{nothing_left}
 use Rattle.cover.proofs.SumUnate.{complete_sum-unate}

@@ -1,6 +1,5 @@
-use Rattle.std.proofs.Common.{◌≡◌, ◌∙◌, ap, sym}
+use Rattle.std.proofs.Common.{◌∙◌, ap}
 use Rattle.cube.specs.Cube.{difference}
-use Rattle.cube.specs.Sum.{complete_sum}
 use Rattle.cover.specs.Places.{places}
 use Rattle.cover.proofs.SumStep.{AreCubes-complete_sum, Cubes-sum, sum_of_list}
 use Rattle.cover.proofs.sum.complete_sum.Goals as goal

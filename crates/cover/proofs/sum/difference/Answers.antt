@@ -1,4 +1,4 @@
-use Rattle.std.proofs.Common.{◌≡◌, ◌∙◌, ap, sym}
+use Rattle.std.proofs.Common.{◌∙◌, ap}
 use Rattle.cube.specs.Cube.{difference}
 use Rattle.cover.specs.Places.{places}
 use Rattle.cover.proofs.SumStep.{AreCubes-complete_sum, Cubes-sum, sum_of_lists}

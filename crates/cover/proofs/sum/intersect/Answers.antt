@@ -1,5 +1,5 @@
-use Rattle.std.proofs.Common.{◌≡◌, ◌∙◌, ap, sym, subst}
-use Rattle.cube.specs.Cube.{Cube, IsCube, difference, intersection}
+use Rattle.std.proofs.Common.{◌∙◌, subst}
+use Rattle.cube.specs.Cube.{IsCube, difference, intersection}
 use Rattle.cover.specs.Places.{places}
 use Rattle.cover.specs.Reduced.{IsMeets}
 use Rattle.cover.proofs.Lists.{all_members, members_all}

@@ -1,4 +1,4 @@
-use Rattle.std.proofs.Common.{◌≡◌, ◌∙◌, ◌+◌, ◌++◌, ◌∷◌, [], ap, sym, subst, All, true, false, take, Contains}
+use Rattle.std.proofs.Common.{◌∙◌, ◌+◌, ◌++◌, ◌∷◌, [], ap, sym, subst, All, take, Contains}
 use Rattle.cube.specs.Cube.{Cube, SameSize, IsSubset, holds}
 use Rattle.cover.specs.Reduced.{IsAbsorbed}
 use Rattle.cover.proofs.SumAbsorb.{IsAbsorbed-none, IsAbsorbed-kept, IsAbsorbed-covered, kept_sizes}

@@ -1,9 +1,7 @@
-use Rattle.std.proofs.Common.{◌≡◌, ◌∙◌, subst, sym, ap}
+use Rattle.std.proofs.Common.{subst}
 use Rattle.std.proofs.lemmas.Result.{IfOk-weaker}
 use Rattle.std.proofs.lemmas.List.Elements.{All-same}
-use Rattle.std.specs.List.Sorted.{IsStrictlySortedBy}
 use Rattle.cube.specs.Cube.{IsCube}
-use Rattle.cube.specs.Order.{row_cmp}
 use Rattle.cover.specs.Reduced.{IsAbsorbed}
 use Rattle.cover.proofs.SumSorted.{AreCubes-same}
 use Rattle.cover.proofs.SumAbsorb.{IsAbsorbed-sorted}

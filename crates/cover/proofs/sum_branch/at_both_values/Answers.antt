@@ -1,12 +1,11 @@
-use Rattle.std.proofs.Common.{◌≡◌, ◌∙◌, ◌++◌, subst, sym, ap, List}
+use Rattle.std.proofs.Common.{◌∙◌}
 use Rattle.std.proofs.lemmas.Result.{IfOk-weaker}
 use Rattle.std.proofs.lemmas.List.Elements.{All-same}
-use Rattle.cube.specs.declared.symbol.Symbol.TheVariants.{Dash, Zero, One}
-use Rattle.cube.specs.Cube.{Cube, IsCube}
+use Rattle.cube.specs.declared.symbol.Symbol.TheVariants.{Zero, One}
+use Rattle.cube.specs.Cube.{IsCube}
 use Rattle.cover.specs.Places.{places}
 use Rattle.cover.specs.Complete.{at_both}
 use Rattle.cover.specs.Parts.{part}
-use Rattle.cover.specs.Reduced.{IsBranch, IsMeets}
 use Rattle.cover.proofs.SumParts.{AreCubes-part}
 use Rattle.cover.proofs.SumBranches.{IsBranch-both_list, IsBranch-absorbed}
 use Rattle.cover.proofs.sum_branch.at_both_values.Goals as goal

@@ -1,9 +1,9 @@
-use Rattle.std.proofs.Common.{◌≡◌, ◌∙◌, ◌++◌, subst, sym, ap}
+use Rattle.std.proofs.Common.{◌∙◌, ◌++◌, subst, sym, ap}
 use Rattle.cube.specs.declared.symbol.Symbol.TheVariants.{Dash}
 use Rattle.std.proofs.lemmas.Result.{IfOk-weaker}
 use Rattle.cover.specs.Cubes.{AreCubes}
 use Rattle.cover.specs.Places.{places}
-use Rattle.cover.specs.Complete.{at_input, literal}
+use Rattle.cover.specs.Complete.{at_input}
 use Rattle.cover.specs.Parts.{part}
 use Rattle.cover.specs.Reduced.{IsBranch}
 use Rattle.cover.proofs.SumBranches.{IsBranch-value, IsBranch-absorbed}

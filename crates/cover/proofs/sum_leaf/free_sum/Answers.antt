@@ -1,10 +1,9 @@
-use Rattle.std.proofs.Common.{◌≡◌, ◌∙◌, ◌++◌, ◌∷◌, [], ap, sym, subst, replicate, IfSome, IsSome, List, Bool, true, false, refl, Contains, length}
+use Rattle.std.proofs.Common.{◌≡◌, ◌∙◌, ◌++◌, ◌∷◌, [], ap, sym, subst, replicate, IfSome, IsSome, List, Bool, true, Contains, length}
 use Rattle.std.proofs.lemmas.List.{length-replicate}
 use Rattle.std.proofs.lemmas.Bool.{false≢true}
 use Rattle.cube.specs.declared.symbol.Symbol.{Symbol}
 use Rattle.cube.specs.declared.symbol.Symbol.TheVariants.{Dash}
-use Rattle.cube.specs.Cube.{Cube, IsCube}
-use Rattle.cover.specs.Reduced.{LeftOutputs}
+use Rattle.cube.specs.Cube.{Cube}
 use Rattle.cover.proofs.SumMeets.{IsCube-of_size}
 use Rattle.cover.proofs.SumEnds.{free_sum-none, free_sum-one}
 use Rattle.cover.proofs.sum_leaf.free_sum.Goals as goal

@@ -1,4 +1,4 @@
-use Rattle.std.proofs.Common.{◌≡◌, ◌∙◌, [], sym, subst, arith}
+use Rattle.std.proofs.Common.{[], sym, subst, arith}
 use Rattle.std.proofs.lemmas.List.{take_all}
 use Rattle.cover.specs.Reduced.{IsMeets}
 use Rattle.cover.proofs.SumMeets.{other_sizes, IsMeets-more_rows, IsMeets-none}

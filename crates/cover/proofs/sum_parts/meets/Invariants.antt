@@ -1,4 +1,4 @@
-use Rattle.std.proofs.Common.{◌≡◌, take}
+use Rattle.std.proofs.Common.{take}
 use Rattle.cover.specs.Reduced.{IsMeets}
 use Rattle.cover.proofs.sum_parts.meets.Given as goal
 

@@ -1,8 +1,8 @@
-use Rattle.std.proofs.Common.{◌≡◌, ◌∙◌, ◌++◌, ◌∷◌, [], List, ap, ◌&&◌, sym, subst, append_assoc, append-nil, take, refl, IfSome, IsNone, arith, length}
+use Rattle.std.proofs.Common.{◌≡◌, ◌∙◌, ◌++◌, ◌∷◌, [], ap, ◌&&◌, sym, subst, append_assoc, refl, IfSome, IsNone, arith}
 use Rattle.std.proofs.lemmas.List.{take_all}
-use Rattle.cube.specs.Cube.{Cube, Place, holds, SameSize}
+use Rattle.cube.specs.Cube.{Place, holds, SameSize}
 use Rattle.cover.specs.Reduced.{IsMeets}
-use Rattle.cover.proofs.SumMeets.{IsMeets-found, IsMeets-not_found, IsCube-of_size, IsMeets-no_others}
+use Rattle.cover.proofs.SumMeets.{IsMeets-found, IsMeets-not_found, IsCube-of_size}
 use Rattle.cover.proofs.sum_parts.push_meets.Goals as goal
 use Rattle.cover.proofs.sum_parts.push_meets.Goals.{in-Some+in_ok-push, in_default}
 

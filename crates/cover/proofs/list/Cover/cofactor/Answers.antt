@@ -1,4 +1,4 @@
-use Rattle.std.proofs.Common.{◌≡◌, ◌∙◌, ◌↔◌, ◌++◌, ◌∷◌, [], IsTrue, ap, sym, subst, take, length, IfSome, Some, is_some}
+use Rattle.std.proofs.Common.{◌≡◌, ◌∙◌, ◌↔◌, ◌++◌, ◌∷◌, [], IsTrue, ap, sym, subst, take, IfSome, Some, is_some}
 use Rattle.std.proofs.lemmas.Bool.{false≢true}
 use Rattle.cube.specs.Cofactor.{cofactor}
 use Rattle.std.proofs.lemmas.List.{take_all}

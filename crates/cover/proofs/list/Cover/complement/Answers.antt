@@ -1,4 +1,4 @@
-use Rattle.std.proofs.Common.{◌≡◌, ◌∙◌, ap, sym, not}
+use Rattle.std.proofs.Common.{◌∙◌, ap, not}
 use Rattle.cube.specs.Cube.{difference}
 use Rattle.cover.specs.Places.{places, universal}
 use Rattle.cover.proofs.SumStep.{AreCubes-complete_sum, Cubes-sum, sum_of_outside}

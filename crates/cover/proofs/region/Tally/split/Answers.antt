@@ -1,5 +1,4 @@
-use Rattle.std.proofs.Common.{◌≡◌, ◌+◌, ◌<◌, ◌∙◌, length, ap, sym, subst, arith}
-use Rattle.cover.specs.declared.region.Split.{Split}
+use Rattle.std.proofs.Common.{◌+◌, ◌<◌, ◌∙◌, length, sym, subst, arith}
 use Rattle.cover.specs.Splits.{IsHeaviest}
 use Rattle.std.proofs.lemmas.List.{get_or_default}
 use Rattle.cover.proofs.Tallying.{IsHeaviest-new, IsHeaviest-old}
