@@ -23,3 +23,8 @@ mod PieceLaws
 mod EndLaws
 mod ReadLaws
 mod WiderLimits
+mod KeywordTexts
+mod PrintedRows
+mod PrintedLists
+mod PrintedSteps
+mod ReadBack

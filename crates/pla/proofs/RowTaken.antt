@@ -47,14 +47,15 @@ or_false true = refl
 or_false false = refl
 
 -- what a line without a keyword adds
-abbrev wordless : Limits → Header → List ℕ → Header
+abbrev pub wordless : Limits → Header → List ℕ → Header
 wordless limits h marked = record h {
   lines = h.lines + 1;
   unfinished = left_over (size_in h) (h.unfinished + length marked);
   has_symbols = h.has_symbols || nat_lt 0 (length marked);
 }
 
-after_wordless : (limits : Limits) (h : Header) (line : List ℕ) → keyword_words line ≡ [] → after_line limits h line ≡ wordless limits h (symbols line)
+-- the header after a line without a keyword
+pub after_wordless : (limits : Limits) (h : Header) (line : List ℕ) → keyword_words line ≡ [] → after_line limits h line ≡ wordless limits h (symbols line)
 after_wordless limits h line none =
     let marked = symbols line in
     let plain : Header = record h {

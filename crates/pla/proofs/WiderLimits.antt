@@ -310,7 +310,7 @@ last_stays narrow wide Failed rest lines within same =
     (or_stays Same (rest_fault narrow lines rest) (rest_fault wide lines rest) failed (at_stays narrow wide (length lines + 1) (rest_kind narrow (length lines) rest) (rest_kind wide (length lines) rest) (rest_stays narrow wide (length lines) rest within)))
 
 -- what a header and symbols describe
-abbrev description_by : Header → List ℕ → Description
+abbrev pub description_by : Header → List ℕ → Description
 description_by h symbols = record {
   size = unwrap_or (size_in h) (record { inputs = 0; outputs = 0 });
   input_names = h.input_names;

@@ -22,3 +22,4 @@ pub mod State
 pub mod Parsing
 pub mod Vectors
 pub mod WiderLimits
+pub mod ReadBack

@@ -1,6 +1,7 @@
 //! Worked examples and laws of the definitions, each as the contract of a function that does nothing.
 ghost use Rattle.pla.specs.Vectors.{KeywordFaults, RowFaults, Echoes, Descriptions};
 ghost use Rattle.pla.specs.WiderLimits.{WiderLimitsReadAlike, OlderLimitsReadAlike};
+ghost use Rattle.pla.specs.ReadBack.{TextsAreReadBack};
 
 /// Faults of keyword lines.
 pub fn keyword_faults()
@@ -31,4 +32,14 @@ pub fn descriptions()
 pub fn wider_limits()
     ensures all { WiderLimitsReadAlike }
     ensures older { OlderLimitsReadAlike }
+{}
+
+/// A text that is printed with type fdr is read again as what it was printed of: it has no fault, and
+/// describes the same shape, names and three lists, each with its cubes in their order. It does so
+/// whatever bytes follow it, and whether their reading ends or fails. The names are such as a file can
+/// give: of the right number, none empty, none with a blank or a line feed, none that begins with `#`,
+/// and in lines that are not too long. The text has at most as many lines as are looked at
+/// ([`cube::limits::LINES`]).
+pub fn read_back()
+    ensures { TextsAreReadBack }
 {}

@@ -51,7 +51,7 @@ pub use device::{Broken, Input, Output};
 pub use ending::Ending;
 pub use fakes::{Given, Taken};
 pub use fault::{Echo, FileType, ReadFault, ReadKind};
-pub use laws::{descriptions, echoes, keyword_faults, row_faults, wider_limits};
+pub use laws::{descriptions, echoes, keyword_faults, read_back, row_faults, wider_limits};
 pub use out_type::OutType;
 pub use over_std::{Reading, Writing};
 pub use reading::read_pla;
