@@ -5,6 +5,7 @@ use Rattle.std.specs.Simd.{first_chunks}
 use Rattle.std.proofs.lemmas.List.{map-append}
 use Rattle.std.proofs.lemmas.List.Concat.{flat_map-append}
 use Rattle.std.proofs.lemmas.List.Elements.{All-head, All-tail}
+use Rattle.std.proofs.Math.Seq.{take-append_seam, drop-append_seam}
 use Rattle.cube.specs.Size.{Size}
 use Rattle.cube.specs.Cube.{Cube, IsCube}
 use Rattle.pla.specs.declared.fault.FileType.TheVariants.{Fdr}
@@ -112,16 +113,8 @@ length-marks size (r ∷ rs) each =
     ∙ ap (λ n. width size + n) (length-marks size rs each.1) ∙ sym more
 
 front_chunk : (w : ℕ) (row more : List ℕ) (k : ℕ) → length row ≡ w → first_chunks w (suc k) (row ++ more) ≡ row ∷ first_chunks w k more
-front_chunk w row more k e = ap (λ n. take n (row ++ more) ∷ first_chunks w k (drop n (row ++ more))) (sym e) ∙ ap (λ r. r ∷ first_chunks w k (drop (length row) (row ++ more))) (take-append row more)
-    ∙ ap (λ d. row ∷ first_chunks w k d) (drop-append row more)
-  where
-    take-append : (xs ys : List ℕ) → take (length xs) (xs ++ ys) ≡ xs
-    take-append [] ys = refl
-    take-append (x ∷ xs) ys = ap (λ zs. x ∷ zs) (take-append xs ys)
-
-    drop-append : (xs ys : List ℕ) → drop (length xs) (xs ++ ys) ≡ ys
-    drop-append [] ys = refl
-    drop-append (x ∷ xs) ys = drop-append xs ys
+front_chunk w row more k e = ap (λ n. take n (row ++ more) ∷ first_chunks w k (drop n (row ++ more))) (sym e) ∙ ap (λ r. r ∷ first_chunks w k (drop (length row) (row ++ more))) (take-append_seam row more)
+    ∙ ap (λ d. row ∷ first_chunks w k d) (drop-append_seam row more)
 
 chunks : (size : Size) (rs : List Printed) → AreCubes size rs → first_chunks (width size) (length rs) (concat (map marks_in rs)) ≡ map marks_in rs
 chunks size [] each = refl

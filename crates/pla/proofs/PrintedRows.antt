@@ -6,7 +6,7 @@ use Rattle.std.proofs.lemmas.List.{length-map}
 use Rattle.std.proofs.lemmas.List.Elements.{filter-append, All-append, All-cons}
 use Rattle.std.proofs.lemmas.List.Sums.{position_or_len_is}
 use Rattle.std.proofs.lemmas.Bool.{lt-leb}
-use Rattle.std.proofs.Math.Seq.{take-length}
+use Rattle.std.proofs.Math.Seq.{take-length, take-append_seam, drop-append_seam}
 use Rattle.cube.specs.declared.symbol.Symbol.{Symbol}
 use Rattle.cube.specs.declared.symbol.Symbol.TheVariants.{Dash, Zero, One}
 use Rattle.cube.specs.Size.{Size}
@@ -245,16 +245,8 @@ row_back size part own c is =
     let letters = part_symbols Fdr part in
     let long : length front ≡ size.inputs = length-map c.symbols symbol_byte ∙ is.has_size.0 in
     ap (λ n. given_cube n letters (front ++ back)) (sym long)
-    ∙ ap (λ s. cube_by (map input_symbol s) (map (is_byte_of letters) (drop (length front) (front ++ back)))) (take-append front back)
-    ∙ ap (λ s. cube_by (map input_symbol front) (map (is_byte_of letters) s)) (drop-append front back)
+    ∙ ap (λ s. cube_by (map input_symbol s) (map (is_byte_of letters) (drop (length front) (front ++ back)))) (take-append_seam front back)
+    ∙ ap (λ s. cube_by (map input_symbol front) (map (is_byte_of letters) s)) (drop-append_seam front back)
     ∙ ap (λ s. cube_by s (map (is_byte_of letters) back)) (inputs_back c.symbols)
     ∙ ap (cube_by c.symbols) (outputs_back part own (is_same part own) c.outputs refl)
     ∙ cube_back (is_same part own) c is.some_output
-  where
-    take-append : (xs ys : List ℕ) → take (length xs) (xs ++ ys) ≡ xs
-    take-append [] ys = refl
-    take-append (x ∷ xs) ys = ap (λ zs. x ∷ zs) (take-append xs ys)
-
-    drop-append : (xs ys : List ℕ) → drop (length xs) (xs ++ ys) ≡ ys
-    drop-append [] ys = refl
-    drop-append (x ∷ xs) ys = drop-append xs ys
