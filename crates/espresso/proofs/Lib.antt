@@ -8,3 +8,4 @@ pub mod Lines
 pub mod Outputs
 pub mod Ways
 pub mod Readings
+pub mod Both

@@ -48,3 +48,7 @@ failed_before before mid after h k = omega arith
 
 pub failed_again : (before mid after : ℕ) → HasFailed before mid → after ≡ one_more mid → HasFailed before after
 failed_again before mid after h e = omega arith
+
+-- a beginning of a text is one of a longer text
+pub front_longer : (old new : Option (List ℕ)) (a b : List ℕ) → AppendsFront old new a → AppendsFront old new (a ++ b)
+front_longer old new a b h = (h.0, h.1 ++ b, ap (λ t. t ++ b) h.2 ∙ append_assoc h.0 h.1 b, h.3)

@@ -1,57 +1,149 @@
--- Where a run stands, from its reading to its last word.
-use Rattle.std.proofs.Common.{◌≡◌, ◌∙◌, ℕ, refl, sym, subst, inl, inr, List, [], Option, Result, Ok, Err, true≢false}
+-- Where a run stands, from step to step.
+use Rattle.std.proofs.Common.{◌≡◌, ◌∙◌, ℕ, refl, sym, ap, subst, inl, inr, List, [], ◌++◌, Option, Result, Ok, Err, true≢false, append-nil}
 use Rattle.std.specs.Prelude.{IsTrue}
 use Rattle.std.specs.Io.KnownBytes.{Appends, Keeps}
 use Rattle.pla.specs.declared.device.Broken.{Broken}
-use Rattle.pla.specs.Device.{CountsFailure, HasFailed, one_more}
+use Rattle.pla.specs.Description.{Description}
+use Rattle.pla.specs.Device.{AppendsFront, CountsFailure, HasFailed, one_more}
 use Rattle.espresso.specs.declared.status.Status.{Status}
 use Rattle.espresso.specs.declared.status.Status.TheVariants.{Fault}
+use Rattle.espresso.specs.declared.stop.Operand.{Operand}
 use Rattle.espresso.specs.declared.stop.Stop.{Stop}
 use Rattle.espresso.specs.declared.stop.Stop.TheVariants as stop
-use Rattle.espresso.specs.Messages.{is_answer}
-use Rattle.espresso.specs.Run.{Ends, Finishes, Intake, Nothing, Says, Told, TookBeginning, told}
-use Rattle.espresso.specs.Steps.{Answers, Prints, Reports, Stands}
-use Rattle.espresso.specs.Tool.{File, Outcome, echo_by, first_name, outcome_of}
-use Rattle.espresso.specs.Tool as tool
-use Rattle.espresso.specs.Words.{Meaning}
-use Rattle.espresso.proofs.Outputs.{appends_kept, failed_again, failed_now, front_kept, front_whole}
+use Rattle.espresso.specs.Messages.{closed_message, fault_message, is_answer}
+use Rattle.espresso.specs.Run.{Ends, Finishes, Intake, Intakes, IsFileOf, Says, Told, TookBeginning, TookFront, echoes_due, second_due, told}
+use Rattle.espresso.specs.Steps.{Answers, Began, FilesOf, IsReadAs, Names, PassesOn, Prints, PutsOut, Reports, Stands, StandsAt, name_at}
+use Rattle.espresso.specs.Answer.{Answer}
+use Rattle.espresso.specs.Tool.{File, Outcome, answered, behind, outcome_of, reading_of, reading_then, unless_stopped}
+use Rattle.espresso.specs.Words.{Meaning, Text}
+use Rattle.espresso.proofs.Outputs.{appends_kept, appends_more, failed_again, failed_now, front_kept, front_longer, front_more, front_whole}
+
+-- ---- the reading of a source, and what follows
+
+module _ (line : Meaning) (operand : Operand) (name : Text) (taken : Intake) (X : Type 0) (file : X → File) (is_file : (x : X) → IsFileOf taken (file x)) (next : X → Description → Outcome) (rest : List ℕ) (names : Names) (old mid : Option (List ℕ)) (before count : ℕ) where
+  abbrev whole : X → Outcome
+  whole x = reading_then line name (file x) (next x)
+
+  -- the outcome by what the file comes to
+  outcome_is : (x : X) (reading : Result Description (List ℕ)) → PassesOn line name taken (told old mid before count) reading
+      → whole x ≡ behind (echoes_due line taken) (unless_stopped (next x) reading)
+  outcome_is x reading h = ap (λ e. behind e (unless_stopped (next x) (reading_of name (file x)))) (h.passed (file x) (is_file x))
+      ∙ ap (λ r. behind (echoes_due line taken) (unless_stopped (next x) r)) (h.comes_to (file x) (is_file x))
+
+  stops_saying : (message : List ℕ) → PassesOn line name taken (told old mid before count) (Err message)
+      → (x : X) → Prints (whole x) (told old mid before count) message Fault
+  stops_saying message h x = subst (λ o. Prints o (told old mid before count) message Fault) (sym (outcome_is x (Err message) h))
+      (record { output = subst (Appends old mid) (sym (append-nil (echoes_due line taken))) h.took; same_message = refl; same_status = refl })
+
+  -- the source stopped the run
+  pub stopped_there : (s : Stop) → name_at operand names ≡ name → IsReadAs line operand name taken (told old mid before count) (Err s)
+      → StandsAt X whole (echoes_due line taken ++ rest) names (told old mid before count) (Err s)
+  stopped_there (stop.NotOpened at) named h = stops_saying _ (subst (λ n. PassesOn line name taken (told old mid before count) (Err (closed_message n)))
+      (sym (ap (λ o. name_at o names) h.1 ∙ named)) h.0)
+  stopped_there (stop.Faulty at fault) named h = stops_saying _ (subst (λ n. PassesOn line name taken (told old mid before count) (Err (fault_message n fault)))
+      (sym (ap (λ o. name_at o names) h.1 ∙ named)) h.0)
+  stopped_there stop.SizesDiffer named h = absurd h
+  stopped_there stop.WriteFailed named h = (inl (front_longer old mid _ rest h.0), h.1)
+  stopped_there stop.OutOfMemory named h = inl (front_longer old mid _ rest h)
+
+  -- it came to a description, and the run went on
+  module _ (pla : Description) (new : Option (List ℕ)) (after : ℕ) (read : IsReadAs line operand name taken (told old mid before count) (Ok pla)) where
+    prints_behind : (message : List ℕ) (status : Status) (x : X) → Prints (next x pla) (told mid new count after) message status
+        → Prints (whole x) (told old new before after) message status
+    prints_behind message status x h = subst (λ o. Prints o (told old new before after) message status) (sym (outcome_is x (Ok pla) read.0))
+        (record { output = appends_more old mid new _ _ read.0.took h.output; same_message = h.same_message; same_status = h.same_status })
+
+    began_behind : Began X (λ x. next x pla) rest (told mid new count after) → Began X whole (echoes_due line taken ++ rest) (told old new before after)
+    began_behind (inl h) = inl (front_more old mid new _ rest read.0.took h)
+    began_behind (inr h) = inr (λ x. subst (λ o. AppendsFront old new o.output) (sym (outcome_is x (Ok pla) read.0))
+        (front_more old mid new _ _ read.0.took (h x)))
+
+    pub went_on : (result : Result Status Stop) → StandsAt X (λ x. next x pla) rest names (told mid new count after) result
+        → StandsAt X whole (echoes_due line taken ++ rest) names (told old new before after) result
+    went_on (Ok status) h = (λ x. prints_behind [] status x (h.0 x), h.1 ∙ read.1)
+    went_on (Err (stop.NotOpened at)) h = λ x. prints_behind _ Fault x (h x)
+    went_on (Err (stop.Faulty at fault)) h = λ x. prints_behind _ Fault x (h x)
+    went_on (Err stop.SizesDiffer) h = λ x. prints_behind _ Fault x (h x)
+    went_on (Err stop.WriteFailed) h = (began_behind h.0, subst (λ n. HasFailed n after) read.1 h.1)
+    went_on (Err stop.OutOfMemory) h = began_behind h
+
+-- ---- the same outcome in other words
+
+module _ (X Y : Type 0) (at : X → Y) (outcome : X → Outcome) (other : Y → Outcome) (same : (x : X) → other (at x) ≡ outcome x) (echoes : List ℕ) (names : Names) (out : Told) where
+  prints_same : (message : List ℕ) (status : Status) → ((y : Y) → Prints (other y) out message status) → (x : X) → Prints (outcome x) out message status
+  prints_same message status h x = subst (λ o. Prints o out message status) (same x) (h (at x))
+
+  began_same : Began Y other echoes out → Began X outcome echoes out
+  began_same (inl h) = inl h
+  began_same (inr h) = inr (λ x. subst (λ o. TookFront out o.output) (same x) (h (at x)))
+
+  pub stands_same : (result : Result Status Stop) → StandsAt Y other echoes names out result → StandsAt X outcome echoes names out result
+  stands_same (Ok status) h = (prints_same [] status h.0, h.1)
+  stands_same (Err (stop.NotOpened operand)) h = prints_same _ Fault h
+  stands_same (Err (stop.Faulty operand fault)) h = prints_same _ Fault h
+  stands_same (Err stop.SizesDiffer) h = prints_same _ Fault h
+  stands_same (Err stop.WriteFailed) h = (began_same h.0, h.1)
+  stands_same (Err stop.OutOfMemory) h = began_same h
+
+-- one outcome, whatever the files
+pub answers_stand : (X : Type 0) (outcome : Outcome) (echoes : List ℕ) (names : Names) (out : Told) (result : Result Status Stop)
+    → Answers outcome out result → StandsAt X (λ _. outcome) echoes names out result
+answers_stand X outcome echoes names out (Ok status) h = (λ _. h.0, h.1)
+answers_stand X outcome echoes names out (Err (stop.NotOpened operand)) h = absurd h
+answers_stand X outcome echoes names out (Err (stop.Faulty operand fault)) h = absurd h
+answers_stand X outcome echoes names out (Err stop.SizesDiffer) h = λ _. h
+answers_stand X outcome echoes names out (Err stop.WriteFailed) h = (inr (λ _. h.0), h.1)
+answers_stand X outcome echoes names out (Err stop.OutOfMemory) h = inr (λ _. h)
+
+-- a command's answer, printed
+pub put_answers : (answer : Answer) (out : Told) (result : Result Status Stop) → PutsOut answer out result → Answers (answered answer) out result
+put_answers answer out (Ok status) h = (record { output = h.0; same_message = refl; same_status = h.2 }, h.1)
+put_answers answer out (Err (stop.NotOpened operand)) h = absurd h
+put_answers answer out (Err (stop.Faulty operand fault)) h = absurd h
+put_answers answer out (Err stop.SizesDiffer) h = absurd h
+put_answers answer out (Err stop.WriteFailed) h = h
+put_answers answer out (Err stop.OutOfMemory) h = h
 
 -- ---- the last flush
 
-module _ (line : Meaning) (taken : Intake) (old mid new : Option (List ℕ)) (before count after : ℕ) (kept : Keeps mid new) where
+module _ (line : Meaning) (taken : Intakes) (names : Names) (old mid new : Option (List ℕ)) (before count after : ℕ) (kept : Keeps mid new) where
   prints_kept : (outcome : Outcome) (message : List ℕ) (status : Status) → Prints outcome (told old mid before count) message status → Prints outcome (told old new before after) message status
   prints_kept outcome message status h = record { output = appends_kept old mid new outcome.output h.output kept; same_message = h.same_message; same_status = h.same_status }
 
-  answers_kept : (message : List ℕ) (status : Status) → Answers line taken (told old mid before count) message status → Answers line taken (told old new before after) message status
-  answers_kept message status h file is = prints_kept (outcome_of line file) message status (h file is)
+  abbrev outcome_at : FilesOf taken → Outcome
+  outcome_at files = outcome_of line files.first files.second
 
-  beginning_kept : TookBeginning line taken (told old mid before count) → TookBeginning line taken (told old new before after)
-  beginning_kept (inl h) = inl (front_kept old mid new _ h kept)
-  beginning_kept (inr h) = inr (λ file is. front_kept old mid new _ (h file is) kept)
+  abbrev echoes : List ℕ
+  echoes = echoes_due line taken.first ++ second_due line taken.second
+
+  began_kept : Began (FilesOf taken) outcome_at echoes (told old mid before count) → Began (FilesOf taken) outcome_at echoes (told old new before after)
+  began_kept (inl h) = inl (front_kept old mid new echoes h kept)
+  began_kept (inr h) = inr (λ files. front_kept old mid new _ (h files) kept)
 
   -- a flush that went well
-  pub flush_kept : (x : Status) → after ≡ count → Stands line taken (told old mid before count) (Ok x) → Stands line taken (told old new before after) (Ok x)
-  flush_kept x e h = (answers_kept [] x h.0, e ∙ h.1)
+  pub flush_kept : (x : Status) → after ≡ count → Stands line taken names (told old mid before count) (Ok x) → Stands line taken names (told old new before after) (Ok x)
+  flush_kept x e h = (λ files. prints_kept _ [] x (h.0 files), e ∙ h.1)
 
   -- a flush that failed or not, where the run was stopped before
   pub flush_ignored : (s : Stop) (flush : Result (Unit {0}) Broken) → CountsFailure count after flush
-      → Stands line taken (told old mid before count) (Err s) → Stands line taken (told old new before after) (Err s)
-  flush_ignored stop.NotOpened flush e h = answers_kept _ Fault h
-  flush_ignored (stop.Faulty fault) flush e h = answers_kept _ Fault h
-  flush_ignored stop.WriteFailed (Ok x) e h = (beginning_kept h.0, subst (λ n. HasFailed before n) (sym e) h.1)
-  flush_ignored stop.WriteFailed (Err x) e h = (beginning_kept h.0, failed_again before count after h.1 e)
-  flush_ignored stop.OutOfMemory flush e h = beginning_kept h
+      → Stands line taken names (told old mid before count) (Err s) → Stands line taken names (told old new before after) (Err s)
+  flush_ignored (stop.NotOpened operand) flush e h = λ files. prints_kept _ _ Fault (h files)
+  flush_ignored (stop.Faulty operand fault) flush e h = λ files. prints_kept _ _ Fault (h files)
+  flush_ignored stop.SizesDiffer flush e h = λ files. prints_kept _ _ Fault (h files)
+  flush_ignored stop.WriteFailed (Ok x) e h = (began_kept h.0, subst (λ n. HasFailed before n) (sym e) h.1)
+  flush_ignored stop.WriteFailed (Err x) e h = (began_kept h.0, failed_again before count after h.1 e)
+  flush_ignored stop.OutOfMemory flush e h = began_kept h
 
   -- a flush that failed, where all was written
-  pub flush_failed : (x : Status) → after ≡ one_more count → Stands line taken (told old mid before count) (Ok x) → Stands line taken (told old new before after) (Err stop.WriteFailed)
-  flush_failed x e h = (inr (λ file is. front_whole old new _ (appends_kept old mid new _ (h.0 file is).output kept)), failed_now before count after h.1 e)
+  pub flush_failed : (x : Status) → after ≡ one_more count → Stands line taken names (told old mid before count) (Ok x) → Stands line taken names (told old new before after) (Err stop.WriteFailed)
+  flush_failed x e h = (inr (λ files. front_whole old new _ (appends_kept old mid new _ (h.0 files).output kept)), failed_now before count after h.1 e)
 
 -- ---- the end
 
-module _ (line : Meaning) (taken : Intake) (out err : Told) (status : Status) where
-  finishes : (message : List ℕ) (s : Status) → Answers line taken out message s → Says err message → status ≡ s → (IsTrue (is_answer s) → out.failures_after ≡ out.failures) → Finishes line taken out err status
+module _ (line : Meaning) (taken : Intakes) (names : Names) (out err : Told) (status : Status) where
+  finishes : (message : List ℕ) (s : Status) → ((files : FilesOf taken) → Prints (outcome_of line files.first files.second) out message s) → Says err message → status ≡ s → (IsTrue (is_answer s) → out.failures_after ≡ out.failures) → Finishes line taken out err status
   finishes message s h say e unbroken = record {
-    outcome = λ file is. let p = h file is in record {
+    outcome = λ first second is_first is_second. let p = h (record { first = first; second = second; is_first = is_first; is_second = is_second }) in record {
       output = p.output;
       message = subst (Says err) (sym p.same_message) say;
       same_status = e ∙ sym p.same_status;
@@ -59,17 +151,15 @@ module _ (line : Meaning) (taken : Intake) (out err : Told) (status : Status) wh
     unbroken = λ done. unbroken (subst (λ t. IsTrue (is_answer t)) e done);
   }
 
+  beginning : Began (FilesOf taken) (λ files. outcome_of line files.first files.second) (echoes_due line taken.first ++ second_due line taken.second) out → TookBeginning line taken out
+  beginning (inl h) = inl h
+  beginning (inr h) = inr (λ first second is_first is_second. h (record { first = first; second = second; is_first = is_first; is_second = is_second }))
+
   -- a run ends in one of the three ways
-  pub ends : (done : Result Status Stop) → Stands line taken out done → Reports (first_name line.files) err done status → Ends line taken out err status
+  pub ends : (done : Result Status Stop) → Stands line taken names out done → Reports names err done status → Ends line taken out err status
   ends (Ok x) h r = inl (finishes [] x h.0 r.1 r.0 (λ _. h.1))
-  ends (Err stop.NotOpened) h r = inl (finishes _ Fault h r.1 r.0 (λ e. absurd (true≢false (sym e))))
-  ends (Err (stop.Faulty fault)) h r = inl (finishes _ Fault h r.1 r.0 (λ e. absurd (true≢false (sym e))))
-  ends (Err stop.WriteFailed) h r = inr (inr (record { beginning = h.0; failed = h.1; message = r.1; same_status = r.0 }))
-  ends (Err stop.OutOfMemory) h r = inr (inl (record { beginning = h; message = r.1; same_status = r.0 }))
-
--- ---- a closed source
-
--- nothing was printed of it
-pub closed_stands : (line : Meaning) (old : Option (List ℕ)) (count : ℕ) → Appends old old [] → Stands line Nothing (told old old count count) (Err stop.NotOpened)
-closed_stands line old count h tool.Closed is = record { output = h; same_message = refl; same_status = refl }
-closed_stands line old count h (tool.Delivered bytes ending) is = absurd is
+  ends (Err (stop.NotOpened operand)) h r = inl (finishes _ Fault h r.1 r.0 (λ e. absurd (true≢false (sym e))))
+  ends (Err (stop.Faulty operand fault)) h r = inl (finishes _ Fault h r.1 r.0 (λ e. absurd (true≢false (sym e))))
+  ends (Err stop.SizesDiffer) h r = inl (finishes _ Fault h r.1 r.0 (λ e. absurd (true≢false (sym e))))
+  ends (Err stop.WriteFailed) h r = inr (inr (record { beginning = beginning h.0; failed = h.1; message = r.1; same_status = r.0 }))
+  ends (Err stop.OutOfMemory) h r = inr (inl (record { beginning = beginning h; message = r.1; same_status = r.0 }))

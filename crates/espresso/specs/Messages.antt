@@ -53,6 +53,10 @@ abbrev pub fault_message : List ℕ → ReadFault → List ℕ
 fault_message name fault = codes "espresso: " ++ name ++ codes ":" ++ decimal fault.line
     ++ codes ": " ++ kind_text fault.kind ++ 10 ∷ []
 
+-- two files of other numbers of inputs or of outputs
+abbrev pub sizes_message : List ℕ
+sizes_message = codes "espresso: sizes differ" ++ 10 ∷ []
+
 -- an output that failed
 abbrev pub write_failed_message : List ℕ
 write_failed_message = codes "espresso: write failed" ++ 10 ∷ []

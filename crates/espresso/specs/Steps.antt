@@ -1,38 +1,79 @@
 -- The steps of a run: what stopped it, and what the devices tell by then.
-use Rattle.std.specs.Prelude.{◌≡◌, ℕ, List, [], Option, Result, Ok, Err}
+use Rattle.std.specs.Prelude.{◌≡◌, ◌⊎◌, ℕ, List, [], ◌++◌, Option, Some, None, Result, Ok, Err}
 use Rattle.pla.specs.declared.fault.ReadFault.{ReadFault}
 use Rattle.pla.specs.declared.fault.ReadKind.{ReadKind}
 use Rattle.pla.specs.declared.fault.ReadKind.TheVariants.{WriteFailed, OutOfMemory}
+use Rattle.pla.specs.Description.{Description}
+use Rattle.espresso.specs.declared.source.Source.{Source}
+use Rattle.espresso.specs.declared.stop.Operand.{Operand}
+use Rattle.espresso.specs.declared.stop.Operand.TheVariants.{First, Second}
 use Rattle.espresso.specs.declared.stop.Stop.{Stop}
 use Rattle.espresso.specs.declared.stop.Stop.TheVariants as stop
 use Rattle.espresso.specs.declared.status.Status.{Status}
 use Rattle.espresso.specs.declared.status.Status.TheVariants.{Fault, Memory}
 use Rattle.espresso.specs.Answer.{Answer}
-use Rattle.espresso.specs.Messages.{closed_message, fault_message, memory_message, write_failed_message}
-use Rattle.pla.specs.declared.ending.Ending.{Ending}
-use Rattle.espresso.specs.Run.{Bytes, Delivers, Failed, Intake, IsFileOf, Says, Told, TookBeginning, Took, TookFront, told}
-use Rattle.espresso.specs.Tool.{File, Outcome, first_name, outcome_of}
+use Rattle.espresso.specs.Messages.{closed_message, fault_message, memory_message, sizes_message, write_failed_message}
+use Rattle.espresso.specs.Run.{Failed, Intake, Intakes, IsFaultless, IsFileOf, IsSecondOf, Says, Told, Took, TookFront, echoes_due, name_of, second_due, told}
+use Rattle.espresso.specs.Tool.{File, Outcome, outcome_of, passed_on, reading_of, reading_then, with_both}
 use Rattle.espresso.specs.Words.{Meaning, Text}
 
+-- ---- what stops a run
+
 -- what stops a run, by the fault of its reading
-abbrev pub stop_by : ReadFault → ReadKind → Stop
-stop_by fault WriteFailed = stop.WriteFailed
-stop_by fault OutOfMemory = stop.OutOfMemory
-stop_by fault _ = stop.Faulty fault
+abbrev pub stop_by : Operand → ReadFault → ReadKind → Stop
+stop_by operand fault WriteFailed = stop.WriteFailed
+stop_by operand fault OutOfMemory = stop.OutOfMemory
+stop_by operand fault _ = stop.Faulty operand fault
 
 -- the status that it gives
 abbrev pub status_of : Stop → Status
 status_of stop.OutOfMemory = Memory
-status_of stop.NotOpened = Fault
-status_of (stop.Faulty fault) = Fault
-status_of stop.WriteFailed = Fault
+status_of _ = Fault
 
--- what it says on standard error
-abbrev pub message_of : Text → Stop → List ℕ
-message_of name stop.NotOpened = closed_message name
-message_of name (stop.Faulty fault) = fault_message name fault
-message_of name stop.WriteFailed = write_failed_message
-message_of name stop.OutOfMemory = memory_message
+-- the names of the sources
+pub record Names : Type 0 where
+  pub first : Text
+  pub second : Text
+
+-- the name of a source
+abbrev pub name_at : Operand → Names → Text
+name_at First names = names.first
+name_at Second names = names.second
+
+-- the name of a second source, where there is one
+abbrev pub second_text : {R : Type 0} → Option (Source R) → Text
+second_text None = []
+second_text (Some source) = name_of source
+
+-- what is said on standard error
+abbrev pub message_of : Names → Stop → List ℕ
+message_of names (stop.NotOpened operand) = closed_message (name_at operand names)
+message_of names (stop.Faulty operand fault) = fault_message (name_at operand names) fault
+message_of names stop.SizesDiffer = sizes_message
+message_of names stop.WriteFailed = write_failed_message
+message_of names stop.OutOfMemory = memory_message
+
+-- ---- the reading of a source
+
+-- its echoes went out, and each file of what was taken comes to this
+pub record PassesOn (line : Meaning) (name : Text) (taken : Intake) (out : Told) (reading : Result Description (List ℕ)) : Type 0 where
+  pub took : Took out (echoes_due line taken)
+  pub passed : (file : File) → IsFileOf taken file → passed_on line file ≡ echoes_due line taken
+  pub comes_to : (file : File) → IsFileOf taken file → reading_of name file ≡ reading
+
+-- what came of it
+abbrev pub IsReadAs : Meaning → Operand → Text → Intake → Told → Result Description Stop → Type 0
+IsReadAs line operand name taken out (Ok pla) =
+    PassesOn line name taken out (Ok pla) × (out.failures_after ≡ out.failures) × IsFaultless taken
+IsReadAs line operand name taken out (Err (stop.NotOpened at)) =
+    PassesOn line name taken out (Err (closed_message name)) × (at ≡ operand)
+IsReadAs line operand name taken out (Err (stop.Faulty at fault)) =
+    PassesOn line name taken out (Err (fault_message name fault)) × (at ≡ operand)
+IsReadAs line operand name taken out (Err stop.SizesDiffer) = ⊥
+IsReadAs line operand name taken out (Err stop.WriteFailed) = TookFront out (echoes_due line taken) × Failed out
+IsReadAs line operand name taken out (Err stop.OutOfMemory) = TookFront out (echoes_due line taken)
+
+-- ---- where a run stands
 
 -- the output took what this outcome prints, which has this message and status
 pub record Prints (outcome : Outcome) (out : Told) (message : List ℕ) (status : Status) : Type 0 where
@@ -40,20 +81,41 @@ pub record Prints (outcome : Outcome) (out : Told) (message : List ℕ) (status 
   pub same_message : outcome.message ≡ message
   pub same_status : outcome.status ≡ status
 
--- the same of the outcome on each file that was taken
-abbrev pub Answers : Meaning → Intake → Told → List ℕ → Status → Type 0
-Answers line taken out message status =
-    (file : File) → IsFileOf taken file → Prints (outcome_of line file) out message status
+-- the output took a beginning of these echoes, or of what each outcome prints
+abbrev pub Began : (X : Type 0) → (X → Outcome) → List ℕ → Told → Type 0
+Began X outcome echoes out = TookFront out echoes ⊎ ((x : X) → TookFront out (outcome x).output)
 
--- where a run stands that was stopped, or was not
-abbrev pub Stands : Meaning → Intake → Told → Result Status Stop → Type 0
-Stands line taken out (Ok status) = Answers line taken out [] status × (out.failures_after ≡ out.failures)
-Stands line taken out (Err stop.NotOpened) =
-    Answers line taken out (message_of (first_name line.files) stop.NotOpened) Fault
-Stands line taken out (Err (stop.Faulty fault)) =
-    Answers line taken out (message_of (first_name line.files) (stop.Faulty fault)) Fault
-Stands line taken out (Err stop.WriteFailed) = TookBeginning line taken out × Failed out
-Stands line taken out (Err stop.OutOfMemory) = TookBeginning line taken out
+-- where a run stands, stopped or not, whose outcome is one of these
+abbrev pub StandsAt : (X : Type 0) → (X → Outcome) → List ℕ → Names → Told → Result Status Stop → Type 0
+StandsAt X outcome echoes names out (Ok status) =
+    ((x : X) → Prints (outcome x) out [] status) × (out.failures_after ≡ out.failures)
+StandsAt X outcome echoes names out (Err stop.WriteFailed) = Began X outcome echoes out × Failed out
+StandsAt X outcome echoes names out (Err stop.OutOfMemory) = Began X outcome echoes out
+StandsAt X outcome echoes names out (Err stopped) =
+    (x : X) → Prints (outcome x) out (message_of names stopped) Fault
+
+-- two files of what was taken
+pub record FilesOf (taken : Intakes) : Type 0 where
+  pub first : File
+  pub second : Option File
+  pub is_first : IsFileOf taken.first first
+  pub is_second : IsSecondOf taken.second second
+
+-- where a run with this line stands
+abbrev pub Stands : Meaning → Intakes → Names → Told → Result Status Stop → Type 0
+Stands line taken = StandsAt (FilesOf taken) (λ files. outcome_of line files.first files.second)
+    (echoes_due line taken.first ++ second_due line taken.second)
+
+-- a file of what was taken
+pub record FileOf (taken : Intake) : Type 0 where
+  pub file : File
+  pub is_file : IsFileOf taken file
+
+-- where a run stands whose first file was read, whatever its name, and whose second has this name
+abbrev pub StandsBehind : Meaning → Description → Intake → Text → Told → Result Status Stop → Type 0
+StandsBehind line pla taken name out result = (first : Text)
+    → StandsAt (FileOf taken) (λ second. reading_then line name second.file (with_both line pla))
+    (echoes_due line taken) (record { first = first; second = name }) out result
 
 -- what came of printing an answer
 abbrev pub PutsOut : Answer → Told → Result Status Stop → Type 0
@@ -61,24 +123,24 @@ PutsOut answer out (Ok status) =
     Took out answer.text × (out.failures_after ≡ out.failures) × (answer.status ≡ status)
 PutsOut answer out (Err stop.WriteFailed) = TookFront out answer.text × Failed out
 PutsOut answer out (Err stop.OutOfMemory) = TookFront out answer.text
-PutsOut answer out (Err stop.NotOpened) = ⊥
-PutsOut answer out (Err (stop.Faulty fault)) = ⊥
+PutsOut answer out (Err _) = ⊥
 
--- what was delivered, and where the run stands after it
-pub record StandsAfter (left left_after : Option (List ℕ)) (failures failures_after : ℕ) (line : Meaning) (out : Told) (result : Result Status Stop) : Type 0 where
-  pub bytes : List ℕ
-  pub met : Option Ending
-  pub delivers : Delivers left left_after failures failures_after bytes met
-  pub stands : Stands line (Bytes bytes met) out result
+-- what came of what was left of a run, whose outcome is this
+abbrev pub Answers : Outcome → Told → Result Status Stop → Type 0
+Answers outcome out (Ok status) = Prints outcome out [] status × (out.failures_after ≡ out.failures)
+Answers outcome out (Err stop.SizesDiffer) = Prints outcome out sizes_message Fault
+Answers outcome out (Err stop.WriteFailed) = TookFront out outcome.output × Failed out
+Answers outcome out (Err stop.OutOfMemory) = TookFront out outcome.output
+Answers outcome out (Err _) = ⊥
 
 -- where a run stands stays so, but for a last failure of the output
 abbrev pub Passes : Option (List ℕ) → Option (List ℕ) → ℕ → ℕ → Result Status Stop → Result Status Stop → Type 0
 Passes taken taken_after failures failures_after done result =
-    (line : Meaning) (intake : Intake) (old : Option (List ℕ)) (before : ℕ)
-    → Stands line intake (told old taken before failures) done
-    → Stands line intake (told old taken_after before failures_after) result
+    (line : Meaning) (intakes : Intakes) (names : Names) (old : Option (List ℕ)) (before : ℕ)
+    → Stands line intakes names (told old taken before failures) done
+    → Stands line intakes names (told old taken_after before failures_after) result
 
 -- the status and the message at the end
-abbrev pub Reports : Text → Told → Result Status Stop → Status → Type 0
-Reports name err (Ok done) status = (status ≡ done) × Says err []
-Reports name err (Err stop) status = (status ≡ status_of stop) × Says err (message_of name stop)
+abbrev pub Reports : Names → Told → Result Status Stop → Status → Type 0
+Reports names err (Ok done) status = (status ≡ done) × Says err []
+Reports names err (Err stop) status = (status ≡ status_of stop) × Says err (message_of names stop)

@@ -1,5 +1,5 @@
 -- Answers of the tool to small files, computed.
-use Rattle.std.specs.Prelude.{◌≡◌, ℕ, List, [], ◌∷◌, codes, refl}
+use Rattle.std.specs.Prelude.{◌≡◌, ℕ, List, [], ◌∷◌, None, codes, refl}
 use Rattle.std.specs.Fmt.{digits}
 use Rattle.pla.specs.declared.ending.Ending.TheVariants.{End, Failed}
 use Rattle.pla.specs.Fault.{fault_in, is_past_limit, is_too_long, is_refused, is_inside_row, is_repeated, is_bad_number, is_name_too_early, is_wrong_count, is_type_too_late, is_bad_type, is_row_too_early, is_bad_symbol}
@@ -14,12 +14,12 @@ printed output = record { output = output; message = []; status = Done }
 abbrev faulty : List ℕ → List ℕ → Outcome
 faulty output message = record { output = output; message = message; status = Fault }
 
-one_row : tool (codes "-Decho" ∷ []) (Delivered (codes ".i 2\n.o 1\n11 1\n.e\n") End)
+one_row : tool (codes "-Decho" ∷ []) (Delivered (codes ".i 2\n.o 1\n11 1\n.e\n") End) None
     ≡ printed (codes ".i 2\n.o 1\n.p 1\n11 1\n.e\n")
 unfolding digits fault_in is_past_limit is_too_long is_refused is_inside_row is_repeated is_bad_number is_name_too_early is_wrong_count is_type_too_late is_bad_type is_row_too_early is_bad_symbol
 one_row = refl
 
-nothing_to_read : tool (codes "-Decho" ∷ []) (Delivered [] End)
+nothing_to_read : tool (codes "-Decho" ∷ []) (Delivered [] End) None
     ≡ faulty [] (codes "espresso: (stdin):0: .i or .o missing\n")
 unfolding digits
 nothing_to_read = refl
@@ -28,23 +28,23 @@ nothing_to_read = refl
 abbrev commented : File
 commented = Delivered (codes "# a\n.i 1\n.o 1\n.foo x\n# b\nz 1\n") End
 
-echoes_before_a_fault : tool (codes "-Decho" ∷ []) commented
+echoes_before_a_fault : tool (codes "-Decho" ∷ []) commented None
     ≡ faulty (codes "# a\n.foo x\n# b\n") (codes "espresso: (stdin):6: bad symbol\n")
 unfolding digits fault_in is_past_limit is_too_long is_refused is_inside_row is_repeated is_bad_number is_name_too_early is_wrong_count is_type_too_late is_bad_type is_row_too_early is_bad_symbol
 echoes_before_a_fault = refl
 
-comments_left_out : tool (codes "-Decho" ∷ codes "-e" ∷ codes "eat" ∷ []) commented
+comments_left_out : tool (codes "-Decho" ∷ codes "-e" ∷ codes "eat" ∷ []) commented None
     ≡ faulty (codes ".foo x\n") (codes "espresso: (stdin):6: bad symbol\n")
 unfolding digits fault_in is_past_limit is_too_long is_refused is_inside_row is_repeated is_bad_number is_name_too_early is_wrong_count is_type_too_late is_bad_type is_row_too_early is_bad_symbol
 comments_left_out = refl
 
-a_read_that_failed : tool (codes "-Decho" ∷ codes "f" ∷ []) (Delivered (codes ".i 1\n.o ") Failed)
+a_read_that_failed : tool (codes "-Decho" ∷ codes "f" ∷ []) (Delivered (codes ".i 1\n.o ") Failed) None
     ≡ faulty [] (codes "espresso: f:2: read failed\n")
 unfolding digits fault_in is_past_limit is_too_long is_refused is_inside_row is_repeated is_bad_number is_name_too_early is_wrong_count is_type_too_late is_bad_type is_row_too_early is_bad_symbol
 a_read_that_failed = refl
 
-a_closed_file : tool (codes "-Decho" ∷ codes "b" ∷ []) Closed ≡ faulty [] (codes "espresso: cannot open b\n")
+a_closed_file : tool (codes "-Decho" ∷ codes "b" ∷ []) Closed None ≡ faulty [] (codes "espresso: cannot open b\n")
 a_closed_file = refl
 
-no_words : tool [] Closed ≡ faulty [] (codes "usage: espresso -Dcommand [-o type] [-e eat] [file [file]]\n")
+no_words : tool [] Closed None ≡ faulty [] (codes "usage: espresso -Dcommand [-o type] [-e eat] [file [file]]\n")
 no_words = refl

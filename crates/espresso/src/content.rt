@@ -1,7 +1,8 @@
 //! The words and the files that the process was started with.
-ghost use Rattle.std.specs.Prelude.{◌≡◌, IfOk, string_bytes};
+ghost use Rattle.std.specs.Prelude.{◌≡◌, IfOk, IfSome, drop, is_some, map, string_bytes};
 ghost use Rattle.espresso.specs.Run.{name_of};
-ghost use Rattle.espresso.specs.Tool.{first_name};
+ghost use Rattle.espresso.specs.Tool.{first_name, second_name};
+ghost use Rattle.espresso.specs.Words.{takes_two};
 
 use crate::line::{Line, LineFault};
 use crate::source::Source;
@@ -42,26 +43,36 @@ pub(crate) fn words_of<R: Env + AllocGlobal>(rt: &R) -> Result<Vec<String>, Line
     }
 }
 
-// The name of the first source in messages: that of the first file word, or `(stdin)`.
-pub(crate) fn source_name(alloc: Global, line: &Line) -> Result<String, AllocError>
-    ensures { IfOk result (λ name. string_bytes name ≡ first_name line.now.files) }
+// The name of a source in messages: that of the first of these file words, or `(stdin)`.
+pub(crate) fn source_name(alloc: Global, files: &[String]) -> Result<String, AllocError>
+    ensures { IfOk result (λ name. string_bytes name ≡ first_name (map string_bytes files.now)) }
 {
-    match line.files().first() {
+    match files.first() {
         Some(file) if file.as_str() != "-" => String::from_str(alloc, file),
         _ => String::from_str(alloc, "(stdin)"),
     }
 }
 
-// The first file of the line, opened, or standard input where it names none or `-`.
+// The file words behind the first.
+pub(crate) fn after_first(files: &[String]) -> &[String]
+    ensures { map string_bytes result.now ≡ drop 1 (map string_bytes files.now) }
+{
+    match files.split_first() {
+        Some((_, rest)) => rest,
+        None => files,
+    }
+}
+
+// The first of these files, opened, or standard input where there is none or it is `-`.
 pub(crate) fn opened<R: Files + AllocGlobal, I: Read + Drop>(
     rt: &R,
     input: I,
-    line: &Line,
+    files: &[String],
 ) -> Result<Source<Reading<Content<R::File, I>>>, AllocError>
-    ensures { IfOk result (λ s. name_of s ≡ first_name line.now.files) }
+    ensures { IfOk result (λ s. name_of s ≡ first_name (map string_bytes files.now)) }
 {
-    let name = source_name(rt.alloc(), line)?;
-    let content = match line.files().first() {
+    let name = source_name(rt.alloc(), files)?;
+    let content = match files.first() {
         Some(file) if file.as_str() != "-" => match fs::open(rt, file.as_str()) {
             Ok(opened) => Content::File(opened),
             Err(_) => return Ok(Source::Closed { name }),
@@ -70,4 +81,20 @@ pub(crate) fn opened<R: Files + AllocGlobal, I: Read + Drop>(
     };
     let input = Reading::new(content);
     Ok(Source::Open { name, input })
+}
+
+// The second file of the line, likewise, where its command takes two.
+pub(crate) fn opened_second<R: Files + AllocGlobal, I: Read + Drop>(
+    rt: &R,
+    input: I,
+    line: &Line,
+) -> Result<Option<Source<Reading<Content<R::File, I>>>>, AllocError>
+    ensures pair { IfOk result (λ source. is_some source ≡ takes_two line.now.command) }
+    ensures name { IfOk result (λ source. IfSome source (λ s. name_of s ≡ second_name line.now.files)) }
+{
+    if !line.pair() {
+        return Ok(None);
+    }
+    let source = opened(rt, input, after_first(line.files()))?;
+    Ok(Some(source))
 }

@@ -44,7 +44,7 @@ mod tests;
 mod tool;
 
 pub use command::Command;
-use content::{opened, words_of};
+use content::{opened, opened_second, words_of};
 pub use laws::tool_in_parts;
 pub use line::{Line, LineFault};
 use pla::{Output, Writing};
@@ -57,7 +57,7 @@ pub use tool::{refuse, run};
 // How many bytes of the answer are held back until they are written at once.
 const OUTPUT_BYTES: usize = 65536;
 
-// Reads the words, opens the file that they name, and runs the line.
+// Reads the words, opens the files that they name, and runs the line.
 fn main(rt: HostRuntime) -> ExitCode {
     let mut err = Writing::new(rt.stderr());
     ExitCode::from(answered(rt, &mut err).code())
@@ -73,12 +73,15 @@ fn answered<E: Output>(rt: HostRuntime, err: &mut E) -> Status {
         Ok(line) => line,
         Err(fault) => return refuse(&fault, err),
     };
-    let Ok(mut source) = opened(&rt, rt.stdin(), &line) else {
+    let Ok(mut first) = opened(&rt, rt.stdin(), line.files()) else {
+        return refuse(&LineFault::Memory, err);
+    };
+    let Ok(mut second) = opened_second(&rt, rt.stdin(), &line) else {
         return refuse(&LineFault::Memory, err);
     };
     let Ok(buffer) = BufWriter::with_capacity(alloc, OUTPUT_BYTES, rt.stdout()) else {
         return refuse(&LineFault::Memory, err);
     };
     let mut out = Writing::new(buffer);
-    run(alloc, &line, &mut source, &mut None, &mut out, err)
+    run(alloc, &line, &mut first, &mut second, &mut out, err)
 }

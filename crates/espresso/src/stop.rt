@@ -1,32 +1,40 @@
 //! What stops a run, and what is said of it.
 ghost use Rattle.std.specs.Prelude.{◌≡◌, decimal};
 ghost use Rattle.pla.specs.Device.{Continues, CountsOn, TellsFailure, Writes};
-ghost use Rattle.espresso.specs.Messages.{kind_text};
+ghost use Rattle.espresso.specs.Messages.{closed_message, fault_message, kind_text};
 ghost use Rattle.espresso.specs.Run.{Says, told};
-ghost use Rattle.espresso.specs.Steps.{message_of, status_of, stop_by};
+ghost use Rattle.espresso.specs.Steps.{Names, message_of, name_at, status_of, stop_by};
 
 use crate::status::Status;
 use itoa::Buffer;
 use pla::{Output, ReadFault, ReadKind, WriteFault, then, write_bytes};
 
+// A source of a run.
+#[derive(Clone, Copy, Debug, PartialEq, Eq)]
+pub(crate) enum Operand {
+    First,
+    Second,
+}
+
 // What stops a run before its answer was printed.
 #[derive(Clone, Copy, Debug, PartialEq, Eq)]
 pub(crate) enum Stop {
-    NotOpened,
-    Faulty(ReadFault),
+    NotOpened(Operand),
+    Faulty(Operand, ReadFault),
+    SizesDiffer,
     WriteFailed,
     OutOfMemory,
 }
 
 impl Stop {
     // By the fault of a reading, which tells failed writes and want of memory too.
-    pub(crate) fn by(fault: ReadFault) -> Stop
-        ensures { result ≡ stop_by fault fault.kind }
+    pub(crate) fn by(operand: Operand, fault: ReadFault) -> Stop
+        ensures { result ≡ stop_by operand fault fault.kind }
     {
         match fault.kind {
             ReadKind::WriteFailed => Stop::WriteFailed,
             ReadKind::OutOfMemory => Stop::OutOfMemory,
-            _ => Stop::Faulty(fault),
+            _ => Stop::Faulty(operand, fault),
         }
     }
 
@@ -35,26 +43,42 @@ impl Stop {
     {
         match self {
             Stop::OutOfMemory => Status::Memory,
-            Stop::NotOpened | Stop::Faulty(_) | Stop::WriteFailed => Status::Fault,
+            Stop::NotOpened(_) | Stop::Faulty(_, _) | Stop::SizesDiffer | Stop::WriteFailed => {
+                Status::Fault
+            }
         }
     }
 
-    // Says on standard error what stopped the run. A failure there is ignored.
-    pub(crate) fn say<E: Output>(self, name: &[u8], err: &mut E)
+    // Says on standard error what stopped the run, with the name of the source that did. A failure
+    // there is ignored.
+    pub(crate) fn say<E: Output>(self, first: &[u8], second: &[u8], err: &mut E)
         ensures { Says (told (E.taken err.old) (E.taken err.new) (E.failures err.old) (E.failures err.new))
-            (message_of name.now self) }
+            (message_of (record { first = first.now; second = second.now }) self) }
     {
         let _ = match self {
-            Stop::NotOpened => say_closed(name, err),
-            Stop::Faulty(fault) => say_fault(name, fault, err),
+            Stop::NotOpened(operand) => say_closed(operand.choose(first, second), err),
+            Stop::Faulty(operand, fault) => say_fault(operand.choose(first, second), fault, err),
+            Stop::SizesDiffer => write_bytes(err, b"espresso: sizes differ\n"),
             Stop::WriteFailed => write_bytes(err, b"espresso: write failed\n"),
             Stop::OutOfMemory => write_bytes(err, b"espresso: out of memory\n"),
         };
     }
 }
 
+impl Operand {
+    // Its own of the two names.
+    fn choose<'a>(self, first: &'a [u8], second: &'a [u8]) -> &'a [u8]
+        ensures { result.now ≡ name_at self (record { first = first.now; second = second.now }) }
+    {
+        match self {
+            Operand::First => first,
+            Operand::Second => second,
+        }
+    }
+}
+
 fn say_closed<E: Output>(name: &[u8], err: &mut E) -> Result<(), WriteFault>
-    ensures bytes { Writes (E.taken err.old) (E.taken err.new) result (message_of name.now Stop.NotOpened) }
+    ensures bytes { Writes (E.taken err.old) (E.taken err.new) result (closed_message name.now) }
     ensures count { TellsFailure (E.failures err.old) (E.failures err.new) result }
 {
     let done = write_bytes(err, b"espresso: cannot open ");
@@ -63,7 +87,7 @@ fn say_closed<E: Output>(name: &[u8], err: &mut E) -> Result<(), WriteFault>
 }
 
 fn say_fault<E: Output>(name: &[u8], fault: ReadFault, err: &mut E) -> Result<(), WriteFault>
-    ensures bytes { Writes (E.taken err.old) (E.taken err.new) result (message_of name.now (Stop.Faulty fault)) }
+    ensures bytes { Writes (E.taken err.old) (E.taken err.new) result (fault_message name.now fault) }
     ensures count { TellsFailure (E.failures err.old) (E.failures err.new) result }
 {
     let done = write_bytes(err, b"espresso: ");

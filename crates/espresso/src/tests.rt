@@ -47,7 +47,7 @@ fn bytes_of(alloc: Global, text: &[u8]) -> Result<Vec<u8>, AllocError> {
 
 fn run_on(alloc: Global, words: &[&str], input: Given, output: Taken) -> Result<Ran, Fail> {
     let line = line_of(alloc, words)?;
-    let name = source_name(alloc, &line)?;
+    let name = source_name(alloc, line.files())?;
     let mut first = Source::Open { name, input };
     let mut output = output;
     let mut message = Taken::new(alloc, 1000, 1000, false)?;

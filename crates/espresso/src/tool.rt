@@ -1,17 +1,17 @@
-//! A run: reading, the command, and the last word to standard error.
-ghost use Rattle.std.specs.Prelude.{◌≡◌, IsTrue, is_some};
+//! A run: reading one source or two, the command, and the last word to standard error.
+ghost use Rattle.std.specs.Prelude.{◌≡◌, IfSome, IsTrue, is_some};
 ghost use Rattle.espresso.specs.Messages.{is_answer};
-ghost use Rattle.espresso.specs.Run.{Ends, Intake, Says, Takes, name_of, told};
-ghost use Rattle.espresso.specs.Steps.{Passes, Reports, StandsAfter};
-ghost use Rattle.espresso.specs.Tool.{first_name, refusal_of};
+ghost use Rattle.espresso.specs.Run.{Ends, Intake, Intakes, Says, Takes, TakesSecond, name_of, told};
+ghost use Rattle.espresso.specs.Steps.{Answers, IsReadAs, Names, Passes, Reports, Stands, StandsBehind, second_text};
+ghost use Rattle.espresso.specs.Tool.{first_name, refusal_of, second_name, with_both};
 ghost use Rattle.espresso.specs.Words.{takes_two};
 
 use crate::answer::put_answer;
 use crate::line::{Line, LineFault};
 use crate::source::Source;
 use crate::status::Status;
-use crate::stop::Stop;
-use pla::{Broken, Input, Output, read_pla, write_bytes};
+use crate::stop::{Operand, Stop};
+use pla::{Broken, Input, Output, Pla, read_pla, write_bytes};
 use std::alloc::Global;
 
 /// Says on standard error why words gave no line, and answers how the process ends: with a fault, or for
@@ -36,16 +36,17 @@ pub fn refuse<E: Output>(fault: &LineFault, err: &mut E) -> Status
 
 /// Runs the line, and answers how the process ends.
 ///
-/// The first source is read to its end or its first fault, and its comments and unknown keyword lines go
-/// out as its lines end; then the command's text is printed, and the output is flushed, once and last.
-/// What stopped the run is said in one line on `err`, whose own failures are ignored. Behind a write that
-/// failed nothing more is written.
+/// The first source is read to its end or its first fault, then the second where there is one, and their
+/// comments and unknown keyword lines go out as their lines end; then the sizes of two files are compared,
+/// the command's text is printed, and the output is flushed, once and last. The first that stops the run
+/// ends it: it is said in one line on `err`, whose own failures are ignored, and what comes behind it is
+/// left alone. Behind a write that failed nothing more is written.
 ///
 /// A second source is there where the command takes two files. The sources have the names of the line's
 /// files, `(stdin)` for none or `-`, and keep them.
 ///
-/// A run costs what reading and printing cost: the input once, in pieces of 4,096 bytes, and memory for its
-/// rows as packed cubes.
+/// A run costs what reading, the command and printing cost: each input once, in pieces of 4,096 bytes, and
+/// memory for the rows of both as packed cubes.
 pub fn run<R: Input, W: Output, E: Output>(
     alloc: Global,
     line: &Line,
@@ -55,40 +56,106 @@ pub fn run<R: Input, W: Output, E: Output>(
     err: &mut E,
 ) -> Status
     requires pair { is_some second.old ≡ takes_two line.now.command }
-    requires name { name_of first.old ≡ first_name line.now.files }
-    ensures ends { (taken : Intake) × Takes R.left R.failures first.old first.new taken
+    requires first_name { name_of first.old ≡ first_name line.now.files }
+    requires second_name { IfSome second.old (λ s. name_of s ≡ second_name line.now.files) }
+    ensures ends { (taken : Intakes) × Takes R.left R.failures first.old first.new taken.first
+        × TakesSecond R.left R.failures taken.first second.old second.new taken.second
         × Ends line.now taken
         (told (W.taken out.old) (W.taken out.new) (W.failures out.old) (W.failures out.new))
         (told (E.taken err.old) (E.taken err.new) (E.failures err.old) (E.failures err.new)) result }
     ensures silent { IsTrue (is_answer result) → err.new ≡ err.old }
-    ensures second { second.new ≡ second.old }
 {
-    match first {
-        Source::Open { name, input } => {
-            let done = answered(alloc, line, input, out);
-            let done = flushed(out, done);
-            report(done, name.as_bytes(), err)
-        }
-        Source::Closed { name } => {
-            let done = flushed(out, Err(Stop::NotOpened));
-            report(done, name.as_bytes(), err)
-        }
+    let done = carried_out(alloc, line, first, second, out);
+    let done = flushed(out, done);
+    report(done, first.name().as_bytes(), second_bytes(second), err)
+}
+
+// The name of a second source, where there is one.
+fn second_bytes<R>(second: &Option<Source<R>>) -> &[u8]
+    ensures { result.now ≡ second_text second.now }
+{
+    match second {
+        Some(source) => source.name().as_bytes(),
+        None => b"",
     }
 }
 
-// Reads the source, whose echoes go out as its lines end, and prints what the command answers.
-fn answered<R: Input, W: Output>(
+// Reads the sources in their order, and prints what the command answers.
+fn carried_out<R: Input, W: Output>(
     alloc: Global,
     line: &Line,
-    input: &mut R,
+    first: &mut Source<R>,
+    second: &mut Option<Source<R>>,
     out: &mut W,
 ) -> Result<Status, Stop>
-    ensures { StandsAfter (R.left input.old) (R.left input.new) (R.failures input.old) (R.failures input.new)
-        line.now (told (W.taken out.old) (W.taken out.new) (W.failures out.old) (W.failures out.new)) result }
+    requires first_name { name_of first.old ≡ first_name line.now.files }
+    requires second_name { IfSome second.old (λ s. name_of s ≡ second_name line.now.files) }
+    ensures { (taken : Intakes) × Takes R.left R.failures first.old first.new taken.first
+        × TakesSecond R.left R.failures taken.first second.old second.new taken.second
+        × Stands line.now taken (record { first = name_of first.old; second = second_text second.old })
+        (told (W.taken out.old) (W.taken out.new) (W.failures out.old) (W.failures out.new)) result }
 {
-    match read_pla(alloc, input, out, line.echo()) {
-        Ok(pla) => put_answer(alloc, line, &pla, out),
-        Err(fault) => Err(Stop::by(fault)),
+    let pla = read_source(alloc, line, Operand::First, first, out)?;
+    match second {
+        None => put_answer(alloc, line, &pla, out),
+        Some(source) => go_on(alloc, line, &pla, source, out),
+    }
+}
+
+// Reads the second source, and answers on both.
+fn go_on<R: Input, W: Output>(
+    alloc: Global,
+    line: &Line,
+    pla: &Pla,
+    source: &mut Source<R>,
+    out: &mut W,
+) -> Result<Status, Stop>
+    ensures { (taken : Intake) × Takes R.left R.failures source.old source.new taken
+        × StandsBehind line.now pla.now taken (name_of source.old)
+        (told (W.taken out.old) (W.taken out.new) (W.failures out.old) (W.failures out.new)) result }
+{
+    let other = read_source(alloc, line, Operand::Second, source, out)?;
+    put_together(alloc, line, pla, &other, out)
+}
+
+// Compares the sizes, and prints what the command answers.
+fn put_together<W: Output>(
+    alloc: Global,
+    line: &Line,
+    pla: &Pla,
+    other: &Pla,
+    out: &mut W,
+) -> Result<Status, Stop>
+    ensures { Answers (with_both line.now pla.now other.now)
+        (told (W.taken out.old) (W.taken out.new) (W.failures out.old) (W.failures out.new)) result }
+{
+    let size = pla.shape();
+    let other_size = other.shape();
+    if size.inputs() == other_size.inputs() && size.outputs() == other_size.outputs() {
+        put_answer(alloc, line, pla, out)
+    } else {
+        Err(Stop::SizesDiffer)
+    }
+}
+
+// Reads a source, whose echoes go out as its lines end.
+fn read_source<R: Input, W: Output>(
+    alloc: Global,
+    line: &Line,
+    operand: Operand,
+    source: &mut Source<R>,
+    out: &mut W,
+) -> Result<Pla, Stop>
+    ensures { (taken : Intake) × Takes R.left R.failures source.old source.new taken
+        × IsReadAs line.now operand (name_of source.old) taken
+        (told (W.taken out.old) (W.taken out.new) (W.failures out.old) (W.failures out.new)) result }
+{
+    match source {
+        Source::Open { name: _, input } => match read_pla(alloc, input, out, line.echo()) {
+            Ok(pla) => Ok(pla),
+            Err(fault) => Err(Stop::by(operand, fault)),
+        },
+        Source::Closed { name: _ } => Err(Stop::NotOpened(operand)),
     }
 }
 
@@ -109,14 +176,15 @@ fn flushed<W: Output>(out: &mut W, done: Result<Status, Stop>) -> Result<Status,
 }
 
 // Says what stopped the run, if anything did.
-fn report<E: Output>(done: Result<Status, Stop>, name: &[u8], err: &mut E) -> Status
-    ensures said { Reports name.now (told (E.taken err.old) (E.taken err.new) (E.failures err.old) (E.failures err.new)) done result }
+fn report<E: Output>(done: Result<Status, Stop>, first: &[u8], second: &[u8], err: &mut E) -> Status
+    ensures said { Reports (record { first = first.now; second = second.now })
+        (told (E.taken err.old) (E.taken err.new) (E.failures err.old) (E.failures err.new)) done result }
     ensures silent { IsTrue (is_answer result) → err.new ≡ err.old }
 {
     match done {
         Ok(status) => status,
         Err(stop) => {
-            stop.say(name, err);
+            stop.say(first, second, err);
             stop.status()
         }
     }

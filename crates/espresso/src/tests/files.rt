@@ -18,7 +18,7 @@ fn check_file<R: Files + AllocGlobal + Abort, I: Read + Drop>(
 ) -> Result<(), Fail> {
     let alloc = rt.alloc();
     let line = line_of(alloc, &["-Decho", name])?;
-    let mut source = opened(rt, input, &line)?;
+    let mut source = opened(rt, input, line.files())?;
     let mut out = Taken::new(alloc, 100, 100, false)?;
     let mut err = Taken::new(alloc, 100, 100, false)?;
     let status = run(alloc, &line, &mut source, &mut None, &mut out, &mut err);

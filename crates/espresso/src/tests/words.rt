@@ -114,7 +114,7 @@ fn a_refusal_is_one_line_and_a_status(rt: HostRuntime) -> Result<(), Fail> {
 fn a_closed_file_is_told_by_its_name(rt: HostRuntime) -> Result<(), Fail> {
     let alloc = rt.alloc();
     let line = line_of(alloc, &["-Decho", "b"])?;
-    let name = source_name(alloc, &line)?;
+    let name = source_name(alloc, line.files())?;
     let mut first: Source<Given> = Source::Closed { name };
     let mut out = Taken::new(alloc, 10, 10, true)?;
     let mut err = Taken::new(alloc, 100, 10, false)?;

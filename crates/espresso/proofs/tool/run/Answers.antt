@@ -1,23 +1,17 @@
-use Rattle.std.proofs.Common.{refl}
-use Rattle.espresso.specs.Run.{Bytes, Nothing}
-use Rattle.espresso.proofs.Outputs.{appends_nothing}
-use Rattle.espresso.proofs.Ways.{closed_stands, ends}
+use Rattle.std.proofs.Common.{◌∙◌}
+use Rattle.espresso.specs.Run.{name_of}
+use Rattle.espresso.specs.Steps.{Names, second_text}
+use Rattle.espresso.proofs.Both.{reports_by, second_kept, takes_name}
+use Rattle.espresso.proofs.Ways.{ends}
 use Rattle.espresso.proofs.tool.run.Goals as goal
 
-pub returns-in-Open-clause-ends : goal.returns-in-Open-clause-ends
-returns-in-Open-clause-ends g c = let line = c.args.line.now in let read = c.answered-done.ensures in let taken = Bytes read.bytes read.met in
-    let name_is = rw c.in-Open.is at c.requires.name in (
-      taken,
-      rw c.in-Open.is (refl, read.delivers),
-      ends line taken _ _ _ c.flushed-done.result (c.flushed-done.ensures line taken _ _ read.stands)
-          (rw (c.as_bytes.ensures.value, name_is) at c.report.ensures.said),
+pub returns-clause-ends : goal.returns-clause-ends
+returns-clause-ends g c = let done = c.carried_out-done.ensures in
+    let names : Names = record { first = name_of c.args.first.now; second = second_text c.args.second.now } in (
+      done.0,
+      done.1,
+      done.2,
+      ends c.args.line.now done.0 names _ _ _ c.flushed-done.result (c.flushed-done.ensures c.args.line.now done.0 names _ _ done.3)
+          (reports_by _ names _ _ _ (c.as_bytes.ensures.value ∙ c.name.ensures ∙ takes_name _ _ _ _ _ done.0.first done.1)
+          (c.second_bytes.ensures ∙ second_kept _ _ _ _ _ _ done.0.second done.2) c.report.ensures.said),
     )
-
-pub returns-in-Closed-clause-ends : goal.returns-in-Closed-clause-ends
-returns-in-Closed-clause-ends g c = let line = c.args.line.now in let name_is = rw c.in-Closed.is at c.requires.name in (
-  Nothing,
-  rw c.in-Closed.is refl,
-  ends line Nothing _ _ _ c.flushed-done-in-Closed.result
-      (c.flushed-done-in-Closed.ensures line Nothing _ _ (closed_stands line _ _ (appends_nothing _)))
-      (rw (c.as_bytes-in-Closed.ensures.value, name_is) at c.report-in-Closed.ensures.said),
-)
