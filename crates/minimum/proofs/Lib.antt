@@ -16,3 +16,6 @@ pub mod Crossing
 pub mod Passes
 pub mod Reduced
 pub mod BothLists
+pub mod Near
+pub mod Numbers
+pub mod Served

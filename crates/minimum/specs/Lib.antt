@@ -7,3 +7,5 @@ pub mod Laws
 pub mod Weights
 pub mod Reduce
 pub mod Primes
+pub mod PrimeTable
+pub mod Regions

@@ -28,6 +28,7 @@ mod laws;
 mod lists;
 mod plain;
 mod reduction;
+mod regions;
 mod search;
 mod table;
 #[cfg(test)]

@@ -6,6 +6,7 @@ ghost use Rattle.minimum.specs.Table.{has, RisesFrom, is_rising};
 ghost use Rattle.minimum.specs.Cover.{meets, counted, sum_over};
 ghost use Rattle.minimum.specs.Steps.{put};
 ghost use Rattle.minimum.specs.Choices.{join};
+ghost use Rattle.minimum.specs.Reduce.{holds_all};
 
 use crate::choice::Choice;
 use std::alloc::{AllocError, Global};
@@ -66,6 +67,22 @@ pub(crate) fn joined(
     }
     let rest = joined(alloc, taken, &choice[1..])?;
     with_column(alloc, &rest, choice[0])
+}
+
+/// Whether the rising list has the number.
+pub(crate) fn holds(row: &[usize], number: usize) -> bool
+    requires { RisesFrom 0 row.now }
+    ensures { result ≡ has number row.now }
+{
+    row.binary_search(&number).is_ok()
+}
+
+/// Whether the second list, which rises, has each number of the first.
+pub(crate) fn is_within(row: &[usize], other: &[usize]) -> bool
+    requires { RisesFrom 0 other.now }
+    ensures { result ≡ holds_all other.now row.now }
+{
+    row.iter().all(|number| holds(other, *number))
 }
 
 /// Whether the numbers rise and are below `end`.

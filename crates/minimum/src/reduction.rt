@@ -15,7 +15,7 @@ ghost use Rattle.minimum.specs.Search.{marked};
 ghost use Rattle.minimum.specs.Reduce.{row_at, AreRising, Appends, Enters, IsCrossed, Unmarks, UnmarksSingle, MarksOthers, UnmarksWider, LeavesNoWider, LeavesNoUnder, is_wider, holds_all, prefers, is_over, rows_from, HasNoSingle, HasNoWider, HasNoUnder, Shrinks};
 
 use crate::choice::Choice;
-use crate::lists::{copied, count};
+use crate::lists::{copied, count, holds, is_within};
 use crate::search::{all_marked, is_marked, marked_columns, rows_of_marked};
 use crate::table::Table;
 use std::alloc::{AllocError, Global};
@@ -70,22 +70,6 @@ fn crossed(
         enter(&mut crossed, row, i)?;
     }
     Ok(crossed)
-}
-
-/// Whether the rising list has the number.
-fn holds(row: &[usize], number: usize) -> bool
-    requires { RisesFrom 0 row.now }
-    ensures { result ≡ has number row.now }
-{
-    row.binary_search(&number).is_ok()
-}
-
-/// Whether the second list, which rises, has each number of the first.
-fn is_within(row: &[usize], other: &[usize]) -> bool
-    requires { RisesFrom 0 other.now }
-    ensures { result ≡ holds_all other.now row.now }
-{
-    row.iter().all(|number| holds(other, *number))
 }
 
 /// Whether `b` counts less than `a`, or as much and has a smaller number.

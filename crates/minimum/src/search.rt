@@ -60,7 +60,8 @@ fn rows_lacking(
     Ok(kept)
 }
 
-fn is_blank(row: &[usize]) -> bool
+/// Whether there is no number.
+pub(crate) fn is_blank(row: &[usize]) -> bool
     ensures { result ≡ is_blank row.now }
 {
     row.len() == 0

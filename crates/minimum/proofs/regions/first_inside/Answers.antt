@@ -1,0 +1,15 @@
+use Rattle.std.proofs.Common.{subst, sym, ap, ◌∙◌, ◌≡◌, true, length, get_or}
+use Rattle.std.proofs.lemmas.List.{take_all}
+use Rattle.cube.specs.Cube.{SameSize}
+use Rattle.minimum.specs.Table.{has}
+use Rattle.minimum.specs.Regions.{HasNoneInside}
+use Rattle.minimum.proofs.Near.{outside_next}
+use Rattle.minimum.proofs.regions.first_inside.Goals as goal
+
+pub loop-number-preserved : goal.loop-number-preserved
+loop-number-preserved c =
+    outside_next c.args.cubes.now c.args.region.now c.args.numbers.now c.loop-number.number-index c.loop-number-test.true c.index-cubes-number.result
+    (c.requires.below c.loop-number.number-index 0 c.loop-number-test.true) c.index-cubes-number.is c.in_default.ensures c.loop-number.invariant
+
+pub returns : goal.returns
+returns c n h = c.loop-number.invariant n (ap (has n) (take_all c.loop-number.number-index c.args.numbers.now c.loop-number-test.false) ∙ h)
