@@ -20,7 +20,7 @@ use Rattle.cube.specs.Cube.{Cube, Place, IsPlace, holds, HasSize, IsCube, IsSubs
 use Rattle.cube.specs.Order.{rank, symbol_cmp, row_cmp}
 use Rattle.cube.specs.Sum.{lists_of, all_places, all_cubes, is_subset, is_maximal, complete_sum, IsMaximal}
 use Rattle.cube.proofs.HoldsLemmas.{length-matches}
-use Rattle.cube.proofs.Members.{Contains-here, Contains-nil, Contains-cases, Contains-map, Contains-map_cases, Contains-flat_map, Contains-flat_map_cases, Contains-filter, Contains-filter_cases, list_all_at, list_all_from, list_any_none, list_any_false, sorted_map, sorted_flat_map, same_from_members}
+use Rattle.cube.proofs.Members.{Contains-here, Contains-there, Contains-nil, Contains-cases, Contains-map, Contains-map_cases, Contains-flat_map, Contains-flat_map_cases, Contains-filter, Contains-filter_cases, list_all_at, list_all_from, list_any_none, list_any_false, sorted_map, sorted_flat_map, same_from_members}
 
 -- ---- the lists of n choices
 
@@ -80,7 +80,7 @@ Contains-all_places size p h =
     Contains-flat_map f (lists_of (false ∷ true ∷ []) size.inputs) p.point p point
     (Contains-map (λ j. let q : Place = record { point = p.point; output = j } in q) (range_with_len 0 size.outputs) p.output index)
 
-IsPlace-from_holds : (size : Size) (c : Cube) (p : Place) → HasSize c size → holds c p ≡ true → IsPlace size p
+pub IsPlace-from_holds : (size : Size) (c : Cube) (p : Place) → HasSize c size → holds c p ≡ true → IsPlace size p
 IsPlace-from_holds size c p h held =
     let parts = and_parts (matches c.symbols p.point) (get_or c.outputs p.output false) held in (
       length-matches c.symbols p.point parts.0 ∙ h.0,
@@ -107,6 +107,11 @@ IsSubset-from_test size c t h test p held =
 
 pub is_subset-from_fact : (size : Size) (s t : Place → Bool) → IsSubset s t → is_subset size s t ≡ true
 is_subset-from_fact size s t h = list_all_from (λ q. not (s q) || t q) (all_places size) (λ p _. implies_from (s p) (t p) (h p))
+
+-- the same at a place of the size, for any two sets
+pub implied_at : (size : Size) (s t : Place → Bool) → is_subset size s t ≡ true → (p : Place) → IsPlace size p → s p ≡ true → t p ≡ true
+implied_at size s t test p place h =
+    implied (s p) (t p) (list_all_at (λ q. not (s q) || t q) (all_places size) p test (Contains-all_places size p place)) h
 
 -- ---- all cubes
 
@@ -224,6 +229,55 @@ Contains-complete_sum size s c = (
       IsMaximal-from_test size s c (IsCube-all_cubes size c kept.0) kept.1,
   λ h. Contains-filter (is_maximal size s) (all_cubes size) c (Contains-all_cubes size c h.is_cube) (is_maximal-from_fact size s c h),
 )
+
+-- a cube within s grows along a list until no cube of the list within s is larger
+grown : (size : Size) (s : Place → Bool) (xs : List Cube) → ((e : Cube) → Contains xs e → IsCube size e) → (c : Cube) → IsCube size c → IsSubset (holds c) s
+    → (d : Cube) × IsCube size d × IsSubset (holds d) s × IsSubset (holds c) (holds d)
+    × ((e : Cube) → Contains xs e → IsSubset (holds e) s → IsSubset (holds d) (holds e) → IsSubset (holds e) (holds d))
+grown size s [] cubes c cube within = (c, cube, within, λ p h. h, λ e h. absurd (Contains-nil e h))
+grown size s (x ∷ xs) cubes c cube within = elim (cases_Bool (is_subset size (holds x) s && is_subset size (holds c) (holds x))) [
+  | inl on ↦ (
+      let own = cubes x (Contains-here x xs) in
+      let parts = and_parts (is_subset size (holds x) s) (is_subset size (holds c) (holds x)) on in
+      let above = IsSubset-from_test size c (holds x) cube.has_size parts.1 in
+      let r = grown size s xs (λ e h. cubes e (Contains-there x xs e h)) x own (IsSubset-from_test size x s own.has_size parts.0) in (
+        r.0,
+        r.1,
+        r.2,
+        λ p h. r.3 p (above p h),
+        λ e h in_s larger. elim (Contains-cases x xs e h) [
+          | inl same ↦ subst (λ y. IsSubset (holds y) (holds r.0)) same r.3
+          | inr there ↦ r.4 e there in_s larger
+        ],
+      ))
+  | inr off ↦ (
+      let r = grown size s xs (λ e h. cubes e (Contains-there x xs e h)) c cube within in (
+        r.0,
+        r.1,
+        r.2,
+        r.3,
+        λ e h in_s larger. elim (Contains-cases x xs e h) [
+          | inl same ↦ absurd (false≢true (sym off ∙ and_from (is_subset size (holds x) s) (is_subset size (holds c) (holds x))
+              (is_subset-from_fact size (holds x) s (λ p k. in_s p (subst (λ y. holds y p ≡ true) same k)))
+              (is_subset-from_fact size (holds c) (holds x) (λ p k. subst (λ y. holds y p ≡ true) (sym same) (larger p (r.3 p k))))))
+          | inr there ↦ r.4 e there in_s larger
+        ],
+      ))
+]
+
+-- each cube within s lies in one of the complete sum
+pub complete_sum-over : (size : Size) (s : Place → Bool) (c : Cube) → IsCube size c → IsSubset (holds c) s
+    → (d : Cube) × Contains (complete_sum size s) d × IsSubset (holds c) (holds d)
+complete_sum-over size s c cube within =
+    let r = grown size s (all_cubes size) (IsCube-all_cubes size) c cube within in (
+      r.0,
+      (Contains-complete_sum size s r.0).1 (record {
+        is_cube = r.1;
+        within = r.2;
+        largest = λ e e_cube in_s larger. r.4 e (Contains-all_cubes size e e_cube) in_s larger;
+      }),
+      r.3,
+    )
 
 -- the order
 pub sorted-complete_sum : (size : Size) (s : Place → Bool) → IsStrictlySortedBy row_cmp (complete_sum size s)

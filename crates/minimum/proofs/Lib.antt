@@ -19,3 +19,4 @@ pub mod BothLists
 pub mod Near
 pub mod Numbers
 pub mod Served
+pub mod PrimeTables

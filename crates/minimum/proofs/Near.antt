@@ -1,5 +1,5 @@
 -- The cubes that have a place of a region, and those that hold it.
-use Rattle.std.proofs.Common.{◌≡◌, ◌≢◌, ℕ, zero, suc, ◌+◌, ◌<◌, ◌≤◌, Bool, true, false, not, ◌||◌, cond, List, [], ◌∷◌, ◌++◌, length, take, get_or, slice_get, Some, eqb, All, inl, inr, refl, ap, sym, subst, ◌∙◌, arith, ◌↔◌, IsTrue}
+use Rattle.std.proofs.Common.{◌≡◌, ℕ, ◌+◌, ◌<◌, ◌≤◌, Bool, true, false, not, ◌||◌, cond, List, [], ◌∷◌, ◌++◌, length, take, get_or, slice_get, Some, eqb, All, inl, inr, refl, ap, sym, subst, ◌∙◌, arith, ◌↔◌, IsTrue}
 use Rattle.std.specs.List.{list_any, filter}
 use Rattle.std.proofs.lemmas.List.{take_more, append-nil, get_or_default}
 use Rattle.std.proofs.lemmas.List.Elements.{filter-append}
@@ -8,10 +8,9 @@ use Rattle.std.proofs.lemmas.Bool.{cases_lt, cases_eq, or_cases, eqb-true, false
 use Rattle.std.proofs.lemmas.Option.{get_or_from_slice_get}
 use Rattle.cube.specs.declared.symbol.Symbol.{Symbol}
 use Rattle.cube.specs.declared.symbol.Symbol.TheVariants.{Dash}
-use Rattle.cube.specs.Cube.{Cube, holds, SameSize, HasSize, IsSubset, IsDisjoint, IsNextLiteral, size_of}
+use Rattle.cube.specs.Cube.{Cube, holds, SameSize, IsSubset, IsDisjoint, IsNextLiteral, size_of}
 use Rattle.cube.specs.Sum.{is_subset}
 use Rattle.cover.specs.Marks.{cube_at}
-use Rattle.cover.specs.Places.{is_disjoint}
 use Rattle.cover.proofs.Containment.{cube_at-is}
 use Rattle.cover.proofs.Everywhere.{same_test, is_subset-iff}
 use Rattle.cover.proofs.Meeting.{is_disjoint-from_answer}

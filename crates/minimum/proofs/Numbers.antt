@@ -1,7 +1,7 @@
 -- Cubes by their numbers.
-use Rattle.std.proofs.Common.{◌≡◌, ℕ, zero, suc, ◌+◌, ◌<◌, ◌≤◌, Bool, true, false, ◌&&◌, List, [], ◌∷◌, length, get_or, All, refl, ap, sym, subst, ◌∙◌, arith, inl, inr, eqb}
-use Rattle.std.specs.List.{Contains, list_any}
-use Rattle.std.proofs.lemmas.Bool.{cases_lt, eq-eqb, eqb-true, false≢true, true≢false, and_parts}
+use Rattle.std.proofs.Common.{◌≡◌, ℕ, ◌<◌, ◌≤◌, true, false, List, [], length, All, refl, ap, sym, subst, ◌∙◌, inl, inr, eqb}
+use Rattle.std.specs.List.{Contains}
+use Rattle.std.proofs.lemmas.Bool.{cases_lt, eq-eqb, eqb-true, false≢true, and_parts}
 use Rattle.std.proofs.lemmas.List.{get_or_default, get_or_past}
 use Rattle.cube.specs.Cube.{Cube, Place, holds}
 use Rattle.cube.specs.Pattern.{matches}

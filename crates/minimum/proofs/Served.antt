@@ -1,16 +1,15 @@
 -- Rows of the wanted places of a region.
-use Rattle.std.proofs.Common.{◌≡◌, ◌≢◌, ℕ, zero, suc, ◌+◌, ◌<◌, ◌≤◌, Bool, true, false, not, ◌&&◌, List, [], ◌∷◌, ◌++◌, length, get_or, slice_get, Some, All, refl, ap, sym, subst, ◌∙◌, arith, inl, inr, ◌⊎◌, ◌||◌, eqb, IsTrue, Vec}
+use Rattle.std.proofs.Common.{◌≡◌, ◌≢◌, ℕ, suc, ◌<◌, Bool, true, false, not, List, [], ◌∷◌, ◌++◌, length, get_or, slice_get, Some, All, refl, ap, sym, subst, ◌∙◌, arith, inl, inr, eqb}
 use Rattle.std.specs.Prelude.{MatchBool}
-use Rattle.std.specs.List.{Contains, AllByRecursion, list_any, filter}
-use Rattle.std.proofs.lemmas.Bool.{cases_Bool, false≢true, true≢false, both_ways, and_parts, and_from, or_cases, eqb-true, not-true, not_from_false, not-false}
+use Rattle.std.specs.List.{AllByRecursion, list_any, filter}
+use Rattle.std.proofs.lemmas.Bool.{cases_Bool, false≢true, both_ways, and_parts, and_from, or_cases, eqb-true, not-true, not_from_false}
 use Rattle.std.proofs.lemmas.Option.{slice_get_within, get_or_from_slice_get}
 use Rattle.std.proofs.lemmas.List.{length-set}
 use Rattle.std.proofs.lemmas.List.Elements.{All-filter}
 use Rattle.cube.specs.declared.symbol.Symbol.{Symbol}
 use Rattle.cube.specs.declared.symbol.Symbol.TheVariants.{Dash, Zero, One}
-use Rattle.cube.specs.Pattern.{matches, agrees}
+use Rattle.cube.specs.Pattern.{matches}
 use Rattle.cube.specs.Cube.{Cube, Place, holds, difference, SameSize, IsSubset, IsDisjoint, size_of, with_symbol}
-use Rattle.cube.specs.Sum.{is_subset}
 use Rattle.cube.proofs.Members.{list_all_at}
 use Rattle.cube.proofs.SumLemmas.{IsSubset-from_test, is_subset-from_fact}
 use Rattle.cover.specs.Places.{places, is_disjoint}
@@ -18,12 +17,12 @@ use Rattle.cover.specs.Marks.{cube_at}
 use Rattle.cover.proofs.Lists.{list_any_from, list_any_witness}
 use Rattle.cover.proofs.Meeting.{is_disjoint-from_fact}
 use Rattle.cover.proofs.Regions.{narrowed, narrowed_at, inputs_hold}
-use Rattle.minimum.specs.Table.{has, RisesFrom, items_of}
+use Rattle.minimum.specs.Table.{has, RisesFrom}
 use Rattle.minimum.specs.Cover.{meets}
 use Rattle.minimum.specs.Steps.{HasRow}
 use Rattle.minimum.specs.Search.{is_blank}
 use Rattle.minimum.specs.Reduce.{holds_all}
-use Rattle.minimum.specs.Regions.{touches, spans, holds_at, HasNoneInside, IsNear, AreTouching, HasOneOutput, AreEnough, IsSplit, IsTouched, AllHold, Serves, IsHolding, IsSettled, IsOpen, IsDemand, Fills}
+use Rattle.minimum.specs.Regions.{touches, spans, holds_at, HasNoneInside, IsNear, AreTouching, HasOneOutput, IsSplit, IsTouched, Serves, IsSettled, IsOpen, IsDemand, Fills}
 use Rattle.minimum.proofs.Sets.{filter_parts, filter_keeps, filter_rises, meets_from}
 use Rattle.minimum.proofs.Numbers.{has_member, member_has, has_all, cube_at-all, places_at, numbered, holds_at-below}
 

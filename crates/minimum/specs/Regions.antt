@@ -1,8 +1,8 @@
 -- How the places of regions become rows of a table. No public clause cites this module.
-use Rattle.std.specs.Prelude.{◌≡◌, ◌≢◌, ℕ, ◌+◌, ◌<◌, Bool, true, false, not, List, [], ◌∷◌, length, slice_index_or, slice_get, Some, All}
-use Rattle.std.specs.List.{AllByRecursion, filter, list_any}
+use Rattle.std.specs.Prelude.{◌≡◌, ◌≢◌, ℕ, nat_lt, ◌<◌, Bool, true, false, not, List, [], length, slice_index_or, slice_get, Some, All}
+use Rattle.std.specs.List.{AllByRecursion, list_any}
 use Rattle.cube.specs.declared.symbol.Symbol.TheVariants.{Dash}
-use Rattle.cube.specs.Cube.{Cube, Place, holds, difference, IsDisjoint, SameSize, size_of}
+use Rattle.cube.specs.Cube.{Cube, Place, holds, difference, SameSize, size_of}
 use Rattle.cube.specs.Sum.{is_subset}
 use Rattle.cover.specs.Places.{places, is_disjoint}
 use Rattle.cover.specs.Marks.{cube_at}
@@ -100,3 +100,13 @@ HasNoneInside cube region = (k : ℕ) → slice_index_or region.symbols k Dash �
 -- an input at which the region has a dash
 abbrev pub IsFree : Cube → ℕ → Type 0
 IsFree region i = slice_get region.symbols i ≡ Some Dash
+
+-- rows of a table that has the covers by these primes
+pub record AreRowsOf (primes on dc : List Cube) (rows : List (List ℕ)) : Type 0 where
+  pub demands : AllByRecursion (IsDemand primes on dc) rows
+  pub serves : Serves primes on dc (λ p. true) rows
+
+-- the same where the places of the first outputs are looked at
+pub record RowsSoFar (primes on dc : List Cube) (outputs : ℕ) (rows : List (List ℕ)) : Type 0 where
+  pub demands : AllByRecursion (IsDemand primes on dc) rows
+  pub serves : Serves primes on dc (λ p. nat_lt p.output outputs) rows

@@ -22,6 +22,7 @@
 #![tactic(auto)]
 
 mod bound;
+mod build;
 mod choice;
 mod implicants;
 mod laws;

@@ -21,7 +21,8 @@ fn are_rows(rows: &[Vec<usize>], columns: usize) -> bool
     rows.iter().all(|row| is_row(row, columns))
 }
 
-fn numbers(alloc: Global, end: usize) -> Result<Vec<usize>, AllocError>
+/// The numbers below the end.
+pub(crate) fn numbers(alloc: Global, end: usize) -> Result<Vec<usize>, AllocError>
     ensures { IfOk result (λ v. v.items ≡ range_with_len 0 end) }
 {
     (0..end).collect(alloc)

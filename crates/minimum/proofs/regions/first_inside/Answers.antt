@@ -1,8 +1,6 @@
-use Rattle.std.proofs.Common.{subst, sym, ap, ◌∙◌, ◌≡◌, true, length, get_or}
+use Rattle.std.proofs.Common.{ap, ◌∙◌}
 use Rattle.std.proofs.lemmas.List.{take_all}
-use Rattle.cube.specs.Cube.{SameSize}
 use Rattle.minimum.specs.Table.{has}
-use Rattle.minimum.specs.Regions.{HasNoneInside}
 use Rattle.minimum.proofs.Near.{outside_next}
 use Rattle.minimum.proofs.regions.first_inside.Goals as goal
 

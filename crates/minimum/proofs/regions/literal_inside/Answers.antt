@@ -1,7 +1,5 @@
-use Rattle.std.proofs.Common.{rules, ◌≡◌, ◌<◌, ◌+◌, ◌≤◌, ℕ, true, false, length, slice_index_or, slice_get, get_or, Some, arith, sym, ap, ◌∙◌, inl, inr, refl}
-use Rattle.std.proofs.lemmas.Bool.{cases_lt, cases_eq, true≢false}
-use Rattle.cube.specs.declared.symbol.Symbol.{Symbol}
-use Rattle.cube.specs.declared.symbol.Symbol.TheVariants.{Dash, Zero, One}
+use Rattle.std.proofs.Common.{rules, sym, ◌∙◌}
+use Rattle.std.proofs.lemmas.Bool.{true≢false}
 use Rattle.minimum.proofs.Near.{none_inside_next}
 use Rattle.minimum.proofs.regions.literal_inside.Goals as goal
 

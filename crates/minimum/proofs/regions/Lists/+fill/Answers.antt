@@ -1,12 +1,11 @@
-use Rattle.std.proofs.Common.{◌≡◌, ◌∙◌, ap, sym, subst, arith, length}
-use Rattle.std.specs.Prelude.{OnOk}
+use Rattle.std.proofs.Common.{◌∙◌, ap, arith}
 use Rattle.std.proofs.lemmas.Option.{slice_get_within}
 use Rattle.std.proofs.lemmas.Result.{IfOk-weaker}
 use Rattle.std.proofs.lemmas.List.{map-append}
 use Rattle.cube.specs.declared.symbol.Symbol.TheVariants.{Dash, Zero, One}
 use Rattle.cover.proofs.Regions.{fewer_dashes, zero_literal, one_literal}
 use Rattle.minimum.specs.Table.{items_of}
-use Rattle.minimum.proofs.Served.{fills_nothing, fills_row, fills_halves, split_half, match_false}
+use Rattle.minimum.proofs.Served.{fills_row, fills_halves, split_half, match_false}
 use Rattle.minimum.proofs.regions.Lists.+fill.Goals as goal
 
 pub returns-in_default : goal.returns-in_default

@@ -1,10 +1,9 @@
-use Rattle.std.proofs.Common.{◌≡◌, ◌∙◌, ℕ, ap, sym, subst, true, eqb, length, Option, Some, None}
+use Rattle.std.proofs.Common.{◌∙◌, ℕ, ap, sym, eqb, length, Option, Some, None}
 use Rattle.std.specs.Prelude.{MatchOption}
 use Rattle.std.proofs.lemmas.Bool.{eqb-true}
-use Rattle.cover.specs.Marks.{cube_at}
 use Rattle.minimum.specs.Table.{has}
 use Rattle.minimum.specs.Search.{is_blank}
-use Rattle.minimum.specs.Regions.{HasNoneInside, IsSettled, IsFree}
+use Rattle.minimum.specs.Regions.{IsFree}
 use Rattle.minimum.proofs.Served.{settled_alone, settled_inside, blank_from}
 use Rattle.minimum.proofs.regions.Lists.split.Goals as goal
 
