@@ -9,3 +9,4 @@ pub mod Outputs
 pub mod Ways
 pub mod Readings
 pub mod Both
+pub mod Printed

@@ -1,8 +1,9 @@
--- What each command answers on a description.
-use Rattle.std.specs.Prelude.{ℕ, Bool, true, false, List, codes}
-use Rattle.cube.specs.Cube.{Cube}
+-- What each command answers on the descriptions of its files.
+use Rattle.std.specs.Prelude.{ℕ, Bool, true, false, List, ◌++◌, codes}
+use Rattle.cube.specs.Cube.{Cube, Place, difference, intersection}
+use Rattle.cube.specs.Sum.{complete_sum}
 use Rattle.cover.specs.Contained.{contained}
-use Rattle.cover.specs.Places.{holds_all, places}
+use Rattle.cover.specs.Places.{agree_outside, holds_all, places}
 use Rattle.pla.specs.declared.out_type.OutType.{OutType}
 use Rattle.pla.specs.declared.out_type.OutType.TheVariants.{F, Fd, Fr, Fdr}
 use Rattle.pla.specs.Completed.{sets_of}
@@ -50,9 +51,21 @@ prints_off Fdr = true
 abbrev pub printed_with : Description → OutType → List Cube → Answer
 printed_with d out on = printed (text_of d out (record (three_sets d) { on = on }))
 
--- what each command answers on a description
-abbrev pub answer_of : Command → OutType → Description → Answer
-answer_of command.Echo out d = printed_with d out d.on
-answer_of command.Contain out d = printed_with d out (contained d.size d.on)
-answer_of command.Tautology out d = judged (holds_all d.size (places d.on))
+-- each place that is in neither file's DC-set is in both files' ON-sets or in neither
+abbrev pub agree : Description → Description → Bool
+agree d e = agree_outside d.size (places d.on) (places e.on) (places ((three_sets d).dc ++ (three_sets e).dc))
+
+-- the PLA of type f with the complete sum of these places
+abbrev pub printed_sum : Description → (Place → Bool) → Answer
+printed_sum d s = printed_with d F (complete_sum d.size s)
+
+-- what each command answers on the descriptions of its files; of a single file it is given twice
+abbrev pub answer_of : Command → OutType → Description → Description → Answer
+answer_of command.Echo out d e = printed_with d out d.on
+answer_of command.Contain out d e = printed_with d out (contained d.size d.on)
+answer_of command.Tautology out d e = judged (holds_all d.size (places d.on))
     (codes "ON-set is a tautology\n") (codes "ON-set is not a tautology\n")
+answer_of command.Verify out d e = judged (agree d e)
+    (codes "PLAs compared equal\n") (codes "PLA comparison failed; the PLAs are not equivalent\n")
+answer_of command.Intersect out d e = printed_sum d (intersection (places d.on) (places e.on))
+answer_of command.Sharp out d e = printed_sum d (difference (places d.on) (places e.on))

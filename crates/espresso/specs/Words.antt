@@ -5,7 +5,7 @@ use Rattle.std.specs.Prelude.{option_map, option_and_then}
 use Rattle.std.specs.Option.{option_map_or}
 use Rattle.std.specs.Str.{bytes_eq}
 use Rattle.espresso.specs.declared.command.Command.{Command}
-use Rattle.espresso.specs.declared.command.Command.TheVariants.{Echo, Contain, Tautology}
+use Rattle.espresso.specs.declared.command.Command.TheVariants.{Echo, Contain, Tautology, Verify, Intersect, Sharp}
 use Rattle.pla.specs.declared.out_type.OutType.{OutType}
 use Rattle.pla.specs.declared.out_type.OutType.TheVariants.{F, Fd, Fr, Fdr}
 
@@ -104,7 +104,10 @@ files_of (file f ∷ items) = f ∷ files_of items
 abbrev pub command_named : Text → Option Command
 command_named name = if bytes_eq name (codes "echo") then Some Echo
     else (if bytes_eq name (codes "contain") then Some Contain
-    else (if bytes_eq name (codes "tautology") then Some Tautology else None))
+    else (if bytes_eq name (codes "tautology") then Some Tautology
+    else (if bytes_eq name (codes "verify") then Some Verify
+    else (if bytes_eq name (codes "intersect") then Some Intersect
+    else (if bytes_eq name (codes "sharp") then Some Sharp else None)))))
 
 -- the output type of a name
 abbrev pub type_named : Text → Option OutType
@@ -128,12 +131,18 @@ abbrev pub takes_two : Command → Bool
 takes_two Echo = false
 takes_two Contain = false
 takes_two Tautology = false
+takes_two Verify = true
+takes_two Intersect = true
+takes_two Sharp = true
 
 -- the command prints type f alone
 abbrev pub prints_only_f : Command → Bool
 prints_only_f Echo = false
 prints_only_f Contain = false
 prints_only_f Tautology = false
+prints_only_f Verify = false
+prints_only_f Intersect = true
+prints_only_f Sharp = true
 
 -- the type is f
 abbrev pub is_f : OutType → Bool

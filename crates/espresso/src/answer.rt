@@ -1,4 +1,4 @@
-//! What each command answers on a description.
+//! What each command answers on the descriptions of its files.
 ghost use Rattle.std.specs.Prelude.{◌≡◌, IfOk, unwrap_or};
 ghost use Rattle.cover.specs.Contained.{contained};
 ghost use Rattle.pla.specs.Completed.{dc_list, off_list};
@@ -10,31 +10,37 @@ ghost use Rattle.espresso.specs.Steps.{PutsOut};
 
 use crate::command::Command;
 use crate::line::Line;
+use crate::pair::{put_comparison, put_difference, put_intersection};
 use crate::status::Status;
 use crate::stop::Stop;
 use cover::{Cover, contain};
 use pla::{OutType, Output, Pla, WriteFault, open_dc, open_off, write_bytes, write_covers};
 use std::alloc::{AllocError, Global};
 
-// Prints what the line's command answers.
+// Prints what the line's command answers. A single file's description is given twice.
 pub(crate) fn put_answer<W: Output>(
     alloc: Global,
     line: &Line,
     pla: &Pla,
+    other: &Pla,
     out: &mut W,
 ) -> Result<Status, Stop>
-    ensures { PutsOut (answer_of line.now.command line.now.out pla.now)
+    requires { other.now.size ≡ pla.now.size }
+    ensures { PutsOut (answer_of line.now.command line.now.out pla.now other.now)
         (told (W.taken out.old) (W.taken out.new) (W.failures out.old) (W.failures out.new)) result }
 {
     match line.command() {
         Command::Echo => put_lists(alloc, pla, line.out(), pla.on(), out),
         Command::Contain => put_contained(alloc, pla, line.out(), out),
         Command::Tautology => put_tautology(pla, out),
+        Command::Verify => put_comparison(alloc, pla, other, out),
+        Command::Intersect => put_intersection(alloc, pla, other, out),
+        Command::Sharp => put_difference(alloc, pla, other, out),
     }
 }
 
 // The description with this list in place of its ON list, and the lists that the type prints beside it.
-fn put_lists<W: Output>(
+pub(crate) fn put_lists<W: Output>(
     alloc: Global,
     pla: &Pla,
     out_type: OutType,
@@ -116,7 +122,7 @@ fn is_off_printed(out_type: OutType) -> bool
 }
 
 // The list that was computed, or the given one where none was.
-fn lent<'a>(computed: &'a Option<Cover>, given: &'a Cover) -> &'a Cover
+pub(crate) fn lent<'a>(computed: &'a Option<Cover>, given: &'a Cover) -> &'a Cover
     ensures { result.now ≡ unwrap_or computed.now given.now }
 {
     match computed {
@@ -143,7 +149,7 @@ fn put_contained<W: Output>(
 
 // Whether the ON-set is everything.
 fn put_tautology<W: Output>(pla: &Pla, out: &mut W) -> Result<Status, Stop>
-    ensures { PutsOut (answer_of Command.Tautology OutType.F pla.now)
+    ensures { PutsOut (answer_of Command.Tautology OutType.F pla.now pla.now)
         (told (W.taken out.old) (W.taken out.new) (W.failures out.old) (W.failures out.new)) result }
 {
     match pla.on().tautology() {
@@ -157,7 +163,7 @@ fn put_tautology<W: Output>(pla: &Pla, out: &mut W) -> Result<Status, Stop>
 }
 
 // The one text or the other, with the status that goes with it.
-fn put_judgement<W: Output>(holds: bool, yes: &[u8], no: &[u8], out: &mut W) -> Result<Status, Stop>
+pub(crate) fn put_judgement<W: Output>(holds: bool, yes: &[u8], no: &[u8], out: &mut W) -> Result<Status, Stop>
     ensures { PutsOut (judged holds yes.now no.now)
         (told (W.taken out.old) (W.taken out.new) (W.failures out.old) (W.failures out.new)) result }
 {

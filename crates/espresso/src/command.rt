@@ -13,6 +13,12 @@ pub enum Command {
     Contain,
     /// Whether the ON-set is everything.
     Tautology,
+    /// Whether two files agree outside their DC-sets.
+    Verify,
+    /// The places in both files' ON-sets, as a PLA of type f.
+    Intersect,
+    /// The places in the first file's ON-set and not in the second's, as a PLA of type f.
+    Sharp,
 }
 
 // The command of this name.
@@ -23,6 +29,9 @@ pub(crate) fn command_of(name: &str) -> Option<Command>
         "echo" => Some(Command::Echo),
         "contain" => Some(Command::Contain),
         "tautology" => Some(Command::Tautology),
+        "verify" => Some(Command::Verify),
+        "intersect" => Some(Command::Intersect),
+        "sharp" => Some(Command::Sharp),
         _ => None,
     }
 }
@@ -58,6 +67,7 @@ pub(crate) fn is_pair(command: Command) -> bool
         Command::Echo => false,
         Command::Contain => false,
         Command::Tautology => false,
+        Command::Verify | Command::Intersect | Command::Sharp => true,
     }
 }
 
@@ -66,7 +76,8 @@ pub(crate) fn is_f_only(command: Command) -> bool
     ensures { result ≡ prints_only_f command }
 {
     match command {
-        Command::Echo | Command::Contain | Command::Tautology => false,
+        Command::Echo | Command::Contain | Command::Tautology | Command::Verify => false,
+        Command::Intersect | Command::Sharp => true,
     }
 }
 

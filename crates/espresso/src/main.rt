@@ -35,6 +35,7 @@ mod command;
 mod content;
 mod laws;
 mod line;
+mod pair;
 mod parser;
 mod source;
 mod status;

@@ -97,7 +97,7 @@ fn carried_out<R: Input, W: Output>(
 {
     let pla = read_source(alloc, line, Operand::First, first, out)?;
     match second {
-        None => put_answer(alloc, line, &pla, out),
+        None => put_answer(alloc, line, &pla, &pla, out),
         Some(source) => go_on(alloc, line, &pla, source, out),
     }
 }
@@ -132,7 +132,7 @@ fn put_together<W: Output>(
     let size = pla.shape();
     let other_size = other.shape();
     if size.inputs() == other_size.inputs() && size.outputs() == other_size.outputs() {
-        put_answer(alloc, line, pla, out)
+        put_answer(alloc, line, pla, other, out)
     } else {
         Err(Stop::SizesDiffer)
     }

@@ -1,0 +1,8 @@
+use Rattle.std.proofs.Common.{ap}
+use Rattle.cover.specs.Cubes.{Cubes}
+use Rattle.espresso.proofs.Printed.{printed_list}
+use Rattle.espresso.proofs.pair.put_intersection.Goals as goal
+
+pub returns-in-Ok : goal.returns-in-Ok
+returns-in-Ok g c = printed_list c.args.pla.now _ _ _ c.put_lists.result
+    (ap (λ (list : Cubes). list.cubes) (rw (c.on.ensures, c.on-2.ensures) at c.in-Ok.ensures)) c.put_lists.ensures
