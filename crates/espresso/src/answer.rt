@@ -163,7 +163,12 @@ fn put_tautology<W: Output>(pla: &Pla, out: &mut W) -> Result<Status, Stop>
 }
 
 // The one text or the other, with the status that goes with it.
-pub(crate) fn put_judgement<W: Output>(holds: bool, yes: &[u8], no: &[u8], out: &mut W) -> Result<Status, Stop>
+pub(crate) fn put_judgement<W: Output>(
+    holds: bool,
+    yes: &[u8],
+    no: &[u8],
+    out: &mut W,
+) -> Result<Status, Stop>
     ensures { PutsOut (judged holds yes.now no.now)
         (told (W.taken out.old) (W.taken out.new) (W.failures out.old) (W.failures out.new)) result }
 {

@@ -1,10 +1,12 @@
 //! Whole runs, on devices that tell their bytes.
-ghost use Rattle.std.specs.Prelude.{◌<◌};
+ghost use Rattle.std.specs.Prelude.{◌≡◌, ◌<◌, IfOk, true, false};
+ghost use Rattle.espresso.specs.Words.{takes_two};
 
 mod commands;
 mod devices;
 mod files;
 mod format;
+mod pairs;
 mod sizes;
 mod words;
 
@@ -41,12 +43,34 @@ fn line_of(alloc: Global, words: &[&str]) -> Result<Line, Fail> {
     Ok(Line::read(alloc, &list).map_err(|_| "the words say no line")?)
 }
 
+// The line of words that name a command on one file.
+fn single_line(alloc: Global, words: &[&str]) -> Result<Line, Fail>
+    ensures { IfOk result (λ line. takes_two line.command ≡ false) }
+{
+    let line = line_of(alloc, words)?;
+    if line.pair() {
+        return Err(Fail::from("the command takes two files"));
+    }
+    Ok(line)
+}
+
+// The line of words that name a command on two files.
+fn pair_line(alloc: Global, words: &[&str]) -> Result<Line, Fail>
+    ensures { IfOk result (λ line. takes_two line.command ≡ true) }
+{
+    let line = line_of(alloc, words)?;
+    if !line.pair() {
+        return Err(Fail::from("the command takes one file"));
+    }
+    Ok(line)
+}
+
 fn bytes_of(alloc: Global, text: &[u8]) -> Result<Vec<u8>, AllocError> {
     Vec::from_slice(alloc, text)
 }
 
 fn run_on(alloc: Global, words: &[&str], input: Given, output: Taken) -> Result<Ran, Fail> {
-    let line = line_of(alloc, words)?;
+    let line = single_line(alloc, words)?;
     let name = source_name(alloc, line.files())?;
     let mut first = Source::Open { name, input };
     let mut output = output;

@@ -1,5 +1,5 @@
 //! Files that are opened by their names.
-use super::line_of;
+use super::single_line;
 use crate::content::opened;
 use crate::run;
 use pla::Taken;
@@ -17,7 +17,7 @@ fn check_file<R: Files + AllocGlobal + Abort, I: Read + Drop>(
     message: &str,
 ) -> Result<(), Fail> {
     let alloc = rt.alloc();
-    let line = line_of(alloc, &["-Decho", name])?;
+    let line = single_line(alloc, &["-Decho", name])?;
     let mut source = opened(rt, input, line.files())?;
     let mut out = Taken::new(alloc, 100, 100, false)?;
     let mut err = Taken::new(alloc, 100, 100, false)?;

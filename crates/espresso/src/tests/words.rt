@@ -1,5 +1,5 @@
 //! The words of a command line.
-use super::{Case, check, line_of};
+use super::{Case, check, line_of, single_line};
 use crate::content::source_name;
 use crate::{Line, LineFault, Source, Status, refuse, run};
 use pla::{Ending, Given, Taken};
@@ -113,7 +113,7 @@ fn a_refusal_is_one_line_and_a_status(rt: HostRuntime) -> Result<(), Fail> {
 #[test]
 fn a_closed_file_is_told_by_its_name(rt: HostRuntime) -> Result<(), Fail> {
     let alloc = rt.alloc();
-    let line = line_of(alloc, &["-Decho", "b"])?;
+    let line = single_line(alloc, &["-Decho", "b"])?;
     let name = source_name(alloc, line.files())?;
     let mut first: Source<Given> = Source::Closed { name };
     let mut out = Taken::new(alloc, 10, 10, true)?;
