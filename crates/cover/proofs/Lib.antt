@@ -19,3 +19,4 @@ pub mod SumBranches
 pub mod SumUnate
 pub mod SumEnds
 pub mod SumChoice
+pub mod SumPlaces

@@ -8,7 +8,7 @@ use Rattle.clap.specs.Simple.{App, Shape, built, entered, matches_of, names_of, 
 use Rattle.clap.specs.Kinds.{Kinds, or_else}
 use Rattle.clap.specs.Faults.{built_fault, defaults_fault, entered_fault, given_default_fault, fault_of, is_simple_and_free, level_fault, settle_fault, walk_fault}
 use Rattle.clap.specs.declared.builder.action.ArgAction.{ArgAction}
-use Rattle.clap.specs.declared.builder.action.ArgAction.TheVariants.{Append, Set}
+use Rattle.clap.specs.declared.builder.action.ArgAction.TheVariants.{Append, Set, SetTrue}
 use Rattle.clap.specs.declared.builder.value_parser.ValueParser.TheVariants as vp
 use Rattle.espresso.specs.Words.{Letter, command_letter, type_letter, eat_letter}
 use Rattle.espresso.specs.Parser.{espresso_app}
@@ -53,8 +53,20 @@ files_id = codes "files"
 abbrev pub files_rule : Rule
 files_rule = rule_with files_id None Append (Some 1)
 
+abbrev pub choice_id : Text
+choice_id = codes "literals"
+
+abbrev pub choice_rule : Rule
+choice_rule = record (rule_with choice_id None SetTrue None) {
+  long = Some (codes "literals");
+  range = Some (record { start_inclusive = 0; end_inclusive = 0 });
+  defaults = codes "false" ∷ [];
+  missing = codes "true" ∷ [];
+  parser = Some vp.Bool;
+}
+
 abbrev pub our_rules : List Rule
-our_rules = rule_for command_letter ∷ rule_for type_letter ∷ rule_for eat_letter ∷ files_rule ∷ []
+our_rules = rule_for command_letter ∷ rule_for type_letter ∷ rule_for eat_letter ∷ files_rule ∷ choice_rule ∷ []
 
 abbrev pub our_shape : Shape
 our_shape = record (new_shape (codes "espresso")) {
@@ -108,11 +120,19 @@ defaults_end : (rows : List Row) → defaults_fault rows [] ≡ []
 unfolding defaults_fault
 defaults_end rows = refl
 
+choice_default : (rows : List Row) → defaults_fault rows (choice_rule ∷ []) ≡ []
+unfolding defaults_fault
+choice_default rows = go (has_row choice_id rows)
+  where
+    go : (b : Bool) → or_else (cond (b || false) [] []) [] ≡ []
+    go true = refl
+    go false = refl
+
 defaults_none : (rows : List Row) → defaults_fault rows our_rules ≡ []
-defaults_none rows = defaults_more rows (rule_for command_letter) (rule_for type_letter ∷ rule_for eat_letter ∷ files_rule ∷ []) refl
-    (defaults_more rows (rule_for type_letter) (rule_for eat_letter ∷ files_rule ∷ []) refl
-    (defaults_more rows (rule_for eat_letter) (files_rule ∷ []) refl
-    (defaults_more rows files_rule [] refl (defaults_end rows))))
+defaults_none rows = defaults_more rows (rule_for command_letter) (rule_for type_letter ∷ rule_for eat_letter ∷ files_rule ∷ choice_rule ∷ []) refl
+    (defaults_more rows (rule_for type_letter) (rule_for eat_letter ∷ files_rule ∷ choice_rule ∷ []) refl
+    (defaults_more rows (rule_for eat_letter) (files_rule ∷ choice_rule ∷ []) refl
+    (defaults_more rows files_rule (choice_rule ∷ []) refl (choice_default rows))))
 
 pub or_else-nil : (k : Kinds) → or_else k [] ≡ k
 or_else-nil [] = refl
@@ -134,13 +154,14 @@ fault_is words = ap (λ a. built_fault a nothing_held words) built_is ∙ go (wa
         (defaults_none (settled our_rules (walk our_rules [] nothing_held words).held).rows)
         ∙ ap (or_else (walk_fault our_shape [] (walk_from nothing_held) words)) (or_else-nil (settle_fault our_rules false (walk our_rules [] nothing_held words).held))
 
-finished_is : (h : Held) → finished our_rules h ≡ (settled our_rules h).rows
+finished_is : (h : Held) → finished our_rules h ≡ with_default (settled our_rules h).rows choice_rule
 finished_is h = go (settled our_rules h).rows
   where
-    go : (rows : List Row) → fold with_default rows our_rules ≡ rows
-    go rows = ap (λ rs. with_default (with_default (with_default rs (rule_for type_letter)) (rule_for eat_letter)) files_rule) (default_none rows (rule_for command_letter) refl)
-        ∙ ap (λ rs. with_default (with_default rs (rule_for eat_letter)) files_rule) (default_none rows (rule_for type_letter) refl)
-        ∙ ap (λ rs. with_default rs files_rule) (default_none rows (rule_for eat_letter) refl) ∙ default_none rows files_rule refl
+    go : (rows : List Row) → fold with_default rows our_rules ≡ with_default rows choice_rule
+    go rows = ap (λ rs. with_default (with_default (with_default (with_default rs (rule_for type_letter)) (rule_for eat_letter)) files_rule) choice_rule) (default_none rows (rule_for command_letter) refl)
+        ∙ ap (λ rs. with_default (with_default (with_default rs (rule_for eat_letter)) files_rule) choice_rule) (default_none rows (rule_for type_letter) refl)
+        ∙ ap (λ rs. with_default (with_default rs files_rule) choice_rule) (default_none rows (rule_for eat_letter) refl)
+        ∙ ap (λ rs. with_default rs choice_rule) (default_none rows files_rule refl)
 
-pub matches_are : (words : List Text) → matches_of espresso_app words ≡ rows_from (walk_from nothing_held) words
+pub matches_are : (words : List Text) → matches_of espresso_app words ≡ with_default (rows_from (walk_from nothing_held) words) choice_rule
 matches_are words = ap (λ (a : App). rows_after a.top.rules (names_of a) words) built_is ∙ finished_is (walk our_rules [] nothing_held words).held

@@ -10,3 +10,4 @@ pub mod Ways
 pub mod Readings
 pub mod Both
 pub mod Printed
+pub mod Checking

@@ -19,7 +19,14 @@ use Rattle.espresso.specs.declared.line.LineFault.{LineFault}
 use Rattle.espresso.specs.declared.line.LineFault.TheVariants.{Usage}
 use Rattle.clap.specs.declared.parser.matches.Found.{Found}
 use Rattle.clap.proofs.WalkLemmas.{first_value-rows, raw_values-rows}
-use Rattle.espresso.specs.Words.{Item, Letter, command_letter, type_letter, eat_letter, command_named, eat_named, type_named, items_from, line_of, meaning, meaning_of, said, values_of, files_of}
+use Rattle.std.proofs.Common.{Bool, ℕ, cond, zero, suc, ◌++◌}
+use Rattle.std.specs.Option.{is_some}
+use Rattle.clap.specs.Walk.{default_rows, has_row, reading_by, with_default}
+use Rattle.espresso.specs.Matches.{choice_by, choice_in}
+use Rattle.espresso.proofs.Rows.{has_row-all_of, with_values-other, with_values-same}
+use Rattle.espresso.proofs.Built.{choice_id, choice_rule, rows_from}
+use Rattle.espresso.proofs.Items.{choice_not, shown_choice}
+use Rattle.espresso.specs.Words.{chosen, choices_of, Item, Letter, command_letter, type_letter, eat_letter, command_named, eat_named, type_named, items_from, line_of, meaning, meaning_of, said, values_of, files_of}
 use Rattle.espresso.specs.Parser.{espresso_app}
 use Rattle.espresso.specs.Matches.{files_in, meaning_in}
 use Rattle.pla.specs.declared.out_type.OutType.TheVariants.{F}
@@ -64,7 +71,53 @@ map_or-and_then : {X : Type 0} (named : Text → Option X) (o : Option Text) →
 map_or-and_then named None = refl
 map_or-and_then named (Some v) = refl
 
-module _ (f : Found) (items : List Item) (s : Shows items (rows_of f)) where
+abbrev flag_text : ℕ → Text
+flag_text zero = codes "false"
+flag_text (suc n) = codes "true"
+
+-- the rows at the end, with the default of `--literals`
+record Final (items : List Item) (rows : List Row) : Type 0 where
+  options : (l : Letter) → all_of (id_of l) rows ≡ listed (values_of l items)
+  files : all_of files_id rows ≡ listed (files_of items)
+  choice : all_of choice_id rows ≡ Some (flag_text (choices_of items) ∷ [])
+  once : (l : Letter) → length (values_of l items) ≤ 1
+  once_chosen : choices_of items ≤ 1
+
+default_other : (id : Text) (rows : List Row) → bytes_eq choice_id id ≡ false → all_of id (with_default rows choice_rule) ≡ all_of id rows
+default_other id rows ne = go (has_row choice_id rows)
+  where
+    go : (b : Bool) → all_of id (cond b rows (default_rows choice_id (reading_by choice_rule) (codes "false" ∷ []) rows)) ≡ all_of id rows
+    go true = refl
+    go false = with_values-other choice_id _ _ (codes "false" ∷ []) id ne rows
+
+default_choice : (n : ℕ) (rows : List Row) → all_of choice_id rows ≡ shown_choice n → all_of choice_id (with_default rows choice_rule) ≡ Some (flag_text n ∷ [])
+default_choice zero rows e =
+    let absent : has_row choice_id rows ≡ false = has_row-all_of choice_id rows ∙ ap is_some e in
+    ap (λ b. all_of choice_id (cond b rows (default_rows choice_id (reading_by choice_rule) (codes "false" ∷ []) rows))) absent
+    ∙ with_values-same choice_id _ _ (codes "false" ∷ []) rows ∙ ap (λ o. Some (unwrap_or o [] ++ codes "false" ∷ [])) e
+default_choice (suc n) rows e =
+    let present : has_row choice_id rows ≡ true = has_row-all_of choice_id rows ∙ ap is_some e in
+    ap (λ b. all_of choice_id (cond b rows (default_rows choice_id (reading_by choice_rule) (codes "false" ∷ []) rows))) present ∙ e
+
+finishes : (items : List Item) (rows : List Row) → Shows items rows → Final items (with_default rows choice_rule)
+finishes items rows s = record {
+  options = λ l. default_other (id_of l) rows (choice_not l) ∙ s.options l;
+  files = default_other files_id rows refl ∙ s.files;
+  choice = default_choice (choices_of items) rows s.choice;
+  once = s.once;
+  once_chosen = s.once_chosen;
+}
+
+is_chosen : (n : ℕ) → n ≤ 1 → chosen n ≡ Some (choice_by (bytes_eq (flag_text n) (codes "true")))
+is_chosen zero h = refl
+is_chosen (suc zero) h = refl
+is_chosen (suc (suc n)) h = absurd (omega arith)
+
+module _ (f : Found) (items : List Item) (s : Final items (rows_of f)) where
+  choice_is : chosen (choices_of items) ≡ Some (choice_in f)
+  choice_is = is_chosen (choices_of items) s.once_chosen ∙ ap (λ o. Some (choice_by (option_map_or (λ t. bytes_eq t (codes "true")) o false)))
+      (sym (first_value-rows f choice_id ∙ first_all choice_id (rows_of f) ∙ ap (option_and_then (λ (us : List Text). slice_get us 0)) s.choice))
+
   value_is : (l : Letter) → slice_get (values_of l items) 0 ≡ first_value f (id_of l)
   value_is l = sym (first_value-rows f (id_of l) ∙ first_all (id_of l) (rows_of f) ∙ ap (option_and_then (λ (us : List Text). slice_get us 0)) (s.options l) ∙ listed_first (values_of l items))
 
@@ -76,14 +129,14 @@ module _ (f : Found) (items : List Item) (s : Shows items (rows_of f)) where
 
   meaning_is : meaning_of items ≡ meaning_in f
   meaning_is = λ i. meaning ((said_is command_named None command_letter ∙ map_or-and_then command_named (first_value f (codes "command"))) i)
-      (said_is type_named (Some F) type_letter i) (said_is eat_named (Some false) eat_letter i) (files_are i)
+      (said_is type_named (Some F) type_letter i) (said_is eat_named (Some false) eat_letter i) (choice_is i) (files_are i)
 
 -- the matches of words that the parse takes say their line
 pub taken_line : (words : List Text) → AllUtf8 words → (f : Found) → fault_of espresso_app words ≡ [] → rows_of f ≡ matches_of espresso_app words → line_of words ≡ meaning_in f
 taken_line words u f e same = go (ends words u)
   where
     go : Ends [] (walk_from nothing_held) (items_from None words) words → line_of words ≡ meaning_in f
-    go (inl r) = ap (option_and_then meaning_of) r.found ∙ meaning_is f r.more (subst (Shows r.more) (sym (same ∙ matches_are words)) r.shows)
+    go (inl r) = ap (option_and_then meaning_of) r.found ∙ meaning_is f r.more (subst (Final r.more) (sym (same ∙ matches_are words)) (finishes r.more (rows_from (walk_from nothing_held) words) r.shows))
     go (inr r) = absurd (true≢false (sym (ap is_clean e) ∙ ap is_clean (fault_is words) ∙ r.fault))
 
 among-unclean : (k : ErrorKind) (kinds : Kinds) → IsAmong k kinds → is_clean kinds ≡ false

@@ -9,7 +9,12 @@ use Rattle.clap.specs.Walk.{Held, Row, Text, Waiting, Walk, all_of, has_row, idl
 use Rattle.clap.specs.Walk.{option as waits_for}
 use Rattle.clap.specs.Kinds.{or_else}
 use Rattle.clap.specs.Faults.{settle_fault, use_fault, walk_fault}
-use Rattle.espresso.specs.Words.{Item, Letter, Meaning, command_letter, type_letter, eat_letter, option, file, dashes, flag_of, unknown, items_at, items_from, letter_of, same_letter, values_of, files_of, meaning_of, with_item, word_of, plain}
+use Rattle.std.proofs.Common.{zero, suc}
+use Rattle.espresso.proofs.Items.{choices-append, choice_not, not_choice, shown_choice, spoilt-choice}
+use Rattle.espresso.proofs.Refusals.{choice_refused}
+use Rattle.espresso.proofs.Steps.{choice_fault, choice_walk}
+use Rattle.espresso.proofs.Built.{choice_id, choice_rule}
+use Rattle.espresso.specs.Words.{fewest_word, choices_of, fewest, Item, Letter, Meaning, command_letter, type_letter, eat_letter, option, file, dashes, flag_of, unknown, items_at, items_from, letter_of, same_letter, values_of, files_of, meaning_of, with_item, word_of, plain}
 use Rattle.espresso.proofs.Rows.{bytes_eq-true, has_row-all_of, without-none, with_values-same, with_values-other}
 use Rattle.espresso.proofs.Built.{code_of, faults, files_id, id_of, our_rules, our_shape, rows_from, rule_for}
 use Rattle.espresso.proofs.Steps.{Free, nothing, files, IsPlain, empty, hyphen, other, at, hold, is_clean, turn, waiting, walk_on}
@@ -66,6 +71,9 @@ module _ (items : List Item) (l : Letter) (v : Text) (rows : List Row) (s : Show
     options = λ k. option_at k (same_letter l k) refl ∙ ap listed (sym (values_now k));
     files = with_values-other (id_of l) _ _ (v ∷ []) files_id (not_files l) (without (id_of l) rows) ∙ ap (all_of files_id) kept_rows
         ∙ s.files ∙ ap listed (sym (files-append items (option l v ∷ []) ∙ append-nil (files_of items)));
+    choice = with_values-other (id_of l) _ _ (v ∷ []) choice_id (not_choice l) (without (id_of l) rows) ∙ ap (all_of choice_id) kept_rows ∙ s.choice
+        ∙ ap shown_choice (let same : choices_of (items ++ option l v ∷ []) ≡ choices_of items = omega (arith, choices-append items (option l v ∷ [])) in sym same);
+    once_chosen = omega (arith, choices-append items (option l v ∷ []), s.once_chosen);
     once = λ k. subst (λ vs. length vs ≤ 1) (sym (values_now k)) (once_at k (same_letter l k) refl);
   }
 
@@ -78,6 +86,47 @@ use_option items l v rows s = go (values_of l items) refl
       again_fault l v rows (has_row-all_of (id_of l) rows ∙ ap is_some (s.options l ∙ ap listed e)),
       spoilt-twice l v items (omega (arith, ap length e)),
     )
+
+-- ---- `--literals`
+
+abbrev pub UsesChoice : List Item → List Row → Type 0
+UsesChoice items rows = ((use_fault false choice_rule [] rows ≡ []) × Shows (items ++ fewest ∷ []) (used choice_rule [] rows))
+    ⊎ ((is_clean (use_fault false choice_rule [] rows) ≡ false) × Spoilt (items ++ fewest ∷ []))
+
+module _ (items : List Item) (rows : List Row) (s : Shows items rows) (none : choices_of items ≡ 0) where
+  unchosen : all_of choice_id rows ≡ None
+  unchosen = s.choice ∙ ap shown_choice none
+
+  rows_kept : without choice_id rows ≡ rows
+  rows_kept = without-none choice_id rows unchosen
+
+  more_chosen : choices_of (items ++ fewest ∷ []) ≡ 1
+  more_chosen = omega (arith, choices-append items (fewest ∷ []), none)
+
+  choice_shown : Shows (items ++ fewest ∷ []) (used choice_rule [] rows)
+  choice_shown = record {
+    options = λ l. with_values-other choice_id _ _ (codes "true" ∷ []) (id_of l) (choice_not l) (without choice_id rows) ∙ ap (all_of (id_of l)) rows_kept ∙ s.options l
+        ∙ ap listed (sym (values-append l items (fewest ∷ []) ∙ append-nil (values_of l items)));
+    files = with_values-other choice_id _ _ (codes "true" ∷ []) files_id refl (without choice_id rows) ∙ ap (all_of files_id) rows_kept ∙ s.files
+        ∙ ap listed (sym (files-append items (fewest ∷ []) ∙ append-nil (files_of items)));
+    choice = with_values-same choice_id _ _ (codes "true" ∷ []) (without choice_id rows) ∙ ap (λ rs. Some (unwrap_or (all_of choice_id rs) [] ++ codes "true" ∷ [])) rows_kept
+        ∙ ap (λ o. Some (unwrap_or o [] ++ codes "true" ∷ [])) unchosen ∙ ap shown_choice (sym more_chosen);
+    once = λ l. omega (arith, ap length (values-append l items (fewest ∷ []) ∙ append-nil (values_of l items)), s.once l);
+    once_chosen = omega (arith, more_chosen);
+  }
+
+choice_clean : (rows : List Row) → has_row choice_id rows ≡ false → use_fault false choice_rule [] rows ≡ []
+choice_clean rows e = rw e refl
+
+choice_again : (rows : List Row) → has_row choice_id rows ≡ true → is_clean (use_fault false choice_rule [] rows) ≡ false
+choice_again rows e = rw e refl
+
+use_choice : (items : List Item) (rows : List Row) → Shows items rows → UsesChoice items rows
+use_choice items rows s = go (choices_of items) refl
+  where
+    go : (n : ℕ) → choices_of items ≡ n → UsesChoice items rows
+    go zero e = inl (choice_clean rows (has_row-all_of choice_id rows ∙ ap is_some (s.choice ∙ ap shown_choice e)), choice_shown items rows s e)
+    go (suc n) e = inr (choice_again rows (has_row-all_of choice_id rows ∙ ap is_some (s.choice ∙ ap shown_choice e)), spoilt-choice items (omega (arith, e)))
 
 -- ---- where the walk stands
 
@@ -195,7 +244,8 @@ pub data View : Text → Type 0 where
   bare_view : (l : Letter) → View (45 ∷ code_of l ∷ [])
   own_view : (l : Letter) (z : ℕ) (rest : Text) → View (45 ∷ code_of l ∷ z ∷ rest)
   dashes_view : View (45 ∷ 45 ∷ [])
-  unknown_view : (y : ℕ) (rest : Text) → letter_of y ≡ None → bytes_eq (45 ∷ y ∷ rest) (codes "--") ≡ false → View (45 ∷ y ∷ rest)
+  choice_view : View (codes "--literals")
+  unknown_view : (y : ℕ) (rest : Text) → letter_of y ≡ None → bytes_eq (45 ∷ y ∷ rest) (codes "--") ≡ false → bytes_eq (45 ∷ y ∷ rest) (codes "--literals") ≡ false → View (45 ∷ y ∷ rest)
 
 letter_view : (l : Letter) (rest : Text) → View (45 ∷ code_of l ∷ rest)
 letter_view l [] = bare_view l
@@ -207,9 +257,13 @@ hyphen_view y rest = go (y == 68) (y == 111) (y == 101) refl refl refl
     at_code : (l : Letter) → y ≡ code_of l → View (45 ∷ y ∷ rest)
     at_code l e = subst (λ n. View (45 ∷ n ∷ rest)) (sym e) (letter_view l rest)
 
+    choice_or : (b : Bool) → letter_of y ≡ None → bytes_eq (45 ∷ y ∷ rest) (codes "--") ≡ false → bytes_eq (45 ∷ y ∷ rest) (codes "--literals") ≡ b → View (45 ∷ y ∷ rest)
+    choice_or true none ne e = subst View (sym (bytes_eq-true (45 ∷ y ∷ rest) (codes "--literals") e)) choice_view
+    choice_or false none ne e = unknown_view y rest none ne e
+
     dashes_or : (b : Bool) → letter_of y ≡ None → bytes_eq (45 ∷ y ∷ rest) (codes "--") ≡ b → View (45 ∷ y ∷ rest)
     dashes_or true none e = subst View (sym (bytes_eq-true (45 ∷ y ∷ rest) (codes "--") e)) dashes_view
-    dashes_or false none e = unknown_view y rest none e
+    dashes_or false none e = choice_or (bytes_eq (45 ∷ y ∷ rest) (codes "--literals")) none e refl
 
     go : (a b c : Bool) → (y == 68) ≡ a → (y == 111) ≡ b → (y == 101) ≡ c → View (45 ∷ y ∷ rest)
     go true b c e f g = at_code command_letter (eqb-true y 68 e)
@@ -253,11 +307,13 @@ items-own command_letter z rest ws = refl
 items-own type_letter z rest ws = refl
 items-own eat_letter z rest ws = refl
 
-items-unknown : (y : ℕ) (rest : Text) (ws : List Text) → letter_of y ≡ None → bytes_eq (45 ∷ y ∷ rest) (codes "--") ≡ false → items_from None ((45 ∷ y ∷ rest) ∷ ws) ≡ None
-items-unknown y rest ws none ne =
+items-unknown : (y : ℕ) (rest : Text) (ws : List Text) → letter_of y ≡ None → bytes_eq (45 ∷ y ∷ rest) (codes "--") ≡ false → bytes_eq (45 ∷ y ∷ rest) (codes "--literals") ≡ false
+    → items_from None ((45 ∷ y ∷ rest) ∷ ws) ≡ None
+items-unknown y rest ws none ne nl =
     let w = 45 ∷ y ∷ rest in
     ap (λ o. items_at (flag_of o rest w) w ws (items_from None ws) (λ l. items_from (Some l) ws)) none
-    ∙ ap (λ b. items_at (cond b dashes unknown) w ws (items_from None ws) (λ l. items_from (Some l) ws)) ne
+    ∙ ap (λ b. items_at (cond b dashes (cond (bytes_eq w (codes "--literals")) fewest_word unknown)) w ws (items_from None ws) (λ l. items_from (Some l) ws)) ne
+    ∙ ap (λ b. items_at (cond b fewest_word unknown) w ws (items_from None ws) (λ l. items_from (Some l) ws)) nl
 
 items-plain : (w : Text) (ws : List Text) → word_of w ≡ plain → items_from None (w ∷ ws) ≡ with_item (file w) (items_from None ws)
 items-plain w ws e = ap (λ k. items_at k w ws (items_from None ws) (λ l. items_from (Some l) ws)) e
@@ -284,6 +340,21 @@ own_word l z rest ws free items rows p f clean s (inr (bad, spoilt)) =
     (ap is_clean (attached_fault z rest rows p (z == 61) l f refl ∙ ap (λ k. or_else k (use_fault false (rule_for l) (v ∷ []) (settled our_rules (hold rows p)).rows)) clean) ∙ bad)
     (ap (line_from items) (items-own l z rest ws) ∙ line_from-with_item items (option l v) (items_from None ws) ∙ spoilt_line (items ++ option l v ∷ []) (items_from None ws) spoilt)
 
+choice_word : (ws : List Text) → FreeEnds ws → (items : List Item) (rows : List Row) (p : Option (Text × List Text)) (f : Free)
+    → settle_fault our_rules false (hold rows p) ≡ [] → UsesChoice items (settled our_rules (hold rows p)).rows
+    → Ends items (at (hold rows p) (waiting f) false) (items_from None (codes "--literals" ∷ ws)) (codes "--literals" ∷ ws)
+choice_word ws free items rows p f clean (inl (ok, shown)) =
+    let new = used choice_rule [] (settled our_rules (hold rows p)).rows in
+    let after = at (hold new None) idle false in
+    moves_on items (at (hold rows p) (waiting f) false) after (codes "--literals") (with_item fewest (items_from None ws)) ws
+    (choice_fault rows p f ∙ ap (λ k. or_else k (use_fault false choice_rule [] (settled our_rules (hold rows p)).rows)) clean ∙ ok)
+    (choice_walk rows p f)
+    (adds_item items fewest after (items_from None ws) ws (free (items ++ fewest ∷ []) new None nothing (stands_idle (items ++ fewest ∷ []) new shown)))
+choice_word ws free items rows p f clean (inr (bad, spoilt)) =
+    stops_at items (at (hold rows p) (waiting f) false) (codes "--literals") (with_item fewest (items_from None ws)) ws
+    (ap is_clean (choice_fault rows p f ∙ ap (λ k. or_else k (use_fault false choice_rule [] (settled our_rules (hold rows p)).rows)) clean) ∙ bad)
+    (line_from-with_item items fewest (items_from None ws) ∙ spoilt_line (items ++ fewest ∷ []) (items_from None ws) spoilt)
+
 free_word : (w : Text) (ws : List Text) → View w → IsUtf8 w → FreeEnds ws → WaitEnds ws → FreeEnds (w ∷ ws)
 free_word _ ws (plain_view w is_plain word) u free wait items rows p f (inl (clean, s)) =
     let h = settled our_rules (hold rows p) in
@@ -308,12 +379,16 @@ free_word _ ws (own_view l z rest) u free wait items rows p f (inr (fault, s)) =
     stops_at items (at (hold rows p) (waiting f) false) w (items_from None (w ∷ ws)) ws
     (ap is_clean (attached_fault z rest rows p (z == 61) l f refl) ∙ clean-or_else (settle_fault our_rules false (hold rows p)) _ fault) (spoilt_line items (items_from None (w ∷ ws)) s)
 free_word _ ws (own_view l z rest) u free wait items rows p f (inl (clean, s)) = own_word l z rest ws free items rows p f clean s (use_option items l (cond (z == 61) rest (z ∷ rest)) (settled our_rules (hold rows p)).rows s)
+free_word _ ws choice_view u free wait items rows p f (inl (clean, s)) = choice_word ws free items rows p f clean (use_choice items (settled our_rules (hold rows p)).rows s)
+free_word _ ws choice_view u free wait items rows p f (inr (fault, s)) =
+    stops_at items (at (hold rows p) (waiting f) false) (codes "--literals") (items_from None (codes "--literals" ∷ ws)) ws
+    (ap is_clean (choice_fault rows p f) ∙ clean-or_else (settle_fault our_rules false (hold rows p)) _ fault) (spoilt_line items (items_from None (codes "--literals" ∷ ws)) s)
 free_word _ ws dashes_view u free wait items rows p f s =
     moves_on items (at (hold rows p) (waiting f) false) (at (hold rows p) (waiting f) true) (45 ∷ 45 ∷ []) (Some (map file ws)) ws (dashes_fault (hold rows p) (waiting f)) (dashes_walk (hold rows p) (waiting f))
     (trails ws items rows p (waiting f) s)
-free_word _ ws (unknown_view y rest none ne) u free wait items rows p f s =
-    stops_at items (at (hold rows p) (waiting f) false) (45 ∷ y ∷ rest) (items_from None ((45 ∷ y ∷ rest) ∷ ws)) ws (unknown_refused rows p (waiting f) y rest u none ne)
-    (ap (line_from items) (items-unknown y rest ws none ne))
+free_word _ ws (unknown_view y rest none ne nl) u free wait items rows p f s =
+    stops_at items (at (hold rows p) (waiting f) false) (45 ∷ y ∷ rest) (items_from None ((45 ∷ y ∷ rest) ∷ ws)) ws (unknown_refused rows p (waiting f) y rest u none ne nl)
+    (ap (line_from items) (items-unknown y rest ws none ne nl))
 
 -- a value that begins with a hyphen, and has more, is no value that an option takes
 hyphen_line : (items : List Item) (l : Letter) (v : Text) (ws : List Text) → line_from items (items_from (Some l) ((45 ∷ v) ∷ ws)) ≡ None
@@ -331,9 +406,12 @@ wait_word _ ws (bare_view k) u free items rows l s =
 wait_word _ ws (own_view k z rest) u free items rows l s =
     stops_at items (at (hold rows (Some (id_of l, []))) (waits_for (id_of l)) false) (45 ∷ code_of k ∷ z ∷ rest) (items_from (Some l) ((45 ∷ code_of k ∷ z ∷ rest) ∷ ws)) ws
     (flag_refused (waits_for (id_of l)) rows (Some (id_of l, [])) k (z ∷ rest) (unsettled rows l)) (hyphen_line items l (code_of k ∷ z ∷ rest) ws)
-wait_word _ ws (unknown_view y rest none ne) u free items rows l s =
+wait_word _ ws (unknown_view y rest none ne nl) u free items rows l s =
     stops_at items (at (hold rows (Some (id_of l, []))) (waits_for (id_of l)) false) (45 ∷ y ∷ rest) (items_from (Some l) ((45 ∷ y ∷ rest) ∷ ws)) ws
-    (unknown_refused rows (Some (id_of l, [])) (waits_for (id_of l)) y rest u none ne) (hyphen_line items l (y ∷ rest) ws)
+    (unknown_refused rows (Some (id_of l, [])) (waits_for (id_of l)) y rest u none ne nl) (hyphen_line items l (y ∷ rest) ws)
+wait_word _ ws choice_view u free items rows l s =
+    stops_at items (at (hold rows (Some (id_of l, []))) (waits_for (id_of l)) false) (codes "--literals") (items_from (Some l) (codes "--literals" ∷ ws)) ws
+    (choice_refused (waits_for (id_of l)) rows (Some (id_of l, [])) (unsettled rows l)) (hyphen_line items l (codes "-literals") ws)
 wait_word _ ws dashes_view u free items rows l s =
     let w = at (hold rows (Some (id_of l, []))) (waits_for (id_of l)) false in
     let after = at (hold rows (Some (id_of l, []))) (waits_for (id_of l)) true in

@@ -5,7 +5,8 @@ use Rattle.clap.specs.Kinds.{Kinds}
 use Rattle.clap.specs.Faults.{react_fault, settle_fault, turn_fault}
 use Rattle.clap.proofs.OnLiterals.{clap_on_literals}
 use Rattle.espresso.specs.Words.{Letter, command_letter, type_letter, eat_letter}
-use Rattle.espresso.proofs.Built.{or_else-nil, code_of, files_id, files_rule, id_of, our_rules, our_shape, rule_for}
+use Rattle.std.specs.Prelude.{codes}
+use Rattle.espresso.proofs.Built.{choice_rule, or_else-nil, code_of, files_id, files_rule, id_of, our_rules, our_shape, rule_for}
 
 abbrev pub hold : List Row → Option (Text × List Text) → Held
 hold rows p = record { rows = rows; pending = p; skip = 0 }
@@ -173,3 +174,15 @@ value_walk rows w type_letter (other x rest e) = simp e refl
 value_walk rows w eat_letter empty = refl
 value_walk rows w eat_letter hyphen = refl
 value_walk rows w eat_letter (other x rest e) = simp e refl
+
+-- ---- `--literals`
+
+pub choice_fault : (rows : List Row) (p : Option (Text × List Text)) (f : Free) → turn (at (hold rows p) (waiting f) false) (codes "--literals") ≡ react_fault our_rules false choice_rule [] (hold rows p)
+unfolding clap_on_literals
+choice_fault rows p nothing = or_else-nil _
+choice_fault rows p files = or_else-nil _
+
+pub choice_walk : (rows : List Row) (p : Option (Text × List Text)) (f : Free) → walk_on (at (hold rows p) (waiting f) false) (codes "--literals") ≡ at (reacted our_rules choice_rule [] (hold rows p)) idle false
+unfolding clap_on_literals
+choice_walk rows p nothing = refl
+choice_walk rows p files = refl

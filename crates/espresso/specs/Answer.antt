@@ -1,5 +1,5 @@
 -- What each command answers on the descriptions of its files.
-use Rattle.std.specs.Prelude.{ℕ, Bool, true, false, List, ◌++◌, codes}
+use Rattle.std.specs.Prelude.{ℕ, Bool, true, false, not, List, ◌++◌, codes}
 use Rattle.cube.specs.Cube.{Cube, Place, difference, intersection}
 use Rattle.cube.specs.Sum.{complete_sum}
 use Rattle.cover.specs.Contained.{contained}
@@ -10,10 +10,13 @@ use Rattle.pla.specs.Completed.{sets_of}
 use Rattle.pla.specs.Description.{Description}
 use Rattle.pla.specs.Sets.{SetLists}
 use Rattle.pla.specs.Text.{text_of}
+use Rattle.minimum.specs.Primes.{primes_of}
 use Rattle.espresso.specs.declared.command.Command.{Command}
 use Rattle.espresso.specs.declared.command.Command.TheVariants as command
+use Rattle.espresso.specs.declared.check.Flaws.{Flaws}
 use Rattle.espresso.specs.declared.status.Status.{Status}
 use Rattle.espresso.specs.declared.status.Status.TheVariants.{Done, No}
+use Rattle.espresso.specs.Check.{flaws_of, flaws_text, has_flaw, partition_text}
 
 -- what a command prints, and how it ends: it is done, or the answer is a no
 pub record Answer : Type 0 where
@@ -51,6 +54,10 @@ prints_off Fdr = true
 abbrev pub printed_with : Description → OutType → List Cube → Answer
 printed_with d out on = printed (text_of d out (record (three_sets d) { on = on }))
 
+-- a line for each flaw, which is a no, or that there is none
+abbrev pub checked : Flaws → Answer
+checked flaws = judged (not (has_flaw flaws)) partition_text (flaws_text flaws)
+
 -- each place that is in neither file's DC-set is in both files' ON-sets or in neither
 abbrev pub agree : Description → Description → Bool
 agree d e = agree_outside d.size (places d.on) (places e.on) (places ((three_sets d).dc ++ (three_sets e).dc))
@@ -62,7 +69,9 @@ printed_sum d s = printed_with d F (complete_sum d.size s)
 -- what each command answers on the descriptions of its files; of a single file it is given twice
 abbrev pub answer_of : Command → OutType → Description → Description → Answer
 answer_of command.Echo out d e = printed_with d out d.on
+answer_of command.Check out d e = checked (flaws_of (three_sets d))
 answer_of command.Contain out d e = printed_with d out (contained d.size d.on)
+answer_of command.Primes out d e = printed_with d out (primes_of (three_sets d))
 answer_of command.Tautology out d e = judged (holds_all d.size (places d.on))
     (codes "ON-set is a tautology\n") (codes "ON-set is not a tautology\n")
 answer_of command.Verify out d e = judged (agree d e)

@@ -3,6 +3,7 @@ pub mod Parser
 pub mod Matches
 pub mod WordVectors
 pub mod Messages
+pub mod Check
 pub mod Answer
 pub mod Tool
 pub mod Run

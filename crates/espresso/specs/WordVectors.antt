@@ -1,67 +1,74 @@
 -- Lists of words whose meaning is computed: what is taken, and what is refused.
 use Rattle.std.specs.Prelude.{◌≡◌, refl, [], ◌∷◌, Some, None, codes, true, false}
-use Rattle.espresso.specs.declared.command.Command.TheVariants.{Echo, Contain, Tautology}
+use Rattle.espresso.specs.declared.command.Command.TheVariants.{Echo, Check, Contain, Primes, Tautology}
+use Rattle.minimum.specs.declared.choice.Choice.TheVariants.{First}
 use Rattle.pla.specs.declared.out_type.OutType.TheVariants.{F, Fd, Fr, Fdr}
 use Rattle.espresso.specs.Words.{line_of, meaning_by}
 
-takes_a_command_in_one_word : line_of (codes "-Decho" ∷ []) ≡ Some (meaning_by Echo F false ([]))
+takes_a_command_in_one_word : line_of (codes "-Decho" ∷ []) ≡ Some (meaning_by Echo F false First ([]))
 takes_a_command_in_one_word = refl
 
-takes_a_command_in_the_next_word : line_of (codes "-D" ∷ codes "echo" ∷ codes "f" ∷ []) ≡ Some (meaning_by Echo F false (codes "f" ∷ []))
+takes_a_command_in_the_next_word : line_of (codes "-D" ∷ codes "echo" ∷ codes "f" ∷ []) ≡ Some (meaning_by Echo F false First (codes "f" ∷ []))
 takes_a_command_in_the_next_word = refl
 
-takes_a_command_after_an_equals_sign : line_of (codes "-D=echo" ∷ codes "f" ∷ []) ≡ Some (meaning_by Echo F false (codes "f" ∷ []))
+takes_a_command_after_an_equals_sign : line_of (codes "-D=echo" ∷ codes "f" ∷ []) ≡ Some (meaning_by Echo F false First (codes "f" ∷ []))
 takes_a_command_after_an_equals_sign = refl
 
-takes_an_option_after_the_file : line_of (codes "f" ∷ codes "-Decho" ∷ []) ≡ Some (meaning_by Echo F false (codes "f" ∷ []))
+takes_an_option_after_the_file : line_of (codes "f" ∷ codes "-Decho" ∷ []) ≡ Some (meaning_by Echo F false First (codes "f" ∷ []))
 takes_an_option_after_the_file = refl
 
-takes_comments_left_out : line_of (codes "-Decho" ∷ codes "-e" ∷ codes "eat" ∷ codes "f" ∷ []) ≡ Some (meaning_by Echo F true (codes "f" ∷ []))
+takes_comments_left_out : line_of (codes "-Decho" ∷ codes "-e" ∷ codes "eat" ∷ codes "f" ∷ []) ≡ Some (meaning_by Echo F true First (codes "f" ∷ []))
 takes_comments_left_out = refl
 
-takes_options_in_any_order : line_of (codes "-eeat" ∷ codes "-Decho" ∷ codes "f" ∷ []) ≡ Some (meaning_by Echo F true (codes "f" ∷ []))
+takes_options_in_any_order : line_of (codes "-eeat" ∷ codes "-Decho" ∷ codes "f" ∷ []) ≡ Some (meaning_by Echo F true First (codes "f" ∷ []))
 takes_options_in_any_order = refl
 
-takes_an_equals_sign_before_the_value_of_each_option : line_of (codes "-e=eat" ∷ codes "-o=f" ∷ codes "-D=echo" ∷ []) ≡ Some (meaning_by Echo F true ([]))
+takes_an_equals_sign_before_the_value_of_each_option : line_of (codes "-e=eat" ∷ codes "-o=f" ∷ codes "-D=echo" ∷ []) ≡ Some (meaning_by Echo F true First ([]))
 takes_an_equals_sign_before_the_value_of_each_option = refl
 
-takes_an_output_type_in_one_word : line_of (codes "-of" ∷ codes "-Decho" ∷ []) ≡ Some (meaning_by Echo F false ([]))
+takes_an_output_type_in_one_word : line_of (codes "-of" ∷ codes "-Decho" ∷ []) ≡ Some (meaning_by Echo F false First ([]))
 takes_an_output_type_in_one_word = refl
 
-takes_an_output_type_in_the_next_word : line_of (codes "-Decho" ∷ codes "-o" ∷ codes "f" ∷ codes "a" ∷ []) ≡ Some (meaning_by Echo F false (codes "a" ∷ []))
+takes_an_output_type_in_the_next_word : line_of (codes "-Decho" ∷ codes "-o" ∷ codes "f" ∷ codes "a" ∷ []) ≡ Some (meaning_by Echo F false First (codes "a" ∷ []))
 takes_an_output_type_in_the_next_word = refl
 
-takes_the_type_with_a_dc_list : line_of (codes "-Decho" ∷ codes "-ofd" ∷ []) ≡ Some (meaning_by Echo Fd false [])
+takes_the_type_with_a_dc_list : line_of (codes "-Decho" ∷ codes "-ofd" ∷ []) ≡ Some (meaning_by Echo Fd false First [])
 takes_the_type_with_a_dc_list = refl
 
-takes_the_type_with_an_off_list : line_of (codes "-o" ∷ codes "fr" ∷ codes "-Dcontain" ∷ []) ≡ Some (meaning_by Contain Fr false [])
+takes_the_type_with_an_off_list : line_of (codes "-o" ∷ codes "fr" ∷ codes "-Dcontain" ∷ []) ≡ Some (meaning_by Contain Fr false First [])
 takes_the_type_with_an_off_list = refl
 
-takes_the_type_with_all_lists : line_of (codes "-o=fdr" ∷ codes "-Dtautology" ∷ []) ≡ Some (meaning_by Tautology Fdr false [])
+takes_the_type_with_all_lists : line_of (codes "-o=fdr" ∷ codes "-Dtautology" ∷ []) ≡ Some (meaning_by Tautology Fdr false First [])
 takes_the_type_with_all_lists = refl
 
-takes_a_file_with_a_hyphen_after_two_hyphens : line_of (codes "-Decho" ∷ codes "--" ∷ codes "-x" ∷ []) ≡ Some (meaning_by Echo F false (codes "-x" ∷ []))
+takes_a_file_with_a_hyphen_after_two_hyphens : line_of (codes "-Decho" ∷ codes "--" ∷ codes "-x" ∷ []) ≡ Some (meaning_by Echo F false First (codes "-x" ∷ []))
 takes_a_file_with_a_hyphen_after_two_hyphens = refl
 
-takes_two_hyphens_as_a_file : line_of (codes "-Decho" ∷ codes "--" ∷ codes "--" ∷ []) ≡ Some (meaning_by Echo F false (codes "--" ∷ []))
+takes_two_hyphens_as_a_file : line_of (codes "-Decho" ∷ codes "--" ∷ codes "--" ∷ []) ≡ Some (meaning_by Echo F false First (codes "--" ∷ []))
 takes_two_hyphens_as_a_file = refl
 
-takes_two_hyphens_and_no_file : line_of (codes "-Decho" ∷ codes "--" ∷ []) ≡ Some (meaning_by Echo F false ([]))
+takes_two_hyphens_and_no_file : line_of (codes "-Decho" ∷ codes "--" ∷ []) ≡ Some (meaning_by Echo F false First ([]))
 takes_two_hyphens_and_no_file = refl
 
-takes_standard_input_by_name : line_of (codes "-Decho" ∷ codes "-" ∷ []) ≡ Some (meaning_by Echo F false (codes "-" ∷ []))
+takes_standard_input_by_name : line_of (codes "-Decho" ∷ codes "-" ∷ []) ≡ Some (meaning_by Echo F false First (codes "-" ∷ []))
 takes_standard_input_by_name = refl
 
-takes_standard_input_by_name_after_two_hyphens : line_of (codes "-Decho" ∷ codes "--" ∷ codes "-" ∷ []) ≡ Some (meaning_by Echo F false (codes "-" ∷ []))
+takes_standard_input_by_name_after_two_hyphens : line_of (codes "-Decho" ∷ codes "--" ∷ codes "-" ∷ []) ≡ Some (meaning_by Echo F false First (codes "-" ∷ []))
 takes_standard_input_by_name_after_two_hyphens = refl
 
-takes_a_file_whose_name_is_empty : line_of (codes "-Decho" ∷ codes "" ∷ []) ≡ Some (meaning_by Echo F false (codes "" ∷ []))
+takes_a_file_whose_name_is_empty : line_of (codes "-Decho" ∷ codes "" ∷ []) ≡ Some (meaning_by Echo F false First (codes "" ∷ []))
 takes_a_file_whose_name_is_empty = refl
 
-takes_contain : line_of (codes "-Dcontain" ∷ []) ≡ Some (meaning_by Contain F false [])
+takes_check : line_of (codes "-Dcheck" ∷ codes "-o" ∷ codes "fr" ∷ []) ≡ Some (meaning_by Check Fr false First [])
+takes_check = refl
+
+takes_contain : line_of (codes "-Dcontain" ∷ []) ≡ Some (meaning_by Contain F false First [])
 takes_contain = refl
 
-takes_tautology : line_of (codes "-D" ∷ codes "tautology" ∷ codes "f" ∷ []) ≡ Some (meaning_by Tautology F false (codes "f" ∷ []))
+takes_primes : line_of (codes "-Dprimes" ∷ codes "-ofdr" ∷ []) ≡ Some (meaning_by Primes Fdr false First [])
+takes_primes = refl
+
+takes_tautology : line_of (codes "-D" ∷ codes "tautology" ∷ codes "f" ∷ []) ≡ Some (meaning_by Tautology F false First (codes "f" ∷ []))
 takes_tautology = refl
 
 refuses_no_words : line_of ([]) ≡ None
@@ -82,7 +89,7 @@ refuses_a_command_with_an_empty_name = refl
 refuses_two_equals_signs : line_of (codes "-D==echo" ∷ []) ≡ None
 refuses_two_equals_signs = refl
 
-refuses_a_name_that_is_no_command : line_of (codes "-Dprimes" ∷ []) ≡ None
+refuses_a_name_that_is_no_command : line_of (codes "-Dminimise" ∷ []) ≡ None
 refuses_a_name_that_is_no_command = refl
 
 refuses_a_name_in_capitals : line_of (codes "-DECHO" ∷ []) ≡ None
@@ -153,3 +160,12 @@ refuses_standard_input_twice = refl
 
 refuses_two_files_after_two_hyphens : line_of (codes "-Decho" ∷ codes "--" ∷ codes "a" ∷ codes "-x" ∷ []) ≡ None
 refuses_two_files_after_two_hyphens = refl
+
+refuses_a_choice_where_there_is_none : line_of (codes "-Dprimes" ∷ codes "--literals" ∷ []) ≡ None
+refuses_a_choice_where_there_is_none = refl
+
+refuses_a_part_of_a_long_option : line_of (codes "-Decho" ∷ codes "--lit" ∷ []) ≡ None
+refuses_a_part_of_a_long_option = refl
+
+takes_a_long_option_as_a_file_after_two_hyphens : line_of (codes "-Decho" ∷ codes "--" ∷ codes "--literals" ∷ []) ≡ Some (meaning_by Echo F false First (codes "--literals" ∷ []))
+takes_a_long_option_as_a_file_after_two_hyphens = refl

@@ -1,11 +1,13 @@
 -- What a list of words asks for.
-use Rattle.std.specs.Prelude.{◌==◌, ◌&&◌, ◌||◌, not, ℕ, Bool, true, false, List, [], ◌∷◌, map}
+use Rattle.std.specs.Prelude.{zero, suc, ◌==◌, ◌&&◌, ◌||◌, not, ℕ, Bool, true, false, List, [], ◌∷◌, map}
 use Rattle.std.specs.Prelude.{length, nat_le, count_by, codes, Option, Some, None, if◌then◌else◌}
 use Rattle.std.specs.Prelude.{option_map, option_and_then}
 use Rattle.std.specs.Option.{option_map_or}
 use Rattle.std.specs.Str.{bytes_eq}
 use Rattle.espresso.specs.declared.command.Command.{Command}
-use Rattle.espresso.specs.declared.command.Command.TheVariants.{Echo, Contain, Tautology, Verify, Intersect, Sharp}
+use Rattle.espresso.specs.declared.command.Command.TheVariants.{Echo, Check, Contain, Primes, Tautology, Verify, Intersect, Sharp}
+use Rattle.minimum.specs.declared.choice.Choice.{Choice}
+use Rattle.minimum.specs.declared.choice.Choice.TheVariants.{First, Literals}
 use Rattle.pla.specs.declared.out_type.OutType.{OutType}
 use Rattle.pla.specs.declared.out_type.OutType.TheVariants.{F, Fd, Fr, Fdr}
 
@@ -25,23 +27,26 @@ letter_of x = if x == 68 then Some command_letter
     else (if x == 111 then Some type_letter
     else (if x == 101 then Some eat_letter else None))
 
--- a part of a command line: an option with its value, or a file
+-- a part of a command line: an option with its value, `--literals`, or a file
 pub data Item : Type 0 where
   option : Letter → Text → Item
+  fewest : Item
   file : Text → Item
 
--- what a word before `--` is: no option, an option with what follows its letter, `--`, or an
--- option that is not known
+-- what a word before `--` is: no option, an option with what follows its letter, `--`, `--literals`,
+-- or an option that is not known
 pub data Word : Type 0 where
   plain : Word
   flag : Letter → Text → Word
   dashes : Word
+  fewest_word : Word
   unknown : Word
 
 -- a word with a hyphen and a letter or another byte
 abbrev pub flag_of : Option Letter → Text → Text → Word
 flag_of (Some letter) rest word = flag letter rest
-flag_of None rest word = if bytes_eq word (codes "--") then dashes else unknown
+flag_of None rest word = if bytes_eq word (codes "--") then dashes
+    else (if bytes_eq word (codes "--literals") then fewest_word else unknown)
 
 -- a word that begins with a hyphen (45)
 abbrev pub hyphen_word : Text → Word
@@ -70,6 +75,7 @@ items_at plain word after next waits = with_item (file word) next
 items_at (flag letter rest) word after next waits =
     option_map_or (λ v. with_item (option letter v) next) (own_value rest) (waits letter)
 items_at dashes word after next waits = Some (map file after)
+items_at fewest_word word after next waits = with_item fewest next
 items_at unknown word after next waits = None
 
 -- the items of the words from left to right, where an option may wait for its value
@@ -92,22 +98,39 @@ abbrev pub values_of : Letter → List Item → List Text
 values_of letter [] = []
 values_of letter (option l v ∷ items) =
     if same_letter l letter then v ∷ values_of letter items else values_of letter items
+values_of letter (fewest ∷ items) = values_of letter items
 values_of letter (file f ∷ items) = values_of letter items
 
 -- the files, in order
 abbrev pub files_of : List Item → List Text
 files_of [] = []
 files_of (option l v ∷ items) = files_of items
+files_of (fewest ∷ items) = files_of items
 files_of (file f ∷ items) = f ∷ files_of items
+
+-- how often `--literals` stands
+abbrev pub choices_of : List Item → ℕ
+choices_of [] = 0
+choices_of (option l v ∷ items) = choices_of items
+choices_of (fewest ∷ items) = suc (choices_of items)
+choices_of (file f ∷ items) = choices_of items
+
+-- the choice that `--literals` makes where it stands so often: it stands once at most
+abbrev pub chosen : ℕ → Option Choice
+chosen zero = Some First
+chosen (suc zero) = Some Literals
+chosen (suc (suc n)) = None
 
 -- the command of a name
 abbrev pub command_named : Text → Option Command
 command_named name = if bytes_eq name (codes "echo") then Some Echo
+    else (if bytes_eq name (codes "check") then Some Check
     else (if bytes_eq name (codes "contain") then Some Contain
+    else (if bytes_eq name (codes "primes") then Some Primes
     else (if bytes_eq name (codes "tautology") then Some Tautology
     else (if bytes_eq name (codes "verify") then Some Verify
     else (if bytes_eq name (codes "intersect") then Some Intersect
-    else (if bytes_eq name (codes "sharp") then Some Sharp else None)))))
+    else (if bytes_eq name (codes "sharp") then Some Sharp else None)))))))
 
 -- the output type of a name
 abbrev pub type_named : Text → Option OutType
@@ -129,7 +152,9 @@ said named missing (v ∷ w ∷ more) = None
 -- the command takes two files
 abbrev pub takes_two : Command → Bool
 takes_two Echo = false
+takes_two Check = false
 takes_two Contain = false
+takes_two Primes = false
 takes_two Tautology = false
 takes_two Verify = true
 takes_two Intersect = true
@@ -138,7 +163,9 @@ takes_two Sharp = true
 -- the command prints type f alone
 abbrev pub prints_only_f : Command → Bool
 prints_only_f Echo = false
+prints_only_f Check = false
 prints_only_f Contain = false
+prints_only_f Primes = false
 prints_only_f Tautology = false
 prints_only_f Verify = false
 prints_only_f Intersect = true
@@ -151,9 +178,26 @@ is_f Fd = false
 is_f Fr = false
 is_f Fdr = false
 
--- a type that the command prints, and as many files as it takes, with standard input once at most
-abbrev pub fits : Command → OutType → List Text → Bool
-fits command out files = (is_f out || not (prints_only_f command))
+-- the command chooses among covers
+abbrev pub chooses : Command → Bool
+chooses Echo = false
+chooses Check = false
+chooses Contain = false
+chooses Primes = false
+chooses Tautology = false
+chooses Verify = false
+chooses Intersect = false
+chooses Sharp = false
+
+-- the choice that no option makes
+abbrev pub is_first : Choice → Bool
+is_first First = true
+is_first Literals = false
+
+-- a type that the command prints, a choice that it makes, and as many files as it takes, with standard
+-- input once at most
+abbrev pub fits : Command → OutType → Choice → List Text → Bool
+fits command out choice files = (is_f out || not (prints_only_f command)) && (is_first choice || chooses command)
     && ((if takes_two command then length files == 2 else nat_le (length files) 1)
     && nat_le (count_by (λ f. bytes_eq f (codes "-")) files) 1)
 
@@ -162,24 +206,25 @@ pub record Meaning : Type 0 where
   pub command : Command
   pub out : OutType
   pub eat : Bool
+  pub choice : Choice
   pub files : List Text
 
 -- the meaning of these parts
-abbrev pub meaning_by : Command → OutType → Bool → List Text → Meaning
-meaning_by command out eat files =
-    record { command = command; out = out; eat = eat; files = files }
+abbrev pub meaning_by : Command → OutType → Bool → Choice → List Text → Meaning
+meaning_by command out eat choice files =
+    record { command = command; out = out; eat = eat; choice = choice; files = files }
 
--- the meaning of these parts, where each is given and the files fit the command
-abbrev pub meaning : Option Command → Option OutType → Option Bool → List Text → Option Meaning
-meaning (Some command) (Some out) (Some eat) files = if fits command out files
-    then Some (record { command = command; out = out; eat = eat; files = files }) else None
-meaning _ _ _ _ = None
+-- the meaning of these parts, where each is given and they fit each other
+abbrev pub meaning : Option Command → Option OutType → Option Bool → Option Choice → List Text → Option Meaning
+meaning (Some command) (Some out) (Some eat) (Some choice) files = if fits command out choice files
+    then Some (record { command = command; out = out; eat = eat; choice = choice; files = files }) else None
+meaning _ _ _ _ _ = None
 
 -- the meaning of the items
 abbrev pub meaning_of : List Item → Option Meaning
 meaning_of items = meaning (said command_named None (values_of command_letter items))
     (said type_named (Some F) (values_of type_letter items))
-    (said eat_named (Some false) (values_of eat_letter items)) (files_of items)
+    (said eat_named (Some false) (values_of eat_letter items)) (chosen (choices_of items)) (files_of items)
 
 -- the line that the words say, or none where they are refused
 abbrev pub line_of : List Text → Option Meaning

@@ -1,20 +1,23 @@
 //! What each command answers on the descriptions of its files.
-ghost use Rattle.std.specs.Prelude.{◌≡◌, IfOk, unwrap_or};
+ghost use Rattle.std.specs.Prelude.{◌≡◌, IfOk, true, unwrap_or};
 ghost use Rattle.cover.specs.Contained.{contained};
-ghost use Rattle.pla.specs.Completed.{dc_list, off_list};
+ghost use Rattle.minimum.specs.Primes.{primes_of};
+ghost use Rattle.pla.specs.Completed.{dc_list, off_list, sets_of};
 ghost use Rattle.pla.specs.Sets.{lists_of};
 ghost use Rattle.pla.specs.Text.{text_of};
-ghost use Rattle.espresso.specs.Answer.{answer_of, judged, printed, printed_with, prints_dc, prints_off};
+ghost use Rattle.espresso.specs.Answer.{answer_of, judged, printed, printed_with, prints_dc, prints_off, three_sets};
 ghost use Rattle.espresso.specs.Run.{told};
 ghost use Rattle.espresso.specs.Steps.{PutsOut};
 
+use crate::check::{flaws_in, put_flaws};
 use crate::command::Command;
 use crate::line::Line;
 use crate::pair::{put_comparison, put_difference, put_intersection};
 use crate::status::Status;
 use crate::stop::Stop;
 use cover::{Cover, contain};
-use pla::{OutType, Output, Pla, WriteFault, open_dc, open_off, write_bytes, write_covers};
+use minimum::primes;
+use pla::{OutType, Output, Pla, Sets, WriteFault, open_dc, open_off, write_bytes, write_covers};
 use std::alloc::{AllocError, Global};
 
 // Prints what the line's command answers. A single file's description is given twice.
@@ -31,7 +34,9 @@ pub(crate) fn put_answer<W: Output>(
 {
     match line.command() {
         Command::Echo => put_lists(alloc, pla, line.out(), pla.on(), out),
+        Command::Check => put_check(pla, out),
         Command::Contain => put_contained(alloc, pla, line.out(), out),
+        Command::Primes => put_primes(alloc, pla, line.out(), out),
         Command::Tautology => put_tautology(pla, out),
         Command::Verify => put_comparison(alloc, pla, other, out),
         Command::Intersect => put_intersection(alloc, pla, other, out),
@@ -143,6 +148,42 @@ fn put_contained<W: Output>(
 {
     match contain(pla.on()) {
         Ok(on) => put_lists(alloc, pla, out_type, &on, out),
+        Err(_) => Err(Stop::OutOfMemory),
+    }
+}
+
+// The description with its primes in place of its ON list.
+fn put_primes<W: Output>(
+    alloc: Global,
+    pla: &Pla,
+    out_type: OutType,
+    out: &mut W,
+) -> Result<Status, Stop>
+    ensures { PutsOut (answer_of Command.Primes out_type pla.now pla.now)
+        (told (W.taken out.old) (W.taken out.new) (W.failures out.old) (W.failures out.new)) result }
+{
+    match with_primes(alloc, pla, is_off_printed(out_type)) {
+        Ok(sets) => put_covers(pla, out_type, sets.on(), sets.dc(), sets.off(), out),
+        Err(_) => Err(Stop::OutOfMemory),
+    }
+}
+
+// The three sets with the primes in place of the ON list; the OFF list where it is asked for.
+fn with_primes(alloc: Global, pla: &Pla, off: bool) -> Result<Sets, AllocError>
+    ensures { IfOk result (λ sets. sets ≡ record (sets_of pla.now true off) { on = primes_of (three_sets pla.now) }) }
+{
+    let sets = Sets::of(alloc, pla, true, off)?;
+    let on = primes(&sets)?;
+    Ok(sets.with_on(on))
+}
+
+// Whether the three sets part the space.
+fn put_check<W: Output>(pla: &Pla, out: &mut W) -> Result<Status, Stop>
+    ensures { PutsOut (answer_of Command.Check OutType.F pla.now pla.now)
+        (told (W.taken out.old) (W.taken out.new) (W.failures out.old) (W.failures out.new)) result }
+{
+    match flaws_in(pla) {
+        Ok(flaws) => put_flaws(flaws, out),
         Err(_) => Err(Stop::OutOfMemory),
     }
 }

@@ -1,7 +1,8 @@
 //! What a command line can ask for.
 ghost use Rattle.std.specs.Prelude.{◌≡◌};
-ghost use Rattle.espresso.specs.Words.{command_named, eat_named, is_f as is_f_of, prints_only_f, takes_two, type_named};
+ghost use Rattle.espresso.specs.Words.{chooses, command_named, eat_named, is_f as is_f_of, is_first as is_first_of, prints_only_f, takes_two, type_named};
 
+use minimum::Choice;
 use pla::OutType;
 
 /// A command: what is printed of the files that were read.
@@ -9,8 +10,12 @@ use pla::OutType;
 pub enum Command {
     /// The PLA with its lists as given.
     Echo,
+    /// Whether the three sets part the space.
+    Check,
     /// The PLA without the cubes of its ON list that lie in others of it.
     Contain,
+    /// The PLA with the primes for its ON list.
+    Primes,
     /// Whether the ON-set is everything.
     Tautology,
     /// Whether two files agree outside their DC-sets.
@@ -27,7 +32,9 @@ pub(crate) fn command_of(name: &str) -> Option<Command>
 {
     match name {
         "echo" => Some(Command::Echo),
+        "check" => Some(Command::Check),
         "contain" => Some(Command::Contain),
+        "primes" => Some(Command::Primes),
         "tautology" => Some(Command::Tautology),
         "verify" => Some(Command::Verify),
         "intersect" => Some(Command::Intersect),
@@ -65,7 +72,9 @@ pub(crate) fn is_pair(command: Command) -> bool
 {
     match command {
         Command::Echo => false,
+        Command::Check => false,
         Command::Contain => false,
+        Command::Primes => false,
         Command::Tautology => false,
         Command::Verify | Command::Intersect | Command::Sharp => true,
     }
@@ -76,7 +85,8 @@ pub(crate) fn is_f_only(command: Command) -> bool
     ensures { result ≡ prints_only_f command }
 {
     match command {
-        Command::Echo | Command::Contain | Command::Tautology | Command::Verify => false,
+        Command::Echo | Command::Check | Command::Contain | Command::Primes => false,
+        Command::Tautology | Command::Verify => false,
         Command::Intersect | Command::Sharp => true,
     }
 }
@@ -88,5 +98,25 @@ pub(crate) fn is_f(out: OutType) -> bool
     match out {
         OutType::F => true,
         OutType::Fd | OutType::Fr | OutType::Fdr => false,
+    }
+}
+
+// The command chooses among covers.
+pub(crate) fn is_choosing(command: Command) -> bool
+    ensures { result ≡ chooses command }
+{
+    match command {
+        Command::Echo | Command::Check | Command::Contain | Command::Primes => false,
+        Command::Tautology | Command::Verify | Command::Intersect | Command::Sharp => false,
+    }
+}
+
+// The choice that no option makes.
+pub(crate) fn is_first(choice: Choice) -> bool
+    ensures { result ≡ is_first_of choice }
+{
+    match choice {
+        Choice::First => true,
+        Choice::Literals => false,
     }
 }

@@ -5,16 +5,19 @@ ghost use Rattle.espresso.specs.Words.{line_of, meaning_by, takes_two};
 
 use crate::command::{Command, is_pair};
 use crate::parser::{espresso_command, fault_from, line_in};
+use minimum::Choice;
 use pla::{Echo, OutType};
 use std::alloc::Global;
 use std::marker::Model;
 
-/// What a list of words asks for: a command, an output type, whether comments are left out, and files.
+/// What a list of words asks for: a command, an output type, whether comments are left out, a choice
+/// among covers, and files.
 #[derive(Debug, Drop)]
 pub struct Line {
     command: Command,
     out: OutType,
     eat: bool,
+    choice: Choice,
     files: Vec<String>,
 }
 
@@ -24,7 +27,7 @@ impl Model for Line {
 
     ghost Value = { Meaning };
 
-    ghost view = { λ l. meaning_by l.command l.out l.eat (map string_bytes l.files.items) };
+    ghost view = { λ l. meaning_by l.command l.out l.eat l.choice (map string_bytes l.files.items) };
 }
 
 /// Why a list of words gave no line.
@@ -54,13 +57,20 @@ impl Line {
         }
     }
 
-    pub(crate) fn new(command: Command, out: OutType, eat: bool, files: Vec<String>) -> Line
-        ensures { result ≡ meaning_by command out eat (map string_bytes files.items) }
+    pub(crate) fn new(
+        command: Command,
+        out: OutType,
+        eat: bool,
+        choice: Choice,
+        files: Vec<String>,
+    ) -> Line
+        ensures { result ≡ meaning_by command out eat choice (map string_bytes files.items) }
     {
         Line {
             command,
             out,
             eat,
+            choice,
             files,
         }
     }

@@ -31,6 +31,7 @@
 #![tactic(auto)]
 
 mod answer;
+mod check;
 mod command;
 mod content;
 mod laws;

@@ -3,17 +3,20 @@ ghost use Rattle.std.specs.Prelude.{◌≡◌, IfOk, Some, None, Err, map, strin
 ghost use Rattle.std.specs.Option.{option_map_or};
 ghost use Rattle.clap.specs.Words.{app_of, first_value, found_of, kind_of};
 ghost use Rattle.espresso.specs.Parser.{espresso_app};
-ghost use Rattle.espresso.specs.Matches.{meaning_in};
+ghost use Rattle.espresso.specs.Matches.{choice_in, meaning_in};
 ghost use Rattle.espresso.specs.Words.{eat_named, fits, meaning, command_named, type_named};
 
-use crate::command::{Command, command_of, eat_of, is_f, is_f_only, is_pair, out_type_of};
+use crate::command::{
+    Command, command_of, eat_of, is_choosing, is_f, is_f_only, is_first, is_pair, out_type_of,
+};
 use crate::line::{Line, LineFault};
 use clap::error::ErrorKind;
 use clap::{Arg, ArgAction, ArgMatches, Error};
+use minimum::Choice;
 use pla::OutType;
 use std::alloc::{AllocError, Global};
 
-// Three options with a value each, and files.
+// Three options with a value each, files, and an option without a value.
 pub(crate) fn espresso_command<'a>(alloc: Global) -> Result<clap::Command<'a>, AllocError>
     ensures { IfOk result (λ c. app_of c ≡ espresso_app) }
 {
@@ -21,6 +24,9 @@ pub(crate) fn espresso_command<'a>(alloc: Global) -> Result<clap::Command<'a>, A
     let out = Arg::new(alloc, "type").short('o');
     let eat = Arg::new(alloc, "eat").short('e');
     let files = Arg::new(alloc, "files").action(ArgAction::Append);
+    let literals = Arg::new(alloc, "literals")
+        .long("literals")
+        .action(ArgAction::SetTrue);
     clap::Command::new(alloc, "espresso")
         .no_binary_name(true)
         .disable_help_flag(true)
@@ -28,7 +34,8 @@ pub(crate) fn espresso_command<'a>(alloc: Global) -> Result<clap::Command<'a>, A
         .arg(command)?
         .arg(out)?
         .arg(eat)?
-        .arg(files)
+        .arg(files)?
+        .arg(literals)
 }
 
 // Want of memory where that is what the parse wanted, and else a usage fault.
@@ -49,9 +56,10 @@ pub(crate) fn line_in(alloc: Global, matches: &ArgMatches<'_>) -> Result<Line, L
     let command = given_command(matches);
     let out = given_type(matches);
     let eat = given_eat(matches);
+    let choice = given_choice(matches);
     match matches.get_raw("files") {
-        Some(names) => line_with(alloc, command, out, eat, names),
-        None => line_with(alloc, command, out, eat, &[]),
+        Some(names) => line_with(alloc, command, out, eat, choice, names),
+        None => line_with(alloc, command, out, eat, choice, &[]),
     }
 }
 
@@ -82,17 +90,27 @@ fn given_eat(matches: &ArgMatches<'_>) -> Option<bool>
     }
 }
 
+fn given_choice(matches: &ArgMatches<'_>) -> Choice
+    ensures { result ≡ choice_in (found_of matches.now) }
+{
+    match matches.get_str("literals") {
+        Some("true") => Choice::Literals,
+        _ => Choice::First,
+    }
+}
+
 // The line of these values, where they make one.
 fn line_with(
     alloc: Global,
     command: Option<Command>,
     out: Option<OutType>,
     eat: Option<bool>,
+    choice: Choice,
     names: &[&str],
 ) -> Result<Line, LineFault>
-    ensures ok { IfOk result (λ l. meaning command out eat (map (λ s. s.now) names.now) ≡ Some l) }
+    ensures ok { IfOk result (λ l. meaning command out eat (Some choice) (map (λ s. s.now) names.now) ≡ Some l) }
     ensures usage { result ≡ Err LineFault.Usage
-        → meaning command out eat (map (λ s. s.now) names.now) ≡ None }
+        → meaning command out eat (Some choice) (map (λ s. s.now) names.now) ≡ None }
 {
     let Some(command) = command else {
         return Err(LineFault::Usage);
@@ -103,18 +121,19 @@ fn line_with(
     let Some(eat) = eat else {
         return Err(LineFault::Usage);
     };
-    if !is_fitting(command, out, names) {
+    if !is_fitting(command, out, choice, names) {
         return Err(LineFault::Usage);
     }
     match copied(alloc, names) {
-        Ok(files) => Ok(Line::new(command, out, eat, files)),
+        Ok(files) => Ok(Line::new(command, out, eat, choice, files)),
         Err(_) => Err(LineFault::Memory),
     }
 }
 
-// A type that the command prints, and as many files as it takes, with standard input once at most.
-fn is_fitting(command: Command, out: OutType, files: &[&str]) -> bool
-    ensures { result ≡ fits command out (map (λ s. s.now) files.now) }
+// A type that the command prints, a choice that it makes, and as many files as it takes, with standard
+// input once at most.
+fn is_fitting(command: Command, out: OutType, choice: Choice, files: &[&str]) -> bool
+    ensures { result ≡ fits command out choice (map (λ s. s.now) files.now) }
 {
     let is_printed = is_f(out) || !is_f_only(command);
     let is_count = if is_pair(command) {
@@ -123,7 +142,8 @@ fn is_fitting(command: Command, out: OutType, files: &[&str]) -> bool
         files.len() <= 1
     };
     let inputs = files.iter().filter(|file| **file == "-").count();
-    is_printed && is_count && inputs <= 1
+    let is_chosen = is_first(choice) || is_choosing(command);
+    is_printed && is_chosen && is_count && inputs <= 1
 }
 
 fn copied(alloc: Global, names: &[&str]) -> Result<Vec<String>, AllocError>

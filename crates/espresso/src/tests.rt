@@ -7,6 +7,7 @@ mod devices;
 mod files;
 mod format;
 mod pairs;
+mod sets;
 mod sizes;
 mod words;
 

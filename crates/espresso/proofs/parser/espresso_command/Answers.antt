@@ -2,7 +2,8 @@ use Rattle.std.proofs.Common.{rules, ◌≡◌, ◌∙◌, ap, ap₂, codes, tru
 use Rattle.std.proofs.lemmas.Result.{IfOk-weaker}
 use Rattle.clap.specs.Words.{app_of, rule_of, with_rule}
 use Rattle.clap.specs.Simple.{Shape, app_of_fields, on_top}
-use Rattle.espresso.specs.Parser.{bare_app, files_arg, option_arg}
+use Rattle.clap.specs.declared.builder.arg.Arg.{Arg}
+use Rattle.espresso.specs.Parser.{bare_app, files_arg, literals_arg, option_arg}
 use Rattle.espresso.proofs.parser.espresso_command.Goals as goal
 
 pub returns : goal.returns
@@ -15,8 +16,10 @@ returns c =
     ap app_of_fields c.disable_version_flag.ensures
     ∙ ap (on_top (λ (s : Shape). record s { disable_version_flag = true })) (ap app_of_fields c.disable_help_flag.ensures
     ∙ ap (on_top (λ (s : Shape). record s { disable_help_flag = true })) (ap app_of_fields c.no_binary_name.ensures
-    ∙ ap (on_top (λ (s : Shape). record s { no_binary_name = true })) c.new-5.ensures.app)) in
-    let one = c.in_ok-arg.ensures.shape (search rules) ∙ ap₂ with_rule bare_is command_is in
-    let two = c.in_ok-arg-2.ensures.shape (search rules) ∙ ap₂ with_rule one out_is in
-    let three = c.in_ok-arg-3.ensures.shape (search rules) ∙ ap₂ with_rule two eat_is in
-    IfOk-weaker c.arg-4.result _ _ (λ r h. h.shape (search rules) ∙ ap₂ with_rule three files_is) c.arg-4.ensures
+    ∙ ap (on_top (λ (s : Shape). record s { no_binary_name = true })) c.new-6.ensures.app)) in
+    let one = c.in_ok-arg.ensures.shape (ap (λ (a : Arg). a.global) c.short-command.ensures ∙ c.new.ensures.optional.1) ∙ ap₂ with_rule bare_is command_is in
+    let two = c.in_ok-arg-2.ensures.shape (ap (λ (a : Arg). a.global) c.short-out.ensures ∙ c.new-2.ensures.optional.1) ∙ ap₂ with_rule one out_is in
+    let three = c.in_ok-arg-3.ensures.shape (ap (λ (a : Arg). a.global) c.short-eat.ensures ∙ c.new-3.ensures.optional.1) ∙ ap₂ with_rule two eat_is in
+    let four = c.in_ok-arg-4.ensures.shape (ap (λ (a : Arg). a.global) c.action-files.ensures ∙ c.new-4.ensures.optional.1) ∙ ap₂ with_rule three files_is in
+    let literals_is : rule_of c.action-literals.result ≡ literals_arg = search rules in
+    IfOk-weaker c.arg-5.result _ _ (λ r h. h.shape (ap (λ (a : Arg). a.global) c.action-literals.ensures ∙ ap (λ (a : Arg). a.global) c.long.ensures ∙ c.new-5.ensures.optional.1) ∙ ap₂ with_rule four literals_is) c.arg-5.ensures
