@@ -43,3 +43,6 @@ pub fn wider_limits()
 pub fn read_back()
     ensures { TextsAreReadBack }
 {}
+
+#[cfg(test)]
+mod tests;
