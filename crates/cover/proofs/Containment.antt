@@ -58,7 +58,7 @@ is_over-from_lies size cubes are i k j k_lt j_lt h =
     over One Zero h = absurd (false≢true (h false refl))
     over One One h = refl
 
-is_symbol-same : (s t : Symbol) → is_symbol s t ≡ true → s ≡ t
+pub is_symbol-same : (s t : Symbol) → is_symbol s t ≡ true → s ≡ t
 is_symbol-same Dash Dash h = refl
 is_symbol-same Zero Zero h = refl
 is_symbol-same One One h = refl

@@ -11,6 +11,7 @@ pub mod Tallying
 pub mod Everywhere
 pub mod Containment
 pub mod Agreement
+pub mod Relations
 pub mod Cofactors
 pub mod SumMeets
 pub mod SumSorted

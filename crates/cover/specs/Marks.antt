@@ -38,6 +38,10 @@ is_over Dash t = true
 is_over Zero t = is_symbol Zero t
 is_over One t = is_symbol One t
 
+-- some bit agrees with both symbols
+abbrev pub is_compatible : Symbol → Symbol → Bool
+is_compatible s t = is_over s t || is_over t s
+
 -- the indices of `inner` are marked whose cubes leave for those of `outer`
 pub record Marks (size : Size) (cubes : List Cube) (inner outer : List ℕ) (old new : List Bool) : Type 0 where
   pub len : length new ≡ length old

@@ -28,6 +28,7 @@ mod apart;
 mod cofactor;
 #[cfg(test)]
 mod compare_tests;
+mod joint;
 mod list;
 mod marking;
 mod region;
@@ -40,6 +41,7 @@ mod sum_parts;
 mod sum_rows;
 #[cfg(test)]
 mod sum_tests;
+mod symbols;
 mod tautology;
 #[cfg(test)]
 mod tests;

@@ -12,6 +12,7 @@ ghost use Rattle.cover.specs.Marks.{cube_at, is_contained_at, leaves_for, symbol
 
 use crate::list::Cover;
 use crate::region::Tally;
+use crate::symbols::{fits, same};
 use crate::tautology::references;
 use cube::Symbol;
 use std::alloc::{AllocError, Global};
@@ -73,29 +74,6 @@ fn symbol_of(list: &Cover, i: usize, k: usize) -> Symbol
     ensures { result ≡ symbol_at list.now.cubes i k }
 {
     list.as_slice()[k].symbol(i)
-}
-
-// Whether a cube with `inner` at an input can lie in one with `outer` there.
-fn fits(outer: Symbol, inner: Symbol) -> bool
-    ensures { result ≡ is_over outer inner }
-{
-    match (outer, inner) {
-        (Symbol::Dash, _) => true,
-        (Symbol::Zero, Symbol::Zero) => true,
-        (Symbol::One, Symbol::One) => true,
-        _ => false,
-    }
-}
-
-fn same(one: Symbol, other: Symbol) -> bool
-    ensures { result ≡ is_symbol one other }
-{
-    match (one, other) {
-        (Symbol::Dash, Symbol::Dash) => true,
-        (Symbol::Zero, Symbol::Zero) => true,
-        (Symbol::One, Symbol::One) => true,
-        _ => false,
-    }
 }
 
 // The indices of those cubes that have this symbol at input `i`.

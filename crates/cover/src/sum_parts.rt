@@ -7,21 +7,9 @@ ghost use Rattle.cover.specs.Marks.{is_symbol};
 ghost use Rattle.cover.specs.Parts.{part as part_of, symbol_count, has_literal};
 ghost use Rattle.cover.specs.Reduced.{IsMeets};
 
+use crate::symbols::has_symbol_at;
 use cube::{Cube, Shape, Symbol};
 use std::alloc::{AllocError, Global};
-
-// Whether a row has this symbol at input `i`.
-fn has_symbol_at(row: &Cube, i: usize, symbol: Symbol) -> bool
-    requires { i < length row.now.symbols }
-    ensures { result ≡ is_symbol symbol (slice_index_or row.now.symbols i Symbol.Dash) }
-{
-    match (symbol, row.symbol(i)) {
-        (Symbol::Dash, Symbol::Dash) => true,
-        (Symbol::Zero, Symbol::Zero) => true,
-        (Symbol::One, Symbol::One) => true,
-        _ => false,
-    }
-}
 
 /// The rows with this symbol at input `i`, with `-` there.
 pub(crate) fn part(

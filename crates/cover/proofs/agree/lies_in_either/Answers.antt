@@ -17,7 +17,7 @@ returns c =
     ∙ map-append (λ r. r.now) c.in_ok-all.all.items c.in_ok-others.others.items
     ∙ ap (λ l. l ++ behind c.in_ok-others.others.items) c.in_ok-all.ensures.cubes
     ∙ ap (λ l. free ++ l) c.in_ok-others.ensures.cubes in
-    IfOk-weaker c.all_held.result _ _
+    IfOk-weaker c.related.result _ _
     (λ held h. IsSubset-either (places list) free other (behind c.deref-2.result.now) all held
     (subst (λ l. IsTrue held ↔ IsSubset (places l) (places (behind c.deref-2.result.now))) rows h))
-    c.all_held.ensures
+    c.related.ensures

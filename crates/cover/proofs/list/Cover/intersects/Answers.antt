@@ -12,6 +12,6 @@ returns c =
     let others = c.args.other.now.cubes in
     let rows : behind c.deref.result.now ≡ cubes = ap behind c.deref.ensures.value ∙ c.in_ok-rows.ensures.cubes in
     let rest : behind c.deref-2.result.now ≡ others = ap behind c.deref-2.ensures.value ∙ c.in_ok-others.ensures.cubes in
-    share_place-from_answer size cubes others (subst (λ z. AreCubes z cubes) c.shape-shape.ensures.size c.shape-shape.ensures.cubes) c.are_apart.result
-    (subst (λ l. IsTrue c.are_apart.result ↔ IsDisjoint (places cubes) (places l)) rest
-    (subst (λ l. IsTrue c.are_apart.result ↔ IsDisjoint (places l) (places (behind c.deref-2.result.now))) rows c.are_apart.ensures))
+    share_place-from_answer size cubes others (subst (λ z. AreCubes z cubes) c.shape-shape.ensures.size c.shape-shape.ensures.cubes) c.in_ok-apart.apart
+    (subst (λ l. IsTrue c.in_ok-apart.apart ↔ IsDisjoint (places cubes) (places l)) rest
+    (subst (λ l. IsTrue c.in_ok-apart.apart ↔ IsDisjoint (places l) (places (behind c.deref-2.result.now))) rows c.in_ok-apart.ensures))

@@ -6,7 +6,7 @@ use Rattle.std.proofs.lemmas.List.Elements.{All-more}
 use Rattle.cube.specs.Cube.{Cube, IsDisjoint, holds}
 use Rattle.cover.specs.Places.{places, behind}
 use Rattle.cover.proofs.Agreement.{IsDisjoint-row, IsDisjoint-rows}
-use Rattle.cover.proofs.apart.are_apart.Goals as goal
+use Rattle.cover.proofs.joint.are_apart.Goals as goal
 
 pub returns-then-not-misses : goal.returns-then-not-misses
 returns-then-not-misses c = (

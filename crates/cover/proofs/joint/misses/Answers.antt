@@ -5,7 +5,7 @@ use Rattle.std.proofs.lemmas.List.{take_all}
 use Rattle.std.proofs.lemmas.List.Elements.{All-more}
 use Rattle.cube.specs.Cube.{Cube, IsDisjoint, holds}
 use Rattle.cover.proofs.Agreement.{IsDisjoint-member, IsDisjoint-list}
-use Rattle.cover.proofs.apart.misses.Goals as goal
+use Rattle.cover.proofs.joint.misses.Goals as goal
 
 pub returns-then-not-disjoint : goal.returns-then-not-disjoint
 returns-then-not-disjoint c = (

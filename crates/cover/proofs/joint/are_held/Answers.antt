@@ -6,7 +6,7 @@ use Rattle.std.proofs.lemmas.List.Elements.{All-more}
 use Rattle.cube.specs.Cube.{Cube, IsSubset, holds}
 use Rattle.cover.specs.Places.{places, behind}
 use Rattle.cover.proofs.Agreement.{IsSubset-row, IsSubset-rows}
-use Rattle.cover.proofs.agree.all_held.Goals as goal
+use Rattle.cover.proofs.joint.are_held.Goals as goal
 
 pub returns-then-not-branch : goal.returns-then-not-branch
 returns-then-not-branch c = (

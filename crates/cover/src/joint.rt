@@ -1,0 +1,192 @@
+//! Two lists beside one another: whether all places of the one are in the other, or none is.
+//!
+//! The rows of the first list are split three ways by their symbol at an input. To those with `0` or
+//! `1` there the rows of the second list with the other literal don't count. So each pair of rows
+//! comes together once at most, and both lists get shorter. The input is taken at which most pairs
+//! have opposite literals. Where few rows are left, each is asked by itself.
+ghost use Rattle.std.specs.Prelude.{◌≡◌, ◌↔◌, ◌<◌, ◌∷◌, [], IsTrue, IfOk, IfSome, All, filter, length, slice_index_or};
+ghost use Rattle.cube.specs.Cube.{HasSize, SameSize, IsSubset, IsDisjoint, holds};
+ghost use Rattle.cover.specs.Places.{places, behind};
+ghost use Rattle.cover.specs.Marks.{is_symbol};
+ghost use Rattle.cover.specs.Related.{AreRelated};
+
+use crate::region::{Tally, is_held};
+use crate::symbols::{having, open_at};
+use cube::{Cube, Shape, Symbol};
+use std::alloc::{AllocError, Global};
+
+// Lists of so many rows are not split.
+const SMALL: usize = 8;
+
+/// How the places of a list stand to those of another: all are in it, or none is.
+#[derive(Clone, Copy)]
+pub(crate) enum Relation {
+    Within,
+    Apart,
+}
+
+// Whether the row has no place of the others.
+fn misses(row: &Cube, others: &[&Cube]) -> bool
+    requires { All (λ d. SameSize row.now d.now) others.now }
+    ensures { IsTrue result ↔ IsDisjoint (holds row.now) (places (behind others.now)) }
+{
+    for other in others {
+        if !row.disjoint(other) {
+            return false;
+        }
+    }
+    true
+}
+
+// Whether no row has a place of the others, by pairs.
+fn are_apart(shape: Shape, rows: &[&Cube], others: &[&Cube]) -> bool
+    requires rows { All (λ d. HasSize d.now shape) rows.now }
+    requires others { All (λ d. HasSize d.now shape) others.now }
+    ensures { IsTrue result ↔ IsDisjoint (places (behind rows.now)) (places (behind others.now)) }
+{
+    for row in rows {
+        if !misses(row, others) {
+            return false;
+        }
+    }
+    true
+}
+
+// Whether the others hold each row, one by one.
+fn are_held(
+    alloc: Global,
+    shape: Shape,
+    rows: &[&Cube],
+    others: &[&Cube],
+) -> Result<bool, AllocError>
+    requires rows { All (λ d. HasSize d.now shape) rows.now }
+    requires others { All (λ d. HasSize d.now shape) others.now }
+    ensures { IfOk result (λ held. IsTrue held ↔ IsSubset (places (behind rows.now)) (places (behind others.now))) }
+{
+    for row in rows {
+        if !is_held(alloc, others, row)? {
+            return Ok(false);
+        }
+    }
+    Ok(true)
+}
+
+// Whether the lists are related, row by row.
+fn row_by_row(
+    alloc: Global,
+    shape: Shape,
+    relation: Relation,
+    rows: &[&Cube],
+    others: &[&Cube],
+) -> Result<bool, AllocError>
+    requires rows { All (λ d. HasSize d.now shape) rows.now }
+    requires others { All (λ d. HasSize d.now shape) others.now }
+    ensures { IfOk result (λ related. IsTrue related ↔ AreRelated relation (behind rows.now) (behind others.now)) }
+{
+    match relation {
+        Relation::Within => are_held(alloc, shape, rows, others),
+        Relation::Apart => Ok(are_apart(shape, rows, others)),
+    }
+}
+
+// How many pairs of a row of each list have opposite literals at input `i`.
+fn opposites(rows: &Tally, others: &Tally, i: usize) -> u64
+    requires { All (λ n. i < n) (length rows.now.zeros.items ∷ length rows.now.ones.items ∷ length others.now.zeros.items ∷ length others.now.ones.items ∷ []) }
+{
+    let low = (rows.zeros[i] as u64).saturating_mul(others.ones[i] as u64);
+    let high = (rows.ones[i] as u64).saturating_mul(others.zeros[i] as u64);
+    low.saturating_add(high)
+}
+
+// The input at which most pairs of a row of each list have opposite literals, if some have.
+fn parting_input(
+    alloc: Global,
+    shape: Shape,
+    rows: &[&Cube],
+    others: &[&Cube],
+) -> Result<Option<usize>, AllocError>
+    requires rows { All (λ d. HasSize d.now shape) rows.now }
+    requires others { All (λ d. HasSize d.now shape) others.now }
+    ensures { IfOk result (λ found. IfSome found (λ i. i < shape.inputs)) }
+{
+    let mine = Tally::of(alloc, rows, shape.inputs())?;
+    let theirs = Tally::of(alloc, others, shape.inputs())?;
+    let mut best = None;
+    let mut most = 0u64;
+    for i in 0..shape.inputs() {
+        let weight = opposites(&mine, &theirs, i);
+        if weight > most {
+            best = Some(i);
+            most = weight;
+        }
+    }
+    Ok(best)
+}
+
+/// Whether the lists are related. On the way down at most `depth` inputs are split at.
+#[cycle(related)]
+pub(crate) fn related(
+    alloc: Global,
+    shape: Shape,
+    relation: Relation,
+    depth: usize,
+    rows: &[&Cube],
+    others: &[&Cube],
+) -> Result<bool, AllocError>
+    requires rows { All (λ d. HasSize d.now shape) rows.now }
+    requires others { All (λ d. HasSize d.now shape) others.now }
+    ensures { IfOk result (λ related. IsTrue related ↔ AreRelated relation (behind rows.now) (behind others.now)) }
+{
+    if depth == 0 || rows.len() <= SMALL || others.len() <= SMALL {
+        return row_by_row(alloc, shape, relation, rows, others);
+    }
+    let Some(i) = parting_input(alloc, shape, rows, others)? else {
+        return row_by_row(alloc, shape, relation, rows, others);
+    };
+    let rest = depth - 1;
+    if !part_related(
+        alloc,
+        shape,
+        relation,
+        rest,
+        (i, Symbol::Zero),
+        rows,
+        others,
+    )? {
+        return Ok(false);
+    }
+    if !part_related(alloc, shape, relation, rest, (i, Symbol::One), rows, others)? {
+        return Ok(false);
+    }
+    part_related(
+        alloc,
+        shape,
+        relation,
+        rest,
+        (i, Symbol::Dash),
+        rows,
+        others,
+    )
+}
+
+// The same for those rows that have the symbol at the input.
+#[cycle(related)]
+fn part_related(
+    alloc: Global,
+    shape: Shape,
+    relation: Relation,
+    depth: usize,
+    at: (usize, Symbol),
+    rows: &[&Cube],
+    others: &[&Cube],
+) -> Result<bool, AllocError>
+    requires input { at.0 < shape.inputs }
+    requires rows { All (λ d. HasSize d.now shape) rows.now }
+    requires others { All (λ d. HasSize d.now shape) others.now }
+    ensures { IfOk result (λ related. IsTrue related
+        ↔ AreRelated relation (behind (filter (λ d. is_symbol at.1 (slice_index_or d.now.symbols at.0 Symbol.Dash)) rows.now)) (behind others.now)) }
+{
+    let near = having(alloc, rows, at.0, at.1)?;
+    let far = open_at(alloc, others, at.0, at.1)?;
+    related(alloc, shape, relation, depth, &near, &far)
+}

@@ -1,0 +1,85 @@
+//! Tests of symbols, and rows chosen by their symbol at an input.
+ghost use Rattle.std.specs.Prelude.{◌≡◌, ◌<◌, IfOk, All, length, slice_index_or, filter};
+ghost use Rattle.cover.specs.Marks.{is_symbol, is_over, is_compatible};
+
+use cube::{Cube, Symbol};
+use std::alloc::{AllocError, Global};
+
+/// Whether a cube with `inner` at an input can lie in one with `outer` there.
+pub(crate) fn fits(outer: Symbol, inner: Symbol) -> bool
+    ensures { result ≡ is_over outer inner }
+{
+    match (outer, inner) {
+        (Symbol::Dash, _) => true,
+        (Symbol::Zero, Symbol::Zero) => true,
+        (Symbol::One, Symbol::One) => true,
+        _ => false,
+    }
+}
+
+/// Whether the symbols are one.
+pub(crate) fn same(one: Symbol, other: Symbol) -> bool
+    ensures { result ≡ is_symbol one other }
+{
+    match (one, other) {
+        (Symbol::Dash, Symbol::Dash) => true,
+        (Symbol::Zero, Symbol::Zero) => true,
+        (Symbol::One, Symbol::One) => true,
+        _ => false,
+    }
+}
+
+/// Whether a row has this symbol at input `i`.
+pub(crate) fn has_symbol_at(row: &Cube, i: usize, symbol: Symbol) -> bool
+    requires { i < length row.now.symbols }
+    ensures { result ≡ is_symbol symbol (slice_index_or row.now.symbols i Symbol.Dash) }
+{
+    same(symbol, row.symbol(i))
+}
+
+// Whether a row and one with this symbol at input `i` can have a place in common.
+fn is_open_at(row: &Cube, i: usize, symbol: Symbol) -> bool
+    requires { i < length row.now.symbols }
+    ensures { result ≡ is_compatible symbol (slice_index_or row.now.symbols i Symbol.Dash) }
+{
+    let own = row.symbol(i);
+    fits(symbol, own) || fits(own, symbol)
+}
+
+/// The rows that have this symbol at input `i`.
+pub(crate) fn having<'a>(
+    alloc: Global,
+    rows: &[&'a Cube],
+    i: usize,
+    symbol: Symbol,
+) -> Result<Vec<&'a Cube>, AllocError>
+    requires { All (λ d. i < length d.now.symbols) rows.now }
+    ensures { IfOk result (λ kept. kept.items ≡ filter (λ d. is_symbol symbol (slice_index_or d.now.symbols i Symbol.Dash)) rows.now) }
+{
+    let mut kept = Vec::new(alloc);
+    for row in rows {
+        if has_symbol_at(row, i, symbol) {
+            kept.push(*row)?;
+        }
+    }
+    Ok(kept)
+}
+
+/// The rows that can have a place in common with one that has this symbol at input `i`.
+pub(crate) fn open_at<'a>(
+    alloc: Global,
+    rows: &[&'a Cube],
+    i: usize,
+    symbol: Symbol,
+) -> Result<Vec<&'a Cube>, AllocError>
+    requires { All (λ d. i < length d.now.symbols) rows.now }
+    ensures { IfOk result (λ kept. kept.items ≡ filter (λ d. is_compatible symbol (slice_index_or d.now.symbols i Symbol.Dash)) rows.now) }
+{
+    let mut kept = Vec::new(alloc);
+    for row in rows {
+        if is_open_at(row, i, symbol) {
+            kept.push(*row)?;
+        }
+    }
+    Ok(kept)
+}
