@@ -20,3 +20,5 @@ pub mod Near
 pub mod Numbers
 pub mod Served
 pub mod PrimeTables
+pub mod LeastPrimes
+pub mod Needed

@@ -9,3 +9,4 @@ pub mod Reduce
 pub mod Primes
 pub mod PrimeTable
 pub mod Regions
+pub mod Rivals

@@ -31,6 +31,7 @@ mod plain;
 mod reduction;
 mod regions;
 mod search;
+mod solution;
 mod table;
 #[cfg(test)]
 mod tests;
@@ -40,4 +41,5 @@ pub use choice::Choice;
 pub use implicants::primes;
 pub use laws::least_is_unique;
 pub use reduction::reduce;
+pub use solution::{essential, exact};
 pub use table::Table;

@@ -1,0 +1,134 @@
+//! The essential primes, and the exact minimum.
+ghost use Rattle.std.specs.Prelude.{◌≡◌, ◌++◌, ◌∷◌, ◌||◌, [], IfOk, OnOk, All, filter};
+ghost use Rattle.cube.specs.Cube.{HasSize, SameSize, IsCube, IsSubset, holds};
+ghost use Rattle.cover.specs.Places.{places};
+ghost use Rattle.minimum.specs.Primes.{primes_of, chosen, exact_of, essential_of, is_essential};
+ghost use Rattle.minimum.specs.Rivals.{touches_cube, is_rival};
+
+use crate::choice::Choice;
+use crate::implicants::primes;
+use crate::reduction::reduce;
+use crate::table::Table;
+use cover::Cover;
+use cube::Cube;
+use pla::Sets;
+use std::alloc::{AllocError, Global};
+
+/// Adds a copy of the cube.
+fn add(list: &mut Cover, cube: &Cube) -> Result<(), AllocError>
+    requires { HasSize cube.now list.old.size }
+    ensures size { OnOk result (list.new.size ≡ list.old.size) }
+    ensures cubes { OnOk result (list.new.cubes ≡ list.old.cubes ++ cube.now ∷ []) }
+{
+    match list.push(cube.try_clone()?) {
+        Ok(()) => Ok(()),
+        Err(_) => Err(AllocError),
+    }
+}
+
+/// The cubes with these numbers.
+fn chosen(alloc: Global, list: &Cover, numbers: &[usize]) -> Result<Cover, AllocError>
+    ensures { IfOk result (λ l. l ≡ record { size = list.now.size; cubes = chosen list.now.cubes numbers.now }) }
+{
+    let mut picked = Cover::new(alloc, list.shape());
+    for number in numbers {
+        if let Some(cube) = list.get(*number) {
+            add(&mut picked, cube)?;
+        }
+    }
+    Ok(picked)
+}
+
+/// Whether the cube has a place of the prime.
+fn touches_cube(prime: &Cube, cube: &Cube) -> bool
+    requires { SameSize cube.now prime.now }
+    ensures { result ≡ touches_cube prime.now cube.now }
+{
+    !cube.disjoint(prime)
+}
+
+/// The same of another cube.
+fn is_rival(prime: &Cube, cube: &Cube) -> bool
+    requires { SameSize cube.now prime.now }
+    ensures { result ≡ is_rival prime.now cube.now }
+{
+    touches_cube(prime, cube) && !cube.row_cmp(prime).is_eq()
+}
+
+fn touching_cubes(alloc: Global, cubes: &[Cube], prime: &Cube) -> Result<Vec<Cube>, AllocError>
+    requires { All (λ d. SameSize d prime.now) cubes.now }
+    ensures { IfOk result (λ v. v.items ≡ filter (touches_cube prime.now) cubes.now) }
+{
+    let mut kept = Vec::new(alloc);
+    for cube in cubes {
+        if touches_cube(prime, cube) {
+            kept.push(cube.try_clone()?)?;
+        }
+    }
+    Ok(kept)
+}
+
+fn rivals(alloc: Global, cubes: &[Cube], prime: &Cube) -> Result<Vec<Cube>, AllocError>
+    requires { All (λ d. SameSize d prime.now) cubes.now }
+    ensures { IfOk result (λ v. v.items ≡ filter (is_rival prime.now) cubes.now) }
+{
+    let mut kept = Vec::new(alloc);
+    for cube in cubes {
+        if is_rival(prime, cube) {
+            kept.push(cube.try_clone()?)?;
+        }
+    }
+    Ok(kept)
+}
+
+/// Whether other primes and the DC-set together leave out a place of the prime: such a place is wanted, as the prime lies
+/// in the ON-set with the DC-set.
+fn is_essential(
+    alloc: Global,
+    sets: &Sets,
+    primes: &Cover,
+    prime: &Cube,
+) -> Result<bool, AllocError>
+    requires size { primes.now.size ≡ sets.now.size }
+    requires is_cube { IsCube sets.now.size prime.now }
+    requires within { IsSubset (holds prime.now) (λ p. places sets.now.on p || places sets.now.dc p) }
+    ensures { IfOk result (λ b. b ≡ is_essential sets.now primes.now.cubes prime.now) }
+{
+    let mut rest = rivals(alloc, primes.as_slice(), prime)?;
+    let mut dc = touching_cubes(alloc, sets.dc().as_slice(), prime)?;
+    rest.append(&mut dc)?;
+    let held = Cover::from_cubes(primes.shape(), rest).holds_cube(prime)?;
+    Ok(!held)
+}
+
+/// The essential primes among the primes, as [`primes`] answers them, in their order: those that hold a place of the
+/// ON-set that is neither in the DC-set nor in another prime (Brayton et al. 1984).
+///
+/// Each prime is compared with each other; whether those that have a place of it hold all of it is asked by cofactors.
+pub fn essential(alloc: Global, sets: &Sets, primes: &Cover) -> Result<Cover, AllocError>
+    requires { primes.now ≡ record { size = sets.now.size; cubes = primes_of sets.now } }
+    ensures { IfOk result (λ list. list ≡ record { size = sets.now.size; cubes = essential_of sets.now (primes_of sets.now) }) }
+{
+    let mut list = Cover::new(alloc, primes.shape());
+    for prime in primes.as_slice() {
+        if is_essential(alloc, sets, primes, prime)? {
+            add(&mut list, prime)?;
+        }
+    }
+    Ok(list)
+}
+
+/// The least cover by primes: of the lists of primes that together hold each place of the ON-set that is not in the
+/// DC-set, the first of the shortest, in row order; with `Choice::Literals`, of those with the fewest literals.
+///
+/// Its cost is that of [`primes`], of [`Table::build`] and of [`Table::least_cover`] on the reduced table, whose number
+/// of branches has no small bound.
+pub fn exact(alloc: Global, sets: &Sets, choice: Choice) -> Result<Cover, AllocError>
+    ensures { IfOk result (λ list. list ≡ record { size = sets.now.size; cubes = exact_of choice sets.now }) }
+{
+    let primes = primes(sets)?;
+    let table = Table::build(alloc, &primes, sets)?;
+    let table = reduce(alloc, table, choice)?;
+    let least = table.least_cover(alloc, choice)?;
+    chosen(alloc, &primes, &least)
+}
