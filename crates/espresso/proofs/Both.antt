@@ -66,7 +66,7 @@ module _ (line : Meaning) (taken : Intakes) (names : Names) (named : names.first
         (second_due line taken.second) names old mid before count pla new after (by_name (Ok pla) read) result h
 
     abbrev said : Answer
-    said = answer_of line.command line.out pla pla
+    said = answer_of line.command line.out line.choice pla pla
 
     -- one file
     pub one_answered : taken.second ≡ Absent → PutsOut said (told mid new count after) result → Stands line taken names (told old new before after) result

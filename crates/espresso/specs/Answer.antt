@@ -10,7 +10,8 @@ use Rattle.pla.specs.Completed.{sets_of}
 use Rattle.pla.specs.Description.{Description}
 use Rattle.pla.specs.Sets.{SetLists}
 use Rattle.pla.specs.Text.{text_of}
-use Rattle.minimum.specs.Primes.{primes_of}
+use Rattle.minimum.specs.declared.choice.Choice.{Choice}
+use Rattle.minimum.specs.Primes.{essential_of, exact_of, primes_of}
 use Rattle.espresso.specs.declared.command.Command.{Command}
 use Rattle.espresso.specs.declared.command.Command.TheVariants as command
 use Rattle.espresso.specs.declared.check.Flaws.{Flaws}
@@ -67,14 +68,16 @@ abbrev pub printed_sum : Description → (Place → Bool) → Answer
 printed_sum d s = printed_with d F (complete_sum d.size s)
 
 -- what each command answers on the descriptions of its files; of a single file it is given twice
-abbrev pub answer_of : Command → OutType → Description → Description → Answer
-answer_of command.Echo out d e = printed_with d out d.on
-answer_of command.Check out d e = checked (flaws_of (three_sets d))
-answer_of command.Contain out d e = printed_with d out (contained d.size d.on)
-answer_of command.Primes out d e = printed_with d out (primes_of (three_sets d))
-answer_of command.Tautology out d e = judged (holds_all d.size (places d.on))
+abbrev pub answer_of : Command → OutType → Choice → Description → Description → Answer
+answer_of command.Echo out choice d e = printed_with d out d.on
+answer_of command.Check out choice d e = checked (flaws_of (three_sets d))
+answer_of command.Contain out choice d e = printed_with d out (contained d.size d.on)
+answer_of command.Primes out choice d e = printed_with d out (primes_of (three_sets d))
+answer_of command.Essen out choice d e = printed_with d out (essential_of (three_sets d) (primes_of (three_sets d)))
+answer_of command.Exact out choice d e = printed_with d out (exact_of choice (three_sets d))
+answer_of command.Tautology out choice d e = judged (holds_all d.size (places d.on))
     (codes "ON-set is a tautology\n") (codes "ON-set is not a tautology\n")
-answer_of command.Verify out d e = judged (agree d e)
+answer_of command.Verify out choice d e = judged (agree d e)
     (codes "PLAs compared equal\n") (codes "PLA comparison failed; the PLAs are not equivalent\n")
-answer_of command.Intersect out d e = printed_sum d (intersection (places d.on) (places e.on))
-answer_of command.Sharp out d e = printed_sum d (difference (places d.on) (places e.on))
+answer_of command.Intersect out choice d e = printed_sum d (intersection (places d.on) (places e.on))
+answer_of command.Sharp out choice d e = printed_sum d (difference (places d.on) (places e.on))

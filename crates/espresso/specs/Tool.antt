@@ -102,12 +102,12 @@ answered answer = record { output = answer.text; message = []; status = answer.s
 
 -- two files were read: their sizes are compared, and then the command answers
 abbrev pub with_both : Meaning → Description → Description → Outcome
-with_both line d e = if same_size d.size e.size then answered (answer_of line.command line.out d e)
+with_both line d e = if same_size d.size e.size then answered (answer_of line.command line.out line.choice d e)
     else stopped sizes_message
 
 -- the first file was read: now the second is, where there is one, or the command answers
 abbrev pub with_first : Meaning → Option File → Description → Outcome
-with_first line None d = answered (answer_of line.command line.out d d)
+with_first line None d = answered (answer_of line.command line.out line.choice d d)
 with_first line (Some file) d = reading_then line (second_name line.files) file (with_both line d)
 
 -- what a line answers on its files: the first is read, and then what follows

@@ -1,7 +1,7 @@
 -- Lists of words whose meaning is computed: what is taken, and what is refused.
 use Rattle.std.specs.Prelude.{◌≡◌, refl, [], ◌∷◌, Some, None, codes, true, false}
-use Rattle.espresso.specs.declared.command.Command.TheVariants.{Echo, Check, Contain, Primes, Tautology}
-use Rattle.minimum.specs.declared.choice.Choice.TheVariants.{First}
+use Rattle.espresso.specs.declared.command.Command.TheVariants.{Echo, Check, Contain, Primes, Essen, Exact, Tautology}
+use Rattle.minimum.specs.declared.choice.Choice.TheVariants.{First, Literals}
 use Rattle.pla.specs.declared.out_type.OutType.TheVariants.{F, Fd, Fr, Fdr}
 use Rattle.espresso.specs.Words.{line_of, meaning_by}
 
@@ -67,6 +67,18 @@ takes_contain = refl
 
 takes_primes : line_of (codes "-Dprimes" ∷ codes "-ofdr" ∷ []) ≡ Some (meaning_by Primes Fdr false First [])
 takes_primes = refl
+
+takes_essen : line_of (codes "-Dessen" ∷ []) ≡ Some (meaning_by Essen F false First [])
+takes_essen = refl
+
+takes_exact : line_of (codes "-D" ∷ codes "exact" ∷ codes "f" ∷ []) ≡ Some (meaning_by Exact F false First (codes "f" ∷ []))
+takes_exact = refl
+
+takes_a_choice_before_the_command : line_of (codes "--literals" ∷ codes "-Dexact" ∷ []) ≡ Some (meaning_by Exact F false Literals [])
+takes_a_choice_before_the_command = refl
+
+takes_a_choice_between_files_and_options : line_of (codes "-Dexact" ∷ codes "f" ∷ codes "--literals" ∷ codes "-ofd" ∷ []) ≡ Some (meaning_by Exact Fd false Literals (codes "f" ∷ []))
+takes_a_choice_between_files_and_options = refl
 
 takes_tautology : line_of (codes "-D" ∷ codes "tautology" ∷ codes "f" ∷ []) ≡ Some (meaning_by Tautology F false First (codes "f" ∷ []))
 takes_tautology = refl
@@ -163,6 +175,21 @@ refuses_two_files_after_two_hyphens = refl
 
 refuses_a_choice_where_there_is_none : line_of (codes "-Dprimes" ∷ codes "--literals" ∷ []) ≡ None
 refuses_a_choice_where_there_is_none = refl
+
+refuses_a_choice_with_essen : line_of (codes "--literals" ∷ codes "-Dessen" ∷ []) ≡ None
+refuses_a_choice_with_essen = refl
+
+refuses_a_choice_twice : line_of (codes "-Dexact" ∷ codes "--literals" ∷ codes "--literals" ∷ []) ≡ None
+refuses_a_choice_twice = refl
+
+refuses_a_value_for_a_choice : line_of (codes "-Dexact" ∷ codes "--literals=1" ∷ []) ≡ None
+refuses_a_value_for_a_choice = refl
+
+refuses_a_part_of_the_name_of_a_choice : line_of (codes "-Dexact" ∷ codes "--lit" ∷ []) ≡ None
+refuses_a_part_of_the_name_of_a_choice = refl
+
+refuses_a_choice_as_the_value_of_an_option : line_of (codes "-Dexact" ∷ codes "-o" ∷ codes "--literals" ∷ []) ≡ None
+refuses_a_choice_as_the_value_of_an_option = refl
 
 refuses_a_part_of_a_long_option : line_of (codes "-Decho" ∷ codes "--lit" ∷ []) ≡ None
 refuses_a_part_of_a_long_option = refl

@@ -5,7 +5,7 @@ use Rattle.std.specs.Prelude.{option_map, option_and_then}
 use Rattle.std.specs.Option.{option_map_or}
 use Rattle.std.specs.Str.{bytes_eq}
 use Rattle.espresso.specs.declared.command.Command.{Command}
-use Rattle.espresso.specs.declared.command.Command.TheVariants.{Echo, Check, Contain, Primes, Tautology, Verify, Intersect, Sharp}
+use Rattle.espresso.specs.declared.command.Command.TheVariants.{Echo, Check, Contain, Primes, Essen, Exact, Tautology, Verify, Intersect, Sharp}
 use Rattle.minimum.specs.declared.choice.Choice.{Choice}
 use Rattle.minimum.specs.declared.choice.Choice.TheVariants.{First, Literals}
 use Rattle.pla.specs.declared.out_type.OutType.{OutType}
@@ -127,10 +127,12 @@ command_named name = if bytes_eq name (codes "echo") then Some Echo
     else (if bytes_eq name (codes "check") then Some Check
     else (if bytes_eq name (codes "contain") then Some Contain
     else (if bytes_eq name (codes "primes") then Some Primes
+    else (if bytes_eq name (codes "essen") then Some Essen
+    else (if bytes_eq name (codes "exact") then Some Exact
     else (if bytes_eq name (codes "tautology") then Some Tautology
     else (if bytes_eq name (codes "verify") then Some Verify
     else (if bytes_eq name (codes "intersect") then Some Intersect
-    else (if bytes_eq name (codes "sharp") then Some Sharp else None)))))))
+    else (if bytes_eq name (codes "sharp") then Some Sharp else None)))))))))
 
 -- the output type of a name
 abbrev pub type_named : Text → Option OutType
@@ -155,6 +157,8 @@ takes_two Echo = false
 takes_two Check = false
 takes_two Contain = false
 takes_two Primes = false
+takes_two Essen = false
+takes_two Exact = false
 takes_two Tautology = false
 takes_two Verify = true
 takes_two Intersect = true
@@ -166,6 +170,8 @@ prints_only_f Echo = false
 prints_only_f Check = false
 prints_only_f Contain = false
 prints_only_f Primes = false
+prints_only_f Essen = false
+prints_only_f Exact = false
 prints_only_f Tautology = false
 prints_only_f Verify = false
 prints_only_f Intersect = true
@@ -184,6 +190,8 @@ chooses Echo = false
 chooses Check = false
 chooses Contain = false
 chooses Primes = false
+chooses Essen = false
+chooses Exact = true
 chooses Tautology = false
 chooses Verify = false
 chooses Intersect = false

@@ -1,7 +1,7 @@
 //! What each command answers on the descriptions of its files.
 ghost use Rattle.std.specs.Prelude.{◌≡◌, IfOk, true, unwrap_or};
 ghost use Rattle.cover.specs.Contained.{contained};
-ghost use Rattle.minimum.specs.Primes.{primes_of};
+ghost use Rattle.minimum.specs.Primes.{essential_of, exact_of, primes_of};
 ghost use Rattle.pla.specs.Completed.{dc_list, off_list, sets_of};
 ghost use Rattle.pla.specs.Sets.{lists_of};
 ghost use Rattle.pla.specs.Text.{text_of};
@@ -16,7 +16,7 @@ use crate::pair::{put_comparison, put_difference, put_intersection};
 use crate::status::Status;
 use crate::stop::Stop;
 use cover::{Cover, contain};
-use minimum::primes;
+use minimum::{Choice, essential, exact, primes};
 use pla::{OutType, Output, Pla, Sets, WriteFault, open_dc, open_off, write_bytes, write_covers};
 use std::alloc::{AllocError, Global};
 
@@ -29,7 +29,7 @@ pub(crate) fn put_answer<W: Output>(
     out: &mut W,
 ) -> Result<Status, Stop>
     requires { other.now.size ≡ pla.now.size }
-    ensures { PutsOut (answer_of line.now.command line.now.out pla.now other.now)
+    ensures { PutsOut (answer_of line.now.command line.now.out line.now.choice pla.now other.now)
         (told (W.taken out.old) (W.taken out.new) (W.failures out.old) (W.failures out.new)) result }
 {
     match line.command() {
@@ -37,6 +37,8 @@ pub(crate) fn put_answer<W: Output>(
         Command::Check => put_check(pla, out),
         Command::Contain => put_contained(alloc, pla, line.out(), out),
         Command::Primes => put_primes(alloc, pla, line.out(), out),
+        Command::Essen => put_essential(alloc, pla, line.out(), out),
+        Command::Exact => put_least(alloc, pla, line.choice(), line.out(), out),
         Command::Tautology => put_tautology(pla, out),
         Command::Verify => put_comparison(alloc, pla, other, out),
         Command::Intersect => put_intersection(alloc, pla, other, out),
@@ -159,7 +161,7 @@ fn put_primes<W: Output>(
     out_type: OutType,
     out: &mut W,
 ) -> Result<Status, Stop>
-    ensures { PutsOut (answer_of Command.Primes out_type pla.now pla.now)
+    ensures { PutsOut (answer_of Command.Primes out_type Choice.First pla.now pla.now)
         (told (W.taken out.old) (W.taken out.new) (W.failures out.old) (W.failures out.new)) result }
 {
     match with_primes(alloc, pla, is_off_printed(out_type)) {
@@ -177,9 +179,62 @@ fn with_primes(alloc: Global, pla: &Pla, off: bool) -> Result<Sets, AllocError>
     Ok(sets.with_on(on))
 }
 
+// The description with its essential primes in place of its ON list.
+fn put_essential<W: Output>(
+    alloc: Global,
+    pla: &Pla,
+    out_type: OutType,
+    out: &mut W,
+) -> Result<Status, Stop>
+    ensures { PutsOut (answer_of Command.Essen out_type Choice.First pla.now pla.now)
+        (told (W.taken out.old) (W.taken out.new) (W.failures out.old) (W.failures out.new)) result }
+{
+    match with_essential(alloc, pla, is_off_printed(out_type)) {
+        Ok(sets) => put_covers(pla, out_type, sets.on(), sets.dc(), sets.off(), out),
+        Err(_) => Err(Stop::OutOfMemory),
+    }
+}
+
+// The three sets with the essential primes in place of the ON list, likewise.
+fn with_essential(alloc: Global, pla: &Pla, off: bool) -> Result<Sets, AllocError>
+    ensures { IfOk result (λ sets. sets ≡ record (sets_of pla.now true off)
+        { on = essential_of (three_sets pla.now) (primes_of (three_sets pla.now)) }) }
+{
+    let sets = Sets::of(alloc, pla, true, off)?;
+    let all = primes(&sets)?;
+    let on = essential(alloc, &sets, &all)?;
+    Ok(sets.with_on(on))
+}
+
+// The description with the least cover by primes in place of its ON list.
+fn put_least<W: Output>(
+    alloc: Global,
+    pla: &Pla,
+    choice: Choice,
+    out_type: OutType,
+    out: &mut W,
+) -> Result<Status, Stop>
+    ensures { PutsOut (answer_of Command.Exact out_type choice pla.now pla.now)
+        (told (W.taken out.old) (W.taken out.new) (W.failures out.old) (W.failures out.new)) result }
+{
+    match with_least(alloc, pla, choice, is_off_printed(out_type)) {
+        Ok(sets) => put_covers(pla, out_type, sets.on(), sets.dc(), sets.off(), out),
+        Err(_) => Err(Stop::OutOfMemory),
+    }
+}
+
+// The three sets with the least cover in place of the ON list, likewise.
+fn with_least(alloc: Global, pla: &Pla, choice: Choice, off: bool) -> Result<Sets, AllocError>
+    ensures { IfOk result (λ sets. sets ≡ record (sets_of pla.now true off) { on = exact_of choice (three_sets pla.now) }) }
+{
+    let sets = Sets::of(alloc, pla, true, off)?;
+    let on = exact(alloc, &sets, choice)?;
+    Ok(sets.with_on(on))
+}
+
 // Whether the three sets part the space.
 fn put_check<W: Output>(pla: &Pla, out: &mut W) -> Result<Status, Stop>
-    ensures { PutsOut (answer_of Command.Check OutType.F pla.now pla.now)
+    ensures { PutsOut (answer_of Command.Check OutType.F Choice.First pla.now pla.now)
         (told (W.taken out.old) (W.taken out.new) (W.failures out.old) (W.failures out.new)) result }
 {
     match flaws_in(pla) {
@@ -190,7 +245,7 @@ fn put_check<W: Output>(pla: &Pla, out: &mut W) -> Result<Status, Stop>
 
 // Whether the ON-set is everything.
 fn put_tautology<W: Output>(pla: &Pla, out: &mut W) -> Result<Status, Stop>
-    ensures { PutsOut (answer_of Command.Tautology OutType.F pla.now pla.now)
+    ensures { PutsOut (answer_of Command.Tautology OutType.F Choice.First pla.now pla.now)
         (told (W.taken out.old) (W.taken out.new) (W.failures out.old) (W.failures out.new)) result }
 {
     match pla.on().tautology() {

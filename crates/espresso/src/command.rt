@@ -16,6 +16,10 @@ pub enum Command {
     Contain,
     /// The PLA with the primes for its ON list.
     Primes,
+    /// The PLA with the essential primes for its ON list.
+    Essen,
+    /// The PLA with a least cover by primes for its ON list.
+    Exact,
     /// Whether the ON-set is everything.
     Tautology,
     /// Whether two files agree outside their DC-sets.
@@ -35,6 +39,8 @@ pub(crate) fn command_of(name: &str) -> Option<Command>
         "check" => Some(Command::Check),
         "contain" => Some(Command::Contain),
         "primes" => Some(Command::Primes),
+        "essen" => Some(Command::Essen),
+        "exact" => Some(Command::Exact),
         "tautology" => Some(Command::Tautology),
         "verify" => Some(Command::Verify),
         "intersect" => Some(Command::Intersect),
@@ -75,6 +81,8 @@ pub(crate) fn is_pair(command: Command) -> bool
         Command::Check => false,
         Command::Contain => false,
         Command::Primes => false,
+        Command::Essen => false,
+        Command::Exact => false,
         Command::Tautology => false,
         Command::Verify | Command::Intersect | Command::Sharp => true,
     }
@@ -86,7 +94,7 @@ pub(crate) fn is_f_only(command: Command) -> bool
 {
     match command {
         Command::Echo | Command::Check | Command::Contain | Command::Primes => false,
-        Command::Tautology | Command::Verify => false,
+        Command::Essen | Command::Exact | Command::Tautology | Command::Verify => false,
         Command::Intersect | Command::Sharp => true,
     }
 }
@@ -107,7 +115,9 @@ pub(crate) fn is_choosing(command: Command) -> bool
 {
     match command {
         Command::Echo | Command::Check | Command::Contain | Command::Primes => false,
-        Command::Tautology | Command::Verify | Command::Intersect | Command::Sharp => false,
+        Command::Exact => true,
+        Command::Essen | Command::Tautology => false,
+        Command::Verify | Command::Intersect | Command::Sharp => false,
     }
 }
 

@@ -87,6 +87,12 @@ impl Line {
         self.out
     }
 
+    pub(crate) fn choice(&self) -> Choice
+        ensures { result ≡ self.now.choice }
+    {
+        self.choice
+    }
+
     // What is passed on of comments.
     pub(crate) fn echo(&self) -> Echo
         ensures { result ≡ echo_by self.now.eat }

@@ -9,6 +9,7 @@ use crate::command::Command;
 use crate::status::Status;
 use crate::stop::Stop;
 use cover::{agree_outside, difference, intersect};
+use minimum::Choice;
 use pla::{OutType, Output, Pla, open_dc};
 use std::alloc::{AllocError, Global};
 
@@ -20,7 +21,7 @@ pub(crate) fn put_comparison<W: Output>(
     out: &mut W,
 ) -> Result<Status, Stop>
     requires { other.now.size ≡ pla.now.size }
-    ensures { PutsOut (answer_of Command.Verify OutType.F pla.now other.now)
+    ensures { PutsOut (answer_of Command.Verify OutType.F Choice.First pla.now other.now)
         (told (W.taken out.old) (W.taken out.new) (W.failures out.old) (W.failures out.new)) result }
 {
     match agree(alloc, pla, other) {
@@ -53,7 +54,7 @@ pub(crate) fn put_intersection<W: Output>(
     out: &mut W,
 ) -> Result<Status, Stop>
     requires { other.now.size ≡ pla.now.size }
-    ensures { PutsOut (answer_of Command.Intersect OutType.F pla.now other.now)
+    ensures { PutsOut (answer_of Command.Intersect OutType.F Choice.First pla.now other.now)
         (told (W.taken out.old) (W.taken out.new) (W.failures out.old) (W.failures out.new)) result }
 {
     match intersect(pla.on(), other.on()) {
@@ -70,7 +71,7 @@ pub(crate) fn put_difference<W: Output>(
     out: &mut W,
 ) -> Result<Status, Stop>
     requires { other.now.size ≡ pla.now.size }
-    ensures { PutsOut (answer_of Command.Sharp OutType.F pla.now other.now)
+    ensures { PutsOut (answer_of Command.Sharp OutType.F Choice.First pla.now other.now)
         (told (W.taken out.old) (W.taken out.new) (W.failures out.old) (W.failures out.new)) result }
 {
     match difference(pla.on(), other.on()) {
