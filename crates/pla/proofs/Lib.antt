@@ -28,3 +28,4 @@ mod PrintedRows
 mod PrintedLists
 mod PrintedSteps
 mod ReadBack
+mod HandedOn

@@ -1,9 +1,11 @@
 -- What the steps of reading do: with one line, and with what is kept behind the last one.
-use Rattle.std.specs.Prelude.{◌≡◌, ℕ, ◌+◌, ◌-◌, ◌*◌, ◌==◌, if◌then◌else◌, false, List, [], ◌∷◌, ◌++◌, length, All, None, Some, Option, Result, MatchResult, option_map}
+use Rattle.std.specs.Prelude.{◌≡◌, ℕ, ◌+◌, ◌-◌, ◌*◌, ◌==◌, if◌then◌else◌, false, List, [], ◌∷◌, ◌++◌, length, All, None, Some, Option, Result, Ok, Err, MatchResult, option_map}
 use Rattle.std.specs.Io.KnownBytes.{Appends}
 use Rattle.cube.specs.Limits.{Limits}
 use Rattle.pla.specs.declared.fault.Echo.{Echo}
 use Rattle.pla.specs.declared.fault.ReadFault.{ReadFault}
+use Rattle.pla.specs.declared.fault.ReadKind.{ReadKind}
+use Rattle.pla.specs.declared.fault.ReadKind.TheVariants.{WriteFailed, OutOfMemory}
 use Rattle.pla.specs.Device.{AppendsFront}
 use Rattle.pla.specs.Fault.{fault_on, at_line}
 use Rattle.pla.specs.Echoes.{echo_of}
@@ -38,3 +40,14 @@ position_in state = state.parsed.header.lines * 131073 + length state.rest
 -- how much can still come, unless the description has ended
 abbrev pub room_in : State → ℕ
 room_in state = if state.parsed.header.ended then 0 else 16777217 * 131073 + 1 - position_in state
+
+-- echoes that are held in memory fail for want of memory alone
+abbrev pub held_kind : ReadKind → ReadKind
+held_kind WriteFailed = OutOfMemory
+held_kind kind = kind
+
+-- what a step answers that held its echoes, once these were handed on
+abbrev pub handed_on : {T U E : Type 0} → Result T ReadFault → Result U E → Result T ReadFault
+handed_on done (Err e) = Err (record { line = 0; kind = WriteFailed })
+handed_on (Ok x) (Ok u) = Ok x
+handed_on (Err fault) (Ok u) = Err (record fault { kind = held_kind fault.kind })

@@ -33,6 +33,7 @@ mod ending;
 mod fakes;
 mod fault;
 mod header;
+mod held;
 mod laws;
 mod line;
 mod out_type;

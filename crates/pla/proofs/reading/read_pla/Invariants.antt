@@ -1,4 +1,4 @@
-use Rattle.std.proofs.Common.{◌≡◌, length}
+use Rattle.std.proofs.Common.{◌≡◌, [], length}
 use Rattle.pla.specs.Steps.{room_in}
 use Rattle.pla.proofs.ReadLaws.{ReadsOn}
 use Rattle.pla.proofs.reading.read_pla.Given as goal
@@ -8,6 +8,7 @@ invariant-loop-buffer g l = record {
   on : ReadsOn l.fn.echo l.scan (g.R.Input.left l.fn.input) (g.R.Input.left l.input) (g.R.Input.failures l.fn.input) (g.R.Input.failures l.input)
       (g.W.Output.taken l.fn.output) (g.W.Output.taken l.output) (g.W.Output.failures l.fn.output) (g.W.Output.failures l.output);
   size : length l.buffer ≡ 4096;
+  empty : l.held.bytes.items ≡ [];
 }
 
 abbrev pub decreases-loop-buffer : goal.decreases-loop-buffer
