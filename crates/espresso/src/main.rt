@@ -52,12 +52,8 @@ pub use line::{Line, LineFault};
 use pla::{Output, Writing};
 pub use source::Source;
 pub use status::Status;
-use std::io::BufWriter;
 use std::process::ExitCode;
 pub use tool::{refuse, run};
-
-// How many bytes of the answer are held back until they are written at once.
-const OUTPUT_BYTES: usize = 65536;
 
 // Reads the words, opens the files that they name, and runs the line.
 fn main(rt: HostRuntime) -> ExitCode {
@@ -81,9 +77,6 @@ fn answered<E: Output>(rt: HostRuntime, err: &mut E) -> Status {
     let Ok(mut second) = opened_second(&rt, rt.stdin(), &line) else {
         return refuse(&LineFault::Memory, err);
     };
-    let Ok(buffer) = BufWriter::with_capacity(alloc, OUTPUT_BYTES, rt.stdout()) else {
-        return refuse(&LineFault::Memory, err);
-    };
-    let mut out = Writing::new(buffer);
+    let mut out = Writing::new(rt.stdout());
     run(alloc, &line, &mut first, &mut second, &mut out, err)
 }

@@ -29,3 +29,4 @@ mod PrintedLists
 mod PrintedSteps
 mod ReadBack
 mod HandedOn
+mod Putting

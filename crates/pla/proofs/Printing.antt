@@ -1,10 +1,8 @@
 -- What one more byte, text or row does to what was printed.
-use Rattle.std.proofs.Common.{◌≡◌, ℕ, ◌+◌, ◌<◌, List, [], ◌∷◌, ◌++◌, take, drop, length, map, flat_map, slice_set, slice_get, Option, Some, Result, Ok, Err, IsErr, ap, sym, ◌∙◌, subst, append_assoc, take-append-drop}
+use Rattle.std.proofs.Common.{◌≡◌, ℕ, ◌+◌, ◌<◌, List, [], ◌∷◌, ◌++◌, take, drop, length, map, flat_map, slice_set, slice_get, Some, ap, sym, ◌∙◌, append_assoc, take-append-drop}
 use Rattle.std.proofs.lemmas.List.{take_more_set, map_more}
 use Rattle.std.proofs.lemmas.List.Concat.{flat_map-append}
 use Rattle.std.proofs.lemmas.Option.{get_or_from_slice_get, slice_get_within}
-use Rattle.pla.specs.Device.{AppendsFront, Continues}
-use Rattle.pla.proofs.Moves.{front_before}
 
 -- the byte of one more element is put behind those of the first i
 pub put_next : {X : Type 0} (f : X → ℕ) (front : List ℕ) (xs : List X) (i : ℕ) (x : X) (row : List ℕ) (k v : ℕ)
@@ -16,13 +14,6 @@ put_next f front xs i x row k v room is byte before =
     ∙ ap (λ b. (front ++ map f (take i xs)) ++ b ∷ []) (byte ∙ ap f (sym (get_or_from_slice_get xs i x x is)))
     ∙ append_assoc front (map f (take i xs)) _
     ∙ ap (λ w. front ++ w) (sym (map_more f xs i x (slice_get_within xs i x is)))
-
--- after a failure nothing more is written, whatever was to come
-pub continues_failed : {T E : Type 0} (taken : Option (List ℕ)) (done : Result T E) (new : Option (List ℕ)) (r : Result T E) (a b : List ℕ)
-    → IsErr r → Continues taken done new r a → Continues taken done new r (a ++ b)
-continues_failed taken done new (Ok x) a b e h = cc
-continues_failed taken done new (Err x) a b e h = λ old front w.
-    subst (AppendsFront old new) (append_assoc front a b) (front_before old new (front ++ a) b (h old front w))
 
 -- the texts of all elements are those of the first i and of the rest
 pub flat_map_split : {X : Type 0} (f : X → List ℕ) (xs : List X) (i : ℕ) → flat_map f xs ≡ flat_map f (take i xs) ++ flat_map f (drop i xs)

@@ -33,3 +33,11 @@ Continues taken done new r text = (old : Option (List ℕ)) (front : List ℕ) �
 -- whether a failure came since any earlier count is told on
 abbrev pub CountsOn : {T E : Type 0} → ℕ → Result T E → ℕ → Result T E → Type 0
 CountsOn count done new r = (before : ℕ) → TellsFailure before count done → TellsFailure before new r
+
+-- a text was put together: at `Ok` all of it was taken but for what is pending, and at `Err` a front of it
+abbrev pub Puts : {T E : Type 0} → Option (List ℕ) → Option (List ℕ) → List ℕ → Result T E → List ℕ → Type 0
+Puts old taken pending done text = MatchResult done (λ _. (sent : List ℕ) × (text ≡ sent ++ pending) × Appends old taken sent) (λ _. AppendsFront old taken text)
+
+-- whatever was being put together comes out with the text behind it
+abbrev pub PutsOn : {T E : Type 0} → Option (List ℕ) → List ℕ → Result T E → Option (List ℕ) → List ℕ → Result T E → List ℕ → Type 0
+PutsOn taken pending done new left r text = (old : Option (List ℕ)) (front : List ℕ) → Puts old taken pending done front → Puts old new left r (front ++ text)

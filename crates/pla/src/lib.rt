@@ -26,6 +26,7 @@
 //! names alone: a row line takes none of its own, and time that grows with its bytes.
 #![tactic(auto)]
 
+mod batch;
 mod description;
 mod device;
 mod echo;
@@ -40,6 +41,7 @@ mod out_type;
 mod over_std;
 mod parser;
 mod reading;
+mod row;
 mod rows;
 mod scan;
 mod sets;

@@ -1,29 +1,25 @@
 //! The printed text of a description.
 //!
 //! A text begins with the shape, the names and the output type, and counts its rows before it gives
-//! them. Each row is put together in one buffer on the stack and handed to the output in one call,
-//! so printing takes no memory, and its time grows with the symbols of the rows alone.
-ghost use Rattle.std.specs.Prelude.{◌≡◌, ◌+◌, ◌≤◌, ◌∷◌, ◌++◌, length, map, flat_map, take, sum_by, if◌then◌else◌};
-ghost use Rattle.pla.specs.Device.{Continues, CountsOn, TellsFailure, Writes};
+//! them. It is put together in one buffer on the stack and handed to the output in few and large
+//! writes, so printing takes no memory, and its time grows with the symbols of the rows alone.
+ghost use Rattle.std.specs.Prelude.{◌≡◌, ◌∷◌, length, flat_map, sum_by};
+ghost use Rattle.pla.specs.Device.{CountsOn, PutsOn, TellsFailure, Writes};
 ghost use Rattle.pla.specs.Names.{lent_names, name_bytes};
 ghost use Rattle.pla.specs.Sets.{lists_of};
-ghost use Rattle.pla.specs.Text.{Section, elsewhere, names_text, row_text, rows_text, sections, symbol_byte, text_of, type_text};
+ghost use Rattle.pla.specs.Text.{Section, elsewhere, names_text, rows_text, sections, text_of, type_text};
 
+use crate::batch::Batch;
 use crate::description::Pla;
 use crate::device::Output;
 use crate::out_type::OutType;
 use crate::sets::Sets;
-use crate::writing::{WriteFault, then, write_bytes};
+use crate::writing::WriteFault;
 use cover::Cover;
-use cube::limits::{INPUTS, OUTPUTS};
-use cube::{Cube, Symbol};
 use itoa::Buffer;
 
-// The longest row: the inputs, a space, the outputs and a line feed.
-const ROW_BYTES: usize = INPUTS + 1 + OUTPUTS + 1;
-
 /// Writes the description's shape and names, and of the sets those lists that the output type names, as
-/// espresso(5) has them. Takes no memory, and calls the output once for each row.
+/// espresso(5) has them. Takes no memory, and writes many rows at once.
 ///
 /// # Errors
 ///
@@ -63,20 +59,22 @@ pub fn write_covers<W: Output>(
 {
     let shape = pla.shape();
     let mut digits = Buffer::new();
-    let done = write_bytes(out, b".i ");
-    let done = then(out, done, digits.format(shape.inputs()).as_bytes());
-    let done = then(out, done, b"\n.o ");
-    let done = then(out, done, digits.format(shape.outputs()).as_bytes());
-    let done = then(out, done, b"\n");
-    let done = write_names(out, done, b".ilb", pla.input_names());
-    let done = write_names(out, done, b".ob", pla.output_names());
-    let done = then(out, done, type_line(out_type));
-    let done = then(out, done, b".p ");
+    let mut batch = Batch::new();
+    let done = batch.then(out, Ok(()), b".i ");
+    let done = batch.then(out, done, digits.format(shape.inputs()).as_bytes());
+    let done = batch.then(out, done, b"\n.o ");
+    let done = batch.then(out, done, digits.format(shape.outputs()).as_bytes());
+    let done = batch.then(out, done, b"\n");
+    let done = write_names(&mut batch, out, done, b".ilb", pla.input_names());
+    let done = write_names(&mut batch, out, done, b".ob", pla.output_names());
+    let done = batch.then(out, done, type_line(out_type));
+    let done = batch.then(out, done, b".p ");
     let rows = row_count(out_type, on, dc, off);
-    let done = then(out, done, digits.format(rows).as_bytes());
-    let done = then(out, done, b"\n");
-    let done = write_sections(out, done, out_type, on, dc, off);
-    then(out, done, b".e\n")
+    let done = batch.then(out, done, digits.format(rows).as_bytes());
+    let done = batch.then(out, done, b"\n");
+    let done = write_sections(&mut batch, out, done, out_type, on, dc, off);
+    let done = batch.then(out, done, b".e\n");
+    batch.hand_on(out, done)
 }
 
 // The line that says the type, where there is one.
@@ -108,19 +106,20 @@ fn row_count(out_type: OutType, on: &Cover, dc: &Cover, off: &Cover) -> u128
 
 // The keyword with each name behind a space, where there are names.
 fn write_names<W: Output>(
+    batch: &mut Batch,
     out: &mut W,
     done: Result<(), WriteFault>,
     keyword: &[u8],
     names: Option<&[Vec<u8>]>,
 ) -> Result<(), WriteFault>
-    ensures bytes { Continues (W.taken out.old) done (W.taken out.new) result (names_text keyword.now (lent_names names.entry)) }
+    ensures bytes { PutsOn (W.taken out.old) batch.old done (W.taken out.new) batch.new result (names_text keyword.now (lent_names names.entry)) }
     ensures count { CountsOn (W.failures out.old) done (W.failures out.new) result }
 {
     match names {
         Some(names) => {
-            let done = then(out, done, keyword);
-            let done = write_each(out, done, names);
-            then(out, done, b"\n")
+            let done = batch.then(out, done, keyword);
+            let done = write_each(batch, out, done, names);
+            batch.then(out, done, b"\n")
         }
         None => done,
     }
@@ -128,23 +127,25 @@ fn write_names<W: Output>(
 
 // Each name behind a space.
 fn write_each<W: Output>(
+    batch: &mut Batch,
     out: &mut W,
     done: Result<(), WriteFault>,
     names: &[Vec<u8>],
 ) -> Result<(), WriteFault>
-    ensures bytes { Continues (W.taken out.old) done (W.taken out.new) result (flat_map (λ name. 32 ∷ name) (name_bytes names.now)) }
+    ensures bytes { PutsOn (W.taken out.old) batch.old done (W.taken out.new) batch.new result (flat_map (λ name. 32 ∷ name) (name_bytes names.now)) }
     ensures count { CountsOn (W.failures out.old) done (W.failures out.new) result }
 {
     let mut done = done;
     for name in names {
-        done = then(out, done, b" ");
-        done = then(out, done, name);
+        done = batch.then(out, done, b" ");
+        done = batch.then(out, done, name);
     }
     done
 }
 
 // The rows of each list that the type prints.
 fn write_sections<W: Output>(
+    batch: &mut Batch,
     out: &mut W,
     done: Result<(), WriteFault>,
     out_type: OutType,
@@ -152,99 +153,49 @@ fn write_sections<W: Output>(
     dc: &Cover,
     off: &Cover,
 ) -> Result<(), WriteFault>
-    ensures bytes { Continues (W.taken out.old) done (W.taken out.new) result
+    ensures bytes { PutsOn (W.taken out.old) batch.old done (W.taken out.new) batch.new result
         (flat_map (rows_text (elsewhere out_type)) (sections out_type (lists_of on.now dc.now off.now))) }
     ensures count { CountsOn (W.failures out.old) done (W.failures out.new) result }
 {
     match out_type {
-        OutType::F => write_rows(out, done, on, b'1', b'0'),
+        OutType::F => write_rows(batch, out, done, on, b'1', b'0'),
         OutType::Fd => {
-            let done = write_rows(out, done, on, b'1', b'~');
-            write_rows(out, done, dc, b'-', b'~')
+            let done = write_rows(batch, out, done, on, b'1', b'~');
+            write_rows(batch, out, done, dc, b'-', b'~')
         }
         OutType::Fr => {
-            let done = write_rows(out, done, on, b'1', b'~');
-            write_rows(out, done, off, b'0', b'~')
+            let done = write_rows(batch, out, done, on, b'1', b'~');
+            write_rows(batch, out, done, off, b'0', b'~')
         }
         OutType::Fdr => {
-            let done = write_rows(out, done, on, b'1', b'~');
-            let done = write_rows(out, done, dc, b'-', b'~');
-            write_rows(out, done, off, b'0', b'~')
+            let done = write_rows(batch, out, done, on, b'1', b'~');
+            let done = write_rows(batch, out, done, dc, b'-', b'~');
+            write_rows(batch, out, done, off, b'0', b'~')
         }
     }
 }
 
 // The rows of a list: `mark` for an output in the cube, `other` for any other output.
 fn write_rows<W: Output>(
+    batch: &mut Batch,
     out: &mut W,
     done: Result<(), WriteFault>,
     list: &Cover,
     mark: u8,
     other: u8,
 ) -> Result<(), WriteFault>
-    ensures bytes { Continues (W.taken out.old) done (W.taken out.new) result
+    ensures bytes { PutsOn (W.taken out.old) batch.old done (W.taken out.new) batch.new result
         (rows_text other (record { mark = mark; cubes = list.now.cubes })) }
     ensures count { CountsOn (W.failures out.old) done (W.failures out.new) result }
 {
-    let mut row = [0; ROW_BYTES];
     let mut done = done;
     for cube in list.as_slice() {
         if done.is_err() {
             return done;
         }
-        let end = put_row(&mut row, cube, mark, other);
-        done = then(out, done, &row[..end]);
+        done = batch.then_row(out, done, cube, mark, other);
     }
     done
-}
-
-// Puts a cube's row at the front, and answers how long it is.
-fn put_row(row: &mut [u8], cube: &Cube, mark: u8, other: u8) -> usize
-    requires { length row.old ≡ ROW_BYTES }
-    ensures fits { result ≤ length row.new }
-    ensures text { take result row.new ≡ row_text mark other cube.now }
-{
-    let shape = cube.shape();
-    let inputs = shape.inputs();
-    put_inputs(row, cube);
-    row[inputs] = b' ';
-    put_outputs(row, inputs + 1, cube, mark, other);
-    let end = inputs + 1 + shape.outputs();
-    row[end] = b'\n';
-    end + 1
-}
-
-// Puts the bytes of the inputs at the front.
-fn put_inputs(row: &mut [u8], cube: &Cube)
-    requires { length cube.now.symbols ≤ length row.old }
-    ensures { take (length cube.now.symbols) row.new ≡ map symbol_byte cube.now.symbols }
-{
-    for i in 0..cube.shape().inputs() {
-        row[i] = input_byte(cube.symbol(i));
-    }
-}
-
-// How an input is printed.
-fn input_byte(symbol: Symbol) -> u8
-    ensures { result ≡ symbol_byte symbol }
-{
-    match symbol {
-        Symbol::Dash => b'-',
-        Symbol::Zero => b'0',
-        Symbol::One => b'1',
-    }
-}
-
-// Puts the bytes of the outputs from index `at` on, and leaves those before.
-fn put_outputs(row: &mut [u8], at: usize, cube: &Cube, mark: u8, other: u8)
-    requires { at + length cube.now.outputs ≤ length row.old }
-    ensures { take (at + length cube.now.outputs) row.new
-        ≡ take at row.old ++ map (λ b. if b then mark else other) cube.now.outputs }
-{
-    for j in 0..cube.shape().outputs() {
-        let byte = if cube.output(j) { mark } else { other };
-        row[at + j] = byte;
-    }
 }
 
 #[cfg(test)]

@@ -94,6 +94,23 @@ fn tells_the_first_fault(rt: HostRuntime) -> Result<(), Fail> {
 }
 
 #[test]
+fn tells_a_failed_echo_before_a_fault_behind_it(rt: HostRuntime) -> Result<(), Fail> {
+    let alloc = rt.alloc();
+    let mut input = given(alloc, b"# a\n.i 1\n.o 1\nz 1\n", 4096, Ending::End)?;
+    let mut output = Taken::new(alloc, 2, 100, false)?;
+    let fault = read_pla(alloc, &mut input, &mut output, Echo::Keep).err();
+    assert!(rt;
+        fault
+            == Some(ReadFault {
+                line: 0,
+                kind: ReadKind::WriteFailed
+            })
+    );
+    assert!(rt; output.bytes() == b"# ".as_slice());
+    Ok(())
+}
+
+#[test]
 fn tells_a_failed_read_and_a_failed_write(rt: HostRuntime) -> Result<(), Fail> {
     let alloc = rt.alloc();
     let mut input = given(alloc, b".i 1\n.o ", 100, Ending::Failed)?;

@@ -91,12 +91,47 @@ fn row_of_the_widest_shape(rt: HostRuntime) -> Result<(), Fail> {
     let outputs = vec![in rt.alloc(); true; shape.outputs()]?;
     let cube = Cube::from_symbols(rt.alloc(), shape, inputs.as_slice(), outputs.as_slice())?;
     let mut row = [0; 2050];
-    let end = super::put_row(&mut row, &cube.ok_or("no output")?, b'1', b'0');
+    let end = crate::row::put_row(&mut row, &cube.ok_or("no output")?, b'1', b'0');
     assert_eq!(rt; end, 2050);
     assert_eq!(rt;
         (row[1023], row[1024], row[2048], row[2049]),
         (b'-', b' ', b'1', b'\n')
     );
+    Ok(())
+}
+
+// A list of so many equal cubes of the widest shape, `-` and `1` throughout.
+fn widest(alloc: Global, count: usize) -> Result<Cover, Fail> {
+    let shape = Shape::new(1024, 1024).ok_or("limits")?;
+    let inputs = vec![in alloc; Symbol::Dash; shape.inputs()]?;
+    let outputs = vec![in alloc; true; shape.outputs()]?;
+    let mut list = Cover::new(alloc, shape);
+    for _ in 0..count {
+        let cube = Cube::from_symbols(alloc, shape, inputs.as_slice(), outputs.as_slice())?;
+        list.push(cube.ok_or("no output")?)
+            .map_err(|_| "no memory")?;
+    }
+    Ok(list)
+}
+
+#[test]
+fn text_longer_than_what_is_written_at_once(rt: HostRuntime) -> Result<(), Fail> {
+    let pla = description(rt.alloc(), widest(rt.alloc(), 40)?);
+    let (done, out) = echo(rt.alloc(), &pla, 100_000)?;
+    assert_eq!(rt; done, Ok(()));
+    let (head, rows) = out.bytes().split_at_checked(22).ok_or("short")?;
+    assert_eq!(rt; head, b".i 1024\n.o 1024\n.p 40\n".as_slice());
+    assert_eq!(rt; rows.len(), 40 * 2050 + 3);
+    for (i, byte) in rows.iter().enumerate() {
+        let expected = match i % 2050 {
+            _ if i >= 40 * 2050 => continue,
+            1024 => b' ',
+            2049 => b'\n',
+            at if at < 1024 => b'-',
+            _ => b'1',
+        };
+        assert_eq!(rt; *byte, expected);
+    }
     Ok(())
 }
 

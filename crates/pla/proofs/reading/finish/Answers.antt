@@ -1,4 +1,4 @@
-use Rattle.std.proofs.Common.{ap, sym, None, Some}
+use Rattle.std.proofs.Common.{None, Some}
 use Rattle.cube.specs.Limits.{format_limits}
 use Rattle.pla.specs.Echoes.{due}
 use Rattle.pla.proofs.HandedOn.{handed_growth}

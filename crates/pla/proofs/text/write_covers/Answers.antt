@@ -1,9 +1,11 @@
-use Rattle.std.proofs.Common.{◌≡◌, ℕ, List, ◌++◌, ap, ◌∙◌, subst, codes, decimal, sum_by, length, flat_map}
+use Rattle.std.proofs.Common.{◌≡◌, ℕ, List, ◌++◌, Result, Ok, refl, append-nil, ap, ◌∙◌, subst, codes, decimal, sum_by, length, flat_map}
+use Rattle.pla.specs.declared.writing.WriteFault.{WriteFault}
 use Rattle.pla.specs.Device.{Writes}
 use Rattle.pla.specs.Description.{Description}
 use Rattle.pla.specs.Sets.{SetLists, lists_of}
 use Rattle.pla.specs.Text.{elsewhere, names_text, rows_text, sections, text_of, type_text}
 use Rattle.pla.specs.declared.out_type.OutType.{OutType}
+use Rattle.pla.proofs.Putting.{puts_first, puts_writes}
 use Rattle.pla.proofs.text.write_covers.Goals as goal
 
 -- the text by its parts
@@ -25,9 +27,12 @@ returns-clause-bytes g c =
     let outputs : c.as_bytes-2.result.now ≡ decimal pla.size.outputs =
     c.as_bytes-2.ensures.value ∙ c.format-2.ensures.text ∙ ap decimal (c.outputs.ensures.value ∙ ap (λ s. s.outputs) shape) in
     let count = c.as_bytes-3.ensures.value ∙ c.format-3.ensures.text ∙ ap decimal c.row_count-rows.ensures in
-    subst (Writes (g.W.Output.taken c.args.out.now) (g.W.Output.taken c.then.new.out) c.then.result)
-    (text_parts pla c.args.out_type lists _ _ _ _ _ _ inputs outputs
+    let first : Result (Unit {0}) WriteFault = Ok tt in
+    let start = puts_first (g.W.Output.taken c.args.out.now) c.new-batch.result first tt refl c.new-batch.ensures in
+    let whole = c.then-done-10.ensures.bytes _ _ (c.write_sections-done.ensures.bytes _ _ (c.then-done-9.ensures.bytes _ _ (c.then-done-8.ensures.bytes _ _
+    (c.then-done-7.ensures.bytes _ _ (c.then-done-6.ensures.bytes _ _ (c.write_names-done-2.ensures.bytes _ _ (c.write_names-done.ensures.bytes _ _
+    (c.then-done-5.ensures.bytes _ _ (c.then-done-4.ensures.bytes _ _ (c.then-done-3.ensures.bytes _ _ (c.then-done-2.ensures.bytes _ _ (c.then-done.ensures.bytes _ _ start)))))))))))) in
+    subst (Writes (g.W.Output.taken c.args.out.now) (g.W.Output.taken c.hand_on.new.out) c.hand_on.result)
+    (append-nil _ ∙ text_parts pla c.args.out_type lists _ _ _ _ _ _ inputs outputs
     (ap (names_text (codes ".ilb")) c.input_names.ensures) (ap (names_text (codes ".ob")) c.output_names.ensures) c.type_line.ensures count)
-    (c.then.ensures.bytes _ _ (c.write_sections-done.ensures.bytes _ _ (c.then-done-8.ensures.bytes _ _ (c.then-done-7.ensures.bytes _ _
-    (c.then-done-6.ensures.bytes _ _ (c.then-done-5.ensures.bytes _ _ (c.write_names-done-2.ensures.bytes _ _ (c.write_names-done.ensures.bytes _ _
-    (c.then-done-4.ensures.bytes _ _ (c.then-done-3.ensures.bytes _ _ (c.then-done-2.ensures.bytes _ _ (c.then-done.ensures.bytes _ _ c.write_bytes-done.ensures.bytes))))))))))))
+    (puts_writes _ _ _ _ c.hand_on.result c.hand_on.ensures.empty (c.hand_on.ensures.bytes _ _ whole))

@@ -1,7 +1,7 @@
 use Rattle.std.proofs.Common.{◌≡◌, ◌+◌, ◌∙◌, ap, sym, arith, take, slice_set, if◌then◌else◌}
 use Rattle.pla.proofs.Printing.{put_next}
-use Rattle.pla.proofs.text.put_outputs.Goals as goal
-use Rattle.pla.proofs.text.put_outputs.Goals.{then-output, else-output}
+use Rattle.pla.proofs.row.put_outputs.Goals as goal
+use Rattle.pla.proofs.row.put_outputs.Goals.{then-output, else-output}
 
 pub loop-j-preserved : goal.loop-j-preserved
 loop-j-preserved c =
