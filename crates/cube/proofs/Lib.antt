@@ -14,3 +14,4 @@ pub mod WithSymbolLemmas
 pub mod RestLemmas
 pub mod LiteralLemmas
 pub mod UniversalLemmas
+pub mod BytesLemmas

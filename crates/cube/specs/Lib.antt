@@ -10,3 +10,4 @@ pub mod Join
 pub mod Sharp
 pub mod Cofactor
 pub mod Laws
+pub mod Bytes

@@ -1,10 +1,11 @@
 //! A cube, kept in words.
-ghost use Rattle.std.specs.Prelude.{◌≡◌, ℕ, ◌+◌, ◌<◌, ◌≤◌, ◌↔◌, IsTrue, IsOk, IsSome, IsNone, IfOk, IfSome, IfNone, OnOk, MatchOption, ◌++◌, length, slice_get, slice_index_or, Some, Contains, true, false};
+ghost use Rattle.std.specs.Prelude.{◌≡◌, ℕ, ◌+◌, ◌<◌, ◌≤◌, ◌↔◌, IsTrue, IsOk, IsSome, IsNone, IfOk, IfSome, IfNone, OnOk, MatchOption, if◌then◌else◌, ◌++◌, length, map, drop, slice_get, slice_index_or, Some, Contains, true, false};
 ghost use Rattle.cube.specs.Cube.{HasSize, IsCube, SameSize, IsSubset, IsDisjoint, Place, holds, intersection, difference, word_count, size_of, with_symbol as cube_with_symbol, literals as literals_of, IsUniversal, IsNextLiteral, IsPlace};
 ghost use Rattle.cube.specs.Size.{words_of_size};
 ghost use Rattle.cube.specs.Join.{supercube};
 ghost use Rattle.cube.specs.Cofactor.{cofactor as cofactor_of};
 ghost use Rattle.cube.specs.Sharp.{minus, rest_row, rest_rows, pieces_below, splits, piece as piece_row};
+ghost use Rattle.cube.specs.Bytes.{symbol_byte};
 ghost use Rattle.cube.specs.Sum.{complete_sum};
 ghost use Rattle.std.specs.List.{list_any};
 ghost use Rattle.cube.specs.Order.{row_cmp as row_order, symbol_cmp};
@@ -12,7 +13,7 @@ ghost use Rattle.std.specs.Ordering.{bool_cmp};
 ghost use Rattle.std.specs.Cmp.Lexicographic.{slice_cmp};
 ghost use Rattle.cube.specs.Packing.{Packs, PacksInputs, PacksOutputs};
 
-use crate::pack::{input_word, input_words, output_word, output_words};
+use crate::pack::{byte_by_bits, input_word, input_words, output_word, output_words};
 use crate::shape::Shape;
 use crate::symbol::Symbol;
 use crate::words::{
@@ -111,6 +112,33 @@ impl Cube {
     {
         let word = self.words.as_slice()[input_words(self.shape) + j / 64];
         (word >> (j % 64)) & 1 == 1
+    }
+
+    /// Puts a byte for each symbol at the front of a row, one of the three by the symbol, and leaves
+    /// what follows. Looks at each symbol once, and takes no memory.
+    pub fn put_symbols(&self, row: &mut [u8], dash: u8, zero: u8, one: u8)
+        requires { length self.now.symbols ≤ length row.old }
+        ensures { row.new ≡ map (symbol_byte dash zero one) self.now.symbols ++ drop (length self.now.symbols) row.old }
+    {
+        let words = self.input_part();
+        for i in 0..self.shape().inputs() {
+            let word = words[i / 32];
+            let at = 2 * (i % 32);
+            row[i] = byte_by_bits((word >> at) & 1, (word >> (at + 1)) & 1, dash, zero, one);
+        }
+    }
+
+    /// Puts a byte for each output at the front of a row, by whether the cube has it, and leaves what
+    /// follows. Looks at each output once, and takes no memory.
+    pub fn put_outputs(&self, row: &mut [u8], present: u8, absent: u8)
+        requires { length self.now.outputs ≤ length row.old }
+        ensures { row.new ≡ map (λ b. if b then present else absent) self.now.outputs ++ drop (length self.now.outputs) row.old }
+    {
+        let words = self.output_part();
+        for j in 0..self.shape().outputs() {
+            let bit = (words[j / 64] >> (j % 64)) & 1;
+            row[j] = if bit == 1 { present } else { absent };
+        }
     }
 
     /// How many inputs have a literal, `0` or `1`.

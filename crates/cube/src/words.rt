@@ -98,6 +98,16 @@ pub(crate) fn with_bit(word: u64, at: usize, bit: bool) -> u64
     }
 }
 
+/// The word with bit `at` cleared unless it is to be kept. It has no branch, so that words are packed at
+/// one speed whatever the symbols.
+pub(crate) fn kept_bit(word: u64, at: usize, keep: bool) -> u64
+    requires { at < 64 }
+    ensures same { bit_at result at ≡ (if keep then bit_at word at else 0) }
+    ensures others { (k : ℕ) → k < 64 → k ≢ at → bit_at result k ≡ bit_at word k }
+{
+    word & !((!keep as u64) << at)
+}
+
 /// The bits of `a` that are not in `b`.
 pub(crate) fn minus_word(a: u64, b: u64) -> u64
     ensures { IsBitDifference result a b }

@@ -1,4 +1,4 @@
-use Rattle.std.proofs.Common.{◌≡◌, ◌+◌, ◌*◌, arith, ap, ◌∙◌, sym, get_or, true, false, inl, inr}
+use Rattle.std.proofs.Common.{◌≡◌, ◌+◌, ◌*◌, arith, ap, ◌∙◌, sym, cond, get_or, true, false, inl, inr}
 use Rattle.std.specs.Int.{bit_at}
 use Rattle.std.proofs.lemmas.Bool.{cases_eq}
 use Rattle.std.proofs.lemmas.Nat.Bits.{bit_at_ones}
@@ -18,23 +18,23 @@ loop-k-init c = record {
 pub loop-k-preserved : goal.loop-k-preserved
 loop-k-preserved c =
     let k = c.loop-k.k in
-    let first = c.with_bit-word.ensures in
-    let second = c.with_bit-word-in-loop-k.ensures in
+    let first = c.kept_bit-word.ensures in
+    let second = c.kept_bit-word-in-loop-k.ensures in
     let low : c.allows.result ≡ agrees (get_or c.args.symbols.now (32 * c.args.w + k) Dash) false = c.allows.ensures in
     let high : c.allows-in-loop-k.result ≡ agrees (get_or c.args.symbols.now (32 * c.args.w + k) Dash) true = c.allows-in-loop-k.ensures in
     record {
       low = λ q lt. elim (cases_eq q k) [
         | inl e ↦
-            ap (λ i. bit_at c.with_bit-word-in-loop-k.result (2 * i)) e ∙ second.others (2 * k) (omega arith) (omega arith) ∙ first.same
-            ∙ ap (λ b. bit_of b) low ∙ ap (λ i. bit_of (agrees (get_or c.args.symbols.now (32 * c.args.w + i) Dash) false)) (sym e)
+            ap (λ i. bit_at c.kept_bit-word-in-loop-k.result (2 * i)) e ∙ second.others (2 * k) (omega arith) (omega arith) ∙ first.same
+            ∙ ap (λ x. cond c.allows.result x 0) (c.loop-k.invariant.set (2 * k) (omega arith) (omega arith)) ∙ ap (λ b. bit_of b) low ∙ ap (λ i. bit_of (agrees (get_or c.args.symbols.now (32 * c.args.w + i) Dash) false)) (sym e)
         | inr ne ↦
             second.others (2 * q) (omega arith) (omega arith) ∙ first.others (2 * q) (omega arith) (omega arith)
             ∙ c.loop-k.invariant.low q (omega arith)
       ];
       high = λ q lt. elim (cases_eq q k) [
         | inl e ↦
-            ap (λ i. bit_at c.with_bit-word-in-loop-k.result (2 * i + 1)) e ∙ second.same
-            ∙ ap (λ b. bit_of b) high ∙ ap (λ i. bit_of (agrees (get_or c.args.symbols.now (32 * c.args.w + i) Dash) true)) (sym e)
+            ap (λ i. bit_at c.kept_bit-word-in-loop-k.result (2 * i + 1)) e ∙ second.same
+            ∙ ap (λ x. cond c.allows-in-loop-k.result x 0) (first.others (2 * k + 1) (omega arith) (omega arith) ∙ c.loop-k.invariant.set (2 * k + 1) (omega arith) (omega arith)) ∙ ap (λ b. bit_of b) high ∙ ap (λ i. bit_of (agrees (get_or c.args.symbols.now (32 * c.args.w + i) Dash) true)) (sym e)
         | inr ne ↦
             second.others (2 * q + 1) (omega arith) (omega arith) ∙ first.others (2 * q + 1) (omega arith) (omega arith)
             ∙ c.loop-k.invariant.high q (omega arith)
