@@ -30,3 +30,5 @@ mod PrintedSteps
 mod ReadBack
 mod HandedOn
 mod Putting
+mod Runs
+mod Finds

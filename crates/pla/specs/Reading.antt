@@ -1,5 +1,6 @@
 -- Rows, symbol by symbol.
-use Rattle.std.specs.Prelude.{◌≡◌, ⊤, ℕ, List, [], ◌∷◌, ◌++◌, length, ◌==◌, if◌then◌else◌, Option, Some, None, option_to_list}
+use Rattle.std.specs.Prelude.{◌≡◌, ⊤, ℕ, ◌+◌, ◌<◌, ◌≤◌, true, List, [], ◌∷◌, ◌++◌, length, ◌==◌, if◌then◌else◌, Option, Some, None, option_to_list}
+use Rattle.std.specs.List.{list_all}
 use Rattle.cube.specs.Cube.{Cube}
 use Rattle.cube.specs.Size.{Size}
 use Rattle.pla.specs.declared.fault.FileType.{FileType}
@@ -43,6 +44,17 @@ with_row type r row = record {
 abbrev pub with_symbol : FileType → RowsRead → ℕ → RowsRead
 with_symbol type r b = let pending = r.pending ++ b ∷ [] in
     if length pending == width r.size then with_row type r pending else record r { pending = pending }
+
+-- a run of symbols
+abbrev pub with_run : FileType → RowsRead → List ℕ → RowsRead
+with_run type r run = let pending = r.pending ++ run in
+    if length pending == width r.size then with_row type r pending else record r { pending = pending }
+
+-- the bytes are symbols of their places, within the inputs or within what is behind them
+pub record IsRun (r : RowsRead) (run : List ℕ) : Type 0 where
+  pub each : list_all (λ b. is_symbol_at r.size.inputs (length r.pending) b) run ≡ true
+  pub part : length r.pending < r.size.inputs → length r.pending + length run ≤ r.size.inputs
+  pub row : 1 < length run → length r.pending + length run ≤ width r.size
 
 -- more symbols, unless one isn't of its place
 abbrev pub read_symbols : FileType → RowsRead → List ℕ → Option RowsRead

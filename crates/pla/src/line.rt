@@ -4,6 +4,7 @@ ghost use Rattle.std.specs.List.{list_any};
 ghost use Rattle.pla.specs.Lines.{is_blank, is_row_blank, kind, words, is_empty, row_code, keyword_code, keyword_words, keyword};
 ghost use Rattle.pla.specs.Keywords.{texts, number_within};
 
+use memchr::memchr;
 use std::alloc::{AllocError, Global};
 
 /// What a line is, by its first byte that is no blank.
@@ -83,7 +84,7 @@ pub fn number_in(low: usize, high: usize, words: &[&[u8]]) -> Option<usize>
 fn comment_at(line: &[u8]) -> Option<usize>
     ensures { result ≡ position (λ b. b == 35) line.now }
 {
-    line.iter().position(|b| *b == b'#')
+    memchr(b'#', line)
 }
 
 pub fn row_code_of(line: &[u8]) -> &[u8]

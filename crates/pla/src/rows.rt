@@ -1,11 +1,11 @@
 //! The symbols of row lines, cut into rows, and the cubes of the rows.
-ghost use Rattle.std.specs.Prelude.{◌≡◌, ◌++◌, [], IfErr, OnOk, Some, length, map, nat_lt, option_to_list};
+ghost use Rattle.std.specs.Prelude.{◌≡◌, ◌++◌, ◌+◌, ◌<◌, ◌≤◌, ◌^◌, [], IfErr, OnOk, Some, false, length, map, take, slice_index, nat_lt, option_to_list};
 ghost use Rattle.pla.specs.Symbols.{is_byte_of, is_symbol_at, width};
 ghost use Rattle.pla.specs.Lists.{part_symbols, input_symbol as symbol_of, cube_by};
 ghost use Rattle.pla.specs.Names.{owned_names};
 ghost use Rattle.pla.specs.Header.{type_in};
 ghost use Rattle.pla.specs.HeadView.{seen};
-ghost use Rattle.pla.specs.Reading.{rows_of, with_row, with_symbol, read_code, IsBadCode};
+ghost use Rattle.pla.specs.Reading.{rows_of, with_row, with_run, read_code, IsRun, IsBadCode};
 
 use crate::description::Pla;
 use crate::fault::{FileType, LineError, ReadKind};
@@ -48,6 +48,20 @@ fn symbol_at(n: usize, place: usize, b: u8) -> bool
     }
 }
 
+/// Where symbols from a place on end that are of one part: at the end of the inputs, or of the row.
+fn run_end(shape: Shape, place: usize) -> usize
+    requires { place < 2 ^ 63 }
+    ensures some { place < result }
+    ensures part { place < shape.inputs → result ≡ shape.inputs }
+    ensures row { place + 1 < result → result ≤ width shape }
+{
+    if place < shape.inputs() {
+        shape.inputs()
+    } else {
+        (shape.inputs() + shape.outputs()).max(place + 1)
+    }
+}
+
 /// What a byte asks of an input.
 fn input_symbol(b: u8) -> Symbol
     ensures { result ≡ symbol_of b }
@@ -86,9 +100,10 @@ impl Model for Rows {
 fn set_symbols(symbols: &mut Vec<Symbol>, bytes: &[u8]) -> Result<(), AllocError>
     ensures { OnOk result (symbols.new.items ≡ map symbol_of bytes.now) }
 {
-    symbols.clear();
-    for b in bytes {
-        symbols.push(input_symbol(*b))?;
+    symbols.resize(bytes.len(), Symbol::Dash)?;
+    let slots = symbols.as_mut_slice();
+    for i in 0..bytes.len() {
+        slots[i] = input_symbol(bytes[i]);
     }
     Ok(())
 }
@@ -102,9 +117,10 @@ fn set_outputs(
 ) -> Result<(), AllocError>
     ensures { OnOk result (outputs.new.items ≡ map (is_byte_of (part_symbols file_type part)) bytes.now) }
 {
-    outputs.clear();
-    for b in bytes {
-        outputs.push(is_in_part(file_type, part, *b))?;
+    outputs.resize(bytes.len(), false)?;
+    let slots = outputs.as_mut_slice();
+    for j in 0..bytes.len() {
+        slots[j] = is_in_part(file_type, part, bytes[j]);
     }
     Ok(())
 }
@@ -166,16 +182,32 @@ impl Rows {
         Ok(())
     }
 
-    /// Adds a symbol.
-    fn push(&mut self, file_type: FileType, b: u8) -> Result<(), AllocError>
+    /// Adds symbols that stand within a row.
+    fn push(&mut self, file_type: FileType, run: &[u8]) -> Result<(), AllocError>
         ensures size { self.new.size ≡ self.old.size }
-        ensures ok { OnOk result (self.new ≡ with_symbol file_type self.old b) }
+        ensures ok { OnOk result (self.new ≡ with_run file_type self.old run.now) }
     {
-        self.pending.push(b)?;
+        self.pending.extend_from_slice(run)?;
         if self.pending.len() == self.shape.inputs() + self.shape.outputs() {
             self.end_row(file_type)?;
         }
         Ok(())
+    }
+
+    /// How many symbols the code begins with, up to the end of the inputs or of the row.
+    fn run(&self, code: &[u8]) -> usize
+        ensures fits { result ≤ length code.now }
+        ensures run { IsRun self.now (take result code.now) }
+        ensures none { result ≡ 0 → 0 < length code.now → is_symbol_at self.now.size.inputs (length self.now.pending) (slice_index code.now 0) ≡ false }
+    {
+        let (inputs, place) = (self.shape.inputs(), self.pending.len());
+        let most = (run_end(self.shape, place) - place).min(code.len());
+        for k in 0..most {
+            if !symbol_at(inputs, place, code[k]) {
+                return k;
+            }
+        }
+        most
     }
 
     /// Takes the symbols of a row line's code.
@@ -184,10 +216,15 @@ impl Rows {
         ensures ok { OnOk result (read_code file_type self.old code.now ≡ Some self.new) }
         ensures err { IfErr result (IsBadCode file_type self.old code.now) }
     {
-        for b in code {
-            if symbol_at(self.shape.inputs(), self.pending.len(), *b) {
-                self.push(file_type, *b)?;
-            } else if !row_blank(*b) {
+        let mut rest = code;
+        while !rest.is_empty() {
+            let count = self.run(rest);
+            if count > 0 {
+                self.push(file_type, &rest[..count])?;
+                rest = &rest[count..];
+            } else if row_blank(rest[0]) {
+                rest = &rest[1..];
+            } else {
                 return Err(LineError::Fault(ReadKind::BadSymbol));
             }
         }

@@ -22,6 +22,7 @@ use crate::fault::{Echo, LineError, ReadFault, ReadKind};
 use crate::parser::Parser;
 use crate::writing::WriteFault;
 use cube::limits::{LINE_BYTES, LINES};
+use memchr::memchr;
 use std::alloc::Global;
 use std::marker::Model;
 
@@ -30,7 +31,7 @@ fn line_end(bytes: &[u8]) -> Option<usize>
     ensures { MatchOption result (NoFeed bytes.now)
         (λ end. (end < length bytes.now) × NoFeed (take end bytes.now) × (bytes.now ≡ take end bytes.now ++ 10 ∷ drop (end + 1) bytes.now)) }
 {
-    bytes.iter().position(|b| *b == b'\n')
+    memchr(b'\n', bytes)
 }
 
 /// What is wrong with so many bytes behind so many lines, whatever they are.

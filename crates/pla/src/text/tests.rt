@@ -1,7 +1,10 @@
 //! Printed texts, as the format's page gives them.
 ghost use Rattle.std.specs.Prelude.{◌≡◌, IfOk};
 
-use crate::{FileType, OutType, Pla, Sets, Taken, WriteFault, write_covers, write_pla};
+use crate::{
+    Echo, Ending, FileType, Given, OutType, Pla, Sets, Taken, WriteFault, read_pla, write_covers,
+    write_pla,
+};
 use cover::Cover;
 use cube::{Cube, Shape, Symbol};
 use std::alloc::Global;
@@ -100,38 +103,32 @@ fn row_of_the_widest_shape(rt: HostRuntime) -> Result<(), Fail> {
     Ok(())
 }
 
-// A list of so many equal cubes of the widest shape, `-` and `1` throughout.
-fn widest(alloc: Global, count: usize) -> Result<Cover, Fail> {
-    let shape = Shape::new(1024, 1024).ok_or("limits")?;
-    let inputs = vec![in alloc; Symbol::Dash; shape.inputs()]?;
-    let outputs = vec![in alloc; true; shape.outputs()]?;
-    let mut list = Cover::new(alloc, shape);
+// So many equal rows of the widest shape.
+fn widest_rows(alloc: Global, count: usize) -> Result<Vec<u8>, Fail> {
+    let mut row = vec![in alloc; b'-'; 1024]?;
+    row.push(b' ')?;
+    row.extend_from_slice(&[b'1'; 1024])?;
+    row.push(b'\n')?;
+    let mut rows = Vec::new(alloc);
     for _ in 0..count {
-        let cube = Cube::from_symbols(alloc, shape, inputs.as_slice(), outputs.as_slice())?;
-        list.push(cube.ok_or("no output")?)
-            .map_err(|_| "no memory")?;
+        rows.extend_from_slice(&row)?;
     }
-    Ok(list)
+    Ok(rows)
 }
 
 #[test]
 fn text_longer_than_what_is_written_at_once(rt: HostRuntime) -> Result<(), Fail> {
-    let pla = description(rt.alloc(), widest(rt.alloc(), 40)?);
-    let (done, out) = echo(rt.alloc(), &pla, 100_000)?;
+    let alloc = rt.alloc();
+    let rows = widest_rows(alloc, 40)?;
+    let mut text = b".i 1024\n.o 1024\n.p 40\n".to_vec(alloc)?;
+    text.extend_from_slice(&rows)?;
+    text.extend_from_slice(b".e\n")?;
+    let mut input = Given::new(text.to_vec(alloc)?, 4096, Ending::End);
+    let mut out = Taken::new(alloc, 100_000, 5000, false)?;
+    let pla = read_pla(alloc, &mut input, &mut out, Echo::Keep).map_err(|_| "a fault")?;
+    let done = write_covers(&pla, OutType::F, pla.on(), pla.dc(), pla.off(), &mut out);
     assert_eq!(rt; done, Ok(()));
-    let (head, rows) = out.bytes().split_at_checked(22).ok_or("short")?;
-    assert_eq!(rt; head, b".i 1024\n.o 1024\n.p 40\n".as_slice());
-    assert_eq!(rt; rows.len(), 40 * 2050 + 3);
-    for (i, byte) in rows.iter().enumerate() {
-        let expected = match i % 2050 {
-            _ if i >= 40 * 2050 => continue,
-            1024 => b' ',
-            2049 => b'\n',
-            at if at < 1024 => b'-',
-            _ => b'1',
-        };
-        assert_eq!(rt; *byte, expected);
-    }
+    assert!(rt; out.bytes() == text.as_slice());
     Ok(())
 }
 
