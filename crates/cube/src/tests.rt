@@ -87,6 +87,40 @@ fn is_text(cube: &Cube, text: Text) -> bool {
     true
 }
 
+fn byte_of(symbol: Symbol) -> u8 {
+    match symbol {
+        Symbol::Dash => b'-',
+        Symbol::Zero => b'0',
+        Symbol::One => b'1',
+    }
+}
+
+// Whether the cube puts bytes for just these symbols, and leaves what follows.
+fn puts_symbols(cube: &Cube, symbols: &[Symbol]) -> bool {
+    let inputs = cube.shape().inputs();
+    let mut row = [7u8; 1025];
+    cube.put_symbols(&mut row, b'-', b'0', b'1');
+    for i in 0..inputs.min(symbols.len()) {
+        if row[i] != byte_of(symbols[i]) {
+            return false;
+        }
+    }
+    inputs == symbols.len() && row[inputs] == 7
+}
+
+// The same for outputs.
+fn puts_outputs(cube: &Cube, outputs: &[bool]) -> bool {
+    let count = cube.shape().outputs();
+    let mut row = [7u8; 1025];
+    cube.put_outputs(&mut row, b'4', b'~');
+    for j in 0..count.min(outputs.len()) {
+        if row[j] != if outputs[j] { b'4' } else { b'~' } {
+            return false;
+        }
+    }
+    count == outputs.len() && row[count] == 7
+}
+
 #[test]
 fn reads_back(rt: HostRuntime) -> Result<(), Fail> {
     let c = cube(rt.alloc(), ("-01-0", "101"))?;
@@ -96,6 +130,11 @@ fn reads_back(rt: HostRuntime) -> Result<(), Fail> {
     assert!(rt; !is_text(&c, ("-01-1", "101")));
     let again = c.try_clone()?;
     assert!(rt; is_text(&again, ("-01-0", "101")));
+    let mut row = *b"........";
+    c.put_symbols(&mut row, b'd', b'z', b'o');
+    assert!(rt; row == *b"dzodz...");
+    c.put_outputs(&mut row, b'+', b'-');
+    assert!(rt; row == *b"+-+dz...");
     Ok(())
 }
 
@@ -435,6 +474,9 @@ fn row_agrees(cube: &Cube, row: &Row) -> Result<bool, Fail> {
         return Ok(false);
     }
     if !finds_literals(cube, symbols) {
+        return Ok(false);
+    }
+    if !puts_symbols(cube, symbols) || !puts_outputs(cube, outputs) {
         return Ok(false);
     }
     let again = cube.try_clone()?;
