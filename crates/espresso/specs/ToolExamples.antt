@@ -1,5 +1,5 @@
 -- Answers of the tool to small files, computed.
-use Rattle.std.specs.Prelude.{◌≡◌, ℕ, List, [], ◌∷◌, None, codes, refl}
+use Rattle.std.specs.Prelude.{◌≡◌, ℕ, List, [], ◌∷◌, None, Some, codes, refl}
 use Rattle.std.specs.Fmt.{digits}
 use Rattle.pla.specs.declared.ending.Ending.TheVariants.{End, Failed}
 use Rattle.pla.specs.Fault.{fault_in, is_past_limit, is_too_long, is_refused, is_inside_row, is_repeated, is_bad_number, is_name_too_early, is_wrong_count, is_type_too_late, is_bad_type, is_row_too_early, is_bad_symbol}
@@ -48,3 +48,40 @@ a_closed_file = refl
 
 no_words : tool [] Closed None ≡ faulty [] (codes "usage: espresso -Dcommand [-o type] [-e eat] [file [file]]\n")
 no_words = refl
+
+-- ---- two files
+
+-- the words of a command on the files a and b
+abbrev on_two : List ℕ → List (List ℕ)
+on_two word = word ∷ codes "a" ∷ codes "b" ∷ []
+
+-- one input, one output, a row, behind a comment
+abbrev one_input : File
+one_input = Delivered (codes "# x\n.i 1\n.o 1\n1 1\n.e\n") End
+
+a_second_file_closed : tool (on_two (codes "-Dverify")) one_input (Some Closed) ≡ faulty (codes "# x\n") (codes "espresso: cannot open b\n")
+unfolding digits fault_in is_past_limit is_too_long is_refused is_inside_row is_repeated is_bad_number is_name_too_early is_wrong_count is_type_too_late is_bad_type is_row_too_early is_bad_symbol
+a_second_file_closed = refl
+
+a_first_file_closed : tool (on_two (codes "-Dverify")) Closed (Some one_input) ≡ faulty [] (codes "espresso: cannot open a\n")
+unfolding digits fault_in is_past_limit is_too_long is_refused is_inside_row is_repeated is_bad_number is_name_too_early is_wrong_count is_type_too_late is_bad_type is_row_too_early is_bad_symbol
+a_first_file_closed = refl
+
+a_second_file_at_fault : tool (on_two (codes "-Dsharp")) one_input (Some commented) ≡ faulty (codes "# x\n# a\n.foo x\n# b\n") (codes "espresso: b:6: bad symbol\n")
+unfolding digits fault_in is_past_limit is_too_long is_refused is_inside_row is_repeated is_bad_number is_name_too_early is_wrong_count is_type_too_late is_bad_type is_row_too_early is_bad_symbol
+a_second_file_at_fault = refl
+
+other_sizes : tool (on_two (codes "-Dverify")) one_input (Some (Delivered (codes "# y\n.i 2\n.o 1\n") End)) ≡ faulty (codes "# x\n# y\n") (codes "espresso: sizes differ\n")
+unfolding digits fault_in is_past_limit is_too_long is_refused is_inside_row is_repeated is_bad_number is_name_too_early is_wrong_count is_type_too_late is_bad_type is_row_too_early is_bad_symbol
+other_sizes = refl
+
+-- the place 01 is left open by the first file
+open_place : tool (on_two (codes "-Dverify")) (Delivered (codes ".i 2\n.o 1\n11 1\n01 -\n.e\n") End) (Some (Delivered (codes ".i 2\n.o 1\n-1 1\n.e\n") End))
+    ≡ printed (codes "PLAs compared equal\n")
+unfolding digits fault_in is_past_limit is_too_long is_refused is_inside_row is_repeated is_bad_number is_name_too_early is_wrong_count is_type_too_late is_bad_type is_row_too_early is_bad_symbol
+open_place = refl
+
+the_first_alone : tool (on_two (codes "-Dsharp")) (Delivered (codes ".i 2\n.o 1\n-- 1\n.e\n") End) (Some (Delivered (codes ".i 2\n.o 1\n11 1\n.e\n") End))
+    ≡ printed (codes ".i 2\n.o 1\n.p 2\n-0 1\n0- 1\n.e\n")
+unfolding digits fault_in is_past_limit is_too_long is_refused is_inside_row is_repeated is_bad_number is_name_too_early is_wrong_count is_type_too_late is_bad_type is_row_too_early is_bad_symbol
+the_first_alone = refl

@@ -1,8 +1,8 @@
 //! espresso: a two-level logic tool on PLA files.
 //!
-//! A command line names a command and a file. [`Line::read`] takes the words after the program's name, and
-//! [`run`] reads the file, passes its comments on, and prints what the command answers; where the words
-//! say no line, [`refuse`] says so. Together they answer what `specs/Tool.antt` defines as `tool`: what
+//! A command line names a command and a file, or two files that are read one behind the other.
+//! [`Line::read`] takes the words after the program's name, and [`run`] reads the files, passes their
+//! comments on, and prints what the command answers; where the words say no line, [`refuse`] says so. Together they answer what `specs/Tool.antt` defines as `tool`: what
 //! goes to standard output, the one line that may go to standard error, and the exit status.
 //!
 //! With the file
@@ -27,7 +27,7 @@
 //! .e
 //! ```
 //!
-//! A run reads its file once, in pieces of 4,096 bytes, and holds its rows as packed cubes.
+//! A run reads each file once, in pieces of 4,096 bytes, and holds its rows as packed cubes.
 #![tactic(auto)]
 
 mod answer;

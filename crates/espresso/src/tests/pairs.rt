@@ -165,72 +165,57 @@ fn the_places_of_both_files_are_printed(rt: HostRuntime) -> Result<(), Fail> {
     )
 }
 
-#[test]
-fn files_of_other_sizes_are_not_compared(rt: HostRuntime) -> Result<(), Fail> {
-    let one = "# x\n.i 1\n.o 1\n1 1\n.e\n";
-    for second in ["# y\n.i 2\n.o 1\n11 1\n.e\n", "# y\n.i 1\n.o 2\n1 11\n.e\n"] {
-        let pair = Pair {
-            words: &["-Dverify", "a", "b"],
-            first: one,
-            second: Some(second),
-            output: "# x\n# y\n",
-            message: "espresso: sizes differ\n",
-            code: 2,
-        };
-        check_pair(&rt, rt.alloc(), &pair)?;
-    }
-    Ok(())
+// The words on these texts must stop with this message, behind this output.
+fn check_stop(
+    rt: &impl Abort,
+    alloc: Global,
+    words: &[&str],
+    first: &str,
+    second: Option<&str>,
+    output: &str,
+    message: &str,
+) -> Result<(), Fail> {
+    let pair = Pair {
+        words,
+        first,
+        second,
+        output,
+        message,
+        code: 2,
+    };
+    check_pair(rt, alloc, &pair)
 }
 
 #[test]
 fn the_second_file_is_asked_for_behind_the_first(rt: HostRuntime) -> Result<(), Fail> {
+    let alloc = rt.alloc();
     let one = "# x\n.i 1\n.o 1\n1 1\n.e\n";
-    for (words, first, second, output, message) in [
-        (
-            ["-Dverify", "a", "b"],
-            one,
-            None,
-            "# x\n",
-            "espresso: cannot open b\n",
-        ),
-        (
-            ["-Dsharp", "a", "b"],
-            one,
-            Some("# y\n.i 2\n.o 1\n1? 1\n"),
-            "# x\n# y\n",
-            "espresso: b:4: bad symbol\n",
-        ),
-        (
-            ["-Dintersect", "a", "-"],
-            one,
-            Some("# y\n? 1\n"),
-            "# x\n# y\n",
-            "espresso: (stdin):2: row before .i and .o\n",
-        ),
-        (
-            ["-Dverify", "-", "b"],
-            "",
-            Some(one),
-            "",
-            "espresso: (stdin):0: .i or .o missing\n",
-        ),
-        (
-            ["-Dverify", "a", "b"],
-            "# x\n.mv\n",
-            None,
-            "# x\n",
-            "espresso: a:2: keyword outside the profile\n",
-        ),
-    ] {
-        let pair = Pair {
-            words: &words,
-            first,
-            second,
-            output,
-            message,
-            code: 2,
-        };
-        check_pair(&rt, rt.alloc(), &pair)?;
-    }
-    Ok(())
+    let both = "# x\n# y\n";
+    let words = ["-Dverify", "a", "b"];
+    let message = "espresso: cannot open b\n";
+    check_stop(&rt, alloc, &words, one, None, "# x\n", message)?;
+    let second = "# y\n.i 2\n.o 1\n1? 1\n";
+    let message = "espresso: b:4: bad symbol\n";
+    check_stop(&rt, alloc, &words, one, Some(second), both, message)?;
+    let message = "espresso: a:2: keyword outside the profile\n";
+    check_stop(&rt, alloc, &words, "# x\n.mv\n", None, "# x\n", message)?;
+    let words = ["-Dintersect", "a", "-"];
+    let message = "espresso: (stdin):2: row before .i and .o\n";
+    check_stop(&rt, alloc, &words, one, Some("# y\n? 1\n"), both, message)?;
+    let words = ["-Dsharp", "-", "b"];
+    let message = "espresso: (stdin):0: .i or .o missing\n";
+    check_stop(&rt, alloc, &words, "", Some(one), "", message)
+}
+
+#[test]
+fn files_of_other_sizes_are_not_compared(rt: HostRuntime) -> Result<(), Fail> {
+    let alloc = rt.alloc();
+    let one = "# x\n.i 1\n.o 1\n1 1\n.e\n";
+    let both = "# x\n# y\n";
+    let words = ["-Dverify", "a", "b"];
+    let message = "espresso: sizes differ\n";
+    let inputs = "# y\n.i 2\n.o 1\n11 1\n.e\n";
+    check_stop(&rt, alloc, &words, one, Some(inputs), both, message)?;
+    let outputs = "# y\n.i 1\n.o 2\n1 11\n.e\n";
+    check_stop(&rt, alloc, &words, one, Some(outputs), both, message)
 }

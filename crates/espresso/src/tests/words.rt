@@ -46,6 +46,11 @@ fn words_of_a_line_are_taken_in_any_order(rt: HostRuntime) -> Result<(), Fail> {
     assert!(rt; !line.pair());
     assert_eq!(rt; line.files().len(), 1);
     assert_eq!(rt; line.files()[0].as_str(), "-x");
+    for words in [["-Dverify", "-ofr", "a", "-"], ["-Dsharp", "-of", "-", "b"]] {
+        let line = line_of(alloc, &words)?;
+        assert!(rt; line.pair());
+        assert_eq!(rt; line.files().len(), 2);
+    }
     Ok(())
 }
 
@@ -75,6 +80,13 @@ fn words_that_say_no_line_are_a_usage_fault(rt: HostRuntime) -> Result<(), Fail>
         "-Decho -Decho",
         "-- -Decho",
         "-Decho a b",
+        "-Dverify",
+        "-Dverify a",
+        "-Dverify - -",
+        "-Dverify a -- - -",
+        "-Dverify a b c",
+        "-Dsharp -o fd a b",
+        "-Dintersect -ofr a b",
         "-Decho - -",
         "-Decho -o r",
         "-Decho -of -of",
