@@ -11,7 +11,7 @@ use Rattle.cover.specs.Places.{places}
 use Rattle.cover.specs.Complete.{literal, at_input, at_both, at_either}
 use Rattle.cover.specs.Marks.{is_symbol}
 use Rattle.cover.specs.Parts.{part, has_literal}
-use Rattle.cover.specs.Reduced.{IsMeets, IsBranch, IsAbsorbed}
+use Rattle.cover.specs.Reduced.{IsMeets, IsBranch, IsAbsorbed, IsThinned, HasSameCubes}
 use Rattle.cover.proofs.Lists.{all_members, members_all, list_any_from, list_any_witness}
 use Rattle.cover.proofs.SumParts.{AreCubes-part, places-at_input, Frees-part, Frees-append, Frees-less}
 use Rattle.cover.proofs.SumMeets.{places-append}
@@ -37,13 +37,23 @@ module _ (cubes kept : List Cube) (within : (c : Cube) → Contains kept c → C
       let test = λ (c : Cube). not (is_symbol Dash (get_or c.symbols k Dash)) in
       list_any_false test kept (λ c m t. list_any_none test cubes c h (within c m) t)
 
+pub IsBranch-thinned : (size : Size) (i : ℕ) (cubes : List Cube) (s : Place → Bool) (all kept : List Cube) → IsBranch size i cubes s all
+    → IsThinned all kept → IsBranch size i cubes s kept
+IsBranch-thinned size i cubes s all kept branch thinned = record {
+  are_cubes = members_all (IsCube size) kept (λ c h. all_members (IsCube size) all branch.are_cubes c (thinned.within c h));
+  places = λ p. places-kept all kept thinned.within thinned.over p ∙ branch.places p;
+  frees = Frees-less i cubes all kept (has_literal-kept all kept thinned.within thinned.over) branch.frees;
+}
+
+pub IsThinned-absorbed : (cubes kept : List Cube) → IsAbsorbed cubes kept → IsThinned cubes kept
+IsThinned-absorbed cubes kept h = record { within = h.within; over = h.over }
+
+pub IsThinned-same : (cubes kept : List Cube) → HasSameCubes cubes kept → IsThinned cubes kept
+IsThinned-same cubes kept same = record { within = λ c h. (same c).1 h; over = λ c h. (c, (same c).0 h, λ p k. k) }
+
 pub IsBranch-absorbed : (size : Size) (i : ℕ) (cubes : List Cube) (s : Place → Bool) (all kept : List Cube) → IsBranch size i cubes s all
     → IsAbsorbed all kept → IsBranch size i cubes s kept
-IsBranch-absorbed size i cubes s all kept branch absorbed = record {
-  are_cubes = members_all (IsCube size) kept (λ c h. all_members (IsCube size) all branch.are_cubes c (absorbed.within c h));
-  places = λ p. places-kept all kept absorbed.within absorbed.over p ∙ branch.places p;
-  frees = Frees-less i cubes all kept (has_literal-kept all kept absorbed.within absorbed.over) branch.frees;
-}
+IsBranch-absorbed size i cubes s all kept branch absorbed = IsBranch-thinned size i cubes s all kept branch (IsThinned-absorbed all kept absorbed)
 
 module _ (size : Size) (i : ℕ) (lt : i < size.inputs) (cubes : List Cube) (h : AreCubes size cubes) where
   pub IsBranch-value : (b : Bool) → IsBranch size i cubes (at_input i b (places cubes)) (part i Dash cubes ++ part i (literal b) cubes)

@@ -1,15 +1,15 @@
 -- A complete sum holds the places of its set, and no others.
-use Rattle.std.proofs.Common.{◌≡◌, ◌≢◌, ◌≤◌, ℕ, ◌<◌, Bool, true, false, not, ◌&&◌, List, [], ◌∷◌, length, map, replicate, get_or, set, refl, ap, ap₂, sym, subst, ◌∙◌, arith, inl, inr, ◌⊎◌}
+use Rattle.std.proofs.Common.{◌≡◌, ◌≢◌, ℕ, Bool, true, false, not, List, [], ◌∷◌, map, replicate, get_or, set, refl, ap, ap₂, sym, ◌∙◌, arith, inl, inr}
 use Rattle.std.proofs.lemmas.Bool.{cases_Bool, cases_lt, false≢true, and_parts, and_from, not-true, not_from_false}
 use Rattle.std.proofs.lemmas.List.{length-map, length-set, length-replicate, get_or-replicate, get_or-set_same, get_or-set_other, get_or_past}
 use Rattle.cube.specs.Size.{Size}
 use Rattle.cube.specs.Pattern.{agrees, matches}
-use Rattle.cube.specs.Cube.{Cube, Place, holds, HasSize, IsCube, IsPlace, IsSubset}
+use Rattle.cube.specs.Cube.{Cube, Place, holds, IsCube, IsPlace, IsSubset}
 use Rattle.cube.specs.Sum.{complete_sum}
 use Rattle.cube.proofs.SharpLemmas.{true_some}
 use Rattle.cube.proofs.SumLemmas.{Contains-complete_sum, IsPlace-from_holds, complete_sum-over}
 use Rattle.cover.specs.Complete.{literal}
-use Rattle.cover.specs.Places.{holds_all, is_disjoint, places, share_place, universal}
+use Rattle.cover.specs.Places.{holds_all, places, share_place, universal}
 use Rattle.cover.proofs.Everywhere.{HasSize-universal, holds_all-universal}
 use Rattle.cover.proofs.Lists.{list_any_from, list_any_witness}
 use Rattle.cover.proofs.Meeting.{is_disjoint-from_fact}

@@ -28,6 +28,11 @@ pub record IsBranch (size : Size) (i : ℕ) (cubes : List Cube) (s : Place → B
   pub places : (p : Place) → places branch p ≡ s p
   pub frees : Frees i cubes branch
 
+-- a part of the list in which each of its cubes lies
+pub record IsThinned (cubes kept : List Cube) : Type 0 where
+  pub within : (c : Cube) → Contains kept c → Contains cubes c
+  pub over : (c : Cube) → Contains cubes c → (d : Cube) × Contains kept d × IsSubset (holds c) (holds d)
+
 -- a part of the list in row order in which each of its cubes lies, and none in one before it
 pub record IsAbsorbed (cubes kept : List Cube) : Type 0 where
   pub rising : IsStrictlySortedBy row_cmp kept

@@ -89,6 +89,24 @@ fn row_by_row(
     }
 }
 
+// At most so many rows are looked at to choose an input.
+const SAMPLE: usize = 64;
+
+// Rows from all over the list, at most [`SAMPLE`].
+fn sample<'a>(alloc: Global, shape: Shape, rows: &[&'a Cube]) -> Result<Vec<&'a Cube>, AllocError>
+    requires { All (λ d. HasSize d.now shape) rows.now }
+    ensures { IfOk result (λ some. All (λ d. HasSize d.now shape) some.items) }
+{
+    let step = rows.len() / SAMPLE + 1;
+    let mut some = Vec::new(alloc);
+    for k in 0..SAMPLE {
+        if let Some(row) = rows.get(k.saturating_mul(step)) {
+            some.push(*row)?;
+        }
+    }
+    Ok(some)
+}
+
 // How many pairs of a row of each list have opposite literals at input `i`.
 fn opposites(rows: &Tally, others: &Tally, i: usize) -> u64
     requires { All (λ n. i < n) (length rows.now.zeros.items ∷ length rows.now.ones.items ∷ length others.now.zeros.items ∷ length others.now.ones.items ∷ []) }
@@ -98,7 +116,8 @@ fn opposites(rows: &Tally, others: &Tally, i: usize) -> u64
     low.saturating_add(high)
 }
 
-// The input at which most pairs of a row of each list have opposite literals, if some have.
+// The input at which most pairs of a row of each list have opposite literals, as far as some of the
+// rows tell, if some have.
 fn parting_input(
     alloc: Global,
     shape: Shape,
@@ -109,8 +128,9 @@ fn parting_input(
     requires others { All (λ d. HasSize d.now shape) others.now }
     ensures { IfOk result (λ found. IfSome found (λ i. i < shape.inputs)) }
 {
-    let mine = Tally::of(alloc, rows, shape.inputs())?;
-    let theirs = Tally::of(alloc, others, shape.inputs())?;
+    let (some, others) = (sample(alloc, shape, rows)?, sample(alloc, shape, others)?);
+    let mine = Tally::of(alloc, &some, shape.inputs())?;
+    let theirs = Tally::of(alloc, &others, shape.inputs())?;
     let mut best = None;
     let mut most = 0u64;
     for i in 0..shape.inputs() {

@@ -7,7 +7,7 @@ ghost use Rattle.cover.specs.Places.{places};
 
 use crate::list::Cover;
 use crate::sum_absorb::reduced;
-use crate::sum_branch::{at_both_values, at_either_value, at_value};
+use crate::sum_branch::{at_both_values, at_either_value, at_value, thin_at_value};
 use crate::sum_choice::{choose, is_unate};
 use crate::sum_leaf::free_sum;
 use crate::sum_parts::meets;
@@ -34,7 +34,7 @@ fn sum_between(
         if inner.len() == 1 {
             return Ok(inner);
         }
-        if is_unate(shape, &inner) {
+        if is_unate(shape, &inner)? {
             return reduced(alloc, shape, inner);
         }
     }
@@ -45,10 +45,10 @@ fn sum_between(
             let both_outer = at_either_value(alloc, shape, &outer, i)?;
             let both = sum_between(alloc, shape, both_inner, both_outer)?;
             let low_inner = at_value(alloc, shape, &inner, i, false)?;
-            let low_outer = at_value(alloc, shape, &outer, i, false)?;
+            let low_outer = thin_at_value(alloc, shape, &outer, i, false)?;
             let low = sum_between(alloc, shape, low_inner, low_outer)?;
             let high_inner = at_value(alloc, shape, &inner, i, true)?;
-            let high_outer = at_value(alloc, shape, &outer, i, true)?;
+            let high_outer = thin_at_value(alloc, shape, &outer, i, true)?;
             let high = sum_between(alloc, shape, high_inner, high_outer)?;
             merge_three(alloc, shape, i, both, low, high)
         }

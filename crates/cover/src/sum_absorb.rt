@@ -4,11 +4,14 @@ ghost use Rattle.std.specs.List.Sorted.{IsStrictlySortedBy};
 ghost use Rattle.cube.specs.Cube.{SameSize, IsSubset, holds, Cube as Row};
 ghost use Rattle.cube.specs.Order.{row_cmp as row_order};
 ghost use Rattle.cover.specs.Cubes.{AreCubes};
-ghost use Rattle.cover.specs.Reduced.{IsAbsorbed};
+ghost use Rattle.cover.specs.Reduced.{IsAbsorbed, IsThinned};
 
 use crate::sum_rows::sorted;
 use cube::{Cube, Shape};
 use std::alloc::{AllocError, Global};
+
+// So many rows are not looked at pair by pair for a smaller list alone.
+const MANY: usize = 128;
 
 // Whether the row lies in one of the kept rows.
 fn is_covered(kept: &[Cube], row: &Cube) -> bool
@@ -38,6 +41,19 @@ fn absorb(alloc: Global, shape: Shape, rows: &[Cube]) -> Result<Vec<Cube>, Alloc
         }
     }
     Ok(kept)
+}
+
+/// The rows without some of those that lie in others: of few rows none is left that lies in one
+/// before it in row order, of many only the repeated ones leave, since each pair is looked at.
+pub(crate) fn thinned(alloc: Global, shape: Shape, rows: Vec<Cube>) -> Result<Vec<Cube>, AllocError>
+    requires { AreCubes shape rows.items }
+    ensures { IfOk result (λ kept. IsThinned rows.items kept.items) }
+{
+    let rows = sorted(alloc, shape, rows)?;
+    if rows.len() > MANY {
+        return Ok(rows);
+    }
+    absorb(alloc, shape, &rows)
 }
 
 /// The rows in row order, without those that lie in one before them.

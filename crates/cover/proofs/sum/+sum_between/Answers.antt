@@ -21,9 +21,9 @@ returns-then-len-eq1 t c =
     (sym c.args.inner.ok.0 ∙ (sym c.len.ensures ∙ c.if-len-eq1.true))
     (sym c.args.outer.ok.0 ∙ eqb-true (vec_len c.args.outer) 0 (sym c.is_empty-2.ensures ∙ c.if-is_empty-2.true))
 
-pub returns-then-is_unate : goal.returns-then-is_unate
-returns-then-is_unate t c =
-    let unate = subst (IsUnate c.args.shape) c.deref.ensures.value (c.is_unate.ensures c.if-is_unate.true) in
+pub returns-then-branch : goal.returns-then-branch
+returns-then-branch t c =
+    let unate = subst (IsUnate c.args.shape) c.deref.ensures.value (c.in_ok-is_unate.ensures c.if-branch.true) in
     IfOk-weaker c.reduced.result _ _ (λ rows h. complete_sum-no_outer c.args.shape rows.items c.args.inner.items c.args.outer.items (nothing_left c.args.outer.items (sym c.args.outer.ok.0 ∙ eqb-true (vec_len c.args.outer) 0 (sym c.is_empty-2.ensures ∙ c.if-is_empty-2.true)))
     (complete_sum-unate c.args.shape c.args.inner.items rows.items c.requires.inner unate h)) c.reduced.ensures
 
