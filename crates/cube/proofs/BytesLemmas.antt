@@ -1,13 +1,12 @@
 -- What a row of bytes is after one more was put.
-use Rattle.std.proofs.Common.{◌≡◌, ℕ, ◌+◌, ◌-◌, ◌*◌, ◌/◌, ◌%◌, ◌^◌, ◌<◌, ◌≤◌, Bool, true, false, cond, eqb, bit_and, List, [], ◌∷◌, ◌++◌, length, take, drop, map, get_or, slice_get, slice_set, Some, refl, ap, sym, ◌∙◌, append_assoc, arith}
+use Rattle.std.proofs.Common.{◌≡◌, ℕ, ◌+◌, ◌*◌, ◌/◌, ◌%◌, ◌^◌, ◌<◌, ◌≤◌, Bool, false, bit_and, List, [], ◌∷◌, ◌++◌, length, take, drop, map, get_or, slice_set, refl, ap, sym, ◌∙◌, append_assoc, arith}
 use Rattle.std.proofs.lemmas.List.{map_more, drop-drop, set-append_right, length-take-le, length-map, length-drop}
-use Rattle.std.proofs.lemmas.Option.{get_or_from_slice_get}
 use Rattle.std.proofs.lemmas.Nat.Bits.{shr_and_one}
 use Rattle.std.specs.Int.{bit_at}
 use Rattle.cube.specs.declared.symbol.Symbol.{Symbol}
 use Rattle.cube.specs.declared.symbol.Symbol.TheVariants.{Dash}
 use Rattle.cube.specs.Pattern.{agrees}
-use Rattle.cube.specs.Packing.{PacksInputs, PacksOutputs, bit_of, symbol_of, high_bit}
+use Rattle.cube.specs.Packing.{PacksInputs, PacksOutputs, bit_of, symbol_of}
 use Rattle.cube.proofs.PackingLemmas.{low_of_inputs, high_of_inputs, bit_of_outputs, symbol_of-agrees}
 
 -- the byte of one more element is put behind those of the first i

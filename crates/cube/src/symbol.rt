@@ -27,10 +27,6 @@ impl Symbol {
     pub(crate) fn allows(self, bit: bool) -> bool
         ensures { result ≡ agrees self bit }
     {
-        match self {
-            Symbol::Dash => true,
-            Symbol::Zero => !bit,
-            Symbol::One => bit,
-        }
+        self as u8 != if bit { 1 } else { 2 }
     }
 }

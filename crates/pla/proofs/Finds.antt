@@ -1,5 +1,5 @@
 -- A search for a byte, as a position.
-use Rattle.std.proofs.Common.{◌≡◌, ℕ, ◌<◌, ◌≤◌, Bool, true, false, cond, List, ◌∷◌, ◌++◌, ◌+◌, length, take, drop, get_or, take-append-drop, Option, Some, None, refl, ap, sym, ◌∙◌, arith, eqb, ltb}
+use Rattle.std.proofs.Common.{◌≡◌, ℕ, ◌<◌, Bool, true, false, cond, List, ◌∷◌, ◌++◌, ◌+◌, length, take, drop, get_or, take-append-drop, Option, Some, None, refl, ap, sym, ◌∙◌, arith, eqb, ltb}
 use Rattle.std.specs.List.{position, position_or_len}
 use Rattle.std.proofs.lemmas.Bool.{cond-true, cond-false, lt-ltb, le-ltb, eqb-true}
 use Rattle.std.specs.Prelude.{MatchOption}

@@ -42,9 +42,9 @@ fn symbol_at(n: usize, place: usize, b: u8) -> bool
     ensures { result ≡ is_symbol_at n place b }
 {
     if place < n {
-        matches!(b, b'0' | b'1' | b'2' | b'-')
+        (b'0' <= b && b <= b'2') | (b == b'-')
     } else {
-        matches!(b, b'0' | b'1' | b'2' | b'3' | b'4' | b'-' | b'~')
+        (b'0' <= b && b <= b'4') | (b == b'-') | (b == b'~')
     }
 }
 

@@ -1,4 +1,4 @@
-use Rattle.std.proofs.Common.{◌≡◌, ◌≢◌, ◌<◌, ◌/◌, ◌%◌, ◌^◌, ℕ, Bool, true, false, cond, bit_and, get_or, length, ap, sym, ◌∙◌, arith}
+use Rattle.std.proofs.Common.{◌≡◌, ◌≢◌, ◌<◌, ◌/◌, ◌%◌, ◌^◌, ℕ, Bool, true, false, cond, bit_and, get_or, length, ◌∙◌, arith}
 use Rattle.cube.specs.Packing.{bit_of}
 use Rattle.cube.proofs.BytesLemmas.{put_more, output_read}
 use Rattle.cube.proofs.cube.Cube.put_outputs.Goals as goal

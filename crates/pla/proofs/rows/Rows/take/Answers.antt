@@ -1,4 +1,4 @@
-use Rattle.std.proofs.Common.{◌≡◌, ◌<◌, length, take, drop, ap, ◌∙◌, arith}
+use Rattle.std.proofs.Common.{◌<◌, length, take, ap, ◌∙◌, arith}
 use Rattle.std.proofs.lemmas.List.{length-take-le}
 use Rattle.pla.specs.Reading.{read_code}
 use Rattle.pla.proofs.Moves.{drop_is}
