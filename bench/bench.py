@@ -176,7 +176,7 @@ def measured(program, words, feed=None):
 
 def comment_stream(pipe):
     """Two gigabytes of comment lines, and then an empty description."""
-    block = b"# a comment that is thrown away\n" * 32768
+    block = (b"# a comment that is thrown away" + b"." * 168 + b"\n") * 5243
     for _ in range(2 * 2 ** 30 // len(block) // 32):
         for _ in range(32):
             pipe.write(block)
