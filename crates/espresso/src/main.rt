@@ -5,6 +5,23 @@
 //! comments on, and prints what the command answers; where the words say no line, [`refuse`] says so. Together they answer what `specs/Tool.antt` defines as `tool`: what
 //! goes to standard output, the one line that may go to standard error, and the exit status.
 //!
+//! Some commands print a PLA, with the lists that the output type asks for:
+//!
+//! - `echo`, as it was read;
+//! - `contain`, without the cubes that lie in others of its ON list;
+//! - `primes`, with the primes for its ON list;
+//! - `essen`, with the essential primes;
+//! - `exact`, with the least cover by primes: the shortest, of these under `--literals` the one with the
+//!   fewest literals, and of these the first;
+//! - `intersect`, with the places in both files' ON-sets;
+//! - `sharp`, with the places in the first file's ON-set and not in the second's.
+//!
+//! The others say yes or no, and a no is told by the status too:
+//!
+//! - `check`, whether the three sets part the space, with a line for each flaw;
+//! - `tautology`, whether the ON-set is everything;
+//! - `verify`, whether two files agree outside their DC-sets.
+//!
 //! With the file
 //!
 //! ```text

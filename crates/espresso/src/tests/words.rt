@@ -94,6 +94,11 @@ fn words_that_say_no_line_are_a_usage_fault(rt: HostRuntime) -> Result<(), Fail>
         "-Decho -eeat -eeat",
         "-Decho -s",
         "-Decho -h",
+        "-Dprimes --literals",
+        "-Dexact --literals --literals",
+        "-Dexact --literals=1",
+        "-Dexact --lit",
+        "-Dexact -o r",
         "--help",
     ] {
         check_refused(&rt, alloc, line)?;
