@@ -2,8 +2,9 @@
 //!
 //! A command line names a command and a file, or two files that are read one behind the other.
 //! [`Line::read`] takes the words after the program's name, and [`run`] reads the files, passes their
-//! comments on, and prints what the command answers; where the words say no line, [`refuse`] says so. Together they answer what `specs/Tool.antt` defines as `tool`: what
-//! goes to standard output, the one line that may go to standard error, and the exit status.
+//! comments on, and prints what the command answers; where the words say no line, [`refuse`] says so.
+//! Together they answer what `specs/Tool.antt` defines as `tool`: what goes to standard output, the one
+//! line that may go to standard error, and the exit status.
 //!
 //! Some commands print a PLA, with the lists that the output type asks for:
 //!
