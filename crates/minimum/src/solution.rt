@@ -5,6 +5,9 @@ ghost use Rattle.cover.specs.Places.{places};
 ghost use Rattle.minimum.specs.Primes.{primes_of, chosen, exact_of, essential_of, is_essential};
 ghost use Rattle.minimum.specs.Rivals.{touches_cube, is_rival};
 
+#[cfg(test)]
+mod tests;
+
 use crate::choice::Choice;
 use crate::implicants::primes;
 use crate::reduction::reduce;
