@@ -1,4 +1,17 @@
 //! Complete sums.
+//!
+//! The complete sum of the places of one list without those of another is found from three smaller
+//! ones. At an input, the cubes of the sum without a literal there are the complete sum of the
+//! places that are inside at both values; those with `0` are the cubes of the sum at `0` that are
+//! not among the first, and those with `1` likewise. The lists at both values are the cubes without
+//! a literal at the input with the meets of those with `0` and those with `1`, and of the list that
+//! is taken away the cubes with either. The recursion over both cofactors and their product is that
+//! of Coudert and Madre (Implicit and Incremental Computation of Primes and Essential Primes of
+//! Boolean Functions, 1992); they keep the sets as decision diagrams, and here they are lists of
+//! cubes. So no products of primes are formed, and no prime is compared with the others: each merge
+//! takes time in the lengths of its lists, which are in row order. The input with most literals of
+//! both kinds is split at, and lists with one literal at each input are their own sum but for the
+//! cubes that lie in others (Brayton et al. 1984).
 ghost use Rattle.std.specs.Prelude.{◌≡◌, IfOk, not};
 ghost use Rattle.cube.specs.Cube.{intersection, difference as difference_of};
 ghost use Rattle.cube.specs.Sum.{complete_sum as complete_sum_of};
@@ -55,7 +68,16 @@ fn sum_between(
     }
 }
 
-/// The complete sum of the places of the list.
+/// The complete sum of the places of the list: all cubes that hold only such places and lie in no
+/// larger such cube, in row order. These are the primes of a function of several outputs.
+///
+/// There may be exponentially many in the inputs, and time goes at least with their number. Each of
+/// up to three lists per input and level is looked at pair by pair for meets and for cubes that lie
+/// in others, so a list of many points of few inputs takes time in the square of their number.
+///
+/// # Errors
+///
+/// [`AllocError`] where memory is refused.
 pub fn complete_sum(list: &Cover) -> Result<Cover, AllocError>
     ensures { IfOk result (λ sum. sum ≡ record { size = list.now.size; cubes = complete_sum_of list.now.size (places list.now.cubes) }) }
 {
@@ -66,7 +88,14 @@ pub fn complete_sum(list: &Cover) -> Result<Cover, AllocError>
     Ok(Cover::from_cubes(shape, sum))
 }
 
-/// The complete sum of the places that are in both lists.
+/// The complete sum of the places that are in both lists, of one shape.
+///
+/// The meets of all pairs of cubes of the two are formed first; the cost of their sum is that of
+/// [`complete_sum`].
+///
+/// # Errors
+///
+/// [`AllocError`] where memory is refused.
 pub fn intersect(list: &Cover, other: &Cover) -> Result<Cover, AllocError>
     requires { other.now.size ≡ list.now.size }
     ensures { IfOk result (λ sum. sum ≡ record {
@@ -83,7 +112,14 @@ pub fn intersect(list: &Cover, other: &Cover) -> Result<Cover, AllocError>
     Ok(Cover::from_cubes(shape, sum))
 }
 
-/// The complete sum of the places that are in the first list and not in the second.
+/// The complete sum of the places that are in the first list and not in the second, of one shape.
+///
+/// Both lists are split together, so no complement is formed. The cost is that of [`complete_sum`],
+/// with the cubes of both lists.
+///
+/// # Errors
+///
+/// [`AllocError`] where memory is refused.
 pub fn difference(list: &Cover, other: &Cover) -> Result<Cover, AllocError>
     requires { other.now.size ≡ list.now.size }
     ensures { IfOk result (λ sum. sum ≡ record {
@@ -101,7 +137,12 @@ pub fn difference(list: &Cover, other: &Cover) -> Result<Cover, AllocError>
 }
 
 impl Cover {
-    /// The complete sum of the places that are in no cube of the list.
+    /// The complete sum of the places that are in no cube of the list: the [`difference`] between
+    /// all places and the list, at its cost.
+    ///
+    /// # Errors
+    ///
+    /// [`AllocError`] where memory is refused.
     pub fn complement(&self) -> Result<Cover, AllocError>
         ensures { IfOk result (λ sum. sum ≡ record {
           size = self.now.size;

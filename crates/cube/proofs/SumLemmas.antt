@@ -180,7 +180,7 @@ sorted-all_cubes size =
 
 -- ---- the complete sum
 
-row_total : IsTotalOrder row_cmp
+pub row_total : IsTotalOrder row_cmp
 row_total = then_total (on_total (λ c. c.symbols) (lists_total (on_total rank nat_cmp_total))) (on_total (λ c. c.outputs) (lists_total bool_cmp_total))
 
 row_asym : (c d : Cube) → row_cmp c d ≡ Less → row_cmp d c ≡ Less → ⊥
