@@ -7,7 +7,7 @@ use Rattle.cube.specs.declared.symbol.Symbol.TheVariants.{Dash, Zero, One}
 use Rattle.cube.specs.Size.{Size}
 use Rattle.std.proofs.lemmas.List.Elements.{All-head}
 use Rattle.cube.proofs.SharpLemmas.{complete_sum-holds}
-use Rattle.cube.specs.Cube.{Cube, Place, holds, IsCube, with_symbol, difference, intersection}
+use Rattle.cube.specs.Cube.{Cube, Place, holds, IsCube, IsPlace, with_symbol, difference, intersection}
 use Rattle.cube.specs.Order.{row_cmp}
 use Rattle.cube.specs.Sum.{complete_sum, IsMaximal}
 use Rattle.cube.proofs.SumLemmas.{Contains-complete_sum, sorted-complete_sum, complete_sum-from_members, complete_sum-same}
@@ -176,6 +176,15 @@ pub complete_sum-empty : (size : Size) (inner outer : List Cube) → length inne
 complete_sum-empty size inner outer h =
     let e = nothing_left inner h in
     e ∙ complete_sum-none size (difference (places inner) (places outer)) (λ p _. ap (λ l. places l p && not (places outer p)) e)
+
+pub complete_sum-covered : (size : Size) (inner outer : List Cube) → ((p : Place) → IsPlace size p → places outer p ≡ true)
+    → [] ≡ complete_sum size (difference (places inner) (places outer))
+complete_sum-covered size inner outer all =
+    complete_sum-none size (difference (places inner) (places outer)) (λ p is. ap (λ b. places inner p && not b) (all p is) ∙ none (places inner p))
+  where
+    none : (b : Bool) → (b && false) ≡ false
+    none true = refl
+    none false = refl
 
 -- ---- the calls
 

@@ -21,7 +21,7 @@ ghost use Rattle.cover.specs.Places.{places};
 use crate::list::Cover;
 use crate::sum_absorb::reduced;
 use crate::sum_branch::{at_both_values, at_either_value, at_value, thin_at_value};
-use crate::sum_choice::{choose, is_unate};
+use crate::sum_choice::{choose, hold_everything, is_unate};
 use crate::sum_leaf::free_sum;
 use crate::sum_parts::meets;
 use crate::sum_rows::merge_three;
@@ -50,6 +50,9 @@ fn sum_between(
         if is_unate(shape, &inner)? {
             return reduced(alloc, shape, inner);
         }
+    }
+    if hold_everything(shape, &outer) {
+        return Ok(Vec::new(alloc));
     }
     match choose(shape, &inner, &outer) {
         None => free_sum(alloc, shape, &inner, &outer),

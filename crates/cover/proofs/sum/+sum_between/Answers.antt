@@ -1,7 +1,7 @@
-use Rattle.std.proofs.Common.{◌∙◌, ◌<◌, ap, sym, subst, arith, true, false, vec_len}
+use Rattle.std.proofs.Common.{◌≡◌, ◌∙◌, ◌<◌, ap, sym, subst, arith, true, false, vec_len}
 use Rattle.std.proofs.lemmas.Bool.{eqb-true}
 use Rattle.std.proofs.lemmas.Result.{IfOk-weaker}
-use Rattle.cube.specs.Cube.{difference}
+use Rattle.cube.specs.Cube.{Place, IsPlace, difference}
 use Rattle.cube.specs.Sum.{complete_sum}
 use Rattle.cover.specs.Places.{places}
 use Rattle.cover.specs.Complete.{at_input, at_both, at_either}
@@ -9,7 +9,7 @@ use Rattle.cover.specs.Parts.{live}
 use Rattle.cover.specs.Reduced.{IsUnate}
 use Rattle.cover.proofs.SumRows.{nothing_left}
 use Rattle.cover.proofs.SumUnate.{complete_sum-unate}
-use Rattle.cover.proofs.SumStep.{branch_value, branch_both, branch_either, branch_falls, branch_sum, both_sum, complete_sum-step, complete_sum-no_outer, complete_sum-empty, complete_sum-single, AreCubes-complete_sum}
+use Rattle.cover.proofs.SumStep.{branch_value, branch_both, branch_either, branch_falls, branch_sum, both_sum, complete_sum-step, complete_sum-no_outer, complete_sum-empty, complete_sum-single, complete_sum-covered, AreCubes-complete_sum}
 use Rattle.cover.proofs.sum.+sum_between.Goals as goal
 
 pub returns-then-is_empty : goal.returns-then-is_empty
@@ -27,6 +27,12 @@ returns-then-branch t c =
     IfOk-weaker c.reduced.result _ _ (λ rows h. complete_sum-no_outer c.args.shape rows.items c.args.inner.items c.args.outer.items (nothing_left c.args.outer.items (sym c.args.outer.ok.0 ∙ eqb-true (vec_len c.args.outer) 0 (sym c.is_empty-2.ensures ∙ c.if-is_empty-2.true)))
     (complete_sum-unate c.args.shape c.args.inner.items rows.items c.requires.inner unate h)) c.reduced.ensures
 
+pub returns-then-hold_everything : goal.returns-then-hold_everything
+returns-then-hold_everything t c =
+    let all = c.hold_everything.ensures c.if-hold_everything.true in
+    c.new.ensures.items ∙ complete_sum-covered c.args.shape c.args.inner.items c.args.outer.items
+    (subst (λ l. (p : Place) → IsPlace c.args.shape p → places l p ≡ true) c.deref-2.ensures.value all)
+
 pub returns-in-None : goal.returns-in-None
 returns-in-None t c =
     IfOk-weaker c.free_sum.result _ _ (λ rows h. h ∙ ap (λ l. complete_sum c.args.shape (difference (places l) (places c.deref-in-None-2.result.now))) c.deref-in-None.ensures.value
@@ -38,7 +44,7 @@ sum_between-requires t c =
     let outer = branch_either c.args.shape c.in-Some.i c.deref-in-Some-2.result.now c.args.outer.items c.in_ok-both_outer-in-Some.both_outer.items c.deref-in-Some-2.ensures.value c.in_ok-both_outer-in-Some.ensures in
     let less : live c.args.shape.inputs c.in_ok-both_inner-in-Some.both_inner.items c.in_ok-both_outer-in-Some.both_outer.items < live c.args.shape.inputs c.args.inner.items c.args.outer.items =
     branch_falls c.args.shape c.in-Some.i c.args.inner.items c.args.outer.items c.in_ok-both_inner-in-Some.both_inner.items c.in_ok-both_outer-in-Some.both_outer.items
-    (at_both c.in-Some.i (places c.args.inner.items)) (at_either c.in-Some.i (places c.args.outer.items)) c.deref-2.result.now c.deref-3.result.now c.in-Some.ensures.bound c.deref-2.ensures.value c.deref-3.ensures.value
+    (at_both c.in-Some.i (places c.args.inner.items)) (at_either c.in-Some.i (places c.args.outer.items)) c.deref-3.result.now c.deref-4.result.now c.in-Some.ensures.bound c.deref-3.ensures.value c.deref-4.ensures.value
     c.in-Some.ensures.some inner outer in
     (omega arith, (inner.are_cubes, outer.are_cubes))
 
@@ -48,7 +54,7 @@ sum_between-requires-in-Some t c =
     let outer = branch_value c.args.shape c.in-Some.i false c.deref-in-Some-4.result.now c.args.outer.items c.in_ok-low_outer-in-Some.low_outer.items c.deref-in-Some-4.ensures.value c.in_ok-low_outer-in-Some.ensures in
     let less : live c.args.shape.inputs c.in_ok-low_inner-in-Some.low_inner.items c.in_ok-low_outer-in-Some.low_outer.items < live c.args.shape.inputs c.args.inner.items c.args.outer.items =
     branch_falls c.args.shape c.in-Some.i c.args.inner.items c.args.outer.items c.in_ok-low_inner-in-Some.low_inner.items c.in_ok-low_outer-in-Some.low_outer.items
-    (at_input c.in-Some.i false (places c.args.inner.items)) (at_input c.in-Some.i false (places c.args.outer.items)) c.deref-2.result.now c.deref-3.result.now c.in-Some.ensures.bound c.deref-2.ensures.value c.deref-3.ensures.value
+    (at_input c.in-Some.i false (places c.args.inner.items)) (at_input c.in-Some.i false (places c.args.outer.items)) c.deref-3.result.now c.deref-4.result.now c.in-Some.ensures.bound c.deref-3.ensures.value c.deref-4.ensures.value
     c.in-Some.ensures.some inner outer in
     (omega arith, (inner.are_cubes, outer.are_cubes))
 
@@ -58,7 +64,7 @@ sum_between-requires-in-Some-2 t c =
     let outer = branch_value c.args.shape c.in-Some.i true c.deref-in-Some-6.result.now c.args.outer.items c.in_ok-high_outer-in-Some.high_outer.items c.deref-in-Some-6.ensures.value c.in_ok-high_outer-in-Some.ensures in
     let less : live c.args.shape.inputs c.in_ok-high_inner-in-Some.high_inner.items c.in_ok-high_outer-in-Some.high_outer.items < live c.args.shape.inputs c.args.inner.items c.args.outer.items =
     branch_falls c.args.shape c.in-Some.i c.args.inner.items c.args.outer.items c.in_ok-high_inner-in-Some.high_inner.items c.in_ok-high_outer-in-Some.high_outer.items
-    (at_input c.in-Some.i true (places c.args.inner.items)) (at_input c.in-Some.i true (places c.args.outer.items)) c.deref-2.result.now c.deref-3.result.now c.in-Some.ensures.bound c.deref-2.ensures.value c.deref-3.ensures.value
+    (at_input c.in-Some.i true (places c.args.inner.items)) (at_input c.in-Some.i true (places c.args.outer.items)) c.deref-3.result.now c.deref-4.result.now c.in-Some.ensures.bound c.deref-3.ensures.value c.deref-4.ensures.value
     c.in-Some.ensures.some inner outer in
     (omega arith, (inner.are_cubes, outer.are_cubes))
 
