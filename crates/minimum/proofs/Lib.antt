@@ -19,6 +19,7 @@ pub mod BothLists
 pub mod Near
 pub mod Numbers
 pub mod Served
+pub mod Parted
 pub mod PrimeTables
 pub mod LeastPrimes
 pub mod Needed

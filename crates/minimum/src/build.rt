@@ -62,7 +62,7 @@ fn rows_of(alloc: Global, lists: &Lists, shape: Shape) -> Result<Vec<Vec<usize>>
     let mut rows = Vec::new(alloc);
     for j in 0..shape.outputs() {
         let region = one_output(alloc, shape, j)?;
-        lists.fill(alloc, &near, &region, &mut rows)?;
+        lists.fill_by_cubes(alloc, &near, &region, &mut rows)?;
     }
     Ok(rows)
 }

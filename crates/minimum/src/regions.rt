@@ -234,4 +234,24 @@ impl<'a> Lists<'a> {
         let high = region.with_symbol(i, Symbol::One)?;
         self.fill(alloc, &near, &high, rows)
     }
+
+    /// The same, ON cube by ON cube: so primes that are of no use to a cube's places do not multiply its splits.
+    pub(crate) fn fill_by_cubes(
+        &self,
+        alloc: Global,
+        near: &Near,
+        region: &Cube,
+        rows: &mut Vec<Vec<usize>>,
+    ) -> Result<(), AllocError>
+        requires { IsSplit self.now.primes.now self.now.on.now self.now.dc.now region.now near.now.primes.items near.now.on.items near.now.dc.items }
+        ensures { OnOk result (Fills self.now.primes.now self.now.on.now self.now.dc.now (holds region.now) (items_of rows.old.items) (items_of rows.new.items)) }
+    {
+        let near = self.near(alloc, near, region)?;
+        for cube in self.on {
+            if let Some(part) = cube.meet(region)? {
+                self.fill(alloc, &near, &part, rows)?;
+            }
+        }
+        Ok(())
+    }
 }
