@@ -1,10 +1,14 @@
-//! Covering tables: reductions and the least cover.
+//! Primes, essential primes and the least cover by primes.
+//!
+//! - [`primes`] gives all primes of the ON-set with the DC-set, [`essential`] those that hold a wanted place alone.
+//! - [`exact`] gives the least cover by primes: it builds the table of the primes, reduces it and solves it.
 //!
 //! A table has columns, some taken and some live, and rows, each a list of live columns. A cover is a rising list of
 //! columns with all taken ones and a column of each row. The least cover is the first of the shortest, where lists are
 //! compared number by number; with `Choice::Literals` those with the fewest literals come before.
 //!
-//! - `Table::new` makes a table of rows and of each column's number of literals.
+//! - `Table::build` makes the table of the primes, whose covers are the covers by primes. `Table::new` makes a table of
+//!   rows and of each column's number of literals.
 //! - `reduce` applies the steps of a reduction until none applies; the least cover stays.
 //! - `Table::least_cover` gives the least cover. `Table::least_cover_plain` gives it too, by trying all choices.
 //!
