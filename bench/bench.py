@@ -1,14 +1,16 @@
 #!/usr/bin/env python3
 """Times the built program on generated files, and prints wall time and peak memory.
 
-usage: bench/bench.py PROGRAM [CASE ..]      (no case: all of them)
+usage: bench/bench.py PROGRAM [CASE ..]      (no case: all; else those that begin so)
 
 The files are written to bench/data by fixed seeds, once. Each case runs three
 times and the best wall time counts; the peak is the largest resident set. The
 third column is the time that the case is meant to stay within.
 """
+import functools
 import os
 import random
+import shutil
 import subprocess
 import sys
 import time
@@ -191,6 +193,19 @@ def pair_case(command, paths, goal):
     return lambda program: (*measured(program, [command, *paths()]), goal)
 
 
+def against_abc(paths):
+    """The times of `verify` and of berkeley-abc's `cec` on the same files, where that is installed."""
+    def run(program):
+        own = min(measured(program, ["-Dverify", *paths()])[0] for _ in range(3))
+        if not shutil.which("berkeley-abc"):
+            print("  berkeley-abc is not installed")
+            return own, 0, 0, None
+        other = min(measured("berkeley-abc", ["-c", "cec {} {}".format(*paths())])[0] for _ in range(3))
+        print(f"  verify {own:.3f} s, cec {other:.3f} s: cec takes {other / own:.1f} times as long")
+        return own, 0, 0, None
+    return run
+
+
 def prime_cases():
     goals = {"9sym": 0.0042, "sym12": 0.060, "adr6": 0.027}
     for name in ("9sym", "sym10", "sym11", "sym12", "adr5", "adr6"):
@@ -211,23 +226,20 @@ def exact_cases():
         yield f"essen-{name}", file_case(["-Dessen"], lambda name=name: function(name), None)
 
 
+def same_function(inputs, kept, count):
+    """Two files of one function: the first leaves of a partition, and the same places cut into more cubes."""
+    leaves = partition(5000, inputs, inputs)[:kept]
+    return (write(f"leaves-{inputs}-{kept}.pla", pla(inputs, 1, [c + " 1" for c in leaves])),
+            write(f"leaves-{inputs}-{kept}-split.pla", pla(inputs, 1, [c + " 1" for c in split_rows(leaves, count, 7)])))
+
+
 def pair_cases():
     for inputs in (64, 256):
-        leaves = partition(5000, inputs, inputs)
-        yield f"verify-{inputs}-inputs", pair_case(
-            "-Dverify",
-            lambda inputs=inputs, leaves=leaves: (
-                write(f"leaves-{inputs}.pla", pla(inputs, 1, [c + " 1" for c in leaves[: len(leaves) // 2]])),
-                write(f"leaves-{inputs}-split.pla",
-                      pla(inputs, 1, [c + " 1" for c in split_rows(leaves[: len(leaves) // 2], 5000, 7)]))),
-            0.27)
-        yield f"verify-{inputs}-inputs-whole", pair_case(
-            "-Dverify",
-            lambda inputs=inputs, leaves=leaves: (
-                write(f"whole-{inputs}.pla", pla(inputs, 1, [c + " 1" for c in leaves])),
-                write(f"whole-{inputs}-split.pla",
-                      pla(inputs, 1, [c + " 1" for c in split_rows(leaves, 10000, 7)]))),
-            0.27)
+        half = functools.cache(lambda inputs=inputs: same_function(inputs, 2500, 5000))
+        whole = functools.cache(lambda inputs=inputs: same_function(inputs, 5000, 10000))
+        yield f"verify-{inputs}-inputs-half", pair_case("-Dverify", half, 0.27)
+        yield f"verify-{inputs}-inputs", pair_case("-Dverify", whole, 0.27)
+        yield f"verify-{inputs}-inputs-against-abc", against_abc(whole)
     yield "verify-shuffled", pair_case(
         "-Dverify",
         lambda: (write("rows-10000.pla", pla(30, 4, random_rows(10 ** 4, 30, 4, 3))),
