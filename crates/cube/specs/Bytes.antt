@@ -5,6 +5,6 @@ use Rattle.cube.specs.declared.symbol.Symbol.TheVariants.{Dash, Zero, One}
 
 -- one of three bytes, by the symbol
 abbrev pub symbol_byte : ℕ → ℕ → ℕ → Symbol → ℕ
-symbol_byte dash zero one Dash = dash
-symbol_byte dash zero one Zero = zero
-symbol_byte dash zero one One = one
+symbol_byte dash_byte zero_byte one_byte Dash = dash_byte
+symbol_byte dash_byte zero_byte one_byte Zero = zero_byte
+symbol_byte dash_byte zero_byte one_byte One = one_byte
