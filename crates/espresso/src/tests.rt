@@ -6,6 +6,7 @@ mod commands;
 mod devices;
 mod files;
 mod format;
+mod minima;
 mod pairs;
 mod sets;
 mod sizes;
@@ -176,4 +177,40 @@ fn check_fault(
 fn cut(text: &str, count: usize) -> &[u8] {
     let bytes = text.as_bytes();
     &bytes[..count.min(bytes.len())]
+}
+
+// These words, with a space between each two, must answer this on the text.
+fn check_line(
+    rt: &impl Abort,
+    alloc: Global,
+    line: &str,
+    text: &[u8],
+    output: &str,
+    code: u8,
+) -> Result<(), Fail> {
+    let words: Vec<&str> = line.split(' ').collect(alloc)?;
+    let case = Case {
+        words: words.as_slice(),
+        output,
+        message: "",
+        code,
+    };
+    check(rt, alloc, &case, text, Ending::End)
+}
+
+// The rows of a function of so many inputs and outputs, between its head and its end.
+fn file(alloc: Global, inputs: usize, outputs: usize, rows: &str) -> Result<Vec<u8>, Fail> {
+    let text = format!(in alloc; ".i {inputs}\n.o {outputs}\n{rows}.e\n")?;
+    Ok(text.into_bytes())
+}
+
+// The same as it is printed with type f.
+fn printed(
+    alloc: Global,
+    inputs: usize,
+    outputs: usize,
+    count: usize,
+    rows: &str,
+) -> Result<String, Fail> {
+    Ok(format!(in alloc; ".i {inputs}\n.o {outputs}\n.p {count}\n{rows}.e\n")?)
 }

@@ -1,5 +1,5 @@
 -- Worked examples of the definitions.
-use Rattle.std.specs.Prelude.{◌≡◌, ℕ, true, List, [], ◌∷◌, ◌++◌, flat_map, Some, None, codes}
+use Rattle.std.specs.Prelude.{◌≡◌, ℕ, true, List, [], ◌∷◌, ◌++◌, flat_map, Some, None, codes, refl}
 use Rattle.cube.specs.Limits.{format_limits}
 use Rattle.cube.specs.declared.symbol.Symbol.TheVariants.{Dash, One}
 use Rattle.pla.specs.declared.ending.Ending.TheVariants.{End, Failed}
@@ -10,7 +10,7 @@ use Rattle.pla.specs.declared.fault.Echo.TheVariants.{Keep, Eat}
 use Rattle.pla.specs.declared.fault.FileType.TheVariants.{Fd}
 use Rattle.pla.specs.Lines.{lines_of}
 use Rattle.pla.specs.Keywords.{looked_at}
-use Rattle.pla.specs.Fault.{fault_of, at_line}
+use Rattle.pla.specs.Fault.{fault_of, at_line, fault_in, is_past_limit, is_too_long, is_refused, is_inside_row, is_repeated, is_bad_number, is_name_too_early, is_wrong_count, is_type_too_late, is_bad_type, is_row_too_early, is_bad_symbol}
 use Rattle.pla.specs.Echoes.{due}
 use Rattle.pla.specs.Description.{Description, description_of}
 
@@ -80,3 +80,19 @@ pub record Descriptions : Type 0 where
         dc = [];
         off = [];
       })
+
+keyword_faults : KeywordFaults
+unfolding fault_in is_past_limit is_too_long is_refused is_inside_row is_repeated is_bad_number is_name_too_early is_wrong_count is_type_too_late is_bad_type is_row_too_early is_bad_symbol
+keyword_faults = record { repeated = refl; two_in_one_line = refl; no_output = refl; refused = refl; early_names = refl; few_names = refl; unknown_type = refl; late_type = refl; inside_row = refl; inside_row_before_repeated = refl }
+
+row_faults : RowFaults
+unfolding fault_in is_past_limit is_too_long is_refused is_inside_row is_repeated is_bad_number is_name_too_early is_wrong_count is_type_too_late is_bad_type is_row_too_early is_bad_symbol
+row_faults = record { early_row = refl; no_symbol = refl; dot_in_row = refl; line_of_byte = refl; no_shape = refl; unfinished = refl; nothing = refl; failed = refl; failed_behind_end = refl }
+
+echoes : Echoes
+unfolding fault_in is_past_limit is_too_long is_refused is_inside_row is_repeated is_bad_number is_name_too_early is_wrong_count is_type_too_late is_bad_type is_row_too_early is_bad_symbol
+echoes = record { comments = refl; comments_still_fault = refl; before_fault = refl; eaten = refl; hash_in_name = refl }
+
+descriptions : Descriptions
+unfolding fault_in is_past_limit is_too_long is_refused is_inside_row is_repeated is_bad_number is_name_too_early is_wrong_count is_type_too_late is_bad_type is_row_too_early is_bad_symbol
+descriptions = record { names = (refl, refl); symbols = (refl, refl) }

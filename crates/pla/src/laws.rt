@@ -1,27 +1,6 @@
-//! Worked examples and laws of the definitions, each as the contract of a function that does nothing.
-ghost use Rattle.pla.specs.Vectors.{KeywordFaults, RowFaults, Echoes, Descriptions};
+//! Laws of the definitions, each as the contract of a function that does nothing.
 ghost use Rattle.pla.specs.WiderLimits.{WiderLimitsReadAlike, OlderLimitsReadAlike};
 ghost use Rattle.pla.specs.ReadBack.{TextsAreReadBack};
-
-/// Faults of keyword lines.
-pub fn keyword_faults()
-    ensures { KeywordFaults }
-{}
-
-/// Faults of rows, and of the whole file.
-pub fn row_faults()
-    ensures { RowFaults }
-{}
-
-/// What is passed on of a file.
-pub fn echoes()
-    ensures { Echoes }
-{}
-
-/// What files describe.
-pub fn descriptions()
-    ensures { Descriptions }
-{}
 
 /// Limits may be widened: a file that has no fault under limits has none under limits of which none is
 /// smaller, and describes the same there: the same shape, names, type of rows and lists. A fault stays,

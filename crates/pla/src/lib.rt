@@ -21,6 +21,8 @@
 //! gives a [`Pla`] of two inputs and one output with one cube in its ON list, and printed with
 //! [`OutType::F`] it is the same text with a line `.p 1` before the row.
 //!
+//! What always holds of the format stands in [`laws`].
+//!
 //! The meaning of keywords and symbols is that of espresso(5) for binary inputs; docs/FORMAT.md has
 //! what this format decides where the manual leaves room. Reading takes memory for the cubes and the
 //! names alone: a row line takes none of its own, and time that grows with its bytes.
@@ -35,7 +37,7 @@ mod fakes;
 mod fault;
 mod header;
 mod held;
-mod laws;
+pub mod laws;
 mod line;
 mod out_type;
 mod over_std;
@@ -48,13 +50,11 @@ mod sets;
 mod text;
 mod writing;
 
-pub use cube::Symbol;
 pub use description::Pla;
 pub use device::{Broken, Input, Output};
 pub use ending::Ending;
 pub use fakes::{Given, Taken};
 pub use fault::{Echo, FileType, ReadFault, ReadKind};
-pub use laws::{descriptions, echoes, keyword_faults, read_back, row_faults, wider_limits};
 pub use out_type::OutType;
 pub use over_std::{Reading, Writing};
 pub use reading::read_pla;

@@ -1,45 +1,6 @@
 //! Answers that are made of the three sets: other output types, primes, and whether the sets part the space.
-use super::{Case, check};
-use pla::Ending;
-use std::alloc::Global;
-use std::process::Abort;
+use super::{check_line, file, printed};
 use std::test::Fail;
-
-// These words, with a space between each two, must answer this on the text.
-fn check_line(
-    rt: &impl Abort,
-    alloc: Global,
-    line: &str,
-    text: &[u8],
-    output: &str,
-    code: u8,
-) -> Result<(), Fail> {
-    let words: Vec<&str> = line.split(' ').collect(alloc)?;
-    let case = Case {
-        words: words.as_slice(),
-        output,
-        message: "",
-        code,
-    };
-    check(rt, alloc, &case, text, Ending::End)
-}
-
-// The rows of a function of so many inputs and outputs, between its head and its end.
-fn file(alloc: Global, inputs: usize, outputs: usize, rows: &str) -> Result<Vec<u8>, Fail> {
-    let text = format!(in alloc; ".i {inputs}\n.o {outputs}\n{rows}.e\n")?;
-    Ok(text.into_bytes())
-}
-
-// The same as it is printed with type f.
-fn printed(
-    alloc: Global,
-    inputs: usize,
-    outputs: usize,
-    count: usize,
-    rows: &str,
-) -> Result<String, Fail> {
-    Ok(format!(in alloc; ".i {inputs}\n.o {outputs}\n.p {count}\n{rows}.e\n")?)
-}
 
 #[test]
 fn an_off_list_that_is_asked_for_is_computed(rt: HostRuntime) -> Result<(), Fail> {
@@ -215,62 +176,4 @@ fn a_line_for_each_flaw_of_the_sets(rt: HostRuntime) -> Result<(), Fail> {
     let lines =
         "ON-set and DC-set intersect\nON-set and OFF-set intersect\nDC-set and OFF-set intersect\n";
     check_line(&rt, alloc, "-Dcheck", &each, lines, 1)
-}
-
-#[test]
-fn essential_primes_hold_a_place_alone(rt: HostRuntime) -> Result<(), Fail> {
-    let alloc = rt.alloc();
-    let ring = file(alloc, 3, 1, "000 1\n001 1\n010 1\n101 1\n110 1\n111 1\n")?;
-    let none = printed(alloc, 3, 1, 0, "")?;
-    check_line(&rt, alloc, "-Dessen", &ring, &none, 0)?;
-    let shared = file(alloc, 2, 2, "11 10\n1- 01\n")?;
-    let both = printed(alloc, 2, 2, 2, "1- 01\n11 11\n")?;
-    check_line(&rt, alloc, "-Dessen", &shared, &both, 0)?;
-    let three = file(alloc, 2, 2, "00 10\n01 11\n11 01\n")?;
-    let two = printed(alloc, 2, 2, 2, "-1 01\n0- 10\n")?;
-    check_line(&rt, alloc, "-Dessen", &three, &two, 0)?;
-    let tail = file(alloc, 3, 1, "000 1\n001 1\n011 1\n100 -\n")?;
-    let one = printed(alloc, 3, 1, 1, "0-1 1\n")?;
-    check_line(&rt, alloc, "-Dessen", &tail, &one, 0)?;
-    let output = ".i 3\n.o 1\n.type fd\n.p 2\n0-1 1\n100 -\n.e\n";
-    check_line(&rt, alloc, "-Dessen -ofd", &tail, output, 0)
-}
-
-#[test]
-fn the_least_cover_is_the_first_of_the_shortest(rt: HostRuntime) -> Result<(), Fail> {
-    let alloc = rt.alloc();
-    let ring = file(alloc, 3, 1, "000 1\n001 1\n010 1\n101 1\n110 1\n111 1\n")?;
-    let least = printed(alloc, 3, 1, 3, "-01 1\n0-0 1\n11- 1\n")?;
-    check_line(&rt, alloc, "-Dexact", &ring, &least, 0)?;
-    check_line(&rt, alloc, "-Dexact --literals", &ring, &least, 0)?;
-    let corner = file(alloc, 2, 1, "11 1\n01 -\n10 -\n")?;
-    let least = printed(alloc, 2, 1, 1, "-1 1\n")?;
-    check_line(&rt, alloc, "-Dexact", &corner, &least, 0)?;
-    let shared = file(alloc, 2, 2, "11 10\n1- 01\n")?;
-    let both = printed(alloc, 2, 2, 2, "1- 01\n11 11\n")?;
-    check_line(&rt, alloc, "-Dexact", &shared, &both, 0)?;
-    let three = file(alloc, 2, 2, "00 10\n01 11\n11 01\n")?;
-    let two = printed(alloc, 2, 2, 2, "-1 01\n0- 10\n")?;
-    check_line(&rt, alloc, "-Dexact", &three, &two, 0)?;
-    let tail = file(alloc, 3, 1, "000 1\n001 1\n011 1\n100 -\n")?;
-    let least = printed(alloc, 3, 1, 2, "-00 1\n0-1 1\n")?;
-    check_line(&rt, alloc, "-Dexact", &tail, &least, 0)?;
-    check_line(&rt, alloc, "--literals -Dexact", &tail, &least, 0)?;
-    let both = file(alloc, 1, 1, "1 1\n1 -\n")?;
-    let none = printed(alloc, 1, 1, 0, "")?;
-    check_line(&rt, alloc, "-Dexact", &both, &none, 0)?;
-    let open = file(alloc, 2, 1, ".type fr\n1- 1\n-1 0\n")?;
-    let least = printed(alloc, 2, 1, 1, "1- 1\n")?;
-    check_line(&rt, alloc, "-Dexact", &open, &least, 0)
-}
-
-#[test]
-fn the_fewest_literals_come_first_where_they_are_asked_for(rt: HostRuntime) -> Result<(), Fail> {
-    let alloc = rt.alloc();
-    let text = file(alloc, 3, 1, "100 1\n000 -\n101 -\n11- -\n")?;
-    let first = printed(alloc, 3, 1, 1, "-00 1\n")?;
-    let fewest = printed(alloc, 3, 1, 1, "1-- 1\n")?;
-    check_line(&rt, alloc, "-Dexact", &text, &first, 0)?;
-    check_line(&rt, alloc, "-Dexact --literals", &text, &fewest, 0)?;
-    check_line(&rt, alloc, "--literals -D exact -", &text, &fewest, 0)
 }
