@@ -14,6 +14,20 @@ use Rattle.pla.specs.Sets.{SetLists}
 abbrev pub outside : Size → List Cube → List Cube
 outside size cubes = complete_sum size (λ p. not (places cubes p))
 
+-- the type gives the DC list
+abbrev pub gives_dc : FileType → Bool
+gives_dc F = false
+gives_dc Fd = true
+gives_dc Fr = false
+gives_dc Fdr = true
+
+-- the type gives the OFF list
+abbrev pub gives_off : FileType → Bool
+gives_off F = false
+gives_off Fd = false
+gives_off Fr = true
+gives_off Fdr = true
+
 -- the DC list: as given under fd and fdr, nothing under f, and under fr what ON and OFF leave, where it is asked for
 abbrev pub dc_list : FileType → Bool → Description → List Cube
 dc_list F asked d = []

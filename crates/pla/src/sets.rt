@@ -1,6 +1,6 @@
 //! The ON-set, the DC-set and the OFF-set as lists of cubes.
-ghost use Rattle.std.specs.Prelude.{◌≡◌, ◌++◌, IfOk, unwrap_or};
-ghost use Rattle.pla.specs.Completed.{dc_list, off_list, outside, sets_of};
+ghost use Rattle.std.specs.Prelude.{◌≡◌, ◌++◌, IfOk, unwrap_or, is_some, not};
+ghost use Rattle.pla.specs.Completed.{dc_list, gives_dc, gives_off, off_list, outside, sets_of};
 ghost use Rattle.pla.specs.Sets.{lists_of};
 
 use crate::description::Pla;
@@ -118,7 +118,8 @@ fn off_of(alloc: Global, pla: &Pla, asked: bool) -> Result<Cover, AllocError>
 ///
 /// `AllocError` where memory was refused.
 pub fn open_dc(alloc: Global, pla: &Pla, asked: bool) -> Result<Option<Cover>, AllocError>
-    ensures { IfOk result (λ list. unwrap_or list (record { size = pla.now.size; cubes = pla.now.dc })
+    ensures own { IfOk result (λ list. is_some list ≡ not (gives_dc pla.now.file_type)) }
+    ensures list { IfOk result (λ list. unwrap_or list (record { size = pla.now.size; cubes = pla.now.dc })
         ≡ record { size = pla.now.size; cubes = dc_list pla.now.file_type asked pla.now }) }
 {
     match pla.file_type() {
@@ -135,7 +136,8 @@ pub fn open_dc(alloc: Global, pla: &Pla, asked: bool) -> Result<Option<Cover>, A
 ///
 /// `AllocError` where memory was refused.
 pub fn open_off(alloc: Global, pla: &Pla, asked: bool) -> Result<Option<Cover>, AllocError>
-    ensures { IfOk result (λ list. unwrap_or list (record { size = pla.now.size; cubes = pla.now.off })
+    ensures own { IfOk result (λ list. is_some list ≡ not (gives_off pla.now.file_type)) }
+    ensures list { IfOk result (λ list. unwrap_or list (record { size = pla.now.size; cubes = pla.now.off })
         ≡ record { size = pla.now.size; cubes = off_list pla.now.file_type asked pla.now }) }
 {
     match pla.file_type() {

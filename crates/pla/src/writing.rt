@@ -51,3 +51,6 @@ pub fn then<W: Output>(
         Err(fault) => Err(fault),
     }
 }
+
+#[cfg(test)]
+mod tests;

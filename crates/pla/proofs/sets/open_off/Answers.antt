@@ -3,8 +3,8 @@ use Rattle.pla.specs.declared.fault.FileType.TheVariants.{F}
 use Rattle.pla.specs.Completed.{off_list, outside}
 use Rattle.pla.proofs.sets.open_off.Goals as goal
 
-pub returns-in_ok-complement-in-F : goal.returns-in_ok-complement-in-F
-returns-in_ok-complement-in-F c =
+pub returns-in_ok-complement-in-F-clause-list : goal.returns-in_ok-complement-in-F-clause-list
+returns-in_ok-complement-in-F-clause-list c =
     let pla = c.args.pla.now in
     let list = c.in_ok-complement-in-F.field-0 in
     subst (λ type. list ≡ record { size = pla.size; cubes = off_list type c.args.asked pla }) (sym c.in-F.is ∙ c.file_type.ensures)

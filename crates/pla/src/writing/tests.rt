@@ -1,0 +1,26 @@
+//! Texts on an output that takes them and on one that fails.
+
+use crate::fakes::Taken;
+use crate::{WriteFault, then, write_bytes};
+use std::test::Fail;
+
+#[test]
+fn parts_are_written_one_behind_another(rt: HostRuntime) -> Result<(), Fail> {
+    let mut out = Taken::new(rt.alloc(), 10, 2, false)?;
+    let done = write_bytes(&mut out, b"abc");
+    let done = then(&mut out, done, b"de");
+    assert_eq!(rt; done, Ok(()));
+    assert_eq!(rt; out.bytes(), b"abcde".as_slice());
+    Ok(())
+}
+
+#[test]
+fn nothing_is_written_behind_a_failure(rt: HostRuntime) -> Result<(), Fail> {
+    let mut out = Taken::new(rt.alloc(), 2, 2, false)?;
+    let done = write_bytes(&mut out, b"abc");
+    assert_eq!(rt; done, Err(WriteFault));
+    let done = then(&mut out, done, b"de");
+    assert_eq!(rt; done, Err(WriteFault));
+    assert_eq!(rt; out.bytes(), b"ab".as_slice());
+    Ok(())
+}
