@@ -153,49 +153,26 @@ said named missing (v ∷ w ∷ more) = None
 
 -- the command takes two files
 abbrev pub takes_two : Command → Bool
-takes_two Echo = false
-takes_two Check = false
-takes_two Contain = false
-takes_two Primes = false
-takes_two Essen = false
-takes_two Exact = false
-takes_two Tautology = false
 takes_two Verify = true
 takes_two Intersect = true
 takes_two Sharp = true
+takes_two _ = false
 
 -- the command prints type f alone
 abbrev pub prints_only_f : Command → Bool
-prints_only_f Echo = false
-prints_only_f Check = false
-prints_only_f Contain = false
-prints_only_f Primes = false
-prints_only_f Essen = false
-prints_only_f Exact = false
-prints_only_f Tautology = false
-prints_only_f Verify = false
 prints_only_f Intersect = true
 prints_only_f Sharp = true
+prints_only_f _ = false
 
 -- the type is f
 abbrev pub is_f : OutType → Bool
 is_f F = true
-is_f Fd = false
-is_f Fr = false
-is_f Fdr = false
+is_f _ = false
 
 -- the command chooses among covers
 abbrev pub chooses : Command → Bool
-chooses Echo = false
-chooses Check = false
-chooses Contain = false
-chooses Primes = false
-chooses Essen = false
 chooses Exact = true
-chooses Tautology = false
-chooses Verify = false
-chooses Intersect = false
-chooses Sharp = false
+chooses _ = false
 
 -- the choice that no option makes
 abbrev pub is_first : Choice → Bool
@@ -224,8 +201,8 @@ meaning_by command out eat choice files =
 
 -- the meaning of these parts, where each is given and they fit each other
 abbrev pub meaning : Option Command → Option OutType → Option Bool → Option Choice → List Text → Option Meaning
-meaning (Some command) (Some out) (Some eat) (Some choice) files = if fits command out choice files
-    then Some (record { command = command; out = out; eat = eat; choice = choice; files = files }) else None
+meaning (Some command) (Some out) (Some eat) (Some choice) files =
+    if fits command out choice files then Some (meaning_by command out eat choice files) else None
 meaning _ _ _ _ _ = None
 
 -- the meaning of the items
