@@ -39,6 +39,7 @@ mod sum_choice;
 mod sum_leaf;
 mod sum_parts;
 mod sum_rows;
+mod sum_table;
 #[cfg(test)]
 mod sum_tests;
 mod symbols;

@@ -25,14 +25,17 @@ use crate::sum_choice::{choose, hold_everything, is_unate};
 use crate::sum_leaf::free_sum;
 use crate::sum_parts::meets;
 use crate::sum_rows::merge_three;
+use crate::sum_table::{Sums, hash_of};
 use crate::tautology::universal;
 use cube::{Cube, Shape};
 use std::alloc::{AllocError, Global};
 
 // The complete sum of the places of the first list that are not in the second.
+#[cycle(sum)]
 fn sum_between(
     alloc: Global,
     shape: Shape,
+    found: &mut Sums,
     inner: Vec<Cube>,
     outer: Vec<Cube>,
 ) -> Result<Vec<Cube>, AllocError>
@@ -54,21 +57,41 @@ fn sum_between(
     if hold_everything(shape, &outer) {
         return Ok(Vec::new(alloc));
     }
-    match choose(shape, &inner, &outer) {
-        None => free_sum(alloc, shape, &inner, &outer),
-        Some(i) => {
-            let both_inner = at_both_values(alloc, shape, &inner, i)?;
-            let both_outer = at_either_value(alloc, shape, &outer, i)?;
-            let both = sum_between(alloc, shape, both_inner, both_outer)?;
-            let low_inner = at_value(alloc, shape, &inner, i, false)?;
-            let low_outer = thin_at_value(alloc, shape, &outer, i, false)?;
-            let low = sum_between(alloc, shape, low_inner, low_outer)?;
-            let high_inner = at_value(alloc, shape, &inner, i, true)?;
-            let high_outer = thin_at_value(alloc, shape, &outer, i, true)?;
-            let high = sum_between(alloc, shape, high_inner, high_outer)?;
-            merge_three(alloc, shape, i, both, low, high)
-        }
+    let hash = hash_of(&inner, &outer);
+    if let Some(sum) = found.find(alloc, shape, hash, &inner, &outer)? {
+        return Ok(sum);
     }
+    let sum = split_sum(alloc, shape, found, &inner, &outer)?;
+    found.keep(alloc, shape, hash, inner, outer, &sum)?;
+    Ok(sum)
+}
+
+// The same by way of the lists at the values of an input, if one has a literal.
+#[cycle(sum)]
+fn split_sum(
+    alloc: Global,
+    shape: Shape,
+    found: &mut Sums,
+    inner: &[Cube],
+    outer: &[Cube],
+) -> Result<Vec<Cube>, AllocError>
+    requires inner { AreCubes shape inner.now }
+    requires outer { AreCubes shape outer.now }
+    ensures { IfOk result (λ rows. rows.items ≡ complete_sum_of shape (difference_of (places inner.now) (places outer.now))) }
+{
+    let Some(i) = choose(shape, inner, outer) else {
+        return free_sum(alloc, shape, inner, outer);
+    };
+    let both_inner = at_both_values(alloc, shape, inner, i)?;
+    let both_outer = at_either_value(alloc, shape, outer, i)?;
+    let both = sum_between(alloc, shape, found, both_inner, both_outer)?;
+    let low_inner = at_value(alloc, shape, inner, i, false)?;
+    let low_outer = thin_at_value(alloc, shape, outer, i, false)?;
+    let low = sum_between(alloc, shape, found, low_inner, low_outer)?;
+    let high_inner = at_value(alloc, shape, inner, i, true)?;
+    let high_outer = thin_at_value(alloc, shape, outer, i, true)?;
+    let high = sum_between(alloc, shape, found, high_inner, high_outer)?;
+    merge_three(alloc, shape, i, both, low, high)
 }
 
 /// The complete sum of the places of the list: all cubes that hold only such places and lie in no
@@ -87,7 +110,7 @@ pub fn complete_sum(list: &Cover) -> Result<Cover, AllocError>
     let alloc = list.allocator();
     let shape = list.shape();
     let rows = list.try_clone()?.into_cubes();
-    let sum = sum_between(alloc, shape, rows, Vec::new(alloc))?;
+    let sum = sum_between(alloc, shape, &mut Sums::new(alloc), rows, Vec::new(alloc))?;
     Ok(Cover::from_cubes(shape, sum))
 }
 
@@ -111,7 +134,7 @@ pub fn intersect(list: &Cover, other: &Cover) -> Result<Cover, AllocError>
     let _shape = other.shape();
     let rows = meets(alloc, shape, list.as_slice(), other.as_slice())?;
     let rows = reduced(alloc, shape, rows)?;
-    let sum = sum_between(alloc, shape, rows, Vec::new(alloc))?;
+    let sum = sum_between(alloc, shape, &mut Sums::new(alloc), rows, Vec::new(alloc))?;
     Ok(Cover::from_cubes(shape, sum))
 }
 
@@ -135,7 +158,7 @@ pub fn difference(list: &Cover, other: &Cover) -> Result<Cover, AllocError>
     let _shape = other.shape();
     let inner = list.try_clone()?.into_cubes();
     let outer = other.try_clone()?.into_cubes();
-    let sum = sum_between(alloc, shape, inner, outer)?;
+    let sum = sum_between(alloc, shape, &mut Sums::new(alloc), inner, outer)?;
     Ok(Cover::from_cubes(shape, sum))
 }
 
@@ -159,7 +182,7 @@ impl Cover {
         let _shape = everything.shape();
         inner.push(everything)?;
         let outer = self.try_clone()?.into_cubes();
-        let sum = sum_between(alloc, shape, inner, outer)?;
+        let sum = sum_between(alloc, shape, &mut Sums::new(alloc), inner, outer)?;
         Ok(Cover::from_cubes(shape, sum))
     }
 }

@@ -18,7 +18,7 @@ use crate::shape::Shape;
 use crate::symbol::Symbol;
 use crate::words::{
     count_clear, covers_words, first_clear, first_difference, freed_word, has_all, minus_word,
-    pairs_meet, share_bit, widened_word, with_bit, with_word, zip_words,
+    mixed, pairs_meet, share_bit, widened_word, with_bit, with_word, zip_words,
 };
 use smallvec::SmallVec;
 use std::alloc::{AllocError, Global};
@@ -312,6 +312,35 @@ impl Cube {
             Ordering::Equal => self.outputs_cmp(other),
             order => order,
         }
+    }
+
+    /// Whether the cubes are one: of one shape, with the same symbols and outputs.
+    pub fn is_equal(&self, other: &Cube) -> bool
+        ensures { IsTrue result ↔ self.now ≡ other.now }
+    {
+        if !self.has_shape_of(other) {
+            return false;
+        }
+        let (_mine, _theirs) = (self.shape(), other.shape());
+        self.contains(other) && other.contains(self)
+    }
+
+    // Whether the two have as many inputs and as many outputs.
+    fn has_shape_of(&self, other: &Cube) -> bool
+        ensures { IsTrue result ↔ SameSize self.now other.now }
+    {
+        let (mine, theirs) = (self.shape(), other.shape());
+        mine.inputs() == theirs.inputs() && mine.outputs() == theirs.outputs()
+    }
+
+    /// A number made of the words and a seed, by which tables find cubes: for one seed equal cubes
+    /// give equal numbers, and others hardly ever.
+    pub fn hash(&self, seed: u64) -> u64 {
+        let mut hash = seed;
+        for word in self.words() {
+            hash = mixed(hash ^ *word);
+        }
+        hash
     }
 
     // By the symbols from the first on.

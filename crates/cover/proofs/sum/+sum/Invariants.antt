@@ -1,0 +1,9 @@
+use Rattle.std.proofs.Common.{◌+◌, ◌*◌}
+use Rattle.cover.specs.Parts.{live}
+use Rattle.cover.proofs.sum.+sum.Given as goal
+
+abbrev pub decreases-sum_between : goal.decreases-sum_between
+decreases-sum_between l = 2 * live l.shape.inputs l.inner.items l.outer.items + 1
+
+abbrev pub decreases-split_sum : goal.decreases-split_sum
+decreases-split_sum l = 2 * live l.shape.inputs l.inner.now l.outer.now
