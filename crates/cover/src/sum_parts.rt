@@ -4,7 +4,7 @@ ghost use Rattle.cube.specs.Size.{Size};
 ghost use Rattle.cube.specs.Cube.{SameSize, IsCube, Cube as Row};
 ghost use Rattle.cover.specs.Cubes.{AreCubes};
 ghost use Rattle.cover.specs.Marks.{is_symbol};
-ghost use Rattle.cover.specs.Parts.{part as part_of, symbol_count, has_literal};
+ghost use Rattle.cover.specs.Parts.{part as part_of, has_symbol as has_symbol_of, symbol_count, has_literal};
 ghost use Rattle.cover.specs.Reduced.{IsMeets};
 
 use crate::symbols::has_symbol_at;
@@ -28,6 +28,19 @@ pub(crate) fn part(
         }
     }
     Ok(kept)
+}
+
+/// Whether some row has this symbol at input `i`.
+pub(crate) fn has_symbol(rows: &[Cube], i: usize, symbol: Symbol) -> bool
+    requires { All (λ c. i < length c.symbols) rows.now }
+    ensures { result ≡ has_symbol_of i symbol rows.now }
+{
+    for row in rows {
+        if has_symbol_at(row, i, symbol) {
+            return true;
+        }
+    }
+    false
 }
 
 /// How many rows have this symbol at input `i`.

@@ -1,15 +1,16 @@
-use Rattle.std.proofs.Common.{◌≡◌, ◌∙◌, ◌<◌, refl, sym, subst, arith, true, false, vec_len, IfSome}
+use Rattle.std.proofs.Common.{◌≡◌, ◌∙◌, ◌<◌, ap, refl, sym, subst, arith, true, vec_len, IfSome}
 use Rattle.std.proofs.lemmas.Bool.{eqb-true}
 use Rattle.std.proofs.lemmas.Result.{IfOk-weaker}
 use Rattle.cube.specs.Cube.{Place, IsPlace, difference}
 use Rattle.cube.specs.Sum.{complete_sum}
 use Rattle.cover.specs.Places.{places}
 use Rattle.cover.specs.Complete.{at_input, at_both, at_either}
-use Rattle.cover.specs.Parts.{live}
+use Rattle.cover.specs.Parts.{live, has_symbol}
 use Rattle.cover.specs.Reduced.{IsUnate}
 use Rattle.cover.proofs.SumRows.{nothing_left}
 use Rattle.cover.proofs.SumUnate.{complete_sum-unate}
-use Rattle.cover.proofs.SumStep.{sum_of_lists, branch_falls, branch_sum, both_sum, complete_sum-step, complete_sum-no_outer, complete_sum-empty, complete_sum-single, complete_sum-covered, AreCubes-complete_sum}
+use Rattle.cover.proofs.SumStep.{sum_of_lists, branch_falls, branch_sum, both_sum, complete_sum-no_outer, complete_sum-empty, complete_sum-single, complete_sum-covered, AreCubes-complete_sum}
+use Rattle.cover.proofs.SumSides.{IsSide-none, IsSide-sum, complete_sum-sides}
 use Rattle.cover.proofs.sum.+sum.Goals as goal
 
 pub sum_between-returns-then-is_empty : goal.sum_between-returns-then-is_empty
@@ -58,37 +59,15 @@ split_sum-sum_between-requires t c =
     c.in-Some.ensures.some inner outer in
     (omega arith, (inner.are_cubes, outer.are_cubes))
 
-pub split_sum-sum_between-requires-2 : goal.split_sum-sum_between-requires-2
-split_sum-sum_between-requires-2 t c =
-    let inner = c.in_ok-low_inner.ensures in
-    let outer = c.in_ok-low_outer.ensures in
-    let less : live c.args.shape.inputs c.in_ok-low_inner.low_inner.items c.in_ok-low_outer.low_outer.items < live c.args.shape.inputs c.args.inner.now c.args.outer.now =
-    branch_falls c.args.shape c.in-Some.i c.args.inner.now c.args.outer.now c.in_ok-low_inner.low_inner.items c.in_ok-low_outer.low_outer.items
-    (at_input c.in-Some.i false (places c.args.inner.now)) (at_input c.in-Some.i false (places c.args.outer.now)) c.args.inner.now c.args.outer.now c.in-Some.ensures.bound refl refl
-    c.in-Some.ensures.some inner outer in
-    (omega arith, (inner.are_cubes, outer.are_cubes))
-
-pub split_sum-sum_between-requires-3 : goal.split_sum-sum_between-requires-3
-split_sum-sum_between-requires-3 t c =
-    let inner = c.in_ok-high_inner.ensures in
-    let outer = c.in_ok-high_outer.ensures in
-    let less : live c.args.shape.inputs c.in_ok-high_inner.high_inner.items c.in_ok-high_outer.high_outer.items < live c.args.shape.inputs c.args.inner.now c.args.outer.now =
-    branch_falls c.args.shape c.in-Some.i c.args.inner.now c.args.outer.now c.in_ok-high_inner.high_inner.items c.in_ok-high_outer.high_outer.items
-    (at_input c.in-Some.i true (places c.args.inner.now)) (at_input c.in-Some.i true (places c.args.outer.now)) c.args.inner.now c.args.outer.now c.in-Some.ensures.bound refl refl
-    c.in-Some.ensures.some inner outer in
-    (omega arith, (inner.are_cubes, outer.are_cubes))
-
 pub split_sum-merge_three-requires-clause-both : goal.split_sum-merge_three-requires-clause-both
 split_sum-merge_three-requires-clause-both t c =
     AreCubes-complete_sum c.args.shape (difference (places c.in_ok-both_inner.both_inner.items) (places c.in_ok-both_outer.both_outer.items)) c.in_ok-both.both.items c.in_ok-both.ensures
 
 pub split_sum-merge_three-requires-clause-low : goal.split_sum-merge_three-requires-clause-low
-split_sum-merge_three-requires-clause-low t c =
-    AreCubes-complete_sum c.args.shape (difference (places c.in_ok-low_inner.low_inner.items) (places c.in_ok-low_outer.low_outer.items)) c.in_ok-low.low.items c.in_ok-low.ensures
+split_sum-merge_three-requires-clause-low t c = c.in_ok-low.ensures.are_cubes
 
 pub split_sum-merge_three-requires-clause-high : goal.split_sum-merge_three-requires-clause-high
-split_sum-merge_three-requires-clause-high t c =
-    AreCubes-complete_sum c.args.shape (difference (places c.in_ok-high_inner.high_inner.items) (places c.in_ok-high_outer.high_outer.items)) c.in_ok-high.high.items c.in_ok-high.ensures
+split_sum-merge_three-requires-clause-high t c = c.in_ok-high.ensures.are_cubes
 
 pub split_sum-returns : goal.split_sum-returns
 split_sum-returns t c =
@@ -98,8 +77,30 @@ split_sum-returns t c =
     let inner = c.args.inner.now in
     let outer = c.args.outer.now in
     IfOk-weaker c.merge_three.result _ _ (λ rows h.
-    complete_sum-step size i lt inner outer c.in_ok-both.both.items c.in_ok-low.low.items c.in_ok-high.high.items rows.items
+    complete_sum-sides size i (difference (places inner) (places outer)) lt c.in_ok-both.both.items c.in_ok-low.low.items c.in_ok-high.high.items rows.items
     (both_sum size i lt inner outer c.in_ok-both_inner.both_inner.items c.in_ok-both_outer.both_outer.items c.in_ok-both.both.items c.in_ok-both_inner.ensures c.in_ok-both_outer.ensures c.in_ok-both.ensures)
-    (branch_sum size i lt inner outer false c.in_ok-low_inner.low_inner.items c.in_ok-low_outer.low_outer.items c.in_ok-low.low.items c.in_ok-low_inner.ensures c.in_ok-low_outer.ensures c.in_ok-low.ensures)
-    (branch_sum size i lt inner outer true c.in_ok-high_inner.high_inner.items c.in_ok-high_outer.high_outer.items c.in_ok-high.high.items c.in_ok-high_inner.ensures c.in_ok-high_outer.ensures c.in_ok-high.ensures)
-    h) c.merge_three.ensures
+    c.in_ok-low.ensures c.in_ok-high.ensures h) c.merge_three.ensures
+
+pub side_sum-sum_between-requires : goal.side_sum-sum_between-requires
+side_sum-sum_between-requires t c =
+    let inner = c.in_ok-side_inner.ensures in
+    let outer = c.in_ok-side_outer.ensures in
+    let less : live c.args.shape.inputs c.in_ok-side_inner.side_inner.items c.in_ok-side_outer.side_outer.items < live c.args.shape.inputs c.args.inner.now c.args.outer.now =
+    branch_falls c.args.shape c.args.i c.args.inner.now c.args.outer.now c.in_ok-side_inner.side_inner.items c.in_ok-side_outer.side_outer.items
+    (at_input c.args.i c.args.value (places c.args.inner.now)) (at_input c.args.i c.args.value (places c.args.outer.now)) c.args.inner.now c.args.outer.now c.requires.input refl refl
+    c.requires.literal inner outer in
+    (omega arith, (inner.are_cubes, outer.are_cubes))
+
+pub side_sum-returns-then-not-has_symbol-2 : goal.side_sum-returns-then-not-has_symbol-2
+side_sum-returns-then-not-has_symbol-2 t c =
+    IsSide-none c.args.shape c.args.i c.requires.input c.args.inner.now c.args.outer.now c.requires.inner c.requires.outer c.args.value
+    (ap (λ t. has_symbol c.args.i t c.args.inner.now) (sym c.literal.ensures) ∙ sym c.has_symbol.ensures ∙ c.if-not-has_symbol.true)
+    (ap (λ t. has_symbol c.args.i t c.args.outer.now) (sym c.literal-then-not-has_symbol.ensures) ∙ sym c.has_symbol-then-not-has_symbol.ensures ∙ c.if-not-has_symbol-2.true)
+    c.new.result.items c.new.ensures.items
+
+pub side_sum-returns : goal.side_sum-returns
+side_sum-returns t c =
+    IfOk-weaker c.sum_between.result _ _ (λ rows h.
+    IsSide-sum c.args.shape c.args.i (difference (places c.args.inner.now) (places c.args.outer.now)) c.args.value rows.items
+    (branch_sum c.args.shape c.args.i c.requires.input c.args.inner.now c.args.outer.now c.args.value c.in_ok-side_inner.side_inner.items c.in_ok-side_outer.side_outer.items rows.items
+    c.in_ok-side_inner.ensures c.in_ok-side_outer.ensures h)) c.sum_between.ensures
