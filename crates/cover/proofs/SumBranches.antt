@@ -51,10 +51,6 @@ IsThinned-absorbed cubes kept h = record { within = h.within; over = h.over }
 pub IsThinned-same : (cubes kept : List Cube) → HasSameCubes cubes kept → IsThinned cubes kept
 IsThinned-same cubes kept same = record { within = λ c h. (same c).1 h; over = λ c h. (c, (same c).0 h, λ p k. k) }
 
-pub IsBranch-absorbed : (size : Size) (i : ℕ) (cubes : List Cube) (s : Place → Bool) (all kept : List Cube) → IsBranch size i cubes s all
-    → IsAbsorbed all kept → IsBranch size i cubes s kept
-IsBranch-absorbed size i cubes s all kept branch absorbed = IsBranch-thinned size i cubes s all kept branch (IsThinned-absorbed all kept absorbed)
-
 module _ (size : Size) (i : ℕ) (lt : i < size.inputs) (cubes : List Cube) (h : AreCubes size cubes) where
   pub IsBranch-both : (common : List Cube) → IsMeets size (part i Zero cubes) (part i One cubes) common
       → IsBranch size i cubes (at_both i (places cubes)) (part i Dash cubes ++ common)

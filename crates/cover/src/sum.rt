@@ -10,8 +10,8 @@
 //! of Coudert and Madre (Implicit and Incremental Computation of Primes and Essential Primes of
 //! Boolean Functions, 1992); they keep the sets as decision diagrams, and here they are lists of
 //! cubes. So no products of primes are formed, and no prime is compared with the others: each merge
-//! takes time in the lengths of its lists, which are in row order. The input with most literals of
-//! both kinds is split at, and lists with one literal at each input are their own sum but for the
+//! takes time in the lengths of its lists, which are in row order. The input with most literals is
+//! split at, and lists with one literal at each input are their own sum but for the
 //! cubes that lie in others (Brayton et al. 1984).
 ghost use Rattle.std.specs.Prelude.{◌≡◌, ◌<◌, ◌||◌, IfOk, not, true};
 ghost use Rattle.cube.specs.Cube.{intersection, difference as difference_of};
@@ -23,7 +23,7 @@ ghost use Rattle.cover.specs.Sides.{IsSide};
 
 use crate::list::Cover;
 use crate::sum_absorb::reduced;
-use crate::sum_branch::{at_both_values, at_either_value, at_value, literal, thin_at_value};
+use crate::sum_branch::{at_both_values, at_either_value, literal, thin_at_value};
 use crate::sum_choice::{choose, hold_everything, is_unate};
 use crate::sum_leaf::free_sum;
 use crate::sum_parts::{has_symbol, meets};
@@ -114,7 +114,7 @@ fn side_sum(
     if !has_symbol(inner, i, literal(value)) && !has_symbol(outer, i, literal(!value)) {
         return Ok(Vec::new(alloc));
     }
-    let side_inner = at_value(alloc, shape, inner, i, value)?;
+    let side_inner = thin_at_value(alloc, shape, inner, i, value)?;
     let side_outer = thin_at_value(alloc, shape, outer, i, value)?;
     sum_between(alloc, shape, found, side_inner, side_outer)
 }

@@ -1,5 +1,5 @@
-use Rattle.std.proofs.Common.{◌≡◌, ◌∙◌, subst, sym}
-use Rattle.cube.specs.Cube.{Cube, IsCube, IsSubset, holds}
+use Rattle.std.proofs.Common.{◌∙◌, subst, sym}
+use Rattle.cube.specs.Cube.{IsCube, IsSubset, holds}
 use Rattle.cube.proofs.SharpLemmas.{same_from_places}
 use Rattle.cube.proofs.cube.Cube.is_equal.Goals as goal
 
