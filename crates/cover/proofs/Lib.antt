@@ -23,3 +23,4 @@ pub mod SumChoice
 pub mod SumPlaces
 pub mod SumFreed
 pub mod SumSides
+pub mod SumJoin

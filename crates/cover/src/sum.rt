@@ -25,8 +25,9 @@ use crate::list::Cover;
 use crate::sum_absorb::reduced;
 use crate::sum_branch::{at_both_values, at_either_value, literal, thin_at_value};
 use crate::sum_choice::{choose, hold_everything, is_unate};
+use crate::sum_join::joined;
 use crate::sum_leaf::free_sum;
-use crate::sum_parts::{has_symbol, meets};
+use crate::sum_parts::has_symbol;
 use crate::sum_rows::merge_three;
 use crate::sum_table::{Sums, hash_of};
 use crate::tautology::universal;
@@ -157,7 +158,7 @@ pub fn intersect(list: &Cover, other: &Cover) -> Result<Cover, AllocError>
     let alloc = list.allocator();
     let shape = list.shape();
     let _shape = other.shape();
-    let rows = meets(alloc, shape, list.as_slice(), other.as_slice())?;
+    let rows = joined(alloc, shape, 0, list.as_slice(), other.as_slice())?;
     let rows = reduced(alloc, shape, rows)?;
     let sum = sum_between(alloc, shape, &mut Sums::new(alloc), rows, Vec::new(alloc))?;
     Ok(Cover::from_cubes(shape, sum))

@@ -10,13 +10,13 @@ use Rattle.cover.proofs.SumParts.{AreCubes-part}
 use Rattle.cover.proofs.SumBranches.{IsBranch-both_list, IsBranch-thinned}
 use Rattle.cover.proofs.sum_branch.at_both_values.Goals as goal
 
-pub meets-requires-clause-rows : goal.meets-requires-clause-rows
-meets-requires-clause-rows c =
+pub joined-requires-clause-rows : goal.joined-requires-clause-rows
+joined-requires-clause-rows c =
     All-same (IsCube c.args.shape) c.deref.result.now (part c.args.i Zero c.args.rows.now) (c.deref.ensures.value ∙ c.in_ok-zeros.ensures)
     (AreCubes-part c.args.shape c.args.i Zero c.args.rows.now c.requires.rows)
 
-pub meets-requires-clause-others : goal.meets-requires-clause-others
-meets-requires-clause-others c =
+pub joined-requires-clause-others : goal.joined-requires-clause-others
+joined-requires-clause-others c =
     All-same (IsCube c.args.shape) c.deref-2.result.now (part c.args.i One c.args.rows.now) (c.deref-2.ensures.value ∙ c.in_ok-ones.ensures)
     (AreCubes-part c.args.shape c.args.i One c.args.rows.now c.requires.rows)
 
