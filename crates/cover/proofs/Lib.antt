@@ -21,3 +21,6 @@ pub mod SumUnate
 pub mod SumEnds
 pub mod SumChoice
 pub mod SumPlaces
+pub mod SumFreed
+pub mod SumSides
+pub mod SumJoin

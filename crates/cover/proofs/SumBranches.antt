@@ -8,7 +8,7 @@ use Rattle.cube.specs.Cube.{Cube, Place, holds, IsCube, IsSubset}
 use Rattle.cube.proofs.Members.{list_any_none, list_any_false}
 use Rattle.cover.specs.Cubes.{AreCubes}
 use Rattle.cover.specs.Places.{places}
-use Rattle.cover.specs.Complete.{literal, at_input, at_both, at_either}
+use Rattle.cover.specs.Complete.{at_input, at_both}
 use Rattle.cover.specs.Marks.{is_symbol}
 use Rattle.cover.specs.Parts.{part, has_literal}
 use Rattle.cover.specs.Reduced.{IsMeets, IsBranch, IsAbsorbed, IsThinned, HasSameCubes}
@@ -51,18 +51,7 @@ IsThinned-absorbed cubes kept h = record { within = h.within; over = h.over }
 pub IsThinned-same : (cubes kept : List Cube) → HasSameCubes cubes kept → IsThinned cubes kept
 IsThinned-same cubes kept same = record { within = λ c h. (same c).1 h; over = λ c h. (c, (same c).0 h, λ p k. k) }
 
-pub IsBranch-absorbed : (size : Size) (i : ℕ) (cubes : List Cube) (s : Place → Bool) (all kept : List Cube) → IsBranch size i cubes s all
-    → IsAbsorbed all kept → IsBranch size i cubes s kept
-IsBranch-absorbed size i cubes s all kept branch absorbed = IsBranch-thinned size i cubes s all kept branch (IsThinned-absorbed all kept absorbed)
-
 module _ (size : Size) (i : ℕ) (lt : i < size.inputs) (cubes : List Cube) (h : AreCubes size cubes) where
-  pub IsBranch-value : (b : Bool) → IsBranch size i cubes (at_input i b (places cubes)) (part i Dash cubes ++ part i (literal b) cubes)
-  IsBranch-value b = record {
-    are_cubes = All-append (IsCube size) (part i Dash cubes) (part i (literal b) cubes) (AreCubes-part size i Dash cubes h) (AreCubes-part size i (literal b) cubes h);
-    places = λ p. places-append (part i Dash cubes) (part i (literal b) cubes) p ∙ places-at_input size i lt b cubes p h;
-    frees = Frees-append i cubes (part i Dash cubes) (part i (literal b) cubes) (Frees-part size i Dash cubes lt h) (Frees-part size i (literal b) cubes lt h);
-  }
-
   pub IsBranch-both : (common : List Cube) → IsMeets size (part i Zero cubes) (part i One cubes) common
       → IsBranch size i cubes (at_both i (places cubes)) (part i Dash cubes ++ common)
   IsBranch-both common meets = record {
@@ -84,37 +73,9 @@ module _ (size : Size) (i : ℕ) (lt : i < size.inputs) (cubes : List Cube) (h :
       or_over_and true z o = refl
       or_over_and false z o = refl
 
-  pub IsBranch-either : IsBranch size i cubes (at_either i (places cubes)) ((part i Dash cubes ++ part i Zero cubes) ++ part i One cubes)
-  IsBranch-either = record {
-    are_cubes = All-append (IsCube size) (part i Dash cubes ++ part i Zero cubes) (part i One cubes)
-        (All-append (IsCube size) (part i Dash cubes) (part i Zero cubes) (AreCubes-part size i Dash cubes h) (AreCubes-part size i Zero cubes h)) (AreCubes-part size i One cubes h);
-    places = λ p.
-        let d = places (part i Dash cubes) p in
-        let z = places (part i Zero cubes) p in
-        let o = places (part i One cubes) p in
-        places-append (part i Dash cubes ++ part i Zero cubes) (part i One cubes) p ∙ ap (λ x. x || o) (places-append (part i Dash cubes) (part i Zero cubes) p)
-        ∙ or_twice d z o
-        ∙ ap (λ x. x || (d || o)) (places-at_input size i lt false cubes p h)
-        ∙ ap (λ x. at_input i false (places cubes) p || x) (places-at_input size i lt true cubes p h);
-    frees = Frees-append i cubes (part i Dash cubes ++ part i Zero cubes) (part i One cubes)
-        (Frees-append i cubes (part i Dash cubes) (part i Zero cubes) (Frees-part size i Dash cubes lt h) (Frees-part size i Zero cubes lt h)) (Frees-part size i One cubes lt h);
-  }
-    where
-      or_twice : (d z o : Bool) → ((d || z) || o) ≡ ((d || z) || (d || o))
-      or_twice true z o = refl
-      or_twice false true o = refl
-      or_twice false false o = refl
-
   -- the lists as the code makes them
   pub IsBranch-both_list : (dashes zeros ones common all : List Cube) → dashes ≡ part i Dash cubes → zeros ≡ part i Zero cubes → ones ≡ part i One cubes
       → IsMeets size zeros ones common → all ≡ dashes ++ common → IsBranch size i cubes (at_both i (places cubes)) all
   IsBranch-both_list dashes zeros ones common all d z o meets is =
       subst (IsBranch size i cubes (at_both i (places cubes))) (sym (is ∙ ap (λ l. l ++ common) d))
       (IsBranch-both common (subst (λ l. IsMeets size l (part i One cubes) common) z (subst (λ l. IsMeets size zeros l common) o meets)))
-
-  pub IsBranch-either_list : (dashes zeros ones some all : List Cube) → dashes ≡ part i Dash cubes → zeros ≡ part i Zero cubes → ones ≡ part i One cubes
-      → some ≡ dashes ++ zeros → all ≡ some ++ ones → IsBranch size i cubes (at_either i (places cubes)) all
-  IsBranch-either_list dashes zeros ones some all d z o first second =
-      subst (IsBranch size i cubes (at_either i (places cubes)))
-      (sym (second ∙ ap (λ l. l ++ ones) (first ∙ ap (λ l. l ++ zeros) d ∙ ap (λ l. part i Dash cubes ++ l) z) ∙ ap (λ l. (part i Dash cubes ++ part i Zero cubes) ++ l) o))
-      IsBranch-either

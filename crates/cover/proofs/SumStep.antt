@@ -125,14 +125,6 @@ module _ (size : Size) (i : ℕ) (lt : i < size.inputs) (inner outer : List Cube
       (λ p. ap (λ z. z && not (places out_b p)) (x.places p) ∙ ap (λ z. at_both i (places inner) p && not z) (y.places p)
       ∙ and_nor (at_input i false (places inner) p) (at_input i true (places inner) p) (at_input i false (places outer) p) (at_input i true (places outer) p))
 
-  pub complete_sum-step : (ds ps qs all : List Cube) → ds ≡ complete_sum size (at_both i (difference (places inner) (places outer)))
-      → ps ≡ complete_sum size (at_input i false (difference (places inner) (places outer))) → qs ≡ complete_sum size (at_input i true (difference (places inner) (places outer)))
-      → all ≡ three_merged i ds ps qs → all ≡ complete_sum size (difference (places inner) (places outer))
-  complete_sum-step ds ps qs all d p q is =
-      is ∙ ap (λ l. three_merged i l ps qs) d ∙ ap (λ l. three_merged i (complete_sum size (at_both i (difference (places inner) (places outer)))) l qs) p
-      ∙ ap (λ l. three_merged i (complete_sum size (at_both i (difference (places inner) (places outer)))) (complete_sum size (at_input i false (difference (places inner) (places outer)))) l) q
-      ∙ complete_sum-three size i lt (difference (places inner) (places outer))
-
 -- the cubes of a complete sum are of the size
 pub AreCubes-complete_sum : (size : Size) (s : Place → Bool) (rows : List Cube) → rows ≡ complete_sum size s → AreCubes size rows
 AreCubes-complete_sum size s rows e =
@@ -148,19 +140,6 @@ complete_sum-no_outer size rows inner outer none' e =
     and_true : (x : Bool) → (x && true) ≡ x
     and_true true = refl
     and_true false = refl
-
--- a branch of the list behind a reference
-pub branch_value : (size : Size) (i : ℕ) (b : Bool) (now cubes branch : List Cube) → now ≡ cubes → IsBranch size i now (at_input i b (places now)) branch
-    → IsBranch size i cubes (at_input i b (places cubes)) branch
-branch_value size i b now cubes branch e h = subst (λ l. IsBranch size i l (at_input i b (places l)) branch) e h
-
-pub branch_both : (size : Size) (i : ℕ) (now cubes branch : List Cube) → now ≡ cubes → IsBranch size i now (at_both i (places now)) branch
-    → IsBranch size i cubes (at_both i (places cubes)) branch
-branch_both size i now cubes branch e h = subst (λ l. IsBranch size i l (at_both i (places l)) branch) e h
-
-pub branch_either : (size : Size) (i : ℕ) (now cubes branch : List Cube) → now ≡ cubes → IsBranch size i now (at_either i (places now)) branch
-    → IsBranch size i cubes (at_either i (places cubes)) branch
-branch_either size i now cubes branch e h = subst (λ l. IsBranch size i l (at_either i (places l)) branch) e h
 
 -- the measure falls
 pub branch_falls : (size : Size) (i : ℕ) (inner outer in_b out_b : List Cube) (s t : Place → Bool) (now now' : List Cube) → i < size.inputs → now ≡ inner → now' ≡ outer

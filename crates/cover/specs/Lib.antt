@@ -8,3 +8,4 @@ pub mod Cofactor
 pub mod Complete
 pub mod Parts
 pub mod Reduced
+pub mod Sides

@@ -1,7 +1,7 @@
 -- Lists that stand for the places of others. No public clause cites this module.
-use Rattle.std.specs.Prelude.{◌≡◌, ◌≢◌, ℕ, Bool, false, not, ◌&&◌, ◌<◌, ◌⊎◌, List, length, slice_index_or, Contains}
+use Rattle.std.specs.Prelude.{◌≡◌, ◌≢◌, ℕ, Bool, false, not, ◌&&◌, ◌<◌, ◌⊎◌, List, ◌++◌, length, slice_index_or, All, Contains}
 use Rattle.std.specs.List.{list_any}
-use Rattle.cube.specs.declared.symbol.Symbol.TheVariants.{Zero, One}
+use Rattle.cube.specs.declared.symbol.Symbol.TheVariants.{Dash, Zero, One}
 use Rattle.std.specs.List.Sorted.{IsStrictlySortedBy}
 use Rattle.std.specs.declared.cmp.Ordering.TheVariants.{Less}
 use Rattle.cube.specs.Size.{Size}
@@ -16,6 +16,15 @@ pub record IsMeets (size : Size) (rows others meets : List Cube) : Type 0 where
   pub are_cubes : AreCubes size meets
   pub places : (p : Place) → places meets p ≡ (places rows p && places others p)
   pub literals : (k : ℕ) → has_literal k rows ≡ false → has_literal k others ≡ false → has_literal k meets ≡ false
+
+-- the cubes one behind the other by their symbol at input i: those with `-`, with `0` and with `1`
+pub record IsInThirds (size : Size) (i : ℕ) (cubes dashes zeros ones : List Cube) : Type 0 where
+  pub all : cubes ≡ (dashes ++ zeros) ++ ones
+  pub dash_cubes : AreCubes size dashes
+  pub zero_cubes : AreCubes size zeros
+  pub one_cubes : AreCubes size ones
+  pub zeros_at : All (λ c. slice_index_or c.symbols i Dash ≡ Zero) zeros
+  pub ones_at : All (λ c. slice_index_or c.symbols i Dash ≡ One) ones
 
 -- no literal is left at input i, and none comes at another
 pub record Frees (i : ℕ) (cubes freed : List Cube) : Type 0 where

@@ -36,9 +36,11 @@ mod sum;
 mod sum_absorb;
 mod sum_branch;
 mod sum_choice;
+mod sum_join;
 mod sum_leaf;
 mod sum_parts;
 mod sum_rows;
+mod sum_table;
 #[cfg(test)]
 mod sum_tests;
 mod symbols;

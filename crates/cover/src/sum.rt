@@ -5,34 +5,41 @@
 //! places that are inside at both values; those with `0` are the cubes of the sum at `0` that are
 //! not among the first, and those with `1` likewise. The lists at both values are the cubes without
 //! a literal at the input with the meets of those with `0` and those with `1`, and of the list that
-//! is taken away the cubes with either. The recursion over both cofactors and their product is that
+//! is taken away the cubes with either. Where one value holds all that the other does, both do what the
+//! other does, and two sums are enough. The recursion over both cofactors and their product is that
 //! of Coudert and Madre (Implicit and Incremental Computation of Primes and Essential Primes of
 //! Boolean Functions, 1992); they keep the sets as decision diagrams, and here they are lists of
 //! cubes. So no products of primes are formed, and no prime is compared with the others: each merge
-//! takes time in the lengths of its lists, which are in row order. The input with most literals of
-//! both kinds is split at, and lists with one literal at each input are their own sum but for the
+//! takes time in the lengths of its lists, which are in row order. The input with most literals is
+//! split at, and lists with one literal at each input are their own sum but for the
 //! cubes that lie in others (Brayton et al. 1984).
-ghost use Rattle.std.specs.Prelude.{◌≡◌, IfOk, not};
+ghost use Rattle.std.specs.Prelude.{◌≡◌, ◌<◌, ◌||◌, IfOk, not, true};
 ghost use Rattle.cube.specs.Cube.{intersection, difference as difference_of};
 ghost use Rattle.cube.specs.Sum.{complete_sum as complete_sum_of};
 ghost use Rattle.cover.specs.Cubes.{AreCubes};
+ghost use Rattle.cover.specs.Parts.{has_literal};
 ghost use Rattle.cover.specs.Places.{places};
+ghost use Rattle.cover.specs.Sides.{IsSide};
 
 use crate::list::Cover;
 use crate::sum_absorb::reduced;
-use crate::sum_branch::{at_both_values, at_either_value, at_value, thin_at_value};
+use crate::sum_branch::{at_both_values, at_either_value, literal, thin_at_value};
 use crate::sum_choice::{choose, hold_everything, is_unate};
+use crate::sum_join::joined;
 use crate::sum_leaf::free_sum;
-use crate::sum_parts::meets;
+use crate::sum_parts::has_symbol;
 use crate::sum_rows::merge_three;
+use crate::sum_table::{Sums, hash_of};
 use crate::tautology::universal;
 use cube::{Cube, Shape};
 use std::alloc::{AllocError, Global};
 
 // The complete sum of the places of the first list that are not in the second.
+#[cycle(sum)]
 fn sum_between(
     alloc: Global,
     shape: Shape,
+    found: &mut Sums,
     inner: Vec<Cube>,
     outer: Vec<Cube>,
 ) -> Result<Vec<Cube>, AllocError>
@@ -54,21 +61,63 @@ fn sum_between(
     if hold_everything(shape, &outer) {
         return Ok(Vec::new(alloc));
     }
-    match choose(shape, &inner, &outer) {
-        None => free_sum(alloc, shape, &inner, &outer),
-        Some(i) => {
-            let both_inner = at_both_values(alloc, shape, &inner, i)?;
-            let both_outer = at_either_value(alloc, shape, &outer, i)?;
-            let both = sum_between(alloc, shape, both_inner, both_outer)?;
-            let low_inner = at_value(alloc, shape, &inner, i, false)?;
-            let low_outer = thin_at_value(alloc, shape, &outer, i, false)?;
-            let low = sum_between(alloc, shape, low_inner, low_outer)?;
-            let high_inner = at_value(alloc, shape, &inner, i, true)?;
-            let high_outer = thin_at_value(alloc, shape, &outer, i, true)?;
-            let high = sum_between(alloc, shape, high_inner, high_outer)?;
-            merge_three(alloc, shape, i, both, low, high)
-        }
+    let hash = hash_of(&inner, &outer);
+    if let Some(sum) = found.find(alloc, shape, hash, &inner, &outer)? {
+        return Ok(sum);
     }
+    let sum = split_sum(alloc, shape, found, &inner, &outer)?;
+    found.keep(alloc, shape, hash, inner, outer, &sum)?;
+    Ok(sum)
+}
+
+// The same by way of the lists at the values of an input, if one has a literal.
+#[cycle(sum)]
+fn split_sum(
+    alloc: Global,
+    shape: Shape,
+    found: &mut Sums,
+    inner: &[Cube],
+    outer: &[Cube],
+) -> Result<Vec<Cube>, AllocError>
+    requires inner { AreCubes shape inner.now }
+    requires outer { AreCubes shape outer.now }
+    ensures { IfOk result (λ rows. rows.items ≡ complete_sum_of shape (difference_of (places inner.now) (places outer.now))) }
+{
+    let Some(i) = choose(shape, inner, outer) else {
+        return free_sum(alloc, shape, inner, outer);
+    };
+    let both_inner = at_both_values(alloc, shape, inner, i)?;
+    let both_outer = at_either_value(alloc, shape, outer, i)?;
+    let both = sum_between(alloc, shape, found, both_inner, both_outer)?;
+    let low = side_sum(alloc, shape, found, i, false, inner, outer)?;
+    let high = side_sum(alloc, shape, found, i, true, inner, outer)?;
+    merge_three(alloc, shape, i, both, low, high)
+}
+
+// What the places at one value of input `i` add to those at both: their complete sum, or nothing
+// where the other value has them too.
+#[cycle(sum)]
+fn side_sum(
+    alloc: Global,
+    shape: Shape,
+    found: &mut Sums,
+    i: usize,
+    value: bool,
+    inner: &[Cube],
+    outer: &[Cube],
+) -> Result<Vec<Cube>, AllocError>
+    requires input { i < shape.inputs }
+    requires literal { (has_literal i inner.now || has_literal i outer.now) ≡ true }
+    requires inner { AreCubes shape inner.now }
+    requires outer { AreCubes shape outer.now }
+    ensures { IfOk result (λ rows. IsSide shape i value (difference_of (places inner.now) (places outer.now)) rows.items) }
+{
+    if !has_symbol(inner, i, literal(value)) && !has_symbol(outer, i, literal(!value)) {
+        return Ok(Vec::new(alloc));
+    }
+    let side_inner = thin_at_value(alloc, shape, inner, i, value)?;
+    let side_outer = thin_at_value(alloc, shape, outer, i, value)?;
+    sum_between(alloc, shape, found, side_inner, side_outer)
 }
 
 /// The complete sum of the places of the list: all cubes that hold only such places and lie in no
@@ -87,7 +136,7 @@ pub fn complete_sum(list: &Cover) -> Result<Cover, AllocError>
     let alloc = list.allocator();
     let shape = list.shape();
     let rows = list.try_clone()?.into_cubes();
-    let sum = sum_between(alloc, shape, rows, Vec::new(alloc))?;
+    let sum = sum_between(alloc, shape, &mut Sums::new(alloc), rows, Vec::new(alloc))?;
     Ok(Cover::from_cubes(shape, sum))
 }
 
@@ -109,9 +158,9 @@ pub fn intersect(list: &Cover, other: &Cover) -> Result<Cover, AllocError>
     let alloc = list.allocator();
     let shape = list.shape();
     let _shape = other.shape();
-    let rows = meets(alloc, shape, list.as_slice(), other.as_slice())?;
+    let rows = joined(alloc, shape, 0, list.as_slice(), other.as_slice())?;
     let rows = reduced(alloc, shape, rows)?;
-    let sum = sum_between(alloc, shape, rows, Vec::new(alloc))?;
+    let sum = sum_between(alloc, shape, &mut Sums::new(alloc), rows, Vec::new(alloc))?;
     Ok(Cover::from_cubes(shape, sum))
 }
 
@@ -135,7 +184,7 @@ pub fn difference(list: &Cover, other: &Cover) -> Result<Cover, AllocError>
     let _shape = other.shape();
     let inner = list.try_clone()?.into_cubes();
     let outer = other.try_clone()?.into_cubes();
-    let sum = sum_between(alloc, shape, inner, outer)?;
+    let sum = sum_between(alloc, shape, &mut Sums::new(alloc), inner, outer)?;
     Ok(Cover::from_cubes(shape, sum))
 }
 
@@ -159,7 +208,7 @@ impl Cover {
         let _shape = everything.shape();
         inner.push(everything)?;
         let outer = self.try_clone()?.into_cubes();
-        let sum = sum_between(alloc, shape, inner, outer)?;
+        let sum = sum_between(alloc, shape, &mut Sums::new(alloc), inner, outer)?;
         Ok(Cover::from_cubes(shape, sum))
     }
 }

@@ -11,7 +11,7 @@ use cube::{Cube, Shape};
 use std::alloc::{AllocError, Global};
 
 // So many rows are not looked at pair by pair for a smaller list alone.
-const MANY: usize = 128;
+const MANY: usize = 32;
 
 // Whether the row lies in one of the kept rows.
 fn is_covered(kept: &[Cube], row: &Cube) -> bool

@@ -4,7 +4,7 @@ ghost use Rattle.cube.specs.Size.{Size};
 ghost use Rattle.cube.specs.Cube.{SameSize, IsCube, Cube as Row};
 ghost use Rattle.cover.specs.Cubes.{AreCubes};
 ghost use Rattle.cover.specs.Marks.{is_symbol};
-ghost use Rattle.cover.specs.Parts.{part as part_of, symbol_count, has_literal};
+ghost use Rattle.cover.specs.Parts.{part as part_of, has_symbol as has_symbol_of, has_literal};
 ghost use Rattle.cover.specs.Reduced.{IsMeets};
 
 use crate::symbols::has_symbol_at;
@@ -30,18 +30,17 @@ pub(crate) fn part(
     Ok(kept)
 }
 
-/// How many rows have this symbol at input `i`.
-pub(crate) fn count(rows: &[Cube], i: usize, symbol: Symbol) -> usize
+/// Whether some row has this symbol at input `i`.
+pub(crate) fn has_symbol(rows: &[Cube], i: usize, symbol: Symbol) -> bool
     requires { All (λ c. i < length c.symbols) rows.now }
-    ensures { result ≡ symbol_count i symbol rows.now }
+    ensures { result ≡ has_symbol_of i symbol rows.now }
 {
-    let mut n = 0usize;
     for row in rows {
         if has_symbol_at(row, i, symbol) {
-            n += 1;
+            return true;
         }
     }
-    n
+    false
 }
 
 // Adds the meets of a row with the others.

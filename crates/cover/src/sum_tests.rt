@@ -27,6 +27,34 @@ fn primes_of_a_ring(rt: HostRuntime) -> Result<(), Fail> {
 }
 
 #[test]
+fn primes_of_one_or_two_ones(rt: HostRuntime) -> Result<(), Fail> {
+    let alloc = rt.alloc();
+    let list = cover(
+        alloc,
+        4,
+        1,
+        &[
+            ("0001", "1"),
+            ("0010", "1"),
+            ("0011", "1"),
+            ("0100", "1"),
+            ("0101", "1"),
+            ("0110", "1"),
+            ("1000", "1"),
+            ("1001", "1"),
+            ("1010", "1"),
+            ("1100", "1"),
+        ],
+    )?;
+    // The list at 0 and 1 of the first two inputs is that at 1 and 0, whose sum is kept.
+    assert_eq!(rt;
+        text(alloc, &complete_sum(&list)?)?.as_str(),
+        "-001 1\n-010 1\n-100 1\n0-01 1\n0-10 1\n00-1 1\n001- 1\n01-0 1\n010- 1\n1-00 1\n10-0 1\n100- 1\n"
+    );
+    Ok(())
+}
+
+#[test]
 fn primes_of_two_outputs(rt: HostRuntime) -> Result<(), Fail> {
     let alloc = rt.alloc();
     let list = cover(alloc, 2, 2, &[("11", "10"), ("1-", "01")])?;

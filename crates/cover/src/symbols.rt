@@ -1,5 +1,6 @@
 //! Tests of symbols, and rows chosen by their symbol at an input.
 ghost use Rattle.std.specs.Prelude.{◌≡◌, ◌<◌, IfOk, All, length, slice_index_or, filter};
+ghost use Rattle.cube.specs.Pattern.{agrees};
 ghost use Rattle.cover.specs.Marks.{is_symbol, is_over, is_compatible};
 
 use cube::{Cube, Symbol};
@@ -35,6 +36,18 @@ pub(crate) fn has_symbol_at(row: &Cube, i: usize, symbol: Symbol) -> bool
     ensures { result ≡ is_symbol symbol (slice_index_or row.now.symbols i Symbol.Dash) }
 {
     same(symbol, row.symbol(i))
+}
+
+/// Whether a row's symbol at input `i` agrees with a bit.
+pub(crate) fn agrees_at(row: &Cube, i: usize, bit: bool) -> bool
+    requires { i < length row.now.symbols }
+    ensures { result ≡ agrees (slice_index_or row.now.symbols i Symbol.Dash) bit }
+{
+    match row.symbol(i) {
+        Symbol::Dash => true,
+        Symbol::Zero => !bit,
+        Symbol::One => bit,
+    }
 }
 
 // Whether a row and one with this symbol at input `i` can have a place in common.

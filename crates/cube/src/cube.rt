@@ -1,7 +1,9 @@
 //! A cube, kept in words.
-ghost use Rattle.std.specs.Prelude.{◌≡◌, ℕ, ◌+◌, ◌<◌, ◌≤◌, ◌↔◌, IsTrue, IsOk, IsSome, IsNone, IfOk, IfSome, IfNone, OnOk, MatchOption, if◌then◌else◌, ◌++◌, length, map, drop, slice_get, slice_index_or, Some, Contains, true, false};
+ghost use Rattle.std.specs.Prelude.{◌≡◌, ℕ, ◌+◌, ◌*◌, ◌<◌, ◌≤◌, ◌↔◌, IsTrue, IsOk, IsSome, IsNone, IfOk, IfSome, IfNone, OnOk, MatchOption, if◌then◌else◌, ◌++◌, length, map, drop, slice_get, slice_index_or, Some, Contains, not, true, false};
 ghost use Rattle.cube.specs.Cube.{HasSize, IsCube, SameSize, IsSubset, IsDisjoint, Place, holds, intersection, difference, word_count, size_of, with_symbol as cube_with_symbol, literals as literals_of, IsUniversal, IsNextLiteral, IsPlace};
+ghost use Rattle.cube.specs.Pattern.{agrees};
 ghost use Rattle.cube.specs.Size.{words_of_size};
+ghost use Rattle.std.specs.Int.{bit_at};
 ghost use Rattle.cube.specs.Join.{supercube};
 ghost use Rattle.cube.specs.Cofactor.{cofactor as cofactor_of};
 ghost use Rattle.cube.specs.Sharp.{minus, rest_row, rest_rows, pieces_below, splits, piece as piece_row};
@@ -17,8 +19,8 @@ use crate::pack::{byte_by_bits, input_word, input_words, output_word, output_wor
 use crate::shape::Shape;
 use crate::symbol::Symbol;
 use crate::words::{
-    count_clear, covers_words, first_clear, first_difference, freed_word, has_all, minus_word,
-    pairs_meet, share_bit, widened_word, with_bit, with_word, zip_words,
+    clear_from, count_clear, covers_words, first_clear, first_difference, freed_word, has_all,
+    minus_word, mixed, pairs_meet, share_bit, widened_word, with_bit, with_word, zip_words,
 };
 use smallvec::SmallVec;
 use std::alloc::{AllocError, Global};
@@ -162,6 +164,20 @@ impl Cube {
         match first_clear(words, 2 * from) {
             Some(at) => Some(at / 2),
             None => None,
+        }
+    }
+
+    /// The literals at the 32 inputs from `32 w` on, as bits: `0` at input `32 w + k` is bit `2 k + 1`,
+    /// and `1` bit `2 k`. So lists can count their literals word by word.
+    pub fn literal_bits(&self, w: usize) -> u64
+        ensures zeros { (k : ℕ) → k < 32 → bit_at result (2 * k + 1)
+            ≡ (if not (agrees (slice_index_or self.now.symbols (32 * w + k) Symbol.Dash) true) then 1 else 0) }
+        ensures ones { (k : ℕ) → k < 32 → bit_at result (2 * k)
+            ≡ (if not (agrees (slice_index_or self.now.symbols (32 * w + k) Symbol.Dash) false) then 1 else 0) }
+    {
+        match self.input_part().get(w) {
+            Some(word) => clear_from(*word, 0),
+            None => 0,
         }
     }
 
@@ -312,6 +328,35 @@ impl Cube {
             Ordering::Equal => self.outputs_cmp(other),
             order => order,
         }
+    }
+
+    /// Whether the cubes are one: of one shape, with the same symbols and outputs.
+    pub fn is_equal(&self, other: &Cube) -> bool
+        ensures { IsTrue result ↔ self.now ≡ other.now }
+    {
+        if !self.has_shape_of(other) {
+            return false;
+        }
+        let (_mine, _theirs) = (self.shape(), other.shape());
+        self.contains(other) && other.contains(self)
+    }
+
+    // Whether the two have as many inputs and as many outputs.
+    fn has_shape_of(&self, other: &Cube) -> bool
+        ensures { IsTrue result ↔ SameSize self.now other.now }
+    {
+        let (mine, theirs) = (self.shape(), other.shape());
+        mine.inputs() == theirs.inputs() && mine.outputs() == theirs.outputs()
+    }
+
+    /// A number made of the words and a seed, by which tables find cubes: for one seed equal cubes
+    /// give equal numbers, and others hardly ever.
+    pub fn hash(&self, seed: u64) -> u64 {
+        let mut hash = seed;
+        for word in self.words() {
+            hash = mixed(hash ^ *word);
+        }
+        hash
     }
 
     // By the symbols from the first on.

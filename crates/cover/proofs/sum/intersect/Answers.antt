@@ -13,13 +13,13 @@ sum_between-requires-clause-inner c =
 
 pub from_cubes-requires : goal.from_cubes-requires
 from_cubes-requires c =
-    AreCubes-complete_sum c.shape-shape.result (difference (places c.in_ok-rows-2.rows.items) (places c.new.result.items)) c.in_ok-sum.sum.items c.in_ok-sum.ensures
+    AreCubes-complete_sum c.shape-shape.result (difference (places c.in_ok-rows-2.rows.items) (places c.new-2.result.items)) c.in_ok-sum.sum.items c.in_ok-sum.ensures
 
 pub returns : goal.returns
 returns c =
     c.from_cubes.ensures
-    ∙ Cubes-sum c.args.list.now.size c.shape-shape.result c.in_ok-sum.sum.items (difference (places c.in_ok-rows-2.rows.items) (places c.new.result.items))
+    ∙ Cubes-sum c.args.list.now.size c.shape-shape.result c.in_ok-sum.sum.items (difference (places c.in_ok-rows-2.rows.items) (places c.new-2.result.items))
     (intersection (places c.args.list.now.cubes) (places c.args.other.now.cubes)) c.shape-shape.ensures.size c.in_ok-sum.ensures
-    (sum_of_meets c.args.list.now.size c.args.list.now.cubes c.args.other.now.cubes c.as_slice.result.now c.as_slice-2.result.now c.in_ok-rows.rows.items c.in_ok-rows-2.rows.items c.new.result.items
+    (sum_of_meets c.args.list.now.size c.args.list.now.cubes c.args.other.now.cubes c.as_slice.result.now c.as_slice-2.result.now c.in_ok-rows.rows.items c.in_ok-rows-2.rows.items c.new-2.result.items
     c.as_slice.ensures.value c.as_slice-2.ensures.value (subst (λ z. IsMeets z c.as_slice.result.now c.as_slice-2.result.now c.in_ok-rows.rows.items) c.shape-shape.ensures.size c.in_ok-rows.ensures)
-    c.in_ok-rows-2.ensures c.new.ensures.items)
+    c.in_ok-rows-2.ensures c.new-2.ensures.items)

@@ -1,0 +1,106 @@
+use Rattle.std.proofs.Common.{◌≡◌, ◌∙◌, ◌<◌, ap, refl, sym, subst, arith, true, vec_len, IfSome}
+use Rattle.std.proofs.lemmas.Bool.{eqb-true}
+use Rattle.std.proofs.lemmas.Result.{IfOk-weaker}
+use Rattle.cube.specs.Cube.{Place, IsPlace, difference}
+use Rattle.cube.specs.Sum.{complete_sum}
+use Rattle.cover.specs.Places.{places}
+use Rattle.cover.specs.Complete.{at_input, at_both, at_either}
+use Rattle.cover.specs.Parts.{live, has_symbol}
+use Rattle.cover.specs.Reduced.{IsUnate}
+use Rattle.cover.proofs.SumRows.{nothing_left}
+use Rattle.cover.proofs.SumUnate.{complete_sum-unate}
+use Rattle.cover.proofs.SumStep.{sum_of_lists, branch_falls, branch_sum, both_sum, complete_sum-no_outer, complete_sum-empty, complete_sum-single, complete_sum-covered, AreCubes-complete_sum}
+use Rattle.cover.proofs.SumSides.{IsSide-none, IsSide-sum, complete_sum-sides}
+use Rattle.cover.proofs.sum.+sum.Goals as goal
+
+pub sum_between-returns-then-is_empty : goal.sum_between-returns-then-is_empty
+sum_between-returns-then-is_empty t c = complete_sum-empty c.args.shape c.args.inner.items c.args.outer.items (sym c.args.inner.ok.0 ∙ eqb-true (vec_len c.args.inner) 0 (sym c.is_empty.ensures ∙ c.if-is_empty.true))
+
+pub sum_between-returns-then-len-eq1 : goal.sum_between-returns-then-len-eq1
+sum_between-returns-then-len-eq1 t c =
+    complete_sum-single c.args.shape c.args.inner.items c.args.outer.items c.requires.inner
+    (sym c.args.inner.ok.0 ∙ (sym c.len.ensures ∙ c.if-len-eq1.true))
+    (sym c.args.outer.ok.0 ∙ eqb-true (vec_len c.args.outer) 0 (sym c.is_empty-2.ensures ∙ c.if-is_empty-2.true))
+
+pub sum_between-returns-then-branch : goal.sum_between-returns-then-branch
+sum_between-returns-then-branch t c =
+    let unate = subst (IsUnate c.args.shape) c.deref.ensures.value (c.in_ok-is_unate.ensures c.if-branch.true) in
+    IfOk-weaker c.reduced.result _ _ (λ rows h. complete_sum-no_outer c.args.shape rows.items c.args.inner.items c.args.outer.items (nothing_left c.args.outer.items (sym c.args.outer.ok.0 ∙ eqb-true (vec_len c.args.outer) 0 (sym c.is_empty-2.ensures ∙ c.if-is_empty-2.true)))
+    (complete_sum-unate c.args.shape c.args.inner.items rows.items c.requires.inner unate h)) c.reduced.ensures
+
+pub sum_between-returns-then-hold_everything : goal.sum_between-returns-then-hold_everything
+sum_between-returns-then-hold_everything t c =
+    let all = c.hold_everything.ensures c.if-hold_everything.true in
+    c.new.ensures.items ∙ complete_sum-covered c.args.shape c.args.inner.items c.args.outer.items
+    (subst (λ l. (p : Place) → IsPlace c.args.shape p → places l p ≡ true) c.deref-2.ensures.value all)
+
+pub sum_between-returns-in-Some : goal.sum_between-returns-in-Some
+sum_between-returns-in-Some t c =
+    subst (λ found. IfSome found (λ rows. rows.items ≡ complete_sum c.args.shape (difference (places c.deref-5.result.now) (places c.deref-6.result.now)))) c.in-Some.is c.in_ok-sum.ensures
+    ∙ sum_of_lists c.args.shape c.deref-5.result.now c.args.inner.items c.deref-6.result.now c.args.outer.items c.deref-5.ensures.value c.deref-6.ensures.value
+
+pub sum_between-keep-requires : goal.sum_between-keep-requires
+sum_between-keep-requires t c =
+    c.deref-9.ensures.value ∙ c.in_ok-sum-2.ensures
+    ∙ sum_of_lists c.args.shape c.deref-7.result.now c.args.inner.items c.deref-8.result.now c.args.outer.items c.deref-7.ensures.value c.deref-8.ensures.value
+
+pub sum_between-returns : goal.sum_between-returns
+sum_between-returns t c =
+    c.in_ok-sum-2.ensures
+    ∙ sum_of_lists c.args.shape c.deref-7.result.now c.args.inner.items c.deref-8.result.now c.args.outer.items c.deref-7.ensures.value c.deref-8.ensures.value
+
+pub split_sum-sum_between-requires : goal.split_sum-sum_between-requires
+split_sum-sum_between-requires t c =
+    let inner = c.in_ok-both_inner.ensures in
+    let outer = c.in_ok-both_outer.ensures in
+    let less : live c.args.shape.inputs c.in_ok-both_inner.both_inner.items c.in_ok-both_outer.both_outer.items < live c.args.shape.inputs c.args.inner.now c.args.outer.now =
+    branch_falls c.args.shape c.in-Some.i c.args.inner.now c.args.outer.now c.in_ok-both_inner.both_inner.items c.in_ok-both_outer.both_outer.items
+    (at_both c.in-Some.i (places c.args.inner.now)) (at_either c.in-Some.i (places c.args.outer.now)) c.args.inner.now c.args.outer.now c.in-Some.ensures.bound refl refl
+    c.in-Some.ensures.some inner outer in
+    (omega arith, (inner.are_cubes, outer.are_cubes))
+
+pub split_sum-merge_three-requires-clause-both : goal.split_sum-merge_three-requires-clause-both
+split_sum-merge_three-requires-clause-both t c =
+    AreCubes-complete_sum c.args.shape (difference (places c.in_ok-both_inner.both_inner.items) (places c.in_ok-both_outer.both_outer.items)) c.in_ok-both.both.items c.in_ok-both.ensures
+
+pub split_sum-merge_three-requires-clause-low : goal.split_sum-merge_three-requires-clause-low
+split_sum-merge_three-requires-clause-low t c = c.in_ok-low.ensures.are_cubes
+
+pub split_sum-merge_three-requires-clause-high : goal.split_sum-merge_three-requires-clause-high
+split_sum-merge_three-requires-clause-high t c = c.in_ok-high.ensures.are_cubes
+
+pub split_sum-returns : goal.split_sum-returns
+split_sum-returns t c =
+    let size = c.args.shape in
+    let i = c.in-Some.i in
+    let lt = c.in-Some.ensures.bound in
+    let inner = c.args.inner.now in
+    let outer = c.args.outer.now in
+    IfOk-weaker c.merge_three.result _ _ (λ rows h.
+    complete_sum-sides size i (difference (places inner) (places outer)) lt c.in_ok-both.both.items c.in_ok-low.low.items c.in_ok-high.high.items rows.items
+    (both_sum size i lt inner outer c.in_ok-both_inner.both_inner.items c.in_ok-both_outer.both_outer.items c.in_ok-both.both.items c.in_ok-both_inner.ensures c.in_ok-both_outer.ensures c.in_ok-both.ensures)
+    c.in_ok-low.ensures c.in_ok-high.ensures h) c.merge_three.ensures
+
+pub side_sum-sum_between-requires : goal.side_sum-sum_between-requires
+side_sum-sum_between-requires t c =
+    let inner = c.in_ok-side_inner.ensures in
+    let outer = c.in_ok-side_outer.ensures in
+    let less : live c.args.shape.inputs c.in_ok-side_inner.side_inner.items c.in_ok-side_outer.side_outer.items < live c.args.shape.inputs c.args.inner.now c.args.outer.now =
+    branch_falls c.args.shape c.args.i c.args.inner.now c.args.outer.now c.in_ok-side_inner.side_inner.items c.in_ok-side_outer.side_outer.items
+    (at_input c.args.i c.args.value (places c.args.inner.now)) (at_input c.args.i c.args.value (places c.args.outer.now)) c.args.inner.now c.args.outer.now c.requires.input refl refl
+    c.requires.literal inner outer in
+    (omega arith, (inner.are_cubes, outer.are_cubes))
+
+pub side_sum-returns-then-not-has_symbol-2 : goal.side_sum-returns-then-not-has_symbol-2
+side_sum-returns-then-not-has_symbol-2 t c =
+    IsSide-none c.args.shape c.args.i c.requires.input c.args.inner.now c.args.outer.now c.requires.inner c.requires.outer c.args.value
+    (ap (λ t. has_symbol c.args.i t c.args.inner.now) (sym c.literal.ensures) ∙ sym c.has_symbol.ensures ∙ c.if-not-has_symbol.true)
+    (ap (λ t. has_symbol c.args.i t c.args.outer.now) (sym c.literal-then-not-has_symbol.ensures) ∙ sym c.has_symbol-then-not-has_symbol.ensures ∙ c.if-not-has_symbol-2.true)
+    c.new.result.items c.new.ensures.items
+
+pub side_sum-returns : goal.side_sum-returns
+side_sum-returns t c =
+    IfOk-weaker c.sum_between.result _ _ (λ rows h.
+    IsSide-sum c.args.shape c.args.i (difference (places c.args.inner.now) (places c.args.outer.now)) c.args.value rows.items
+    (branch_sum c.args.shape c.args.i c.requires.input c.args.inner.now c.args.outer.now c.args.value c.in_ok-side_inner.side_inner.items c.in_ok-side_outer.side_outer.items rows.items
+    c.in_ok-side_inner.ensures c.in_ok-side_outer.ensures h)) c.sum_between.ensures

@@ -1,0 +1,185 @@
+//! Complete sums that were found, kept to be found again.
+//!
+//! Where inputs are alike, as in symmetric functions and in adders, the lists at values of some come
+//! to those at other values of others. So the two lists of a step are kept with their sum, in a slot
+//! that their hash picks, the newer in place of the older. Packages for decision diagrams keep such a
+//! computed table (Brace, Rudell and Bryant, Efficient Implementation of a BDD Package, 1990).
+ghost use Rattle.std.specs.Prelude.{◌≡◌, IsTrue, IfOk, IfSome};
+ghost use Rattle.cube.specs.Cube.{difference as difference_of};
+ghost use Rattle.cube.specs.Sum.{complete_sum as complete_sum_of};
+ghost use Rattle.cover.specs.Places.{places};
+
+use cube::{Cube, Shape};
+use std::alloc::{AllocError, Global};
+use std::mem;
+
+// How many sums are kept at most.
+const SLOTS: usize = 8192;
+
+// How many rows are kept at most. Where one more sum would pass this, all are forgotten.
+const ROWS: usize = 1 << 18;
+
+// Two lists, and the complete sum of the places of the first that are not in the second.
+#[derive(Drop)]
+struct Known {
+    hash: u64,
+    shape: Shape,
+    inner: Vec<Cube>,
+    outer: Vec<Cube>,
+    sum: Vec<Cube>,
+    ghost is_sum: { sum.items ≡ complete_sum_of shape (difference_of (places inner.items) (places outer.items)) },
+}
+
+impl Known {
+    // How many rows are kept.
+    fn rows(&self) -> usize {
+        self.inner
+            .len()
+            .saturating_add(self.outer.len())
+            .saturating_add(self.sum.len())
+    }
+
+    // Whether the sum is that of these lists.
+    fn is_of(&self, shape: Shape, hash: u64, inner: &[Cube], outer: &[Cube]) -> bool
+        ensures { IsTrue result → (self.now.shape ≡ shape) × (self.now.inner.items ≡ inner.now) × (self.now.outer.items ≡ outer.now) }
+    {
+        self.hash == hash
+            && self.shape.inputs() == shape.inputs()
+            && self.shape.outputs() == shape.outputs()
+            && are_equal(&self.inner, inner)
+            && are_equal(&self.outer, outer)
+    }
+}
+
+/// Sums that were found: at most [`SLOTS`], of [`ROWS`] rows with those of their lists.
+#[derive(Drop)]
+pub(crate) struct Sums {
+    slots: Vec<Option<Known>>,
+    rows: usize,
+}
+
+impl Sums {
+    /// No sum yet. Memory is taken with the first one kept.
+    pub(crate) fn new(alloc: Global) -> Sums {
+        Sums {
+            slots: Vec::new(alloc),
+            rows: 0,
+        }
+    }
+
+    /// The complete sum of the places of the first list that are not in the second, if it is kept.
+    pub(crate) fn find(
+        &self,
+        alloc: Global,
+        shape: Shape,
+        hash: u64,
+        inner: &[Cube],
+        outer: &[Cube],
+    ) -> Result<Option<Vec<Cube>>, AllocError>
+        ensures { IfOk result (λ found. IfSome found (λ rows.
+            rows.items ≡ complete_sum_of shape (difference_of (places inner.now) (places outer.now)))) }
+    {
+        let Some(Some(known)) = self.slots.get(slot_of(hash)) else {
+            return Ok(None);
+        };
+        if !known.is_of(shape, hash, inner, outer) {
+            return Ok(None);
+        }
+        Ok(Some(copied(alloc, &known.sum)?))
+    }
+
+    /// Keeps a sum with its lists.
+    pub(crate) fn keep(
+        &mut self,
+        alloc: Global,
+        shape: Shape,
+        hash: u64,
+        inner: Vec<Cube>,
+        outer: Vec<Cube>,
+        sum: &[Cube],
+    ) -> Result<(), AllocError>
+        requires { sum.now ≡ complete_sum_of shape (difference_of (places inner.items) (places outer.items)) }
+    {
+        let sum = copied(alloc, sum)?;
+        let known = Known {
+            hash,
+            shape,
+            inner,
+            outer,
+            sum,
+        };
+        self.make_room(known.rows())?;
+        self.put(known);
+        Ok(())
+    }
+
+    // Makes the slots where there are none, and forgets all sums where so many rows more are too many.
+    fn make_room(&mut self, rows: usize) -> Result<(), AllocError> {
+        if self.rows.saturating_add(rows) > ROWS {
+            self.slots.clear();
+            self.rows = 0;
+        }
+        for _ in self.slots.len()..SLOTS {
+            self.slots.push(None)?;
+        }
+        Ok(())
+    }
+
+    // Puts a sum into its slot.
+    fn put(&mut self, known: Known) {
+        let rows = known.rows();
+        if rows > ROWS {
+            return;
+        }
+        if let Some(slot) = self.slots.get_mut(slot_of(known.hash)) {
+            let old = match mem::replace(slot, Some(known)) {
+                Some(old) => old.rows(),
+                None => 0,
+            };
+            self.rows = self.rows.saturating_sub(old).saturating_add(rows);
+        }
+    }
+}
+
+// The slot that a hash picks.
+fn slot_of(hash: u64) -> usize {
+    (hash % SLOTS as u64) as usize
+}
+
+/// A number of two lists, by which their sum is kept.
+pub(crate) fn hash_of(inner: &[Cube], outer: &[Cube]) -> u64 {
+    let mut hash = inner.len() as u64;
+    for row in inner {
+        hash = row.hash(hash);
+    }
+    for row in outer {
+        hash = row.hash(hash);
+    }
+    hash
+}
+
+// Whether the lists are equal.
+fn are_equal(rows: &[Cube], others: &[Cube]) -> bool
+    ensures { IsTrue result → rows.now ≡ others.now }
+{
+    if rows.len() != others.len() {
+        return false;
+    }
+    for k in 0..rows.len() {
+        if !rows[k].is_equal(&others[k]) {
+            return false;
+        }
+    }
+    true
+}
+
+/// An equal list.
+pub(crate) fn copied(alloc: Global, rows: &[Cube]) -> Result<Vec<Cube>, AllocError>
+    ensures { IfOk result (λ copy. copy.items ≡ rows.now) }
+{
+    let mut copy = Vec::with_capacity(alloc, rows.len())?;
+    for row in rows {
+        copy.push(row.try_clone()?)?;
+    }
+    Ok(copy)
+}
