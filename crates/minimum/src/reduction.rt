@@ -324,7 +324,7 @@ fn marked_rows(
     Ok(kept)
 }
 
-fn copied_rows(alloc: Global, rows: &[Vec<usize>]) -> Result<Vec<Vec<usize>>, AllocError>
+pub(crate) fn copied_rows(alloc: Global, rows: &[Vec<usize>]) -> Result<Vec<Vec<usize>>, AllocError>
     ensures { IfOk result (λ v. items_of v.items ≡ items_of rows.now) }
 {
     let mut kept = Vec::new(alloc);
