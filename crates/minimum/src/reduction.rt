@@ -82,7 +82,7 @@ fn prefers(choice: Choice, weights: &[u32], b: usize, a: usize) -> bool
 }
 
 /// Takes the mark from the place.
-fn unmark(marks: &mut Vec<bool>, place: usize)
+pub(crate) fn unmark(marks: &mut Vec<bool>, place: usize)
     ensures { Unmarks marks.old.items place marks.new.items }
 {
     if place < marks.len() {
