@@ -23,3 +23,4 @@ pub mod Parted
 pub mod PrimeTables
 pub mod LeastPrimes
 pub mod Needed
+pub mod Shared

@@ -28,6 +28,7 @@
 mod bound;
 mod build;
 mod choice;
+mod holders;
 mod implicants;
 mod laws;
 mod lists;

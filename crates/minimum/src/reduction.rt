@@ -82,7 +82,7 @@ fn prefers(choice: Choice, weights: &[u32], b: usize, a: usize) -> bool
 }
 
 /// Takes the mark from the place.
-fn unmark(marks: &mut Vec<bool>, place: usize)
+pub(crate) fn unmark(marks: &mut Vec<bool>, place: usize)
     ensures { Unmarks marks.old.items place marks.new.items }
 {
     if place < marks.len() {
@@ -324,7 +324,7 @@ fn marked_rows(
     Ok(kept)
 }
 
-fn copied_rows(alloc: Global, rows: &[Vec<usize>]) -> Result<Vec<Vec<usize>>, AllocError>
+pub(crate) fn copied_rows(alloc: Global, rows: &[Vec<usize>]) -> Result<Vec<Vec<usize>>, AllocError>
     ensures { IfOk result (λ v. items_of v.items ≡ items_of rows.now) }
 {
     let mut kept = Vec::new(alloc);

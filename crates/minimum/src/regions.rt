@@ -45,7 +45,7 @@ fn touches(cubes: &[Cube], region: &Cube, number: usize) -> bool
 }
 
 /// Whether the cube holds the region.
-fn spans(cubes: &[Cube], region: &Cube, number: usize) -> bool
+pub(crate) fn spans(cubes: &[Cube], region: &Cube, number: usize) -> bool
     requires size { All (λ d. SameSize d region.now) cubes.now }
     requires below { number < length cubes.now }
     ensures { result ≡ spans cubes.now region.now number }

@@ -18,7 +18,7 @@ use crate::bound::{Budget, Measure, packed, shares, within};
 use crate::choice::Choice;
 use crate::lists::{contains, copied, sum, with_column};
 use crate::table::Table;
-use crate::wishes::wished;
+use crate::wishes::Guide;
 use std::alloc::{AllocError, Global};
 
 fn without_column(alloc: Global, xs: &[usize], column: usize) -> Result<Vec<usize>, AllocError>
@@ -200,6 +200,7 @@ impl Table {
         measure: Measure,
         choice: Choice,
         budget: Budget,
+        guide: &mut Guide,
     ) -> Result<Option<Vec<bool>>, AllocError>
         ensures { IfOk result (λ o. MatchOption o (NoneWithin choice self.now budget.columns budget.counts) (λ v. (c : ℕ) → has c self.now.live ≡ true → marked v.items c ≡ false → IsOutside choice self.now budget.columns budget.counts c)) }
     {
@@ -208,7 +209,7 @@ impl Table {
             return Ok(Some(all_marked(alloc, self.columns())?));
         };
         let goal = u64::try_from(limit).unwrap_or(u64::MAX);
-        let wanted = wished(alloc, self.row_lists(), &shares, goal)?;
+        let wanted = guide.wish(alloc, measure, self.row_lists(), &shares, goal)?;
         let packing = packed(shares, self.row_lists(), &wanted);
         if packing.total > limit {
             return Ok(None);
@@ -223,10 +224,11 @@ impl Table {
         measure: Measure,
         choice: Choice,
         budget: Budget,
+        guide: &mut Guide,
     ) -> Result<Option<Table>, AllocError>
         ensures { IfOk result (λ o. MatchOption o (NoneWithin choice self.now budget.columns budget.counts) (IsNarrowed choice budget.columns budget.counts self.now)) }
     {
-        let Some(keep) = self.kept_within(alloc, measure, choice, budget)? else {
+        let Some(keep) = self.kept_within(alloc, measure, choice, budget, guide)? else {
             return Ok(None);
         };
         self.keep_marked(alloc, &keep)
@@ -238,15 +240,16 @@ impl Table {
         alloc: Global,
         choice: Choice,
         budget: Budget,
+        guide: &mut Guide,
     ) -> Result<Option<Table>, AllocError>
         ensures { IfOk result (λ o. MatchOption o (NoneWithin choice self.now budget.columns budget.counts) (IsNarrowed choice budget.columns budget.counts self.now)) }
     {
-        let Some(table) = self.bounded(alloc, Measure::Length, choice, budget)? else {
+        let Some(table) = self.bounded(alloc, Measure::Length, choice, budget, guide)? else {
             return Ok(None);
         };
         match choice {
             Choice::First => Ok(Some(table)),
-            Choice::Literals => table.bounded(alloc, Measure::Weight, choice, budget),
+            Choice::Literals => table.bounded(alloc, Measure::Weight, choice, budget, guide),
         }
     }
 
@@ -256,12 +259,13 @@ impl Table {
         alloc: Global,
         choice: Choice,
         budget: Budget,
+        guide: &mut Guide,
     ) -> Result<Option<Table>, AllocError>
         ensures { IfOk result (λ o. MatchOption o (NoneWithin choice self.now budget.columns budget.counts) (IsNarrowed choice budget.columns budget.counts self.now)) }
     {
         let mut table = self.settled(alloc, choice)?;
         loop {
-            let Some(next) = table.bounded_by_all(alloc, choice, budget)? else {
+            let Some(next) = table.bounded_by_all(alloc, choice, budget, guide)? else {
                 return Ok(None);
             };
             if table.live_columns().len() <= next.live_columns().len() {
@@ -278,12 +282,14 @@ impl Table {
         alloc: Global,
         choice: Choice,
         budget: Budget,
+        guide: &Guide,
     ) -> Result<Option<Vec<usize>>, AllocError>
         ensures { IfOk result (λ o. Answers choice self.now budget.columns budget.counts (option_map (λ v. v.items) o)) }
     {
-        match self.narrowed(alloc, choice, budget)? {
+        let mut guide = guide.copy(alloc)?;
+        match self.narrowed(alloc, choice, budget, &mut guide)? {
             None => Ok(None),
-            Some(table) => table.branch(alloc, choice, budget),
+            Some(table) => table.branch(alloc, choice, budget, &guide),
         }
     }
 
@@ -294,6 +300,7 @@ impl Table {
         alloc: Global,
         choice: Choice,
         budget: Budget,
+        guide: &Guide,
     ) -> Result<Option<Vec<usize>>, AllocError>
         ensures { IfOk result (λ o. Answers choice self.now budget.columns budget.counts (option_map (λ v. v.items) o)) }
     {
@@ -307,12 +314,12 @@ impl Table {
             return Ok(None);
         };
         let with = self.take(alloc, column)?;
-        if let Some(cover) = with.search(alloc, choice, budget)? {
+        if let Some(cover) = with.search(alloc, choice, budget, guide)? {
             return Ok(Some(cover));
         }
         match self.drop_live(alloc, column)? {
             None => Ok(None),
-            Some(rest) => rest.search(alloc, choice, budget),
+            Some(rest) => rest.search(alloc, choice, budget, guide),
         }
     }
 
@@ -326,7 +333,7 @@ impl Table {
             counts: 0,
         };
         loop {
-            if let Some(cover) = self.search(alloc, Choice::First, budget)? {
+            if let Some(cover) = self.search(alloc, Choice::First, budget, &Guide::new(alloc))? {
                 return Ok(cover);
             }
             budget.columns += 1;
@@ -346,7 +353,7 @@ impl Table {
             return Ok(None);
         };
         let budget = Budget { columns, counts };
-        self.search(alloc, Choice::Literals, budget)
+        self.search(alloc, Choice::Literals, budget, &Guide::new(alloc))
     }
 
     /// The least cover where literals are counted, from a cover of the least length: covers with fewer literals are
@@ -361,7 +368,7 @@ impl Table {
             counts = sum(Choice::Literals, self.literals(), &cover);
         }
         let budget = Budget { columns, counts };
-        match self.search(alloc, Choice::Literals, budget)? {
+        match self.search(alloc, Choice::Literals, budget, &Guide::new(alloc))? {
             Some(cover) => Ok(cover),
             None => unreachable!(),
         }

@@ -1,16 +1,20 @@
 //! The essential primes, and the exact minimum.
-ghost use Rattle.std.specs.Prelude.{◌≡◌, ◌++◌, ◌∷◌, ◌||◌, [], IfOk, OnOk, All, filter};
+ghost use Rattle.std.specs.Prelude.{◌≡◌, ◌<◌, ◌++◌, ◌∷◌, ◌||◌, [], IfOk, OnOk, All, filter, length};
 ghost use Rattle.cube.specs.Cube.{HasSize, SameSize, IsCube, IsSubset, holds};
+ghost use Rattle.cover.specs.Cubes.{AreCubes};
 ghost use Rattle.cover.specs.Places.{places};
+ghost use Rattle.cover.specs.Marks.{cube_at};
 ghost use Rattle.minimum.specs.Primes.{primes_of, chosen, exact_of, essential_of, is_essential};
-ghost use Rattle.minimum.specs.Rivals.{touches_cube, is_rival};
+ghost use Rattle.minimum.specs.Rivals.{touches_cube, is_rival, AreShared};
 
 #[cfg(test)]
 mod tests;
 
 use crate::choice::Choice;
+use crate::holders::shared;
 use crate::implicants::primes;
 use crate::reduction::reduce;
+use crate::search::is_marked;
 use crate::table::Table;
 use cover::Cover;
 use cube::Cube;
@@ -104,17 +108,42 @@ fn is_essential(
     Ok(!held)
 }
 
+/// The same where it is marked which primes hold no cube of the ON-set alone: those aren't essential.
+fn is_needed(
+    alloc: Global,
+    sets: &Sets,
+    primes: &Cover,
+    shared: &[bool],
+    number: usize,
+    prime: &Cube,
+) -> Result<bool, AllocError>
+    requires primes { primes.now ≡ record { size = sets.now.size; cubes = primes_of sets.now } }
+    requires on { AreCubes sets.now.size sets.now.on }
+    requires below { number < length (primes_of sets.now) }
+    requires at { prime.now ≡ cube_at (primes_of sets.now) number }
+    requires shared { AreShared (primes_of sets.now) sets.now.on (length sets.now.on) shared.now }
+    ensures { IfOk result (λ b. b ≡ is_essential sets.now (primes_of sets.now) prime.now) }
+{
+    if is_marked(shared, number) {
+        return Ok(false);
+    }
+    is_essential(alloc, sets, primes, prime)
+}
+
 /// The essential primes among the primes, as [`primes`] answers them, in their order: those that hold a place of the
 /// ON-set that is neither in the DC-set nor in another prime (Brayton et al. 1984).
 ///
-/// Each prime is compared with each other; whether those that have a place of it hold all of it is asked by cofactors.
+/// Where the ON-set has fewer cubes than there are primes, it first finds the primes that hold one of its cubes alone, as
+/// no other is essential. Each of them is compared with all primes; whether those that have a place of it hold all of it
+/// is asked by cofactors.
 pub fn essential(alloc: Global, sets: &Sets, primes: &Cover) -> Result<Cover, AllocError>
     requires { primes.now ≡ record { size = sets.now.size; cubes = primes_of sets.now } }
     ensures { IfOk result (λ list. list ≡ record { size = sets.now.size; cubes = essential_of sets.now (primes_of sets.now) }) }
 {
+    let shared = shared(alloc, primes.as_slice(), sets.on().as_slice())?;
     let mut list = Cover::new(alloc, primes.shape());
-    for prime in primes.as_slice() {
-        if is_essential(alloc, sets, primes, prime)? {
+    for (number, prime) in primes.as_slice().iter().enumerate() {
+        if is_needed(alloc, sets, primes, &shared, number, prime)? {
             add(&mut list, prime)?;
         }
     }

@@ -1,36 +1,67 @@
-use Rattle.std.proofs.Common.{◌||◌, ap, sym, subst, ◌∙◌, ◌<◌, length, get_or}
-use Rattle.std.specs.List.{Contains}
-use Rattle.cover.specs.Places.{places}
-use Rattle.cube.proofs.SumLemmas.{Contains-complete_sum}
-use Rattle.minimum.specs.Primes.{is_essential}
+use Rattle.std.proofs.Common.{◌≡◌, ap, sym, subst, ◌∙◌, ◌<◌, length, get_or}
+use Rattle.cover.specs.Cubes.{AreCubes}
+use Rattle.cover.proofs.Containment.{cube_at-is}
+use Rattle.minimum.specs.Primes.{primes_of, is_essential}
+use Rattle.minimum.specs.Rivals.{AreShared}
 use Rattle.minimum.proofs.Needed.{kept_next, skipped_next}
+use Rattle.minimum.proofs.Shared.{same_sizes}
 use Rattle.minimum.proofs.solution.essential.Goals as goal
-use Rattle.minimum.proofs.solution.essential.Goals.{then-branch+in_ok-add, else-branch}
+use Rattle.minimum.proofs.solution.essential.Goals.{then-branch+in_ok-add, else-branch, After-as_slice-2}
 
-pub is_essential-requires-clause-within : goal.is_essential-requires-clause-within
-is_essential-requires-clause-within c =
-    let sets = c.args.sets.now in
-    let prime = c.prime-item.result in
-    let member = subst (λ l. Contains l prime) (c.as_slice-prime-items.ensures.value ∙ ap (λ k. k.cubes) c.requires) (c.loop-prime.prime-index, c.loop-prime-test.true, sym c.prime-item.is) in
-    ((Contains-complete_sum sets.size (λ p. places sets.on p || places sets.dc p) prime).0 member).within
+-- the cubes of the ON-set
+on_are : (c : After-as_slice-2) → AreCubes c.args.sets.now.size c.as_slice-2.result.now
+on_are c = subst (λ n. AreCubes n c.as_slice-2.result.now) (ap (λ k. k.size) c.on.ensures) c.as_slice-2.ensures.cubes
 
-pub loop-prime-preserved : goal.loop-prime-preserved
-loop-prime-preserved c =
+is_on : (c : After-as_slice-2) → c.as_slice-2.result.now ≡ c.args.sets.now.on
+is_on c = c.as_slice-2.ensures.value ∙ ap (λ k. k.cubes) c.on.ensures
+
+are_primes : (c : After-as_slice-2) → c.as_slice.result.now ≡ primes_of c.args.sets.now
+are_primes c = c.as_slice.ensures.value ∙ ap (λ k. k.cubes) c.requires
+
+pub shared-requires : goal.shared-requires
+shared-requires c =
+    same_sizes c.args.sets.now.size c.as_slice.result.now c.as_slice-2.result.now
+    (subst (λ n. AreCubes n c.as_slice.result.now) (ap (λ k. k.size) c.requires) c.as_slice.ensures.cubes) (on_are c)
+
+pub is_needed-requires-clause-on : goal.is_needed-requires-clause-on
+is_needed-requires-clause-on c =
+    let s = (goal.at.is_needed-requires-clause-on c).After-as_slice-2 in
+    subst (AreCubes c.args.sets.now.size) (is_on s) (on_are s)
+
+pub is_needed-requires-clause-below : goal.is_needed-requires-clause-below
+is_needed-requires-clause-below c = subst (λ l. c.loop-number.number < length l) (c.as_slice-prime-items.ensures.value ∙ ap (λ k. k.cubes) c.requires) c.loop-number-test.true
+
+pub is_needed-requires-clause-at : goal.is_needed-requires-clause-at
+is_needed-requires-clause-at c =
+    let is = c.as_slice-prime-items.ensures.value ∙ ap (λ k. k.cubes) c.requires in
+    cube_at-is (primes_of c.args.sets.now) c.loop-number.number c.prime-item.result (subst (λ l. c.loop-number.number < length l) is c.loop-number-test.true)
+    (c.prime-item.is ∙ ap (λ l. get_or l c.loop-number.number c.prime-item.result) is)
+
+pub is_needed-requires-clause-shared : goal.is_needed-requires-clause-shared
+is_needed-requires-clause-shared c =
+    let s = (goal.at.is_needed-requires-clause-shared c).After-as_slice-2 in
+    subst (λ l. AreShared (primes_of c.args.sets.now) l (length l) c.deref.result.now) (is_on s)
+    (subst (λ l. AreShared l c.as_slice-2.result.now (length c.as_slice-2.result.now) c.deref.result.now) (are_primes s)
+    (subst (AreShared c.as_slice.result.now c.as_slice-2.result.now (length c.as_slice-2.result.now)) (sym c.deref.ensures.value) c.in_ok-shared.ensures))
+
+pub loop-number-preserved : goal.loop-number-preserved
+loop-number-preserved c =
     let primes = c.args.primes.now.cubes in
     let test = is_essential c.args.sets.now primes in
-    let i = c.loop-prime.prime-index in
-    let list = c.loop-prime.list in
+    let i = c.loop-number.number in
+    let list = c.loop-number.list in
     let value = c.as_slice-prime-items.ensures.value in
-    let lt = subst (λ l. i < length l) value c.loop-prime-test.true in
+    let lt = subst (λ l. i < length l) value c.loop-number-test.true in
     let at = c.prime-item.is ∙ ap (λ l. get_or l i c.prime-item.result) value in
+    let asked = c.in_ok-is_needed.ensures ∙ ap (λ l. is_essential c.args.sets.now l c.prime-item.result) (sym (ap (λ k. k.cubes) c.requires)) in
     elim c.if-branch.branch [
       | then-branch+in_ok-add w ↦ record {
-        size = ap (λ l. l.size) w.list-is ∙ w.in_ok-add.ensures.size ∙ c.loop-prime.invariant.size;
-        cubes = kept_next test primes i lt c.prime-item.result at list.cubes c.if-branch.list.cubes c.in_ok-is_essential.field-0 c.loop-prime.invariant.cubes c.in_ok-is_essential.ensures w.if-branch.true
+        size = ap (λ l. l.size) w.list-is ∙ w.in_ok-add.ensures.size ∙ c.loop-number.invariant.size;
+        cubes = kept_next test primes i lt c.prime-item.result at list.cubes c.if-branch.list.cubes c.in_ok-is_needed.field-0 c.loop-number.invariant.cubes asked w.if-branch.true
             (ap (λ l. l.cubes) w.list-is ∙ w.in_ok-add.ensures.cubes);
       }
       | else-branch w ↦ record {
-        size = ap (λ l. l.size) w.list-is ∙ c.loop-prime.invariant.size;
-        cubes = ap (λ l. l.cubes) w.list-is ∙ skipped_next test primes i lt c.prime-item.result at list.cubes c.in_ok-is_essential.field-0 c.loop-prime.invariant.cubes c.in_ok-is_essential.ensures w.if-branch.false;
+        size = ap (λ l. l.size) w.list-is ∙ c.loop-number.invariant.size;
+        cubes = ap (λ l. l.cubes) w.list-is ∙ skipped_next test primes i lt c.prime-item.result at list.cubes c.in_ok-is_needed.field-0 c.loop-number.invariant.cubes asked w.if-branch.false;
       }
     ]

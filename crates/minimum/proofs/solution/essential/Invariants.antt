@@ -2,8 +2,8 @@ use Rattle.std.proofs.Common.{◌≡◌, take, filter}
 use Rattle.minimum.specs.Primes.{is_essential}
 use Rattle.minimum.proofs.solution.essential.Given as goal
 
-abbrev pub invariant-loop-prime : goal.invariant-loop-prime
-invariant-loop-prime l = record {
+abbrev pub invariant-loop-number : goal.invariant-loop-number
+invariant-loop-number l = record {
   size : l.list.size ≡ l.primes.size;
-  cubes : l.list.cubes ≡ filter (is_essential l.sets l.primes.cubes) (take l.prime-index l.primes.cubes);
+  cubes : l.list.cubes ≡ filter (is_essential l.sets l.primes.cubes) (take l.number l.primes.cubes);
 }

@@ -57,8 +57,3 @@ search-branch-table-requires t c =
 
 pub search-returns-in-None : goal.search-returns-in-None
 search-returns-in-None t c = rw c.in-None.is at c.in_ok-narrowed.ensures
-
-pub search-returns-in-Some : goal.search-returns-in-Some
-search-returns-in-Some t c =
-    let n = rw c.in-Some.is at c.in_ok-narrowed.ensures in
-    IfOk-weaker c.branch-table.result _ _ (λ o a. n.leads (option_map (λ v. v.items) o) a) c.branch-table.ensures
