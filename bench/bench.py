@@ -4,8 +4,9 @@
 usage: bench/bench.py PROGRAM [CASE ..]      (no case: all; else those that begin so)
 
 The files are written to bench/data by fixed seeds, once. Each case runs three
-times and the best wall time counts; the peak is the largest resident set. The
-third column is the time that the case is meant to stay within.
+times and the best wall time counts; the peak is the largest resident set of one
+more run, where GNU time is installed. The third column is the time that the case
+is meant to stay within.
 """
 import functools
 import os
@@ -13,6 +14,7 @@ import random
 import shutil
 import subprocess
 import sys
+import tempfile
 import time
 
 DATA = os.path.join(os.path.dirname(os.path.abspath(__file__)), "data")
@@ -163,17 +165,34 @@ def shuffled(rows, seed):
     return rows
 
 
-def measured(program, words, feed=None):
-    """Wall seconds, peak kilobytes and status of one run; its output is thrown away."""
-    begin = time.perf_counter()
+def ran(words, feed=None):
+    """The status of one run; its output is thrown away."""
     with open(os.devnull, "w") as nowhere:
-        child = subprocess.Popen([program, *words], stdin=subprocess.PIPE if feed else subprocess.DEVNULL,
+        child = subprocess.Popen(words, stdin=subprocess.PIPE if feed else subprocess.DEVNULL,
                                  stdout=nowhere, stderr=nowhere)
         if feed:
             feed(child.stdin)
             child.stdin.close()
-        _, status, usage = os.wait4(child.pid, 0)
-    return time.perf_counter() - begin, usage.ru_maxrss, os.waitstatus_to_exitcode(status)
+        return child.wait()
+
+
+@functools.cache
+def peak(words, feed=None):
+    """Peak kilobytes of a run, where GNU time is installed. (What the system tells of a child of this process counts
+    this process too.)"""
+    if not shutil.which("time"):
+        return 0
+    with tempfile.NamedTemporaryFile("r") as told:
+        ran(("time", "-f", "%M", "-o", told.name, *words), feed)
+        return int(told.read().split()[-1])
+
+
+def measured(program, words, feed=None):
+    """Wall seconds, peak kilobytes and status of one run."""
+    begin = time.perf_counter()
+    status = ran((program, *words), feed)
+    seconds = time.perf_counter() - begin
+    return seconds, peak((program, *words), feed), status
 
 
 def comment_stream(pipe):
@@ -285,13 +304,12 @@ def main():
     for name, run in cases():
         if wanted and not any(name.startswith(word) for word in wanted):
             continue
-        times, peak, status, goal = [], 0, 0, None
+        times, kilobytes, status, goal = [], 0, 0, None
         for _ in range(3):
             seconds, kilobytes, status, goal = run(program)
             times.append(seconds)
-            peak = max(peak, kilobytes)
         within = "" if goal is None else f"within {goal:.3f} s"
-        print(f"{name:32} {min(times):9.3f} s {peak / 1024:8.1f} MB  {within}  status {status}", flush=True)
+        print(f"{name:32} {min(times):9.3f} s {kilobytes / 1024:8.1f} MB  {within}  status {status}", flush=True)
 
 
 main()
