@@ -58,6 +58,9 @@ fn sum_between(
             return reduced(alloc, shape, inner);
         }
     }
+    if inner.len() == 1 && outer.len() == 1 {
+        return inner[0].sharp(&outer[0]);
+    }
     if hold_everything(shape, &outer) {
         return Ok(Vec::new(alloc));
     }

@@ -43,6 +43,19 @@ fn absorb(alloc: Global, shape: Shape, rows: &[Cube]) -> Result<Vec<Cube>, Alloc
     Ok(kept)
 }
 
+// Whether some row lies in one before it.
+fn has_covered(shape: Shape, rows: &[Cube]) -> bool
+    requires { AreCubes shape rows.now }
+{
+    for at in 0..rows.len() {
+        let (before, _) = rows.split_at(at);
+        if is_covered(before, &rows[at]) {
+            return true;
+        }
+    }
+    false
+}
+
 /// The rows without some of those that lie in others: of few rows none is left that lies in one
 /// before it in row order, of many only the repeated ones leave, since each pair is looked at.
 pub(crate) fn thinned(alloc: Global, shape: Shape, rows: Vec<Cube>) -> Result<Vec<Cube>, AllocError>
@@ -51,6 +64,9 @@ pub(crate) fn thinned(alloc: Global, shape: Shape, rows: Vec<Cube>) -> Result<Ve
 {
     let rows = sorted(alloc, shape, rows)?;
     if rows.len() > MANY {
+        return Ok(rows);
+    }
+    if !has_covered(shape, &rows) {
         return Ok(rows);
     }
     absorb(alloc, shape, &rows)

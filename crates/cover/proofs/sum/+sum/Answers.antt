@@ -9,7 +9,7 @@ use Rattle.cover.specs.Parts.{live, has_symbol}
 use Rattle.cover.specs.Reduced.{IsUnate}
 use Rattle.cover.proofs.SumRows.{nothing_left}
 use Rattle.cover.proofs.SumUnate.{complete_sum-unate}
-use Rattle.cover.proofs.SumStep.{sum_of_lists, branch_falls, branch_sum, both_sum, complete_sum-no_outer, complete_sum-empty, complete_sum-single, complete_sum-covered, AreCubes-complete_sum}
+use Rattle.cover.proofs.SumStep.{sum_of_lists, branch_falls, branch_sum, both_sum, complete_sum-no_outer, complete_sum-empty, complete_sum-single, complete_sum-sharp, complete_sum-covered, AreCubes-complete_sum}
 use Rattle.cover.proofs.SumSides.{IsSide-none, IsSide-sum, complete_sum-sides}
 use Rattle.cover.proofs.sum.+sum.Goals as goal
 
@@ -104,3 +104,10 @@ side_sum-returns t c =
     IsSide-sum c.args.shape c.args.i (difference (places c.args.inner.now) (places c.args.outer.now)) c.args.value rows.items
     (branch_sum c.args.shape c.args.i c.requires.input c.args.inner.now c.args.outer.now c.args.value c.in_ok-side_inner.side_inner.items c.in_ok-side_outer.side_outer.items rows.items
     c.in_ok-side_inner.ensures c.in_ok-side_outer.ensures h)) c.sum_between.ensures
+
+pub sum_between-returns-then-len-eq1-3 : goal.sum_between-returns-then-len-eq1-3
+sum_between-returns-then-len-eq1-3 t c =
+    IfOk-weaker c.sharp.result _ _ (λ rows h.
+    complete_sum-sharp c.args.shape c.args.inner.items c.args.outer.items rows.items c.index.result.now c.index-then-len-eq1-3.result.now c.requires.inner
+    (sym c.args.inner.ok.0 ∙ (sym c.len-2.ensures ∙ c.if-len-eq1-2.true)) (sym c.args.outer.ok.0 ∙ (sym c.len-then-len-eq1-2.ensures ∙ c.if-len-eq1-3.true))
+    c.index.ensures c.index-then-len-eq1-3.ensures h) c.sharp.ensures
