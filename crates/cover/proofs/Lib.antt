@@ -24,3 +24,4 @@ pub mod SumPlaces
 pub mod SumFreed
 pub mod SumSides
 pub mod SumJoin
+pub mod SumUncovered

@@ -1,8 +1,8 @@
 -- Lists cut in three by their symbols at an input, and the meets of their parts.
-use Rattle.std.proofs.Common.{◌≡◌, ℕ, ◌+◌, ◌<◌, Bool, true, false, ◌&&◌, List, [], ◌∷◌, ◌++◌, length, take, drop, get_or, All, refl, ap, sym, subst, ◌∙◌, arith, append_assoc, inl, inr}
+use Rattle.std.proofs.Common.{◌≡◌, ℕ, ◌<◌, Bool, true, false, ◌&&◌, List, [], ◌++◌, take, drop, get_or, All, refl, ap, sym, subst, ◌∙◌, arith, append_assoc, inl, inr}
 use Rattle.std.proofs.lemmas.Bool.{cases_Bool, false≢true, and_parts}
-use Rattle.std.proofs.lemmas.List.{take_more, append-nil, take-append-drop}
-use Rattle.std.proofs.lemmas.List.Elements.{All-append, All-cons, All-nil, All-same, All-take, All-drop}
+use Rattle.std.proofs.lemmas.List.{append-nil, take-append-drop}
+use Rattle.std.proofs.lemmas.List.Elements.{All-nil, All-same, All-take, All-drop}
 use Rattle.cube.specs.declared.symbol.Symbol.{Symbol}
 use Rattle.cube.specs.declared.symbol.Symbol.TheVariants.{Dash, Zero, One}
 use Rattle.cube.specs.Size.{Size}
@@ -14,13 +14,6 @@ use Rattle.cover.specs.Places.{places}
 use Rattle.cover.specs.Reduced.{IsMeets, IsInThirds}
 use Rattle.cover.proofs.Lists.{all_members, list_any_witness}
 use Rattle.cover.proofs.SumMeets.{IsMeets-rows, IsMeets-others}
-
--- one more cube of a run
-pub run-more : (P : Cube → Type 0) (cubes : List Cube) (at : ℕ) (c : Cube) → at < length cubes → c ≡ get_or cubes at c → All P (take at cubes) → P c
-    → All P (take (at + 1) cubes)
-run-more P cubes at c lt is before own =
-    subst (All P) (sym (take_more cubes at c lt))
-    (All-append P (take at cubes) (get_or cubes at c ∷ []) before (All-cons P (get_or cubes at c) [] (subst P is own) (All-nil P)))
 
 -- the pieces of a list cut twice
 pub IsInThirds-cut : (size : Size) (i : ℕ) (cubes dashes rest zeros ones : List Cube) (m n : ℕ) → AreCubes size cubes

@@ -117,7 +117,7 @@ Frees-append i cs ds es f g = record {
 pub Frees-less : (i : ℕ) (cs ds es : List Cube) → ((k : ℕ) → has_literal k ds ≡ false → has_literal k es ≡ false) → Frees i cs ds → Frees i cs es
 Frees-less i cs ds es less f = record { there = less i f.there; others = λ k ne h. less k (f.others k ne h) }
 
-cond-le : (x y : Bool) → (x ≡ false → y ≡ false) → cond y 1 0 ≤ cond x 1 0
+pub cond-le : (x y : Bool) → (x ≡ false → y ≡ false) → cond y 1 0 ≤ cond x 1 0
 cond-le true true h = omega arith
 cond-le true false h = omega arith
 cond-le false true h = absurd (false≢true (sym (h refl)))

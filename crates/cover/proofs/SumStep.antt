@@ -7,7 +7,7 @@ use Rattle.cube.specs.declared.symbol.Symbol.TheVariants.{Dash, Zero, One}
 use Rattle.cube.specs.Size.{Size}
 use Rattle.std.proofs.lemmas.List.Elements.{All-head}
 use Rattle.cube.proofs.SharpLemmas.{complete_sum-holds}
-use Rattle.cube.specs.Cube.{Cube, Place, holds, IsCube, IsPlace, with_symbol, difference, intersection}
+use Rattle.cube.specs.Cube.{Cube, Place, holds, IsCube, IsPlace, with_symbol, difference, intersection, size_of}
 use Rattle.cube.specs.Order.{row_cmp}
 use Rattle.cube.specs.Sum.{complete_sum, IsMaximal}
 use Rattle.cube.proofs.SumLemmas.{Contains-complete_sum, sorted-complete_sum, complete_sum-from_members, complete_sum-same}
@@ -155,6 +155,26 @@ pub complete_sum-empty : (size : Size) (inner outer : List Cube) → length inne
 complete_sum-empty size inner outer h =
     let e = nothing_left inner h in
     e ∙ complete_sum-none size (difference (places inner) (places outer)) (λ p _. ap (λ l. places l p && not (places outer p)) e)
+
+-- one cube without another
+pub complete_sum-sharp : (size : Size) (inner outer rows : List Cube) (a b : Cube) → AreCubes size inner → length inner ≡ 1 → length outer ≡ 1
+    → a ≡ get_or inner 0 a → b ≡ get_or outer 0 b → rows ≡ complete_sum (size_of a) (difference (holds a) (holds b))
+    → rows ≡ complete_sum size (difference (places inner) (places outer))
+complete_sum-sharp size [] outer rows a b h e f at at' is = absurd (omega arith)
+complete_sum-sharp size (c ∷ []) [] rows a b h e f at at' is = absurd (omega arith)
+complete_sum-sharp size (c ∷ []) (d ∷ []) rows a b h e f at at' is =
+    is ∙ ap (λ x. complete_sum (size_of x) (difference (holds x) (holds b))) at
+    ∙ ap (λ n. complete_sum (record { inputs = n; outputs = length c.outputs }) (difference (holds c) (holds b))) (All-head (IsCube size) c [] h).has_size.0
+    ∙ ap (λ n. complete_sum (record { inputs = size.inputs; outputs = n }) (difference (holds c) (holds b))) (All-head (IsCube size) c [] h).has_size.1
+    ∙ ap (λ x. complete_sum size (difference (holds c) (holds x))) at'
+    ∙ complete_sum-same size (difference (holds c) (holds d)) (difference (places (c ∷ [])) (places (d ∷ [])))
+    (λ p. ap (λ x. x && not (holds d p)) (sym (or_none (holds c p))) ∙ ap (λ x. (holds c p || false) && not x) (sym (or_none (holds d p))))
+  where
+    or_none : (x : Bool) → (x || false) ≡ x
+    or_none true = refl
+    or_none false = refl
+complete_sum-sharp size (c ∷ []) (d ∷ g ∷ rest) rows a b h e f at at' is = absurd (omega arith)
+complete_sum-sharp size (c ∷ g ∷ rest) outer rows a b h e f at at' is = absurd (omega arith)
 
 pub complete_sum-covered : (size : Size) (inner outer : List Cube) → ((p : Place) → IsPlace size p → places outer p ≡ true)
     → [] ≡ complete_sum size (difference (places inner) (places outer))

@@ -42,6 +42,11 @@ pub record IsThinned (cubes kept : List Cube) : Type 0 where
   pub within : (c : Cube) → Contains kept c → Contains cubes c
   pub over : (c : Cube) → Contains cubes c → (d : Cube) × Contains kept d × IsSubset (holds c) (holds d)
 
+-- a part of the list that leaves out only cubes which lie in one of the others
+pub record IsUncovered (cubes others kept : List Cube) : Type 0 where
+  pub within : (c : Cube) → Contains kept c → Contains cubes c
+  pub over : (c : Cube) → Contains cubes c → Contains kept c ⊎ ((d : Cube) × Contains others d × IsSubset (holds c) (holds d))
+
 -- a part of the list in row order in which each of its cubes lies, and none in one before it
 pub record IsAbsorbed (cubes kept : List Cube) : Type 0 where
   pub rising : IsStrictlySortedBy row_cmp kept

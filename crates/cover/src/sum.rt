@@ -22,7 +22,7 @@ ghost use Rattle.cover.specs.Places.{places};
 ghost use Rattle.cover.specs.Sides.{IsSide};
 
 use crate::list::Cover;
-use crate::sum_absorb::reduced;
+use crate::sum_absorb::{reduced, without_covered};
 use crate::sum_branch::{at_both_values, at_either_value, literal, thin_at_value};
 use crate::sum_choice::{choose, hold_everything, is_unate};
 use crate::sum_join::joined;
@@ -34,9 +34,27 @@ use crate::tautology::universal;
 use cube::{Cube, Shape};
 use std::alloc::{AllocError, Global};
 
-// The complete sum of the places of the first list that are not in the second.
+// The complete sum of the places of the first list that are not in the second. Rows of the first
+// that lie in one of the second count for nothing.
 #[cycle(sum)]
 fn sum_between(
+    alloc: Global,
+    shape: Shape,
+    found: &mut Sums,
+    inner: Vec<Cube>,
+    outer: Vec<Cube>,
+) -> Result<Vec<Cube>, AllocError>
+    requires inner { AreCubes shape inner.items }
+    requires outer { AreCubes shape outer.items }
+    ensures { IfOk result (λ rows. rows.items ≡ complete_sum_of shape (difference_of (places inner.items) (places outer.items))) }
+{
+    let left = without_covered(alloc, shape, inner, &outer)?;
+    left_sum(alloc, shape, found, left, outer)
+}
+
+// The same, where no row of the first list needs to be left out.
+#[cycle(sum)]
+fn left_sum(
     alloc: Global,
     shape: Shape,
     found: &mut Sums,
@@ -57,6 +75,9 @@ fn sum_between(
         if is_unate(shape, &inner)? {
             return reduced(alloc, shape, inner);
         }
+    }
+    if inner.len() == 1 && outer.len() == 1 {
+        return inner[0].sharp(&outer[0]);
     }
     if hold_everything(shape, &outer) {
         return Ok(Vec::new(alloc));

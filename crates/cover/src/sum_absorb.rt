@@ -4,7 +4,7 @@ ghost use Rattle.std.specs.List.Sorted.{IsStrictlySortedBy};
 ghost use Rattle.cube.specs.Cube.{SameSize, IsSubset, holds, Cube as Row};
 ghost use Rattle.cube.specs.Order.{row_cmp as row_order};
 ghost use Rattle.cover.specs.Cubes.{AreCubes};
-ghost use Rattle.cover.specs.Reduced.{IsAbsorbed, IsThinned};
+ghost use Rattle.cover.specs.Reduced.{IsAbsorbed, IsThinned, IsUncovered};
 
 use crate::sum_rows::sorted;
 use cube::{Cube, Shape};
@@ -43,6 +43,69 @@ fn absorb(alloc: Global, shape: Shape, rows: &[Cube]) -> Result<Vec<Cube>, Alloc
     Ok(kept)
 }
 
+// Whether some row lies in one before it.
+fn has_covered(shape: Shape, rows: &[Cube]) -> bool
+    requires { AreCubes shape rows.now }
+{
+    for at in 0..rows.len() {
+        let (before, _) = rows.split_at(at);
+        if is_covered(before, &rows[at]) {
+            return true;
+        }
+    }
+    false
+}
+
+// Whether some row lies in one of the others.
+fn has_covered_by(shape: Shape, rows: &[Cube], others: &[Cube]) -> bool
+    requires rows { AreCubes shape rows.now }
+    requires others { AreCubes shape others.now }
+{
+    for row in rows {
+        if is_covered(others, row) {
+            return true;
+        }
+    }
+    false
+}
+
+// The rows that lie in none of the others.
+fn uncovered(
+    alloc: Global,
+    shape: Shape,
+    rows: &[Cube],
+    others: &[Cube],
+) -> Result<Vec<Cube>, AllocError>
+    requires rows { AreCubes shape rows.now }
+    requires others { AreCubes shape others.now }
+    ensures { IfOk result (λ kept. IsUncovered rows.now others.now kept.items) }
+{
+    let mut kept = Vec::new(alloc);
+    for row in rows {
+        if !is_covered(others, row) {
+            kept.push(row.try_clone()?)?;
+        }
+    }
+    Ok(kept)
+}
+
+/// The rows without those that lie in one of the others.
+pub(crate) fn without_covered(
+    alloc: Global,
+    shape: Shape,
+    rows: Vec<Cube>,
+    others: &[Cube],
+) -> Result<Vec<Cube>, AllocError>
+    requires rows { AreCubes shape rows.items }
+    requires others { AreCubes shape others.now }
+    ensures { IfOk result (λ kept. IsUncovered rows.items others.now kept.items) }
+{
+    if !has_covered_by(shape, &rows, others) {
+        return Ok(rows);
+    }
+    uncovered(alloc, shape, &rows, others)
+}
+
 /// The rows without some of those that lie in others: of few rows none is left that lies in one
 /// before it in row order, of many only the repeated ones leave, since each pair is looked at.
 pub(crate) fn thinned(alloc: Global, shape: Shape, rows: Vec<Cube>) -> Result<Vec<Cube>, AllocError>
@@ -51,6 +114,9 @@ pub(crate) fn thinned(alloc: Global, shape: Shape, rows: Vec<Cube>) -> Result<Ve
 {
     let rows = sorted(alloc, shape, rows)?;
     if rows.len() > MANY {
+        return Ok(rows);
+    }
+    if !has_covered(shape, &rows) {
         return Ok(rows);
     }
     absorb(alloc, shape, &rows)

@@ -12,8 +12,8 @@ use crate::symbols::has_symbol_at;
 use cube::{Cube, Shape, Symbol};
 use std::alloc::{AllocError, Global};
 
-// So few rows are not cut.
-const FEW: usize = 4;
+// Lists of so few pairs are not cut.
+const FEW: usize = 64;
 
 // The rows with `-`, with `0` and with `1` at an input.
 #[derive(Clone, Copy)]
@@ -68,7 +68,7 @@ pub(crate) fn joined(
     requires others { AreCubes shape others.now }
     ensures { IfOk result (λ all. IsMeets shape rows.now others.now all.items) }
 {
-    if rows.len() <= FEW || others.len() <= FEW || at >= shape.inputs() {
+    if rows.len().saturating_mul(others.len()) <= FEW || at >= shape.inputs() {
         return meets(alloc, shape, rows, others);
     }
     let Some(mine) = cut_in_three(shape, rows, at) else {

@@ -14,7 +14,7 @@ use std::alloc::{AllocError, Global};
 use std::mem;
 
 // How many sums are kept at most.
-const SLOTS: usize = 8192;
+const SLOTS: usize = 16384;
 
 // How many rows are kept at most. Where one more sum would pass this, all are forgotten.
 const ROWS: usize = 1 << 18;

@@ -1,4 +1,4 @@
-use Rattle.std.proofs.Common.{◌≡◌, ◌∙◌, ◌<◌, ap, refl, sym, subst, arith, true, vec_len, IfSome}
+use Rattle.std.proofs.Common.{◌≡◌, ◌∙◌, ◌<◌, ◌≤◌, ap, refl, sym, subst, arith, true, vec_len, IfSome}
 use Rattle.std.proofs.lemmas.Bool.{eqb-true}
 use Rattle.std.proofs.lemmas.Result.{IfOk-weaker}
 use Rattle.cube.specs.Cube.{Place, IsPlace, difference}
@@ -6,46 +6,47 @@ use Rattle.cube.specs.Sum.{complete_sum}
 use Rattle.cover.specs.Places.{places}
 use Rattle.cover.specs.Complete.{at_input, at_both, at_either}
 use Rattle.cover.specs.Parts.{live, has_symbol}
-use Rattle.cover.specs.Reduced.{IsUnate}
+use Rattle.cover.specs.Reduced.{IsUnate, IsUncovered}
 use Rattle.cover.proofs.SumRows.{nothing_left}
 use Rattle.cover.proofs.SumUnate.{complete_sum-unate}
-use Rattle.cover.proofs.SumStep.{sum_of_lists, branch_falls, branch_sum, both_sum, complete_sum-no_outer, complete_sum-empty, complete_sum-single, complete_sum-covered, AreCubes-complete_sum}
+use Rattle.cover.proofs.SumStep.{sum_of_lists, branch_falls, branch_sum, both_sum, complete_sum-no_outer, complete_sum-empty, complete_sum-single, complete_sum-sharp, complete_sum-covered, AreCubes-complete_sum}
+use Rattle.cover.proofs.SumUncovered.{AreCubes-uncovered, live-uncovered, complete_sum-uncovered}
 use Rattle.cover.proofs.SumSides.{IsSide-none, IsSide-sum, complete_sum-sides}
 use Rattle.cover.proofs.sum.+sum.Goals as goal
 
-pub sum_between-returns-then-is_empty : goal.sum_between-returns-then-is_empty
-sum_between-returns-then-is_empty t c = complete_sum-empty c.args.shape c.args.inner.items c.args.outer.items (sym c.args.inner.ok.0 ∙ eqb-true (vec_len c.args.inner) 0 (sym c.is_empty.ensures ∙ c.if-is_empty.true))
+pub left_sum-returns-then-is_empty : goal.left_sum-returns-then-is_empty
+left_sum-returns-then-is_empty t c = complete_sum-empty c.args.shape c.args.inner.items c.args.outer.items (sym c.args.inner.ok.0 ∙ eqb-true (vec_len c.args.inner) 0 (sym c.is_empty.ensures ∙ c.if-is_empty.true))
 
-pub sum_between-returns-then-len-eq1 : goal.sum_between-returns-then-len-eq1
-sum_between-returns-then-len-eq1 t c =
+pub left_sum-returns-then-len-eq1 : goal.left_sum-returns-then-len-eq1
+left_sum-returns-then-len-eq1 t c =
     complete_sum-single c.args.shape c.args.inner.items c.args.outer.items c.requires.inner
     (sym c.args.inner.ok.0 ∙ (sym c.len.ensures ∙ c.if-len-eq1.true))
     (sym c.args.outer.ok.0 ∙ eqb-true (vec_len c.args.outer) 0 (sym c.is_empty-2.ensures ∙ c.if-is_empty-2.true))
 
-pub sum_between-returns-then-branch : goal.sum_between-returns-then-branch
-sum_between-returns-then-branch t c =
+pub left_sum-returns-then-branch : goal.left_sum-returns-then-branch
+left_sum-returns-then-branch t c =
     let unate = subst (IsUnate c.args.shape) c.deref.ensures.value (c.in_ok-is_unate.ensures c.if-branch.true) in
     IfOk-weaker c.reduced.result _ _ (λ rows h. complete_sum-no_outer c.args.shape rows.items c.args.inner.items c.args.outer.items (nothing_left c.args.outer.items (sym c.args.outer.ok.0 ∙ eqb-true (vec_len c.args.outer) 0 (sym c.is_empty-2.ensures ∙ c.if-is_empty-2.true)))
     (complete_sum-unate c.args.shape c.args.inner.items rows.items c.requires.inner unate h)) c.reduced.ensures
 
-pub sum_between-returns-then-hold_everything : goal.sum_between-returns-then-hold_everything
-sum_between-returns-then-hold_everything t c =
+pub left_sum-returns-then-hold_everything : goal.left_sum-returns-then-hold_everything
+left_sum-returns-then-hold_everything t c =
     let all = c.hold_everything.ensures c.if-hold_everything.true in
     c.new.ensures.items ∙ complete_sum-covered c.args.shape c.args.inner.items c.args.outer.items
     (subst (λ l. (p : Place) → IsPlace c.args.shape p → places l p ≡ true) c.deref-2.ensures.value all)
 
-pub sum_between-returns-in-Some : goal.sum_between-returns-in-Some
-sum_between-returns-in-Some t c =
+pub left_sum-returns-in-Some : goal.left_sum-returns-in-Some
+left_sum-returns-in-Some t c =
     subst (λ found. IfSome found (λ rows. rows.items ≡ complete_sum c.args.shape (difference (places c.deref-5.result.now) (places c.deref-6.result.now)))) c.in-Some.is c.in_ok-sum.ensures
     ∙ sum_of_lists c.args.shape c.deref-5.result.now c.args.inner.items c.deref-6.result.now c.args.outer.items c.deref-5.ensures.value c.deref-6.ensures.value
 
-pub sum_between-keep-requires : goal.sum_between-keep-requires
-sum_between-keep-requires t c =
+pub left_sum-keep-requires : goal.left_sum-keep-requires
+left_sum-keep-requires t c =
     c.deref-9.ensures.value ∙ c.in_ok-sum-2.ensures
     ∙ sum_of_lists c.args.shape c.deref-7.result.now c.args.inner.items c.deref-8.result.now c.args.outer.items c.deref-7.ensures.value c.deref-8.ensures.value
 
-pub sum_between-returns : goal.sum_between-returns
-sum_between-returns t c =
+pub left_sum-returns : goal.left_sum-returns
+left_sum-returns t c =
     c.in_ok-sum-2.ensures
     ∙ sum_of_lists c.args.shape c.deref-7.result.now c.args.inner.items c.deref-8.result.now c.args.outer.items c.deref-7.ensures.value c.deref-8.ensures.value
 
@@ -104,3 +105,22 @@ side_sum-returns t c =
     IsSide-sum c.args.shape c.args.i (difference (places c.args.inner.now) (places c.args.outer.now)) c.args.value rows.items
     (branch_sum c.args.shape c.args.i c.requires.input c.args.inner.now c.args.outer.now c.args.value c.in_ok-side_inner.side_inner.items c.in_ok-side_outer.side_outer.items rows.items
     c.in_ok-side_inner.ensures c.in_ok-side_outer.ensures h)) c.sum_between.ensures
+
+pub left_sum-returns-then-len-eq1-3 : goal.left_sum-returns-then-len-eq1-3
+left_sum-returns-then-len-eq1-3 t c =
+    IfOk-weaker c.sharp.result _ _ (λ rows h.
+    complete_sum-sharp c.args.shape c.args.inner.items c.args.outer.items rows.items c.index.result.now c.index-then-len-eq1-3.result.now c.requires.inner
+    (sym c.args.inner.ok.0 ∙ (sym c.len-2.ensures ∙ c.if-len-eq1-2.true)) (sym c.args.outer.ok.0 ∙ (sym c.len-then-len-eq1-2.ensures ∙ c.if-len-eq1-3.true))
+    c.index.ensures c.index-then-len-eq1-3.ensures h) c.sharp.ensures
+
+pub sum_between-left_sum-requires : goal.sum_between-left_sum-requires
+sum_between-left_sum-requires t c =
+    let kept = subst (λ l. IsUncovered c.args.inner.items l c.in_ok-left.left.items) c.deref.ensures.value c.in_ok-left.ensures in
+    let less : live c.args.shape.inputs c.in_ok-left.left.items c.args.outer.items ≤ live c.args.shape.inputs c.args.inner.items c.args.outer.items =
+    live-uncovered c.args.inner.items c.args.outer.items c.in_ok-left.left.items kept c.args.shape.inputs in
+    (omega arith, (AreCubes-uncovered c.args.shape c.args.inner.items c.args.outer.items c.in_ok-left.left.items kept c.requires.inner, c.requires.outer))
+
+pub sum_between-returns : goal.sum_between-returns
+sum_between-returns t c =
+    let kept = subst (λ l. IsUncovered c.args.inner.items l c.in_ok-left.left.items) c.deref.ensures.value c.in_ok-left.ensures in
+    IfOk-weaker c.left_sum.result _ _ (λ rows h. h ∙ complete_sum-uncovered c.args.shape c.args.inner.items c.args.outer.items c.in_ok-left.left.items kept) c.left_sum.ensures
