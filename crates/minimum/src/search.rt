@@ -390,8 +390,8 @@ impl Table {
 
     /// The least cover: the first of the shortest; with `Choice::Literals`, of those with the fewest literals.
     ///
-    /// It takes the time of one search for each length below the least, mostly a node each, and then of the search at
-    /// the least length; in the worst case that grows with the number of covers.
+    /// It takes the time of one search for each length from a lower bound on, mostly a node each, and then of the search
+    /// at the least length; in the worst case that grows with the number of covers.
     pub fn least_cover(&self, alloc: Global, choice: Choice) -> Result<Vec<usize>, AllocError>
         ensures { IfOk result (λ v. IsLeast choice self.now v.items) }
     {
