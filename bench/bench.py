@@ -241,8 +241,10 @@ def exact_cases():
     for name in (*goals, "sqr7"):
         yield f"exact-{name}", file_case(["-Dexact"], lambda name=name: function(name), goals.get(name))
     yield "exact-rings-8", file_case(["-Dexact"], lambda: write("rings-8.pla", pla(rings(8)[0], 1, rings(8)[1])), None)
-    for name in ("adr4", "rd84", "adr6"):
+    for name in ("adr4", "rd84", "adr6", "sym12"):
         yield f"essen-{name}", file_case(["-Dessen"], lambda name=name: function(name), None)
+    yield "essen-random-240", file_case(
+        ["-Dessen"], lambda: write("random-16-8-240.pla", pla(16, 8, sparse_rows(240, 16, 8, 0.45, 240))), None)
 
 
 def same_function(inputs, kept, count):

@@ -1,8 +1,9 @@
 -- What weights of rows say of every cover.
-use Rattle.std.proofs.Common.{◌≡◌, ℕ, zero, suc, ◌+◌, ◌*◌, ◌-◌, ◌<◌, ◌≤◌, inl, inr, true, false, cond, List, [], ◌∷◌, ◌++◌, length, refl, sym, subst, ◌∙◌, arith, length-append, map, leb}
+use Rattle.std.proofs.Common.{◌≡◌, ℕ, zero, suc, ◌+◌, ◌*◌, ◌-◌, ◌<◌, ◌≤◌, inl, inr, true, false, cond, List, [], ◌∷◌, ◌++◌, length, refl, sym, subst, ◌∙◌, arith, length-append, map, leb, ◌/◌}
 use Rattle.std.specs.List.{AllByRecursion, range_with_len}
 use Rattle.std.proofs.lemmas.List.FromFn.{get_or-map-range_with_len}
 use Rattle.std.proofs.lemmas.Bool.{or_cases, both_ways, true≢false, leb-false}
+use Rattle.std.proofs.Math.Nat.{div-le_of_le-mul}
 use Rattle.minimum.specs.declared.choice.Choice.{Choice}
 use Rattle.minimum.specs.declared.bound.Measure.{Measure}
 use Rattle.minimum.specs.declared.bound.Measure.TheVariants.{Length, Weight}
@@ -107,6 +108,16 @@ module _ (g : ℕ → ℕ) (t : Grid) (x : List ℕ) (w : IsTable t) (h : IsCove
 pub length_sum : (x : List ℕ) → sum_over (λ c. 1) x ≡ length x
 length_sum [] = refl
 length_sum (c ∷ x) = let k = length_sum x in omega arith
+
+-- so each cover is as long as the rows' weights ask beside the taken columns
+pub long_enough : (t : Grid) (x : List ℕ) (shares left : List ℕ) (n : ℕ) → IsTable t → IsCover t x → Bears t.rows shares left n → ((c : ℕ) → has c t.live ≡ true → at shares c ≡ 65536 * 1) → length t.taken + n / 65536 ≤ length x
+long_enough t x shares left n w h b is =
+    let rest = bears_all (λ c. 1) t x w h shares left n b is in
+    let sum = rest_sum (λ c. 1) t x w h in
+    let few = div-le_of_le-mul 65536 rest in
+    let a = length_sum x in
+    let e = length_sum t.taken in
+    omega (arith, few)
 
 pub beyond_from : (m : Measure) (count : ℕ → ℕ) (k w : ℕ) (x : List ℕ) → bound_of m k w < sum_over (measured m count) x → IsBeyond count k w x
 beyond_from Length count k w x h = inl (let e = length_sum x in omega arith)

@@ -18,11 +18,12 @@
 //!
 //! A reduction costs some passes over all rows, in each of which a row or a column is compared with those that share
 //! its rarest column or its shortest row (Rudell, Logic synthesis for VLSI design, 1989). The search branches on the
-//! first live column, taken and then dropped, within budgets that rise from nothing, so that the first cover that it
-//! finds is the least and no two covers are ever compared. Each table of the search is reduced, and bounded by weights
-//! of its rows in whole numbers (Coudert, On solving covering problems, 1996): the weights are wished for by a
-//! heuristic and checked as they are given. Unlike there, ties are kept in list order: a column leaves only under an
-//! earlier one, or one with fewer literals. The number of branches is not bounded by less than the number of covers.
+//! first live column, taken and then dropped, within budgets that rise from a length that no cover is below, so that the
+//! first cover that it finds is the least and no two covers are ever compared. Each table of the search is reduced, and
+//! bounded by weights of its rows in whole numbers (Coudert, On solving covering problems, 1996): the weights are wished
+//! for by a heuristic, which begins with those of the table before, and checked as they are given. Unlike there, ties are
+//! kept in list order: a column leaves only under an earlier one, or one with fewer literals. The number of branches is
+//! not bounded by less than the number of covers.
 #![tactic(auto)]
 
 mod bound;

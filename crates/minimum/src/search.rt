@@ -9,7 +9,7 @@
 ghost use Rattle.std.specs.Prelude.{◌≡◌, ◌≤◌, ◌<◌, ◌*◌, ◌+◌, ◌-◌, ℕ, List, Vec, IfOk, IfSome, MatchOption, MatchBool, IsTrue, ◌↔◌, [], ◌==◌, option_map, map, filter, not, length, replicate, true, false};
 ghost use Rattle.std.specs.List.{list_any};
 ghost use Rattle.minimum.specs.Table.{IsTable, items_of, has, RisesFrom};
-ghost use Rattle.minimum.specs.Cover.{IsLeast, counted, sum_over};
+ghost use Rattle.minimum.specs.Cover.{IsCover, IsLeast, counted, sum_over};
 ghost use Rattle.minimum.specs.Steps.{without, take_column, drop_column};
 ghost use Rattle.minimum.specs.Weights.{measured, bound_of};
 ghost use Rattle.minimum.specs.Search.{NoneWithin, Answers, IsNarrowed, IsForced, IsOutside, BeginsWith, IsFewest, HasFewer, keep_columns, marked, is_blank};
@@ -18,7 +18,7 @@ use crate::bound::{Budget, Measure, packed, shares, within};
 use crate::choice::Choice;
 use crate::lists::{contains, copied, sum, with_column};
 use crate::table::Table;
-use crate::wishes::Guide;
+use crate::wishes::{Guide, even_wish};
 use std::alloc::{AllocError, Global};
 
 fn without_column(alloc: Global, xs: &[usize], column: usize) -> Result<Vec<usize>, AllocError>
@@ -323,13 +323,27 @@ impl Table {
         }
     }
 
+    /// A length that no cover is below, as far as even row weights tell.
+    fn floor(&self, alloc: Global) -> Result<usize, AllocError>
+        ensures { IfOk result (λ n. (x : List ℕ) → IsCover self.now x → n ≤ length x) }
+    {
+        let taken = self.taken_columns().len();
+        let shares = shares(alloc, Measure::Length, Choice::First, self.literals())?;
+        let wanted = even_wish(alloc, self.row_lists(), &shares)?;
+        let packing = packed(shares, self.row_lists(), &wanted);
+        match usize::try_from(packing.total / 65536) {
+            Ok(more) => Ok(taken.saturating_add(more)),
+            Err(_) => Ok(taken),
+        }
+    }
+
     /// The first of the shortest covers where nothing is counted: the least length allowed rises until there is one.
     fn shortest(&self, alloc: Global) -> Result<Vec<usize>, AllocError>
         ensures { IfOk result (λ v. IsLeast Choice.First self.now v.items) }
     {
         let _columns = self.columns;
         let mut budget = Budget {
-            columns: 0,
+            columns: self.floor(alloc)?,
             counts: 0,
         };
         loop {
@@ -376,8 +390,8 @@ impl Table {
 
     /// The least cover: the first of the shortest; with `Choice::Literals`, of those with the fewest literals.
     ///
-    /// It takes the time of one search for each length below the least, mostly a node each, and then of the search at
-    /// the least length; in the worst case that grows with the number of covers.
+    /// It takes the time of one search for each length from a lower bound on, mostly a node each, and then of the search
+    /// at the least length; in the worst case that grows with the number of covers.
     pub fn least_cover(&self, alloc: Global, choice: Choice) -> Result<Vec<usize>, AllocError>
         ensures { IfOk result (λ v. IsLeast choice self.now v.items) }
     {

@@ -206,6 +206,18 @@ impl Fit {
     }
 }
 
+/// The even weights, raised as far as their columns allow.
+pub(crate) fn even_wish(
+    alloc: Global,
+    rows: &[Vec<usize>],
+    shares: &[u64],
+) -> Result<Vec<u64>, AllocError> {
+    let weights = even(alloc, rows, shares)?;
+    let loads = loads(alloc, rows, &weights, shares.len())?;
+    let fit = Fit::of(alloc, rows, &weights, &loads, shares)?;
+    Ok(fit.weights)
+}
+
 /// The course of the rounds: the weights, and the best so far.
 #[derive(Drop)]
 struct Course {
@@ -347,6 +359,9 @@ impl Wishes {
         shares: &[u64],
         limit: u64,
     ) -> Result<Vec<u64>, AllocError> {
+        if rows.is_empty() {
+            return Ok(Vec::new(alloc));
+        }
         let rounds = if self.rows.is_empty() {
             FIRST_ROUNDS
         } else {

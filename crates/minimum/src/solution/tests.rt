@@ -136,6 +136,47 @@ fn essential_primes_are_printed(rt: HostRuntime) -> Result<(), Fail> {
     Ok(())
 }
 
+/// Eight rings of six points, behind the words of four bits with an even number of ones.
+fn rings(alloc: Global) -> Result<Vec<u8>, AllocError> {
+    let words: [&[u8]; 8] = [
+        b"0000", b"0011", b"0101", b"0110", b"1001", b"1010", b"1100", b"1111",
+    ];
+    let points: [&[u8]; 6] = [b"000", b"001", b"010", b"101", b"110", b"111"];
+    let mut text = b".i 7\n.o 1\n".to_vec(alloc)?;
+    for word in words {
+        for point in points {
+            text.extend_from_slice(word)?;
+            text.extend_from_slice(point)?;
+            text.extend_from_slice(b" 1\n")?;
+        }
+    }
+    Ok(text)
+}
+
+/// The plain search would go through all choices of 24 of the 48 primes.
+#[test]
+fn eight_built_rings_are_solved(rt: HostRuntime) -> Result<(), Fail> {
+    let mut wanted: Vec<usize> = Vec::new(rt.alloc());
+    for k in 0..8usize {
+        wanted.push(6 * k)?;
+        wanted.push(6 * k + 2)?;
+        wanted.push(6 * k + 5)?;
+    }
+    let text = rings(rt.alloc())?;
+    for choice in [Choice::First, Choice::Literals] {
+        let built = table(rt.alloc(), &text)?;
+        assert_eq!(rt; built.columns(), 48);
+        assert_eq!(rt; built.row_count(), 48);
+        let least = built.least_cover(rt.alloc(), choice)?;
+        assert_eq!(rt; least.as_slice(), wanted.as_slice());
+        let reduced = reduce(rt.alloc(), built, choice)?;
+        assert_eq!(rt; reduced.row_count(), 48);
+        let least = reduced.least_cover(rt.alloc(), choice)?;
+        assert_eq!(rt; least.as_slice(), wanted.as_slice());
+    }
+    Ok(())
+}
+
 /// The function of three inputs that gives point k the k-th of these digits: on, free or off.
 fn function(alloc: Global, code: usize) -> Result<Vec<u8>, AllocError> {
     let mut text = b".i 3\n.o 1\n".to_vec(alloc)?;
