@@ -7,6 +7,7 @@ ghost use Rattle.pla.specs.Echoes.{echo_of, kept_comment};
 
 use crate::device::Output;
 use crate::fault::Echo;
+use crate::header::{is_end, is_outside_profile};
 use crate::line::{LineKind, keyword_code_of, keyword_of, kind_of, row_code_of};
 use crate::writing::{WriteFault, then, write_bytes};
 
@@ -46,15 +47,8 @@ fn is_known(keyword: &[u8]) -> bool
         || keyword == b".ilb".as_slice()
         || keyword == b".ob".as_slice()
         || keyword == b".type".as_slice()
-        || keyword == b".e".as_slice()
-        || keyword == b".end".as_slice()
-        || keyword == b".mv".as_slice()
-        || keyword == b".label".as_slice()
-        || keyword == b".phase".as_slice()
-        || keyword == b".pair".as_slice()
-        || keyword == b".symbolic".as_slice()
-        || keyword == b".symbolic-output".as_slice()
-        || keyword == b".kiss".as_slice()
+        || is_end(keyword)
+        || is_outside_profile(keyword)
         || keyword == b".p".as_slice()
 }
 

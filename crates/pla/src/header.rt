@@ -2,7 +2,7 @@
 ghost use Rattle.std.specs.Prelude.{◌≡◌, ℕ, ◌+◌, ◌<◌, ◌≤◌, ◌^◌, [], IfOk, OnOk, OnErr, Some, None, slice_index_or, drop, length, true, false};
 ghost use Rattle.std.specs.Option.{ForSome};
 ghost use Rattle.cube.specs.Limits.{format_limits};
-ghost use Rattle.pla.specs.Keywords.{texts, is_one_of, endings, type_named, type_by};
+ghost use Rattle.pla.specs.Keywords.{texts, is_one_of, endings, refused_keywords, type_named, type_by};
 ghost use Rattle.pla.specs.Fault.{differs_count};
 ghost use Rattle.pla.specs.Names.{name_bytes};
 
@@ -99,6 +99,19 @@ pub fn is_end(keyword: &[u8]) -> bool
     keyword == b".e".as_slice() || keyword == b".end".as_slice()
 }
 
+/// Whether the keyword is one that this format refuses.
+pub fn is_outside_profile(keyword: &[u8]) -> bool
+    ensures { result ≡ is_one_of refused_keywords keyword.now }
+{
+    keyword == b".mv".as_slice()
+        || keyword == b".label".as_slice()
+        || keyword == b".phase".as_slice()
+        || keyword == b".pair".as_slice()
+        || keyword == b".symbolic".as_slice()
+        || keyword == b".symbolic-output".as_slice()
+        || keyword == b".kiss".as_slice()
+}
+
 impl Head {
     ghost use Rattle.pla.specs.Lines.{keyword as keyword_on, arguments as arguments_on, keyword_words};
     ghost use Rattle.pla.specs.Fault.{is_past_limit, is_too_long, is_refused, is_inside_row, is_repeated, is_bad_number, is_name_too_early, is_wrong_count, is_type_too_late, is_bad_type};
@@ -158,13 +171,7 @@ impl Head {
         requires { keyword.now ≡ keyword_on line.now }
         ensures { result ≡ is_refused (seen self.now unfinished) line.now }
     {
-        keyword == b".mv".as_slice()
-            || keyword == b".label".as_slice()
-            || keyword == b".phase".as_slice()
-            || keyword == b".pair".as_slice()
-            || keyword == b".symbolic".as_slice()
-            || keyword == b".symbolic-output".as_slice()
-            || keyword == b".kiss".as_slice()
+        is_outside_profile(keyword)
     }
 
     #[tactic(auto, unfolding(crate::specs::Fault::is_inside_row))]
