@@ -59,11 +59,14 @@ fn has_covered(shape: Shape, rows: &[Cube]) -> bool
     false
 }
 
-// Whether some row lies in one of the others.
+// Whether some row is seen that lies in one of the others, where the pairs are not many.
 fn has_covered_by(shape: Shape, rows: &[Cube], others: &[Cube]) -> bool
     requires rows { AreCubes shape rows.now }
     requires others { AreCubes shape others.now }
 {
+    if rows.len().saturating_mul(others.len()) > PAIRS {
+        return false;
+    }
     for row in rows {
         if is_covered(others, row) {
             return true;
@@ -103,7 +106,7 @@ pub(crate) fn without_covered(
     requires others { AreCubes shape others.now }
     ensures { IfOk result (λ kept. IsUncovered rows.items others.now kept.items) }
 {
-    if rows.len().saturating_mul(others.len()) > PAIRS || !has_covered_by(shape, &rows, others) {
+    if !has_covered_by(shape, &rows, others) {
         return Ok(rows);
     }
     uncovered(alloc, shape, &rows, others)
