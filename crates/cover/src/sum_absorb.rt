@@ -13,6 +13,9 @@ use std::alloc::{AllocError, Global};
 // So many rows are not looked at pair by pair for a smaller list alone.
 const MANY: usize = 32;
 
+// Nor are rows of two lists of so many pairs.
+const PAIRS: usize = 1024;
+
 // Whether the row lies in one of the kept rows.
 fn is_covered(kept: &[Cube], row: &Cube) -> bool
     requires { All (λ d. SameSize d row.now) kept.now }
@@ -89,7 +92,7 @@ fn uncovered(
     Ok(kept)
 }
 
-/// The rows without those that lie in one of the others.
+/// The rows without those that lie in one of the others, or all of them, where the pairs are many.
 pub(crate) fn without_covered(
     alloc: Global,
     shape: Shape,
@@ -100,6 +103,10 @@ pub(crate) fn without_covered(
     requires others { AreCubes shape others.now }
     ensures { IfOk result (λ kept. IsUncovered rows.items others.now kept.items) }
 {
+    let pairs = rows.len().saturating_mul(others.len());
+    if pairs > PAIRS {
+        return Ok(rows);
+    }
     if !has_covered_by(shape, &rows, others) {
         return Ok(rows);
     }
