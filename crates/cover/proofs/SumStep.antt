@@ -15,12 +15,12 @@ use Rattle.cover.specs.Cubes.{Cubes, AreCubes}
 use Rattle.cover.specs.Places.{places, universal}
 use Rattle.cover.specs.Complete.{literal, at_input, at_both, at_either}
 use Rattle.cover.specs.Parts.{merged, placed, three_merged, has_literal, live}
-use Rattle.cover.specs.Reduced.{IsBranch, IsMeets, IsAbsorbed}
+use Rattle.cover.specs.Reduced.{IsBranch, IsMeets, IsAbsorbed, HasSameCubes}
 use Rattle.cover.proofs.Lists.{members_all}
 use Rattle.cover.proofs.SumParts.{live-less}
 use Rattle.cover.proofs.SumRows.{nothing_left}
 use Rattle.cover.proofs.SumEnds.{complete_sum-none, complete_sum-agree, universal-holds}
-use Rattle.cover.proofs.SumBranches.{places-kept}
+use Rattle.cover.proofs.SumBranches.{places-kept, IsThinned-same}
 use Rattle.cover.proofs.SumSplit.{with_symbol-twice, with_symbol-own, IsCube-with_symbol, symbol-with_symbol, put-put, maximal_dash, maximal_at_both, maximal_from_both, maximal_freed, maximal_not_both, maximal_from_freed}
 use Rattle.cover.proofs.SumOrder.{merged-cases, merged-left, merged-right, merged-rising, placed-cases, placed-from, placed-rising}
 
@@ -205,13 +205,24 @@ pub sum_of_lists : (size : Size) (rows cubes others outer : List Cube) → rows 
 sum_of_lists size rows cubes others outer e f =
     ap (λ l. complete_sum size (difference (places l) (places others))) e ∙ ap (λ l. complete_sum size (difference (places cubes) (places l))) f
 
+-- lists with the same cubes have the same places
+places-same : (cubes others : List Cube) → HasSameCubes cubes others → (p : Place) → places others p ≡ places cubes p
+places-same cubes others same p = let h = IsThinned-same cubes others same in places-kept cubes others h.within h.over p
+
+pub sum_of_same : (size : Size) (rows cubes others outer : List Cube) → HasSameCubes rows cubes → HasSameCubes others outer
+    → complete_sum size (difference (places cubes) (places outer)) ≡ complete_sum size (difference (places rows) (places others))
+sum_of_same size rows cubes others outer e f =
+    complete_sum-same size (difference (places cubes) (places outer)) (difference (places rows) (places others))
+    (λ p. ap (λ x. x && not (places outer p)) (places-same rows cubes e p) ∙ ap (λ x. places rows p && not x) (places-same others outer f p))
+
 -- of what two lists have in common
-pub sum_of_meets : (size : Size) (cubes others now now' meets kept none' : List Cube) → now ≡ cubes → now' ≡ others → IsMeets size now now' meets → IsAbsorbed meets kept → none' ≡ []
+pub sum_of_meets : (size : Size) (cubes others now now' meets kept none' : List Cube) → HasSameCubes cubes now → HasSameCubes others now' → IsMeets size now now' meets
+    → IsAbsorbed meets kept → none' ≡ []
     → complete_sum size (difference (places kept) (places none')) ≡ complete_sum size (intersection (places cubes) (places others))
 sum_of_meets size cubes others now now' meets kept none' e f m a n =
     sum_of_list size kept kept none' refl n
     ∙ complete_sum-same size (places kept) (intersection (places cubes) (places others))
-    (λ p. places-kept meets kept a.within a.over p ∙ m.places p ∙ ap (λ l. places l p && places now' p) e ∙ ap (λ l. places cubes p && places l p) f)
+    (λ p. places-kept meets kept a.within a.over p ∙ m.places p ∙ ap (λ x. x && places now' p) (places-same cubes now e p) ∙ ap (λ x. places cubes p && x) (places-same others now' f p))
 
 -- outside a list
 pub sum_of_outside : (size : Size) (all rows outer cubes : List Cube) (c : Cube) → all ≡ [] → rows ≡ all ++ c ∷ [] → c ≡ universal size → outer ≡ cubes

@@ -28,7 +28,7 @@ use crate::sum_choice::{choose, hold_everything, is_unate};
 use crate::sum_join::joined;
 use crate::sum_leaf::free_sum;
 use crate::sum_parts::has_symbol;
-use crate::sum_rows::merge_three;
+use crate::sum_rows::{merge_three, sorted};
 use crate::sum_table::{Sums, hash_of};
 use crate::tautology::universal;
 use cube::{Cube, Shape};
@@ -141,6 +141,22 @@ fn side_sum(
     sum_between(alloc, shape, found, side_inner, side_outer)
 }
 
+// The same for lists in any order.
+fn sum_in_order(
+    alloc: Global,
+    shape: Shape,
+    inner: Vec<Cube>,
+    outer: Vec<Cube>,
+) -> Result<Vec<Cube>, AllocError>
+    requires inner { AreCubes shape inner.items }
+    requires outer { AreCubes shape outer.items }
+    ensures { IfOk result (λ rows. rows.items ≡ complete_sum_of shape (difference_of (places inner.items) (places outer.items))) }
+{
+    let inner = sorted(alloc, shape, inner)?;
+    let outer = sorted(alloc, shape, outer)?;
+    sum_between(alloc, shape, &mut Sums::new(alloc), inner, outer)
+}
+
 /// The complete sum of the places of the list: all cubes that hold only such places and lie in no
 /// larger such cube, in row order. These are the primes of a function of several outputs.
 ///
@@ -157,7 +173,7 @@ pub fn complete_sum(list: &Cover) -> Result<Cover, AllocError>
     let alloc = list.allocator();
     let shape = list.shape();
     let rows = list.try_clone()?.into_cubes();
-    let sum = sum_between(alloc, shape, &mut Sums::new(alloc), rows, Vec::new(alloc))?;
+    let sum = sum_in_order(alloc, shape, rows, Vec::new(alloc))?;
     Ok(Cover::from_cubes(shape, sum))
 }
 
@@ -179,9 +195,11 @@ pub fn intersect(list: &Cover, other: &Cover) -> Result<Cover, AllocError>
     let alloc = list.allocator();
     let shape = list.shape();
     let _shape = other.shape();
-    let rows = joined(alloc, shape, 0, list.as_slice(), other.as_slice())?;
+    let mine = sorted(alloc, shape, list.try_clone()?.into_cubes())?;
+    let theirs = sorted(alloc, shape, other.try_clone()?.into_cubes())?;
+    let rows = joined(alloc, shape, 0, &mine, &theirs)?;
     let rows = reduced(alloc, shape, rows)?;
-    let sum = sum_between(alloc, shape, &mut Sums::new(alloc), rows, Vec::new(alloc))?;
+    let sum = sum_in_order(alloc, shape, rows, Vec::new(alloc))?;
     Ok(Cover::from_cubes(shape, sum))
 }
 
@@ -205,7 +223,7 @@ pub fn difference(list: &Cover, other: &Cover) -> Result<Cover, AllocError>
     let _shape = other.shape();
     let inner = list.try_clone()?.into_cubes();
     let outer = other.try_clone()?.into_cubes();
-    let sum = sum_between(alloc, shape, &mut Sums::new(alloc), inner, outer)?;
+    let sum = sum_in_order(alloc, shape, inner, outer)?;
     Ok(Cover::from_cubes(shape, sum))
 }
 
@@ -229,7 +247,7 @@ impl Cover {
         let _shape = everything.shape();
         inner.push(everything)?;
         let outer = self.try_clone()?.into_cubes();
-        let sum = sum_between(alloc, shape, &mut Sums::new(alloc), inner, outer)?;
+        let sum = sum_in_order(alloc, shape, inner, outer)?;
         Ok(Cover::from_cubes(shape, sum))
     }
 }

@@ -13,8 +13,8 @@ use std::alloc::{AllocError, Global};
 // So many rows are not looked at pair by pair for a smaller list alone.
 const MANY: usize = 32;
 
-// So many pairs of two lists are not looked at for a smaller list alone.
-const PAIRS: usize = 1 << 16;
+// Nor are rows of two lists of so many pairs.
+const PAIRS: usize = 1024;
 
 // Whether the row lies in one of the kept rows.
 fn is_covered(kept: &[Cube], row: &Cube) -> bool
@@ -59,14 +59,11 @@ fn has_covered(shape: Shape, rows: &[Cube]) -> bool
     false
 }
 
-// Whether some row is seen that lies in one of the others, where the pairs are not many.
+// Whether some row lies in one of the others.
 fn has_covered_by(shape: Shape, rows: &[Cube], others: &[Cube]) -> bool
     requires rows { AreCubes shape rows.now }
     requires others { AreCubes shape others.now }
 {
-    if rows.len().saturating_mul(others.len()) > PAIRS {
-        return false;
-    }
     for row in rows {
         if is_covered(others, row) {
             return true;
@@ -95,7 +92,7 @@ fn uncovered(
     Ok(kept)
 }
 
-/// The rows without those that lie in one of the others, where both are not many.
+/// The rows without those that lie in one of the others, or all of them, where the pairs are many.
 pub(crate) fn without_covered(
     alloc: Global,
     shape: Shape,
@@ -106,6 +103,10 @@ pub(crate) fn without_covered(
     requires others { AreCubes shape others.now }
     ensures { IfOk result (λ kept. IsUncovered rows.items others.now kept.items) }
 {
+    let pairs = rows.len().saturating_mul(others.len());
+    if pairs > PAIRS {
+        return Ok(rows);
+    }
     if !has_covered_by(shape, &rows, others) {
         return Ok(rows);
     }
