@@ -5,14 +5,14 @@
 //! places that are inside at both values; those with `0` are the cubes of the sum at `0` that are
 //! not among the first, and those with `1` likewise. The lists at both values are the cubes without
 //! a literal at the input with the meets of those with `0` and those with `1`, and of the list that
-//! is taken away the cubes with either. Where one value holds all that the other does, both do what the
-//! other does, and two sums are enough. The recursion over both cofactors and their product is that
-//! of Coudert and Madre (Implicit and Incremental Computation of Primes and Essential Primes of
-//! Boolean Functions, 1992); they keep the sets as decision diagrams, and here they are lists of
-//! cubes. So no products of primes are formed, and no prime is compared with the others: each merge
-//! takes time in the lengths of its lists, which are in row order. The input with most literals is
-//! split at, and lists with one literal at each input are their own sum but for the
-//! cubes that lie in others (Brayton et al. 1984).
+//! is taken away the cubes with either. Where one value has all places of the other, the places at
+//! both are the other's, and two sums are enough. The recursion over both cofactors and their product
+//! is that of Coudert and Madre (Implicit and Incremental Computation of Primes and Essential Primes
+//! of Boolean Functions, 1992); they keep the sets as decision diagrams, and here they are lists of
+//! cubes, whose sums are kept in a table to be found again. So no products of primes are formed, and
+//! no prime is compared with the others: each merge takes time in the lengths of its lists, which are
+//! in row order. The input with most literals is split at, and lists with one literal at each input
+//! are their own sum but for the cubes that lie in others (Brayton et al. 1984).
 ghost use Rattle.std.specs.Prelude.{◌≡◌, ◌<◌, ◌||◌, IfOk, not, true};
 ghost use Rattle.cube.specs.Cube.{intersection, difference as difference_of};
 ghost use Rattle.cube.specs.Sum.{complete_sum as complete_sum_of};
@@ -160,9 +160,10 @@ fn sum_in_order(
 /// The complete sum of the places of the list: all cubes that hold only such places and lie in no
 /// larger such cube, in row order. These are the primes of a function of several outputs.
 ///
-/// There may be exponentially many in the inputs, and time goes at least with their number. Each of
-/// up to three lists per input and level is looked at pair by pair for meets and for cubes that lie
-/// in others, so a list of many points of few inputs takes time in the square of their number.
+/// There may be exponentially many in the inputs, and time goes at least with their number. Lists on
+/// the way whose sum was found before cost a copy of it; the sums and lists that are kept for this
+/// take memory for 262,144 rows at most. Lists are joined for their meets, and looked at pair by pair
+/// for cubes that lie in others where they are short or have one literal at each input.
 ///
 /// # Errors
 ///

@@ -513,3 +513,31 @@ fn wide_cubes(rt: HostRuntime) -> Result<(), Fail> {
     }
     Ok(())
 }
+
+#[test]
+fn equal_cubes(rt: HostRuntime) -> Result<(), Fail> {
+    let alloc = rt.alloc();
+    let row = cube(alloc, ("01-", "10"))?;
+    let same = cube(alloc, ("01-", "10"))?;
+    assert!(rt; row.is_equal(&same));
+    assert_eq!(rt; row.hash(7), same.hash(7));
+    for text in [
+        ("01-", "11"),
+        ("011", "10"),
+        ("0--", "10"),
+        ("01", "10"),
+        ("01-", "1"),
+    ] {
+        let other = cube(alloc, text)?;
+        assert!(rt; !row.is_equal(&other) && !other.is_equal(&row));
+    }
+    Ok(())
+}
+
+#[test]
+fn literals_as_bits(rt: HostRuntime) -> Result<(), Fail> {
+    let row = cube(rt.alloc(), ("01-1", "1"))?;
+    assert_eq!(rt; row.literal_bits(0), 0b01_00_01_10);
+    assert_eq!(rt; row.literal_bits(1), 0);
+    Ok(())
+}
