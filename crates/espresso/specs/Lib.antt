@@ -7,5 +7,6 @@ pub mod Check
 pub mod Answer
 pub mod Tool
 pub mod Run
+pub mod Contents
 pub mod Steps
 pub mod ToolExamples

@@ -21,6 +21,10 @@ pub(crate) enum Content<F, I> {
 }
 
 impl<F: Read, I: Read> Read for Content<F, I> {
+    ghost use Rattle.espresso.specs.Contents.{remaining_of};
+
+    ghost remaining = { remaining_of F.remaining I.remaining };
+
     fn read(&mut self, buffer: &mut [u8]) -> io::Result<usize> {
         match self {
             Content::File(file) => file.read(buffer),

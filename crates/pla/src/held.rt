@@ -34,6 +34,7 @@ impl Held {
         ensures bytes { Writes (W.taken output.old) (W.taken output.new) result self.old.bytes.items }
         ensures count { TellsFailure (W.failures output.old) (W.failures output.new) result }
         ensures empty { self.new.bytes.items ≡ [] }
+        ensures failures { self.new.failures ≡ self.old.failures }
     {
         let done = write_bytes(output, &self.bytes);
         self.bytes.clear();
