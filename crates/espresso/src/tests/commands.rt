@@ -53,8 +53,29 @@ fn a_tautology_holds_every_place(rt: HostRuntime) -> Result<(), Fail> {
     check_command(&rt, alloc, "-Dtautology", &wide, yes, 0)?;
     check_command(&rt, alloc, "-Dtautology", b".i 2\n.o 1\n.e\n", no, 1)?;
     check_command(&rt, alloc, "-Dtautology", b".i 1\n.o 2\n- 10\n", no, 1)?;
-    check_command(&rt, alloc, "-Dtautology", b".i 1\n.o 2\n- 10\n- 01\n", yes, 0)?;
-    check_command(&rt, alloc, "-Dtautology", b".i 1\n.o 1\n1 1\n0 -\n.e\n", no, 1)?;
-    check_command(&rt, alloc, "-Dtautology", b".i 0\n.o 2\n10\n01\n.e\n", yes, 0)?;
+    check_command(
+        &rt,
+        alloc,
+        "-Dtautology",
+        b".i 1\n.o 2\n- 10\n- 01\n",
+        yes,
+        0,
+    )?;
+    check_command(
+        &rt,
+        alloc,
+        "-Dtautology",
+        b".i 1\n.o 1\n1 1\n0 -\n.e\n",
+        no,
+        1,
+    )?;
+    check_command(
+        &rt,
+        alloc,
+        "-Dtautology",
+        b".i 0\n.o 2\n10\n01\n.e\n",
+        yes,
+        0,
+    )?;
     check_command(&rt, alloc, "-Dtautology", b".i 0\n.o 1\n1\n", yes, 0)
 }
