@@ -66,12 +66,14 @@ fn no_read_is_needed_after_the_last_line(rt: HostRuntime) -> Result<(), Fail> {
     for _ in 0..1000000 {
         text.push(b'x')?;
     }
-    let input = Given::new(text, 4096, Ending::End);
-    let output = Taken::new(alloc, 100, 100, false)?;
-    let ran = run_on(alloc, &["-Decho"], input, output)?;
-    assert_eq!(rt; ran.output.bytes(), PRINTED.as_bytes());
-    assert_eq!(rt; ran.code, 0);
-    assert!(rt; ran.delivered <= TEXT.len() + 4096);
+    for piece in [1, 3, 4096] {
+        let input = Given::new(bytes_of(alloc, &text)?, piece, Ending::End);
+        let output = Taken::new(alloc, 100, 100, false)?;
+        let ran = run_on(alloc, &["-Decho"], input, output)?;
+        assert_eq!(rt; ran.output.bytes(), PRINTED.as_bytes());
+        assert_eq!(rt; ran.code, 0);
+        assert!(rt; ran.delivered <= TEXT.len() + 4096);
+    }
     Ok(())
 }
 
@@ -100,12 +102,14 @@ fn echoes_go_out_as_their_lines_end(rt: HostRuntime) -> Result<(), Fail> {
     for _ in 0..100000 {
         text.extend_from_slice(b"# b\n")?;
     }
-    let input = Given::new(text, 4096, Ending::End);
-    let output = Taken::new(alloc, 0, 1, false)?;
-    let ran = run_on(alloc, &["-Decho"], input, output)?;
-    assert_eq!(rt; ran.message.bytes(), b"espresso: write failed\n".as_slice());
-    assert_eq!(rt; ran.code, 2);
-    assert!(rt; ran.delivered <= 4096);
+    for piece in [1, 3, 4096] {
+        let input = Given::new(bytes_of(alloc, &text)?, piece, Ending::End);
+        let output = Taken::new(alloc, 0, 1, false)?;
+        let ran = run_on(alloc, &["-Decho"], input, output)?;
+        assert_eq!(rt; ran.message.bytes(), b"espresso: write failed\n".as_slice());
+        assert_eq!(rt; ran.code, 2);
+        assert!(rt; ran.delivered <= 4096);
+    }
     Ok(())
 }
 
