@@ -202,9 +202,12 @@ fn the_second_file_is_asked_for_behind_the_first(rt: HostRuntime) -> Result<(), 
     let words = ["-Dintersect", "a", "-"];
     let message = "espresso: (stdin):2: row before .i and .o\n";
     check_stop(&rt, alloc, &words, one, Some("# y\n? 1\n"), both, message)?;
-    let words = ["-Dsharp", "-", "b"];
     let message = "espresso: (stdin):0: .i or .o missing\n";
-    check_stop(&rt, alloc, &words, "", Some(one), "", message)
+    for command in ["-Dverify", "-Dsharp"] {
+        let words = [command, "-", "b"];
+        check_stop(&rt, alloc, &words, "", Some(one), "", message)?;
+    }
+    Ok(())
 }
 
 #[test]
