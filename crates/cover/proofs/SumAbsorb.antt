@@ -9,10 +9,11 @@ use Rattle.cube.specs.Size.{Size}
 use Rattle.cube.specs.Cube.{Cube, holds, IsCube, IsSubset, SameSize}
 use Rattle.cube.specs.Order.{row_cmp}
 use Rattle.cube.proofs.Members.{Contains-nil, Contains-cases, sorted_append}
+use Rattle.cube.proofs.SumLemmas.{row_asymmetric}
 use Rattle.cover.specs.Cubes.{AreCubes}
 use Rattle.cover.specs.Reduced.{IsAbsorbed, HasSameCubes}
 use Rattle.cover.proofs.Lists.{all_members, members_all}
-use Rattle.cover.proofs.SumOrder.{rising-nil, rising-cons, rising-head, rising-tail, row_irreflexive, row_asymmetric}
+use Rattle.cover.proofs.SumOrder.{rising-nil, rising-cons, rising-head, rising-tail, row_irreflexive}
 
 -- the cubes before one in a list that rises
 rising_before : (cubes : List Cube) (i : ℕ) (d c : Cube) → IsStrictlySortedBy row_cmp cubes → i < length cubes → Contains (take i cubes) c → row_cmp c (get_or cubes i d) ≡ Less

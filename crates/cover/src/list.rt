@@ -123,10 +123,18 @@ impl Cover {
     pub fn try_clone(&self) -> Result<Cover, AllocError>
         ensures { IfOk result (λ c. c ≡ self.now) }
     {
-        let mut cubes = Vec::with_capacity(self.allocator(), self.len())?;
-        for cube in self.as_slice() {
-            cubes.push(cube.try_clone()?)?;
-        }
+        let cubes = copied(self.allocator(), self.as_slice())?;
         Ok(Cover::from_cubes(self.shape(), cubes))
     }
+}
+
+/// An equal list.
+pub(crate) fn copied(alloc: Global, cubes: &[Cube]) -> Result<Vec<Cube>, AllocError>
+    ensures { IfOk result (λ copy. copy.items ≡ cubes.now) }
+{
+    let mut copy = Vec::with_capacity(alloc, cubes.len())?;
+    for cube in cubes {
+        copy.push(cube.try_clone()?)?;
+    }
+    Ok(copy)
 }

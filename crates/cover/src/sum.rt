@@ -82,7 +82,7 @@ fn left_sum(
     if hold_everything(shape, &outer) {
         return Ok(Vec::new(alloc));
     }
-    let hash = hash_of(&inner, &outer);
+    let hash = hash_of(shape, &inner, &outer);
     if let Some(sum) = found.find(alloc, shape, hash, &inner, &outer)? {
         return Ok(sum);
     }

@@ -9,6 +9,7 @@ ghost use Rattle.cube.specs.Cube.{difference as difference_of};
 ghost use Rattle.cube.specs.Sum.{complete_sum as complete_sum_of};
 ghost use Rattle.cover.specs.Places.{places};
 
+use crate::list::copied;
 use cube::{Cube, Shape};
 use std::alloc::{AllocError, Global};
 use std::mem;
@@ -147,15 +148,34 @@ fn slot_of(hash: u64) -> usize {
 }
 
 /// A number of two lists, by which their sum is kept.
-pub(crate) fn hash_of(inner: &[Cube], outer: &[Cube]) -> u64 {
-    let mut hash = inner.len() as u64;
-    for row in inner {
-        hash = row.hash(hash);
-    }
-    for row in outer {
-        hash = row.hash(hash);
+pub(crate) fn hash_of(shape: Shape, inner: &[Cube], outer: &[Cube]) -> u64 {
+    let seed = inner.len() as u64;
+    list_hash(shape, outer, list_hash(shape, inner, seed))
+}
+
+// A number of a list and a seed.
+fn list_hash(shape: Shape, rows: &[Cube], seed: u64) -> u64 {
+    let mut hash = seed;
+    for row in rows {
+        hash = row_hash(shape, row, hash);
     }
     hash
+}
+
+// A number of a row and a seed: for one seed equal rows give equal numbers, and others hardly ever.
+fn row_hash(shape: Shape, row: &Cube, seed: u64) -> u64 {
+    let mut hash = seed;
+    for w in 0..(shape.inputs() / 32).max(shape.outputs() / 64) + 1 {
+        hash = mixed(mixed(hash ^ row.literal_bits(w)) ^ row.output_bits(w));
+    }
+    hash
+}
+
+// A number that each bit of the word changes in many bits: an odd factor, and the higher half upon
+// the lower.
+fn mixed(word: u64) -> u64 {
+    let product = word.wrapping_mul(0x9E37_79B9_7F4A_7C15);
+    product ^ (product >> 32)
 }
 
 // Whether the lists are equal.
@@ -171,15 +191,4 @@ fn are_equal(rows: &[Cube], others: &[Cube]) -> bool
         }
     }
     true
-}
-
-/// An equal list.
-pub(crate) fn copied(alloc: Global, rows: &[Cube]) -> Result<Vec<Cube>, AllocError>
-    ensures { IfOk result (λ copy. copy.items ≡ rows.now) }
-{
-    let mut copy = Vec::with_capacity(alloc, rows.len())?;
-    for row in rows {
-        copy.push(row.try_clone()?)?;
-    }
-    Ok(copy)
 }

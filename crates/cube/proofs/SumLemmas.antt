@@ -183,8 +183,8 @@ sorted-all_cubes size =
 pub row_total : IsTotalOrder row_cmp
 row_total = then_total (on_total (λ c. c.symbols) (lists_total (on_total rank nat_cmp_total))) (on_total (λ c. c.outputs) (lists_total bool_cmp_total))
 
-row_asym : (c d : Cube) → row_cmp c d ≡ Less → row_cmp d c ≡ Less → ⊥
-row_asym c d less back =
+pub row_asymmetric : (c d : Cube) → row_cmp c d ≡ Less → row_cmp d c ≡ Less → ⊥
+row_asymmetric c d less back =
     let turned : Less ≡ Greater = sym less ∙ row_total.antisymm c d ∙ ap ordering_reverse back in cc turned
 
 pub IsMaximal-from_test : (size : Size) (s : Place → Bool) (c : Cube) → IsCube size c → is_maximal size s c ≡ true → IsMaximal size s c
@@ -287,7 +287,7 @@ sorted-complete_sum size s = IsStrictlySortedBy-filter row_cmp (is_maximal size 
 pub complete_sum-from_members : (size : Size) (s : Place → Bool) (xs : List Cube) → IsStrictlySortedBy row_cmp xs
     → ((c : Cube) → Contains xs c → IsMaximal size s c) → ((c : Cube) → IsMaximal size s c → Contains xs c) → xs ≡ complete_sum size s
 complete_sum-from_members size s xs sorted to from =
-    same_from_members row_cmp row_asym xs (complete_sum size s) sorted (sorted-complete_sum size s)
+    same_from_members row_cmp row_asymmetric xs (complete_sum size s) sorted (sorted-complete_sum size s)
     (λ c member. (Contains-complete_sum size s c).1 (to c member))
     (λ c member. from c ((Contains-complete_sum size s c).0 member))
 

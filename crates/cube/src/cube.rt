@@ -20,7 +20,7 @@ use crate::shape::Shape;
 use crate::symbol::Symbol;
 use crate::words::{
     clear_from, count_clear, covers_words, first_clear, first_difference, freed_word, has_all,
-    minus_word, mixed, pairs_meet, share_bit, widened_word, with_bit, with_word, zip_words,
+    minus_word, pairs_meet, share_bit, widened_word, with_bit, with_word, zip_words,
 };
 use smallvec::SmallVec;
 use std::alloc::{AllocError, Global};
@@ -177,6 +177,17 @@ impl Cube {
     {
         match self.input_part().get(w) {
             Some(word) => clear_from(*word, 0),
+            None => 0,
+        }
+    }
+
+    /// The outputs from `64 w` on, as bits: output `64 w + k` is bit `k`. So lists can count and
+    /// compare their outputs word by word.
+    pub fn output_bits(&self, w: usize) -> u64
+        ensures { (k : ℕ) → k < 64 → bit_at result k ≡ (if slice_index_or self.now.outputs (64 * w + k) false then 1 else 0) }
+    {
+        match self.output_part().get(w) {
+            Some(word) => *word,
             None => 0,
         }
     }
@@ -347,16 +358,6 @@ impl Cube {
     {
         let (mine, theirs) = (self.shape(), other.shape());
         mine.inputs() == theirs.inputs() && mine.outputs() == theirs.outputs()
-    }
-
-    /// A number made of the words and a seed, by which tables find cubes: for one seed equal cubes
-    /// give equal numbers, and others hardly ever.
-    pub fn hash(&self, seed: u64) -> u64 {
-        let mut hash = seed;
-        for word in self.words() {
-            hash = mixed(hash ^ *word);
-        }
-        hash
     }
 
     // By the symbols from the first on.

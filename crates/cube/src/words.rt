@@ -9,13 +9,6 @@ use std::alloc::{AllocError, Global};
 // The lower bit of each pair.
 const LOWER_BITS: u64 = 0x5555_5555_5555_5555;
 
-/// A number that each bit of the word changes in many bits (an odd factor, and the higher half
-/// upon the lower).
-pub(crate) fn mixed(word: u64) -> u64 {
-    let product = word.wrapping_mul(0x9E37_79B9_7F4A_7C15);
-    product ^ (product >> 32)
-}
-
 /// Whether each bit of `b` is in `a`.
 pub(crate) fn covers_words(a: &[u64], b: &[u64]) -> bool
     requires { length a.now ≡ length b.now }

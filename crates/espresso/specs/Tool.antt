@@ -8,11 +8,9 @@ use Rattle.pla.specs.declared.ending.Ending.{Ending}
 use Rattle.pla.specs.declared.fault.Echo.{Echo}
 use Rattle.pla.specs.declared.fault.Echo.TheVariants.{Keep, Eat}
 use Rattle.pla.specs.declared.fault.ReadFault.{ReadFault}
-use Rattle.pla.specs.Description.{Description, description_of}
+use Rattle.pla.specs.Description.{Description, described}
 use Rattle.pla.specs.Echoes.{due}
 use Rattle.pla.specs.Fault.{fault_of}
-use Rattle.pla.specs.Keywords.{looked_at}
-use Rattle.pla.specs.Lines.{lines_of}
 use Rattle.espresso.specs.declared.line.LineFault.{LineFault}
 use Rattle.espresso.specs.declared.line.LineFault.TheVariants as line_fault
 use Rattle.espresso.specs.declared.status.Status.{Status}
@@ -80,8 +78,7 @@ unless_faulty name None d = Ok d
 -- what a file describes, or what is said of it where it stops the run
 abbrev pub reading_of : Text → File → Result Description (List ℕ)
 reading_of name Closed = Err (closed_message name)
-reading_of name (Delivered bytes ending) = unless_faulty name (fault_of format_limits ending bytes)
-    (description_of format_limits (looked_at (lines_of ending bytes)))
+reading_of name (Delivered bytes ending) = unless_faulty name (fault_of format_limits ending bytes) (described format_limits ending bytes)
 
 -- a run that goes on with a description, or is stopped with a message
 abbrev pub unless_stopped : (Description → Outcome) → Result Description (List ℕ) → Outcome

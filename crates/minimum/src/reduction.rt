@@ -90,13 +90,6 @@ pub(crate) fn unmark(marks: &mut Vec<bool>, place: usize)
     }
 }
 
-/// Whether all places are marked.
-fn all_of(marks: &[bool]) -> bool
-    ensures { result ≡ list_all (λ b. b) marks.now }
-{
-    marks.iter().all(|mark| *mark)
-}
-
 /// Takes the mark from the only column of the row, where it has only one.
 fn unmark_single(keep: &mut Vec<bool>, row: &[usize])
     ensures { UnmarksSingle keep.old.items row.now keep.new.items }

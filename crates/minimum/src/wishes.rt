@@ -26,10 +26,6 @@ const PATIENCE: u32 = 10;
 /// Steps become no shorter than by this.
 const SHORTEST: u64 = 128;
 
-fn copy(alloc: Global, numbers: &[u64]) -> Result<Vec<u64>, AllocError> {
-    numbers.iter().copied().collect(alloc)
-}
-
 /// Adds to the number at the place.
 fn add(numbers: &mut Vec<u64>, place: usize, amount: u64) {
     if place < numbers.len() {
@@ -176,7 +172,7 @@ impl Fit {
     ) -> Result<Fit, AllocError> {
         let mut fit = Fit {
             weights: Vec::new(alloc),
-            left: copy(alloc, shares)?,
+            left: shares.to_vec(alloc)?,
         };
         for (i, row) in rows.iter().enumerate() {
             let weight = least(&fit.left, row, cut(row, at(weights, i), loads, shares));
@@ -239,14 +235,14 @@ impl Course {
         }
         if value > self.reached {
             self.reached = value;
-            self.best = copy(alloc, &self.weights)?;
+            self.best = self.weights.to_vec(alloc)?;
         }
         if self.idle < PATIENCE {
             return Ok(false);
         }
         self.idle = 0;
         self.pace = self.pace.saturating_mul(2);
-        self.weights = copy(alloc, &self.best)?;
+        self.weights = self.best.to_vec(alloc)?;
         Ok(true)
     }
 
@@ -302,7 +298,7 @@ impl Wishes {
     fn copy(&self, alloc: Global) -> Result<Wishes, AllocError> {
         Ok(Wishes {
             rows: copied_rows(alloc, &self.rows)?,
-            weights: copy(alloc, &self.weights)?,
+            weights: self.weights.to_vec(alloc)?,
         })
     }
 
@@ -331,7 +327,7 @@ impl Wishes {
         let few = sum(&carried) / 4 < sum(&even) / 5;
         let weights = if few { even } else { carried };
         Ok(Course {
-            best: copy(alloc, &weights)?,
+            best: weights.to_vec(alloc)?,
             weights,
             reached: 0,
             pace: 1,
@@ -347,7 +343,7 @@ impl Wishes {
         weights: &[u64],
     ) -> Result<(), AllocError> {
         self.rows = copied_rows(alloc, rows)?;
-        self.weights = copy(alloc, weights)?;
+        self.weights = weights.to_vec(alloc)?;
         Ok(())
     }
 

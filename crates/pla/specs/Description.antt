@@ -3,8 +3,10 @@ use Rattle.std.specs.Prelude.{ℕ, List, Option, unwrap_or}
 use Rattle.cube.specs.Limits.{Limits}
 use Rattle.cube.specs.Size.{Size}
 use Rattle.cube.specs.Cube.{Cube}
+use Rattle.pla.specs.declared.ending.Ending.{Ending}
 use Rattle.pla.specs.declared.fault.FileType.{FileType}
-use Rattle.pla.specs.Lines.{all_symbols}
+use Rattle.pla.specs.Lines.{all_symbols, lines_of}
+use Rattle.pla.specs.Keywords.{looked_at}
 use Rattle.pla.specs.Header.{header_of, size_in, type_in}
 use Rattle.pla.specs.declared.rows.Part.TheVariants.{On, DontCare, Off}
 use Rattle.pla.specs.Lists.{given_list}
@@ -30,3 +32,7 @@ description_of limits lines = let h = header_of limits lines in let symbols = al
   dc = given_list (type_in h) DontCare (size_in h) symbols;
   off = given_list (type_in h) Off (size_in h) symbols;
 }
+
+-- what a file describes that has no fault, by the lines that are looked at
+abbrev pub described : Limits → Ending → List ℕ → Description
+described limits ending bytes = description_of limits (looked_at (lines_of ending bytes))

@@ -9,10 +9,9 @@ use Rattle.pla.specs.declared.out_type.OutType.TheVariants.{Fdr}
 use Rattle.pla.specs.Lines.{is_blank, ended_lines}
 use Rattle.pla.specs.Steps.{NoFeed}
 use Rattle.pla.specs.Fault.{fault_of}
-use Rattle.pla.specs.Description.{Description}
+use Rattle.pla.specs.Description.{Description, described}
 use Rattle.pla.specs.Sets.{SetLists}
 use Rattle.pla.specs.Text.{names_text, text_of}
-use Rattle.pla.specs.WiderLimits.{described}
 
 -- whether a comment would begin with these bytes, behind a blank
 abbrev pub begins_comment : List ℕ → Bool

@@ -9,11 +9,11 @@ use Rattle.pla.specs.declared.fault.ReadKind.{ReadKind}
 use Rattle.pla.specs.declared.fault.ReadKind.TheVariants.{WriteFailed, OutOfMemory}
 use Rattle.pla.specs.declared.fault.ReadFault.{ReadFault}
 use Rattle.pla.specs.Device.{AppendsFront, HasFailed}
-use Rattle.pla.specs.Lines.{ended_lines, lines_of}
+use Rattle.pla.specs.Lines.{ended_lines}
 use Rattle.pla.specs.Keywords.{looked_at}
 use Rattle.pla.specs.Fault.{fault_of, open_fault, has_ending}
 use Rattle.pla.specs.Echoes.{due}
-use Rattle.pla.specs.Description.{Description, description_of}
+use Rattle.pla.specs.Description.{Description, described}
 
 -- ---- faults by their cause
 
@@ -79,7 +79,7 @@ pub record Reads (echo : Echo) (left left_after : Option (List ℕ)) (reads read
   pub ending : Option Ending
   pub met : MatchOption ending (reads_after ≡ reads) (Meets left_after reads reads_after)
   -- the description or the fault of the bytes
-  pub answer : (e : Ending) → MayEnd ending e → Answers result (fault_of format_limits e bytes) (description_of format_limits (looked_at (lines_of e bytes)))
+  pub answer : (e : Ending) → MayEnd ending e → Answers result (fault_of format_limits e bytes) (described format_limits e bytes)
   -- the echoes that are due, which the ending doesn't change where it wasn't met
   pub written : WritesDue taken taken_after result (due format_limits echo ending bytes)
   pub echoes : (e : Ending) → MayEnd ending e → OnWhole result (due format_limits echo (Some e) bytes ≡ due format_limits echo ending bytes)

@@ -8,11 +8,9 @@ use Rattle.pla.specs.declared.fault.ReadKind.TheVariants.{RefusedKeyword, Keywor
 use Rattle.pla.specs.declared.fault.Echo.{Echo}
 use Rattle.pla.specs.declared.fault.Echo.TheVariants.{Keep, Eat}
 use Rattle.pla.specs.declared.fault.FileType.TheVariants.{Fd}
-use Rattle.pla.specs.Lines.{lines_of}
-use Rattle.pla.specs.Keywords.{looked_at}
 use Rattle.pla.specs.Fault.{fault_of, at_line, fault_in, is_past_limit, is_too_long, is_refused, is_inside_row, is_repeated, is_bad_number, is_name_too_early, is_wrong_count, is_type_too_late, is_bad_type, is_row_too_early, is_bad_symbol}
 use Rattle.pla.specs.Echoes.{due}
-use Rattle.pla.specs.Description.{Description, description_of}
+use Rattle.pla.specs.Description.{Description, described}
 
 -- lines, each with its line feed
 abbrev pub text : List (List ℕ) → List ℕ
@@ -24,7 +22,7 @@ HasFault lines number which = fault_of format_limits End (text lines) ≡ Some (
 
 -- the file has no fault, and describes this
 abbrev pub Describes : List (List ℕ) → Description → Type 0
-Describes lines d = (fault_of format_limits End (text lines) ≡ None) × (description_of format_limits (looked_at (lines_of End (text lines))) ≡ d)
+Describes lines d = (fault_of format_limits End (text lines) ≡ None) × (described format_limits End (text lines) ≡ d)
 
 -- these lines are passed on
 abbrev pub PassesOn : Echo → List (List ℕ) → List (List ℕ) → Type 0

@@ -5,10 +5,8 @@ use Rattle.pla.specs.declared.ending.Ending.{Ending}
 use Rattle.pla.specs.declared.fault.ReadKind.{ReadKind}
 use Rattle.pla.specs.declared.fault.ReadKind.TheVariants.{TooManyLines, LineTooLong, BadNumber}
 use Rattle.pla.specs.declared.fault.ReadFault.{ReadFault}
-use Rattle.pla.specs.Lines.{lines_of}
-use Rattle.pla.specs.Keywords.{looked_at}
 use Rattle.pla.specs.Fault.{fault_of}
-use Rattle.pla.specs.Description.{Description, description_of}
+use Rattle.pla.specs.Description.{described}
 
 -- each limit is at most the other's
 pub record IsWithin (narrow wide : Limits) : Type 0 where
@@ -27,10 +25,6 @@ SameLimitsOf narrow wide TooManyLines = narrow.lines ≡ wide.lines
 SameLimitsOf narrow wide LineTooLong = narrow.line_bytes ≡ wide.line_bytes
 SameLimitsOf narrow wide BadNumber = (narrow.inputs ≡ wide.inputs) × (narrow.outputs ≡ wide.outputs)
 SameLimitsOf narrow wide _ = ⊤
-
--- what the lines looked at describe
-abbrev pub described : Limits → Ending → List ℕ → Description
-described limits ending bytes = description_of limits (looked_at (lines_of ending bytes))
 
 -- a file without a fault under the narrow limits has none under the wide ones, and describes the same; a fault stays, with its line and its kind, unless it comes from a limit that differs
 pub record IsReadAlike (narrow wide : Limits) (ending : Ending) (bytes : List ℕ) : Type 0 where

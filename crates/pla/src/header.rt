@@ -100,7 +100,7 @@ pub fn is_end(keyword: &[u8]) -> bool
 }
 
 /// Whether the keyword is one that this format refuses.
-pub fn is_outside_profile(keyword: &[u8]) -> bool
+pub(crate) fn is_outside_profile(keyword: &[u8]) -> bool
     ensures { result ≡ is_one_of refused_keywords keyword.now }
 {
     keyword == b".mv".as_slice()
