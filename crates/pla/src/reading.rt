@@ -1,11 +1,9 @@
 //! Reading of a whole input, piece by piece.
 ghost use Rattle.std.specs.Prelude.{◌≡◌, ◌++◌, ◌+◌, ◌≤◌, [], List, ℕ, Some, None, false, IfOk, IfErr, length};
 ghost use Rattle.cube.specs.Limits.{format_limits};
-ghost use Rattle.pla.specs.Description.{description_of};
+ghost use Rattle.pla.specs.Description.{described};
 ghost use Rattle.pla.specs.Echoes.{due};
 ghost use Rattle.pla.specs.Fault.{fault_of, open_fault};
-ghost use Rattle.pla.specs.Keywords.{looked_at};
-ghost use Rattle.pla.specs.Lines.{lines_of};
 ghost use Rattle.pla.specs.Reads.{Answers, CountsWrites, IsTold, Reads, WritesGrowth};
 ghost use Rattle.pla.specs.State.{StandsFor};
 ghost use Rattle.pla.specs.Steps.{handed_on as handed_on_of, held_kind as held_kind_of, position_in};
@@ -84,7 +82,7 @@ fn finish<W: Output>(
 ) -> Result<Pla, ReadFault>
     requires { held.old.bytes.items ≡ [] }
     ensures answer { (text : List ℕ) → StandsFor format_limits scan text →
-        Answers result (fault_of format_limits ending text) (description_of format_limits (looked_at (lines_of ending text))) }
+        Answers result (fault_of format_limits ending text) (described format_limits ending text) }
     ensures written { (text : List ℕ) → StandsFor format_limits scan text →
         WritesGrowth (W.taken output.old) (W.taken output.new) result
         (due format_limits scan.echo None text) (due format_limits scan.echo (Some ending) text) }

@@ -11,8 +11,7 @@ ghost use Rattle.pla.specs.Steps.{Describes, TakesLine, WritesLine, NoFeed, posi
 ghost use Rattle.pla.specs.Fault.{at_line, rest_kind as kind_of_rest, open_fault, fault_of, end_fault};
 ghost use Rattle.pla.specs.Echoes.{due};
 ghost use Rattle.pla.specs.Lines.{lines_of};
-ghost use Rattle.pla.specs.Keywords.{looked_at};
-ghost use Rattle.pla.specs.Description.{description_of};
+ghost use Rattle.pla.specs.Description.{described, description_of};
 
 use crate::description::Pla;
 use crate::device::Output;
@@ -234,7 +233,7 @@ impl Scan {
     /// last line that no line feed ended.
     pub fn finish<W: Output>(mut self, ending: Ending, output: &mut W) -> Result<Pla, ReadFault>
         ensures answer { (text : List ℕ) → StandsFor format_limits self text →
-            Answers result (fault_of format_limits ending text) (description_of format_limits (looked_at (lines_of ending text))) }
+            Answers result (fault_of format_limits ending text) (described format_limits ending text) }
         ensures written { (text : List ℕ) → StandsFor format_limits self text →
             WritesGrowth (W.taken output.old) (W.taken output.new) result
             (due format_limits self.echo None text) (due format_limits self.echo (Some ending) text) }
