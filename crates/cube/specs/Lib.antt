@@ -10,4 +10,5 @@ pub mod Join
 pub mod Sharp
 pub mod Cofactor
 pub mod Laws
+pub mod Examples
 pub mod Bytes

@@ -1,5 +1,6 @@
 pub mod Table
 pub mod Cover
+pub mod Examples
 pub mod Steps
 pub mod Search
 pub mod Choices

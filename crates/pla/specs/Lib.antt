@@ -23,3 +23,4 @@ pub mod Parsing
 pub mod Vectors
 pub mod WiderLimits
 pub mod ReadBack
+pub mod LawExamples
