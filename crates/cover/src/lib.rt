@@ -31,6 +31,7 @@ mod compare_tests;
 mod joint;
 mod list;
 mod marking;
+mod reason;
 mod region;
 mod sum;
 mod sum_absorb;
