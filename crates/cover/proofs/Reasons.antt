@@ -1,10 +1,13 @@
 -- Cubes that say why a region is held.
-use Rattle.std.proofs.Common.{◌≡◌, ℕ, zero, suc, ◌<◌, ◌≤◌, Bool, true, false, not, ◌&&◌, ◌||◌, cond, List, [], ◌∷◌, length, map, get_or, set, slice_get, Option, Some, None, is_some, All, refl, ap, sym, subst, ◌∙◌, arith, inl, inr, ◌⊎◌, ◌↔◌, IsTrue}
+use Rattle.std.proofs.Common.{◌≡◌, ℕ, zero, suc, ◌<◌, ◌≤◌, Bool, true, false, not, ◌&&◌, ◌||◌, cond, List, [], ◌∷◌, ◌++◌, length, map, get_or, set, slice_get, Option, Some, None, is_some, All, refl, ap, sym, subst, ◌∙◌, arith, inl, inr, ◌⊎◌, ◌↔◌, IsTrue}
 use Rattle.std.specs.List.{Contains, list_any}
 use Rattle.std.specs.Borrow.{Bor}
+use Rattle.std.specs.Bool.{◌==◌}
+use Rattle.std.proofs.lemmas.Bool.{eqb-true}
 use Rattle.std.proofs.lemmas.Bool.{cases_Bool, false≢true, and_parts, and_from, or_cases, or_left, or_right, not_from_false}
 use Rattle.std.proofs.lemmas.Option.{slice_get_within, get_or_from_slice_get, slice_get-get_or}
-use Rattle.std.proofs.lemmas.List.{get_or-set_same}
+use Rattle.std.proofs.lemmas.List.{get_or-set_same, map-append}
+use Rattle.std.proofs.lemmas.List.Elements.{Contains-append_left, Contains-append_right, Contains-append_cases}
 use Rattle.cube.specs.declared.symbol.Symbol.{Symbol}
 use Rattle.cube.specs.declared.symbol.Symbol.TheVariants.{Dash, Zero, One}
 use Rattle.cube.specs.Pattern.{agrees, matches}
@@ -13,14 +16,14 @@ use Rattle.cube.specs.Cube.{Cube, Place, holds, SameSize, IsSubset, IsDisjoint, 
 use Rattle.cube.proofs.HoldsLemmas.{length-matches, pick, Covers-from_IsSubset}
 use Rattle.cube.proofs.SharpLemmas.{get_or-minus, length-minus, some_true, true_some}
 use Rattle.cube.proofs.MeetLemmas.{decide_outputs}
-use Rattle.cube.proofs.Members.{Contains-filter_cases}
+use Rattle.cube.proofs.Members.{Contains-here, Contains-nil, Contains-cases, Contains-filter_cases}
 use Rattle.cover.specs.Places.{places, is_disjoint, meeting, behind}
 use Rattle.cover.specs.Splits.{dashes}
-use Rattle.cover.specs.Reason.{IsReason, Explains, IsClosed, Leads, Share, set_bits, extent}
+use Rattle.cover.specs.Reason.{IsReason, Explains, IsClosed, Leads, Share, AreAmong, set_bits, extent}
 use Rattle.cover.specs.declared.reason.Step.TheVariants.{Row}
 use Rattle.cover.proofs.Inputs.{matches-set_bit, matches-own}
-use Rattle.cover.proofs.Lists.{list_any_from, list_any_witness, length-behind, behind_at, behind_member}
-use Rattle.cover.proofs.Regions.{place_at, held_by_none, narrowed, narrowed_at, bit_for, inputs_hold, held_lent, fewer_dashes, sizes_lent, lent_sizes, lent_meets}
+use Rattle.cover.proofs.Lists.{list_any_from, list_any_witness, length-behind, behind_at, behind_member, behind_all, all_behind}
+use Rattle.cover.proofs.Regions.{place_at, held_by_none, narrowed, narrowed_at, bit_for, inputs_hold, held_lent, fewer_dashes, lent_meets}
 
 -- ---- a cube without its literal at an input
 
@@ -286,6 +289,67 @@ stacked_within one other c e p h =
       | inr b ↦ or_right (holds one p) (holds other p) (and_from (matches other.symbols p.point) (get_or other.outputs p.output false) inputs.1 b)
     ]
 
+-- ---- rows among others
+
+pub among_more : (some rows : List (Bor Cube)) (row : Bor Cube) → AreAmong some rows → AreAmong some (rows ++ row ∷ [])
+among_more some rows row h d k =
+    subst (λ l. Contains l d) (sym (map-append (λ r. r.now) rows (row ∷ []))) (Contains-append_left (behind rows) (row.now ∷ []) d (h d k))
+
+pub among_last : (rows : List (Bor Cube)) (row : Bor Cube) → Contains (behind (rows ++ row ∷ [])) row.now
+among_last rows row =
+    subst (λ l. Contains l row.now) (sym (map-append (λ r. r.now) rows (row ∷ [])))
+    (Contains-append_right (behind rows) (row.now ∷ []) row.now (Contains-here row.now []))
+
+pub among_added : (some rows : List (Bor Cube)) (row : Bor Cube) → AreAmong some rows → Contains (behind rows) row.now → AreAmong (some ++ row ∷ []) rows
+among_added some rows row h member d k =
+    elim (Contains-append_cases (behind some) (row.now ∷ []) d (subst (λ l. Contains l d) (map-append (λ r. r.now) some (row ∷ [])) k)) [
+      | inl before ↦ h d before
+      | inr last ↦ elim (Contains-cases row.now [] d last) [
+        | inl e ↦ subst (λ x. Contains (behind rows) x) e member
+        | inr none' ↦ absurd (Contains-nil d none')
+      ]
+    ]
+
+pub among_none : (rows : List (Bor Cube)) → AreAmong [] rows
+among_none rows d k = absurd (Contains-nil d k)
+
+-- a reason over some of the rows is one over all
+pub reason_of_some : (some rows : List (Bor Cube)) (region c : Cube) → AreAmong some rows → IsReason region (behind some) c → IsReason region (behind rows) c
+reason_of_some some rows region c h r = record {
+  size = r.size;
+  above = r.above;
+  within = λ p in_c.
+      let w = list_any_witness (λ d. holds d p) (behind some) (r.within p in_c) in
+      list_any_from (λ d. holds d p) (behind rows) w.0 (h w.0 w.1) w.2;
+}
+
+pub sizes_among : (some rows : List (Bor Cube)) (region : Cube) → All (λ d. SameSize d.now region) rows → AreAmong some rows
+    → All (λ d. SameSize d.now region) some
+sizes_among some rows region sizes h =
+    all_behind (λ d. SameSize d region) some (λ d k. behind_all (λ e. SameSize e region) rows sizes d (h d k))
+
+-- the rows that are among those that meet the region meet it
+pub meets_among : (some rows lent : List (Bor Cube)) (region : Cube) → All (λ d. SameSize d.now region) rows
+    → behind lent ≡ meeting (size_of region) region (behind rows) → AreAmong some lent
+    → All (λ d. IsDisjoint (holds d.now) (holds region) → ⊥) some
+meets_among some rows lent region sizes inside h =
+    all_behind (λ d. IsDisjoint (holds d) (holds region) → ⊥) some (λ d k. lent_meets rows lent region sizes inside d (h d k))
+
+-- the rows that meet the region are among all
+pub among_lent : (rows lent : List (Bor Cube)) (region : Cube) → behind lent ≡ meeting (size_of region) region (behind rows) → AreAmong lent rows
+among_lent rows lent region inside d k =
+    (Contains-filter_cases (λ e. not (is_disjoint (size_of region) (holds e) (holds region))) (behind rows) d (subst (λ l. Contains l d) inside k)).0
+
+-- ---- whether there are rows
+
+pub none_left : {X : Type 0} (xs : List X) (n : ℕ) (b : Bool) → n ≡ length xs → b ≡ (n == 0) → b ≡ true → xs ≡ []
+none_left [] n b len e on = refl
+none_left (x ∷ xs) n b len e on = let z = eqb-true n 0 (sym e ∙ on) in absurd (omega (arith, z, len))
+
+pub some_left : {X : Type 0} (xs : List X) (n : ℕ) (b : Bool) → n ≡ length xs → b ≡ (n == 0) → b ≡ false → 1 ≤ length xs
+some_left [] n b len e off = absurd (false≢true (sym off ∙ e ∙ ap (λ k. k == 0) len))
+some_left (x ∷ xs) n b len e off = omega arith
+
 -- ---- the rows that meet the region
 
 -- an answer for them is one for all rows
@@ -309,18 +373,20 @@ unexplained_none rows lent region sizes inside some none' all =
     let on = some_true region.outputs some in
     held_by_none region on.0 on.1 (subst (λ l. IsSubset (holds region) (places l)) none' ((held_lent rows lent region sizes inside).0 all))
 
--- what is known of a row without a literal inside the region
-pub row_leads : (rows lent : List (Bor Cube)) (region : Cube) → All (λ d. SameSize d.now region) rows
-    → behind lent ≡ meeting (size_of region) region (behind rows) → (k : ℕ) (row : Bor Cube) → Leads region (behind lent) (Row k) → row ≡ get_or lent k row
-    → All (λ d. SameSize d.now region) lent
-    × (SameSize row.now region × (Contains (behind lent) row.now × ((IsDisjoint (holds row.now) (holds region) → ⊥) × IsClosed region row.now)))
-row_leads rows lent region sizes inside k row h at =
-    let lt : k < length lent = omega (arith, h.0, length-behind lent) in
-    let member = behind_member lent k row lt at in (
-      sizes_lent rows lent region sizes inside,
+-- what is known of a near row without an open literal
+pub row_leads : (rows near : List (Bor Cube)) (region : Cube) → All (λ d. SameSize d.now region) rows → AreAmong near rows
+    → All (λ d. IsDisjoint (holds d.now) (holds region) → ⊥) near → (k : ℕ) (row : Bor Cube) → Leads region (behind near) (Row k) → row ≡ get_or near k row
+    → SameSize row.now region × (Contains (behind rows) row.now × ((IsDisjoint (holds row.now) (holds region) → ⊥) × IsClosed region row.now))
+row_leads rows near region sizes among meets k row h at =
+    let lt : k < length near = omega (arith, h.0, length-behind near) in
+    let member = behind_member near k row lt at in (
+      behind_all (λ d. SameSize d region) rows sizes row.now (among row.now member),
       (
-        lent_sizes rows lent region sizes inside row.now member,
-        (member, (lent_meets rows lent region sizes inside row.now member, h.1 row.now (slice_get-get_or (behind lent) k row.now h.0 ∙ ap Some (behind_at lent k row lt at)))),
+        among row.now member,
+        (
+          behind_all (λ d. IsDisjoint (holds d) (holds region) → ⊥) near meets row.now member,
+          h.1 row.now (slice_get-get_or (behind near) k row.now h.0 ∙ ap Some (behind_at near k row lt at)),
+        ),
       ),
     )
 

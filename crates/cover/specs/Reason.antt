@@ -4,10 +4,12 @@ use Rattle.cube.specs.declared.symbol.Symbol.{Symbol}
 use Rattle.cube.specs.declared.symbol.Symbol.TheVariants.{Dash}
 use Rattle.cube.specs.Pattern.{agrees}
 use Rattle.cube.specs.Cube.{Cube, SameSize, IsSubset, holds}
-use Rattle.cover.specs.Places.{places}
+use Rattle.std.specs.List.{Contains}
+use Rattle.std.specs.Borrow.{Bor}
+use Rattle.cover.specs.Places.{places, behind}
 use Rattle.cover.specs.Splits.{dashes}
 use Rattle.cover.specs.declared.reason.Step.{Step}
-use Rattle.cover.specs.declared.reason.Step.TheVariants.{Nothing, Row, Split}
+use Rattle.cover.specs.declared.reason.Step.TheVariants.{Row, Split}
 
 -- a cube that holds the region, and whose places are all in the list
 pub record IsReason (region : Cube) (rows : List Cube) (c : Cube) : Type 0 where
@@ -20,13 +22,16 @@ abbrev pub Explains : Cube → List Cube → Option Cube → Type 0
 Explains region rows None = IsSubset (holds region) (places rows) → ⊥
 Explains region rows (Some c) = IsReason region rows c
 
+-- each of the references is to one of the rows
+abbrev pub AreAmong : List (Bor Cube) → List (Bor Cube) → Type 0
+AreAmong some rows = (d : Cube) → Contains (behind some) d → Contains (behind rows) d
+
 -- the cube has no literal at an input where the region has none
 abbrev pub IsClosed : Cube → Cube → Type 0
 IsClosed region c = (i : ℕ) → i < length region.symbols → slice_index_or region.symbols i Dash ≡ Dash → slice_index_or c.symbols i Dash ≡ Dash
 
 -- what is next for a region and the cubes that meet it
 abbrev pub Leads : Cube → List Cube → Step → Type 0
-Leads region rows Nothing = rows ≡ []
 Leads region rows (Row k) = (k < length rows) × ((d : Cube) → slice_get rows k ≡ Some d → IsClosed region d)
 Leads region rows (Split i literal) = (slice_get region.symbols i ≡ Some Dash) × (literal ≢ Dash)
 

@@ -33,6 +33,7 @@ mod list;
 mod marking;
 mod reason;
 mod region;
+mod splitting_input;
 mod sum;
 mod sum_absorb;
 mod sum_branch;

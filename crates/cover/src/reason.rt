@@ -9,28 +9,81 @@
 //! split at first, since it holds one of the halves; else the input counts at which the literals are
 //! those of rows with few. Where a row has no literal inside the region, the rest of the outputs is
 //! asked.
-ghost use Rattle.std.specs.Prelude.{◌≡◌, ◌≢◌, ◌↔◌, ℕ, ◌≤◌, ◌<◌, Bool, List, true, false, ◌||◌, ⊤, IsTrue, IfOk, IfSome, IfNone, length, slice_get, slice_index_or, Some, Contains, All};
-ghost use Rattle.cube.specs.Cube.{SameSize, IsSubset, IsDisjoint, Place, holds, with_symbol};
+ghost use Rattle.std.specs.Prelude.{◌≡◌, ◌≢◌, ◌↔◌, ℕ, ◌≤◌, ◌<◌, Bool, List, true, false, ◌||◌, ⊤, IsTrue, IfOk, IfSome, IfNone, OnOk, ◌++◌, ◌∷◌, [], length, slice_get, slice_index_or, Some, Contains, All};
+ghost use Rattle.cube.specs.Cube.{SameSize, IsSubset, IsDisjoint, Place, holds, with_symbol, size_of};
 ghost use Rattle.cube.specs.Pattern.{agrees, matches};
 ghost use Rattle.cube.specs.Sharp.{opposite as opposite_of};
-ghost use Rattle.cover.specs.Places.{places, behind};
-ghost use Rattle.cover.specs.Reason.{IsReason, Explains, IsClosed, Leads, Share};
+ghost use Rattle.cover.specs.Places.{places, meeting as meeting_of, behind};
+ghost use Rattle.cover.specs.Reason.{IsReason, Explains, IsClosed, Leads, Share, AreAmong};
 
-use crate::region::meeting;
+use crate::splitting_input::{Wish, open_literals, wished};
 use cube::{Cube, Symbol};
 use std::alloc::{AllocError, Global};
 
-// A copy of a row that holds the region, if one does.
-fn containing(rows: &[&Cube], region: &Cube) -> Result<Option<Cube>, AllocError>
+// What a look at each row finds.
+#[derive(Drop)]
+struct Survey<'a> {
+    // A copy of a row that holds the region, and then nothing else counts.
+    found: Option<Cube>,
+    // The rows that meet the region.
+    meeting: Vec<&'a Cube>,
+    // Those of them with fewest open literals, and how many these are.
+    nearest: Vec<&'a Cube>,
+    fewest: u32,
+}
+
+impl<'a> Survey<'a> {
+    // Adds a row that meets the region, with so many open literals.
+    fn add(&mut self, row: &'a Cube, open: u32) -> Result<(), AllocError>
+        requires { AreAmong self.old.nearest.items self.old.meeting.items }
+        ensures found { self.new.found ≡ self.old.found }
+        ensures meeting { OnOk result (self.new.meeting.items ≡ self.old.meeting.items ++ row.entry ∷ []) }
+        ensures nearest { OnOk result (AreAmong self.new.nearest.items self.new.meeting.items) }
+        ensures some { OnOk result (1 ≤ length self.new.nearest.items) }
+    {
+        self.meeting.push(row)?;
+        if open > self.fewest && !self.nearest.is_empty() {
+            return Ok(());
+        }
+        if open < self.fewest {
+            self.nearest.clear();
+        }
+        self.fewest = open;
+        self.nearest.push(row)?;
+        Ok(())
+    }
+}
+
+// Looks at each row once.
+fn survey_rows<'a>(
+    alloc: Global,
+    rows: &[&'a Cube],
+    region: &Cube,
+) -> Result<Survey<'a>, AllocError>
     requires { All (λ d. SameSize d.now region.now) rows.now }
-    ensures { IfOk result (λ found. IfSome found (λ c. IsReason region.now (behind rows.now) c)) }
+    ensures found { IfOk result (λ s. IfSome s.found (λ c. IsReason region.now (behind rows.now) c)) }
+    ensures meeting { IfOk result (λ s. IfNone s.found (behind s.meeting.items ≡ meeting_of (size_of region.now) region.now (behind rows.now))) }
+    ensures nearest { IfOk result (λ s. AreAmong s.nearest.items s.meeting.items) }
+    ensures some { IfOk result (λ s. 1 ≤ length s.meeting.items → 1 ≤ length s.nearest.items) }
 {
+    let shape = region.shape();
+    let mut survey = Survey {
+        found: None,
+        meeting: Vec::new(alloc),
+        nearest: Vec::new(alloc),
+        fewest: u32::MAX,
+    };
     for row in rows {
-        if row.contains(region) {
-            return Ok(Some(row.try_clone()?));
+        if !row.disjoint(region) {
+            let open = open_literals(shape, row, region);
+            if open == 0 && row.contains(region) {
+                survey.found = Some(row.try_clone()?);
+                return Ok(survey);
+            }
+            survey.add(*row, open)?;
         }
     }
-    Ok(None)
+    Ok(survey)
 }
 
 // The first input from `from` on at which the row has a literal and the region has none.
@@ -56,137 +109,39 @@ fn open_literal(row: &Cube, region: &Cube, from: usize) -> Option<usize>
     None
 }
 
-// How many literals the row has inside the region.
-fn open_count(row: &Cube, region: &Cube) -> u32
-    requires { SameSize row.now region.now }
-{
-    let mut count = 0u32;
-    let mut from = 0;
-    while let Some(i) = open_literal(row, region, from) {
-        count = count.saturating_add(1);
-        from = i + 1;
-    }
-    count
-}
-
-// How much the rows count that have each literal, those with few literals inside a region most.
-#[derive(Drop)]
-struct Weights {
-    zeros: Vec<u64>,
-    ones: Vec<u64>,
-}
-
-// The weight of a row with so many literals inside the region: half that of one with a literal less.
-fn weight_of(open: u32) -> u64 {
-    1 << (32 - open.min(32))
-}
-
-// How much an input counts at which the literals have these weights, the more the nearer they are.
-fn score(zeros: u64, ones: u64) -> u64 {
-    let both = (zeros >> 16).saturating_mul(ones >> 16);
-    zeros
-        .saturating_add(ones)
-        .saturating_add(both.saturating_mul(4))
-}
-
-impl Weights {
-    // Adds the literals that a row has inside the region.
-    fn add(&mut self, row: &Cube, region: &Cube)
-        requires size { SameSize row.now region.now }
-        requires zeros { length self.old.zeros.items ≡ length region.now.symbols }
-        requires ones { length self.old.ones.items ≡ length region.now.symbols }
-        ensures zeros { length self.new.zeros.items ≡ length region.now.symbols }
-        ensures ones { length self.new.ones.items ≡ length region.now.symbols }
-    {
-        let weight = weight_of(open_count(row, region));
-        let mut from = 0;
-        while let Some(i) = open_literal(row, region, from) {
-            if row.symbol(i) == Symbol::Zero {
-                self.zeros[i] = self.zeros[i].saturating_add(weight);
-            } else {
-                self.ones[i] = self.ones[i].saturating_add(weight);
-            }
-            from = i + 1;
-        }
-    }
-
-    // The input that counts most, and its literal that counts less.
-    fn heaviest(&self) -> (usize, Symbol)
-        requires { length self.now.zeros.items ≡ length self.now.ones.items }
-        ensures { result.1 ≢ Symbol.Dash }
-    {
-        let mut best = (0usize, Symbol::Zero);
-        let mut most = 0u64;
-        for i in 0..self.zeros.len() {
-            let (zeros, ones) = (self.zeros[i], self.ones[i]);
-            let count = score(zeros, ones);
-            if count > most {
-                let literal = if zeros < ones {
-                    Symbol::Zero
-                } else {
-                    Symbol::One
-                };
-                best = (i, literal);
-                most = count;
-            }
-        }
-        best
-    }
-}
-
-// An input to split at, and the half to ask first, as far as the rows' literals tell.
-fn wished(alloc: Global, rows: &[&Cube], region: &Cube) -> Result<(usize, Symbol), AllocError>
-    requires { All (λ d. SameSize d.now region.now) rows.now }
-    ensures { IfOk result (λ best. best.1 ≢ Symbol.Dash) }
-{
-    let inputs = region.shape().inputs();
-    let mut weights = Weights {
-        zeros: vec![in alloc; 0u64; inputs]?,
-        ones: vec![in alloc; 0u64; inputs]?,
-    };
-    for row in rows {
-        weights.add(row, region);
-    }
-    Ok(weights.heaviest())
-}
-
 // What is next for a region.
 #[derive(Clone, Copy)]
 pub(crate) enum Step {
-    // No row meets the region.
-    Nothing,
-    // The row at this index has no literal inside the region.
+    // The row at this index has no open literal.
     Row(usize),
     // The input splits the region, and the half with this literal is asked first.
     Split(usize, Symbol),
 }
 
-// What is next for a region that all the rows meet.
-fn next_step(alloc: Global, rows: &[&Cube], region: &Cube) -> Result<Step, AllocError>
-    requires { All (λ d. SameSize d.now region.now) rows.now }
-    ensures { IfOk result (λ s. Leads region.now (behind rows.now) s) }
+// What is next for a region that all of the nearest rows meet.
+fn next_step(rows: &[&Cube], near: &[&Cube], fewest: u32, region: &Cube) -> Step
+    requires sizes { All (λ d. SameSize d.now region.now) near.now }
+    requires some { 1 ≤ length near.now }
+    ensures { Leads region.now (behind near.now) result }
 {
-    if rows.is_empty() {
-        return Ok(Step::Nothing);
-    }
-    for k in 0..rows.len() {
-        let row = rows[k];
-        match open_literal(row, region, 0) {
-            None => return Ok(Step::Row(k)),
-            Some(i) => {
-                if open_literal(row, region, i + 1).is_none() && !region.has_more_outputs(row) {
-                    return Ok(Step::Split(i, row.symbol(i)));
-                }
+    match wished(region.shape(), near, rows, fewest, region) {
+        Wish::Row(k) => {
+            if k < near.len() && open_literal(near[k], region, 0).is_none() {
+                return Step::Row(k);
+            }
+        }
+        Wish::Split(i, literal) => {
+            if i < region.shape().inputs()
+                && region.symbol(i) == Symbol::Dash
+                && literal != Symbol::Dash
+            {
+                return Step::Split(i, literal);
             }
         }
     }
-    let (i, literal) = wished(alloc, rows, region)?;
-    if i < region.shape().inputs() && region.symbol(i) == Symbol::Dash {
-        return Ok(Step::Split(i, literal));
-    }
-    match open_literal(rows[0], region, 0) {
-        None => Ok(Step::Row(0)),
-        Some(i) => Ok(Step::Split(i, Symbol::Zero)),
+    match open_literal(near[0], region, 0) {
+        None => Step::Row(0),
+        Some(i) => Step::Split(i, Symbol::Zero),
     }
 }
 
@@ -242,37 +197,83 @@ fn stacked(region: &Cube, one: &Cube, other: &Cube) -> Result<Cube, AllocError>
 }
 
 // A cube that holds the region and of which the rows hold each place, or `None` where they lack a
-// place of the region.
+// place of the region. Some of the rows are near; they alone are looked at while one of them has at
+// most so many open literals.
 #[cycle(reason)]
 pub(crate) fn reason(
     alloc: Global,
     rows: &[&Cube],
+    near: &[&Cube],
+    bound: u32,
     region: &Cube,
 ) -> Result<Option<Cube>, AllocError>
-    requires { All (λ d. SameSize d.now region.now) rows.now }
+    requires sizes { All (λ d. SameSize d.now region.now) rows.now }
+    requires near { AreAmong near.now rows.now }
     ensures { IfOk result (λ found. Explains region.now (behind rows.now) found) }
 {
     let _shape = region.shape();
-    if let Some(cube) = containing(rows, region)? {
+    let Survey {
+        found,
+        meeting,
+        nearest: _,
+        fewest,
+    } = survey_rows(alloc, near, region)?;
+    if let Some(cube) = found {
         return Ok(Some(cube));
     }
-    let inside = meeting(alloc, rows, region)?;
-    match next_step(alloc, &inside, region)? {
-        Step::Nothing => Ok(None),
-        Step::Row(k) => by_outputs(alloc, &inside, region, inside[k]),
-        Step::Split(i, literal) => by_input(alloc, &inside, region, i, literal),
+    if fewest <= bound && !meeting.is_empty() {
+        let rest = bound.saturating_sub(1);
+        return by_step(alloc, rows, &meeting, fewest, rest, region);
+    }
+    let Survey {
+        found,
+        meeting,
+        nearest,
+        fewest,
+    } = survey_rows(alloc, rows, region)?;
+    if let Some(cube) = found {
+        return Ok(Some(cube));
+    }
+    if meeting.is_empty() {
+        return Ok(None);
+    }
+    by_step(alloc, &meeting, &nearest, fewest, fewest, region)
+}
+
+// The same, by the next step, where all of the near rows meet the region.
+#[cycle(reason)]
+fn by_step(
+    alloc: Global,
+    rows: &[&Cube],
+    near: &[&Cube],
+    fewest: u32,
+    bound: u32,
+    region: &Cube,
+) -> Result<Option<Cube>, AllocError>
+    requires sizes { All (λ d. SameSize d.now region.now) rows.now }
+    requires near { AreAmong near.now rows.now }
+    requires meets { All (λ d. IsDisjoint (holds d.now) (holds region.now) → ⊥) near.now }
+    requires some { 1 ≤ length near.now }
+    ensures { IfOk result (λ found. Explains region.now (behind rows.now) found) }
+{
+    match next_step(rows, near, fewest, region) {
+        Step::Row(k) => by_outputs(alloc, rows, near, bound, region, near[k]),
+        Step::Split(i, literal) => by_input(alloc, rows, near, bound, region, (i, literal)),
     }
 }
 
-// The same, where a row has no literal inside the region: the row has some of the outputs.
+// The same, where a row has no open literal: the row has some of the outputs.
 #[cycle(reason)]
 fn by_outputs(
     alloc: Global,
     rows: &[&Cube],
+    near: &[&Cube],
+    bound: u32,
     region: &Cube,
     row: &Cube,
 ) -> Result<Option<Cube>, AllocError>
     requires sizes { All (λ d. SameSize d.now region.now) rows.now }
+    requires near { AreAmong near.now rows.now }
     requires size { SameSize row.now region.now }
     requires member { Contains (behind rows.now) row.now }
     requires meets { IsDisjoint (holds row.now) (holds region.now) → ⊥ }
@@ -283,7 +284,7 @@ fn by_outputs(
         return Ok(Some(row.try_clone()?));
     }
     let rest = region.without_outputs(row)?;
-    let Some(other) = reason(alloc, rows, &rest)? else {
+    let Some(other) = reason(alloc, rows, near, bound, &rest)? else {
         return Ok(None);
     };
     if other.contains(region) {
@@ -297,25 +298,28 @@ fn by_outputs(
 fn by_input(
     alloc: Global,
     rows: &[&Cube],
+    near: &[&Cube],
+    bound: u32,
     region: &Cube,
-    i: usize,
-    literal: Symbol,
+    at: (usize, Symbol),
 ) -> Result<Option<Cube>, AllocError>
     requires sizes { All (λ d. SameSize d.now region.now) rows.now }
-    requires dash { slice_get region.now.symbols i ≡ Some Symbol.Dash }
-    requires literal { literal ≢ Symbol.Dash }
+    requires near { AreAmong near.now rows.now }
+    requires dash { slice_get region.now.symbols at.0 ≡ Some Symbol.Dash }
+    requires literal { at.1 ≢ Symbol.Dash }
     ensures { IfOk result (λ found. Explains region.now (behind rows.now) found) }
 {
     let _shape = region.shape();
-    let near = region.with_symbol(i, literal)?;
-    let Some(one) = reason(alloc, rows, &near)? else {
+    let (i, literal) = at;
+    let first = region.with_symbol(i, literal)?;
+    let Some(one) = reason(alloc, rows, near, bound, &first)? else {
         return Ok(None);
     };
     if one.contains(region) {
         return Ok(Some(one));
     }
-    let far = region.with_symbol(i, opposite(literal))?;
-    let Some(other) = reason(alloc, rows, &far)? else {
+    let second = region.with_symbol(i, opposite(literal))?;
+    let Some(other) = reason(alloc, rows, near, bound, &second)? else {
         return Ok(None);
     };
     if other.contains(region) {
@@ -329,5 +333,5 @@ pub(crate) fn is_held(alloc: Global, rows: &[&Cube], region: &Cube) -> Result<bo
     requires { All (λ d. SameSize d.now region.now) rows.now }
     ensures { IfOk result (λ held. IsTrue held ↔ IsSubset (holds region.now) (places (behind rows.now))) }
 {
-    Ok(reason(alloc, rows, region)?.is_some())
+    Ok(reason(alloc, rows, &[], 0, region)?.is_some())
 }

@@ -1,29 +1,10 @@
-//! The rows that meet a region, and how many of them have each literal.
+//! How many rows have each literal.
 ghost use Rattle.std.specs.Prelude.{◌≡◌, IfOk, length, All};
-ghost use Rattle.cube.specs.Cube.{SameSize, size_of};
-ghost use Rattle.cover.specs.Places.{meeting as meeting_of, behind};
+ghost use Rattle.cover.specs.Places.{behind};
 ghost use Rattle.cover.specs.Splits.{Tallies, Grows};
 
 use cube::{Cube, Symbol};
 use std::alloc::{AllocError, Global};
-
-// The rows that have a place of the region.
-pub(crate) fn meeting<'a>(
-    alloc: Global,
-    rows: &[&'a Cube],
-    region: &Cube,
-) -> Result<Vec<&'a Cube>, AllocError>
-    requires { All (λ d. SameSize d.now region.now) rows.now }
-    ensures { IfOk result (λ kept. behind kept.items ≡ meeting_of (size_of region.now) region.now (behind rows.now)) }
-{
-    let mut kept = Vec::new(alloc);
-    for row in rows {
-        if !row.disjoint(region) {
-            kept.push(*row)?;
-        }
-    }
-    Ok(kept)
-}
 
 // How many rows have each literal.
 #[derive(Drop)]
