@@ -23,7 +23,7 @@ use Rattle.cover.specs.Reason.{IsReason, Explains, IsClosed, Leads, Share, AreAm
 use Rattle.cover.specs.declared.reason.Step.TheVariants.{Row}
 use Rattle.cover.proofs.Inputs.{matches-set_bit, matches-own}
 use Rattle.cover.proofs.Lists.{list_any_from, list_any_witness, length-behind, behind_at, behind_member, behind_all, all_behind}
-use Rattle.cover.proofs.Regions.{place_at, held_by_none, narrowed, narrowed_at, bit_for, inputs_hold, held_lent, fewer_dashes, lent_meets}
+use Rattle.cover.proofs.Regions.{zero_literal, one_literal, place_at, held_by_none, narrowed, narrowed_at, bit_for, inputs_hold, held_lent, fewer_dashes, lent_meets}
 
 -- ---- a cube without its literal at an input
 
@@ -114,8 +114,8 @@ share_sides region near far one other i t some dash e_near e_far s_one s_other i
 
 pub opposite_literal : (t : Symbol) → (t ≡ Dash → ⊥) → opposite t ≡ Dash → ⊥
 opposite_literal Dash h e = h refl
-opposite_literal Zero h e = cc
-opposite_literal One h e = cc
+opposite_literal Zero h e = one_literal e
+opposite_literal One h e = zero_literal e
 
 -- ---- reasons of parts
 

@@ -79,6 +79,12 @@ bit_for One h = (true, refl, only)
     only Zero apart e = absurd (false≢true e)
     only One apart e = absurd (apart refl)
 
+pub zero_literal : Zero ≡ Dash → ⊥
+zero_literal e = cc
+
+pub one_literal : One ≡ Dash → ⊥
+one_literal e = cc
+
 -- ---- no literal inside the region
 
 clash : (s t : Symbol) → (x : Bool) → agrees s x ≡ true → (agrees t x ≡ false) → (t ≡ Dash → ⊥) → (s ≡ Dash) ⊎ ((y : Bool) → agrees s y ≡ true → agrees t y ≡ true → ⊥)
