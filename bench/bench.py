@@ -1,16 +1,19 @@
 #!/usr/bin/env python3
 """Times the built program on generated files, and prints wall time and peak memory.
 
-usage: bench/bench.py PROGRAM [CASE ..]      (no case: all; else those that begin so)
+usage: bench/bench.py [--instructions] PROGRAM [CASE ..]      (no case: all; else those that begin so)
 
 The files are written to bench/data by fixed seeds, once. Each case runs three
 times and the best wall time counts; the peak is the largest resident set of one
 more run, where GNU time is installed. The third column is the time that the case
-is meant to stay within.
+is meant to stay within. Some cases also run berkeley-abc's `cec` or minisat on the
+same question, where these are installed. With --instructions, callgrind counts the
+instructions of one more run of each case, where valgrind is installed.
 """
 import functools
 import os
 import random
+import re
 import shutil
 import subprocess
 import sys
@@ -66,6 +69,49 @@ def split_rows(cubes, count, seed):
 def partition(leaves, inputs, seed):
     """The leaves of a random decision tree: cubes that split the whole space among them."""
     return split_rows(["-" * inputs], leaves, seed)
+
+
+def short_cubes(count, inputs, literals, seed):
+    """Random cubes of so many literals each."""
+    chance = random.Random(seed)
+    for _ in range(count):
+        cube = ["-"] * inputs
+        for i in chance.sample(range(inputs), literals):
+            cube[i] = chance.choice("01")
+        yield "".join(cube)
+
+
+def halves(cube, chance):
+    """The cube cut in two at a random input."""
+    i = chance.choice([i for i, symbol in enumerate(cube) if symbol == "-"])
+    return [cube[:i] + "0" + cube[i + 1:], cube[:i] + "1" + cube[i + 1:]]
+
+
+def split_twice(cubes, chance):
+    """Each cube cut into four."""
+    return [part for cube in cubes for half in halves(cube, chance) for part in halves(half, chance)]
+
+
+def consensus(one, other):
+    """The consensus of two cubes with opposite literals at one input alone, or nothing."""
+    if sum(a != b and "-" not in (a, b) for a, b in zip(one, other)) != 1:
+        return []
+    return ["".join(b if a == "-" else a if b in ("-", a) else "-" for a, b in zip(one, other))]
+
+
+def consensus_cubes(cubes, count, chance):
+    """So many consensus cubes of random pairs."""
+    found = []
+    while len(found) < count:
+        found += consensus(*chance.sample(cubes, 2))
+    return found
+
+
+def with_literal_dropped(cubes, chance):
+    """The cubes, one of them without one of its literals."""
+    at = chance.randrange(len(cubes))
+    i = chance.choice([i for i, symbol in enumerate(cubes[at]) if symbol != "-"])
+    return cubes[:at] + [cubes[at][:i] + "-" + cubes[at][i + 1:]] + cubes[at + 1:]
 
 
 def contained_rows(count, inputs, seed):
@@ -187,6 +233,15 @@ def peak(words, feed=None):
         return int(told.read().split()[-1])
 
 
+def instructions(words):
+    """How many instructions a run takes, as callgrind counts them, where that is installed."""
+    if not shutil.which("valgrind"):
+        return "valgrind is not installed"
+    told = subprocess.run(["valgrind", "--tool=callgrind", "--callgrind-out-file=/dev/null", *words],
+                          stdin=subprocess.DEVNULL, stdout=subprocess.DEVNULL, stderr=subprocess.PIPE, text=True)
+    return "{:,} instructions".format(int(re.search(r"Collected : (\d+)", told.stderr).group(1)))
+
+
 def measured(program, words, feed=None):
     """Wall seconds, peak kilobytes and status of one run."""
     begin = time.perf_counter()
@@ -204,25 +259,102 @@ def comment_stream(pipe):
     pipe.write(b".i 1\n.o 1\n.e\n")
 
 
+COUNTING = "--instructions" in sys.argv
+
+
+@functools.cache
+def count(words):
+    """Prints the instructions of a run, once, where that is asked for."""
+    if COUNTING:
+        print(f"  {instructions(words)}")
+
+
 def file_case(words, path, goal):
-    return lambda program: (*measured(program, [*words, path()]), goal)
+    return pair_case(words, lambda: (path(),), goal)
 
 
-def pair_case(command, paths, goal):
-    return lambda program: (*measured(program, [command, *paths()]), goal)
-
-
-def against_abc(paths):
-    """The times of `verify` and of berkeley-abc's `cec` on the same files, where that is installed."""
+def pair_case(words, paths, goal):
     def run(program):
-        own = min(measured(program, ["-Dverify", *paths()])[0] for _ in range(3))
-        if not shutil.which("berkeley-abc"):
-            print("  berkeley-abc is not installed")
-            return own, 0, 0, None
-        other = min(measured("berkeley-abc", ["-c", "cec {} {}".format(*paths())])[0] for _ in range(3))
-        print(f"  verify {own:.3f} s, cec {other:.3f} s: cec takes {other / own:.1f} times as long")
-        return own, 0, 0, None
+        count((program, *words, *paths()))
+        return (*measured(program, [*words, *paths()]), goal)
     return run
+
+
+def beside(words, paths, goal, name, other):
+    """A case, and the least time of another program at the same question, where that is installed."""
+    def run(program):
+        own = pair_case(words, paths, goal)(program)
+        compare(name, other())
+        return own
+    return run
+
+
+@functools.cache
+def compare(name, words):
+    """Prints the least time of the other program, once."""
+    if not shutil.which(words[0]):
+        print(f"  {words[0]} is not installed")
+        return
+    print(f"  {name} takes {min(measured(words[0], words[1:])[0] for _ in range(3)):.3f} s")
+
+
+def beside_cec(paths, goal=None):
+    """`verify`, and berkeley-abc's `cec` on the same files."""
+    return beside(["-Dverify"], paths, goal, "cec", lambda: ("berkeley-abc", "-c", "cec {} {}".format(*paths())))
+
+
+def clauses(name, inputs, cubes):
+    """A formula that has no model exactly where the cubes hold all points: each point is outside each of them."""
+    return write(name, [f"p cnf {inputs} {len(cubes)}"] + [
+        " ".join(str(i + 1 if symbol == "0" else -i - 1) for i, symbol in enumerate(cube) if symbol != "-") + " 0"
+        for cube in cubes])
+
+
+def beside_minisat(name, inputs, cubes, goal):
+    """`tautology`, and minisat on the same cubes."""
+    return beside(["-Dtautology"], lambda: (write(f"{name}.pla", pla(inputs, 1, [c + " 1" for c in cubes()])),), goal,
+                  "minisat", lambda: ("minisat", clauses(f"{name}.cnf", inputs, cubes())))
+
+
+def wide_tautologies():
+    for inputs, cubes in ((40, 240), (60, 330), (80, 416), (100, 500), (120, 600)):
+        yield f"tautology-short-cubes-{inputs}", beside_minisat(
+            f"short-{inputs}-{cubes}", inputs,
+            lambda inputs=inputs, cubes=cubes: list(short_cubes(cubes, inputs, 3, inputs)), 0.2)
+
+
+def written_pair(name, inputs, cubes, seed, more, dropped):
+    """Two files of one function: the cubes, and each of them split twice with so many consensus cubes more, shuffled. The
+    second may lack a literal of one cube."""
+    chance = random.Random(seed)
+    cubes = list(cubes)
+    others = split_twice(cubes, chance) + consensus_cubes(cubes, more, chance)
+    chance.shuffle(others)
+    if dropped:
+        others = with_literal_dropped(others, chance)
+    return (write(f"{name}.pla", pla(inputs, 1, [c + " 1" for c in cubes])),
+            write(f"{name}-{dropped:d}.pla", pla(inputs, 1, [c + " 1" for c in others])))
+
+
+def two_of(inputs):
+    """At least two of the inputs are 1."""
+    for i in range(inputs):
+        for k in range(i):
+            yield "".join("1" if at in (i, k) else "-" for at in range(inputs))
+
+
+def wide_verifies():
+    for dropped in (False, True):
+        end = "-dropped" if dropped else ""
+        for inputs, cubes, literals in ((40, 160, 3), (60, 240, 3), (80, 320, 3), (100, 380, 3), (60, 200, 4), (100, 600, 4)):
+            name = f"short-{inputs}-{cubes}-{literals}"
+            yield f"verify-{name}{end}", beside_cec(functools.cache(
+                lambda name=name, inputs=inputs, cubes=cubes, literals=literals, dropped=dropped: written_pair(
+                    name, inputs, short_cubes(cubes, inputs, literals, inputs + cubes), inputs * cubes, cubes, dropped)))
+        for inputs in (40, 80):
+            yield f"verify-two-of-{inputs}{end}", beside_cec(functools.cache(
+                lambda inputs=inputs, dropped=dropped: written_pair(
+                    f"two-of-{inputs}", inputs, two_of(inputs), inputs, 0, dropped)))
 
 
 def prime_cases():
@@ -258,17 +390,17 @@ def pair_cases():
     for inputs in (64, 256):
         half = functools.cache(lambda inputs=inputs: same_function(inputs, 2500, 5000))
         whole = functools.cache(lambda inputs=inputs: same_function(inputs, 5000, 10000))
-        yield f"verify-{inputs}-inputs-half", pair_case("-Dverify", half, 0.27)
-        yield f"verify-{inputs}-inputs", pair_case("-Dverify", whole, 0.27)
-        yield f"verify-{inputs}-inputs-against-abc", against_abc(whole)
+        yield f"verify-{inputs}-inputs-half", pair_case(["-Dverify"], half, 0.27)
+        yield f"verify-{inputs}-inputs", pair_case(["-Dverify"], whole, 0.27)
+        yield f"verify-{inputs}-inputs-beside-cec", beside_cec(whole)
     yield "verify-shuffled", pair_case(
-        "-Dverify",
+        ["-Dverify"],
         lambda: (write("rows-10000.pla", pla(30, 4, random_rows(10 ** 4, 30, 4, 3))),
                  write("rows-10000-shuffled.pla", pla(30, 4, shuffled(random_rows(10 ** 4, 30, 4, 3), 9)))),
         None)
     for command in ("sharp", "intersect"):
         yield f"{command}-random", pair_case(
-            f"-D{command}",
+            [f"-D{command}"],
             lambda: (write("random-20-a.pla", pla(20, 1, sparse_rows(60, 20, 1, 0.6, 1))),
                      write("random-20-b.pla", pla(20, 1, sparse_rows(60, 20, 1, 0.6, 2)))),
             None)
@@ -289,20 +421,29 @@ def cases():
                     f"partition-{inputs}-{missing}.pla",
                     pla(inputs, 1, [c + " 1" for c in partition(5000, inputs, inputs)[missing:]])),
                 0.036)
+    for inputs in (128, 256):
+        yield f"tautology-{inputs}-inputs-2000", file_case(
+            ["-Dtautology"],
+            lambda inputs=inputs: write(
+                f"partition-{inputs}-2000.pla", pla(inputs, 1, [c + " 1" for c in partition(2000, inputs, inputs)])),
+            None)
     for rows in (10 ** 4, 3 * 10 ** 4, 10 ** 5):
         yield f"contain-{rows}-rows", file_case(
             ["-Dcontain"],
             lambda rows=rows: write(f"contain-{rows}.pla", pla(40, 1, contained_rows(rows, 40, rows))),
             9.9 if rows == 10 ** 5 else None)
+    yield from wide_tautologies()
     yield from prime_cases()
     yield from exact_cases()
     yield from pair_cases()
+    yield from wide_verifies()
 
 
 def main():
-    if len(sys.argv) < 2:
+    words = [word for word in sys.argv[1:] if word != "--instructions"]
+    if not words:
         sys.exit(__doc__)
-    program, wanted = sys.argv[1], sys.argv[2:]
+    program, wanted = words[0], words[1:]
     for name, run in cases():
         if wanted and not any(name.startswith(word) for word in wanted):
             continue

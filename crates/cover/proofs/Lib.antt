@@ -8,6 +8,7 @@ pub mod SumParts
 pub mod SumRows
 pub mod Regions
 pub mod Tallying
+pub mod Reasons
 pub mod Everywhere
 pub mod Containment
 pub mod Agreement

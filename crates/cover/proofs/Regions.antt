@@ -1,10 +1,9 @@
 -- Whether the cubes of a list hold a region.
 use Rattle.std.proofs.Common.{◌≡◌, ℕ, zero, suc, ◌<◌, Bool, true, false, not, ◌&&◌, List, [], ◌∷◌, length, map, get_or, set, slice_get, Some, All, refl, ap, sym, subst, ◌∙◌, arith, inl, inr, ◌⊎◌, ◌↔◌}
-use Rattle.std.specs.List.{Contains, list_any}
+use Rattle.std.specs.List.{Contains}
 use Rattle.std.proofs.lemmas.Bool.{cases_Bool, false≢true, not-true, not_from_false, and_parts, and_from}
 use Rattle.std.specs.Borrow.{Bor}
-use Rattle.std.proofs.lemmas.Option.{slice_get_within, slice_get-get_or, get_or_from_slice_get}
-use Rattle.std.proofs.lemmas.List.{get_or-set_same, length-set}
+use Rattle.std.proofs.lemmas.Option.{slice_get_within, get_or_from_slice_get}
 use Rattle.cube.specs.declared.symbol.Symbol.{Symbol}
 use Rattle.cube.specs.declared.symbol.Symbol.TheVariants.{Dash, Zero, One}
 use Rattle.cube.specs.Pattern.{agrees, matches}
@@ -12,9 +11,8 @@ use Rattle.cube.specs.Cube.{Cube, Place, holds, SameSize, IsSubset, IsDisjoint, 
 use Rattle.cube.proofs.HoldsLemmas.{length-matches, agrees_at-matches, matches-from_agrees, pick, matches-map_pick}
 use Rattle.cube.proofs.Members.{Contains-filter, Contains-filter_cases}
 use Rattle.cover.specs.Places.{places, is_disjoint, meeting, behind}
-use Rattle.cover.specs.Splits.{Narrows, free, dashes}
-use Rattle.cover.specs.declared.region.Split.TheVariants.{Done, Against, Both}
-use Rattle.cover.proofs.Inputs.{matches-set_symbol, matches-set_bit, matches-own}
+use Rattle.cover.specs.Splits.{free, dashes}
+use Rattle.cover.proofs.Inputs.{matches-set_symbol, matches-own}
 use Rattle.cover.proofs.Lists.{list_any_from, list_any_witness, behind_all, all_behind}
 use Rattle.cover.proofs.Meeting.{is_disjoint-from_fact, IsDisjoint-from_test}
 
@@ -24,10 +22,6 @@ place_at region j on = and_from (matches region.symbols (map pick region.symbols
 
 pub held_by_none : (region : Cube) (j : ℕ) → get_or region.outputs j false ≡ true → IsSubset (holds region) (places []) → ⊥
 held_by_none region j on h = false≢true (h (record { point = map pick region.symbols; output = j }) (place_at region j on))
-
--- a cube that holds the region
-pub held_by_one : (rows : List Cube) (region d : Cube) → Contains rows d → IsSubset (holds region) (holds d) → IsSubset (holds region) (places rows)
-held_by_one rows region d member h p in_region = list_any_from (λ x. holds x p) rows d member (h p in_region)
 
 -- the cubes without a place in the region don't count
 pub held_inside : (rows : List Cube) (region : Cube) → ((d : Cube) → Contains rows d → SameSize d region)
@@ -70,15 +64,7 @@ narrowed_at region i t lt p h agree =
     ∙ and_from (agrees t (get_or p.point i false)) (matches (set region.symbols i Dash) p.point) agree rest)
     parts.1
 
--- both halves
-pub held_by_halves : (s : Place → Bool) (region : Cube) (i : ℕ) → i < length region.symbols
-    → IsSubset (holds (with_symbol region i Zero)) s → IsSubset (holds (with_symbol region i One)) s → IsSubset (holds region) s
-held_by_halves s region i lt low high p h = elim (cases_Bool (get_or p.point i false)) [
-  | inl on ↦ high p (narrowed_at region i One lt p h on)
-  | inr off ↦ low p (narrowed_at region i Zero lt p h (not_from_false (get_or p.point i false) off))
-]
-
-bit_for : (t : Symbol) → (t ≡ Dash → ⊥) → (b : Bool) × (agrees t b ≡ true) × ((s : Symbol) → (s ≡ t → ⊥) → agrees s b ≡ true → s ≡ Dash)
+pub bit_for : (t : Symbol) → (t ≡ Dash → ⊥) → (b : Bool) × (agrees t b ≡ true) × ((s : Symbol) → (s ≡ t → ⊥) → agrees s b ≡ true → s ≡ Dash)
 bit_for Dash h = absurd (h refl)
 bit_for Zero h = (false, refl, only)
   where
@@ -93,35 +79,11 @@ bit_for One h = (true, refl, only)
     only Zero apart e = absurd (false≢true e)
     only One apart e = absurd (apart refl)
 
--- where no cube has the literal, the half with the literal decides
-pub held_by_half : (rows : List Cube) (region : Cube) (i : ℕ) (t : Symbol) → i < length region.symbols → (t ≡ Dash → ⊥)
-    → ((d : Cube) → Contains rows d → SameSize d region) → ((d : Cube) → Contains rows d → get_or d.symbols i Dash ≡ t → ⊥)
-    → IsSubset (holds (with_symbol region i t)) (places rows) → get_or region.symbols i Dash ≡ Dash → IsSubset (holds region) (places rows)
-held_by_half rows region i t lt literal sizes absent half dash p h =
-    let b = bit_for t literal in
-    let parts = and_parts (matches region.symbols p.point) (get_or region.outputs p.output false) h in
-    let long : i < length p.point = omega (arith, length-matches region.symbols p.point parts.0) in
-    let q : Place = record { point = set p.point i b.0; output = p.output } in
-    let in_region : holds region q ≡ true =
-    and_from (matches region.symbols q.point) (get_or region.outputs p.output false)
-    (matches-set_bit region.symbols p.point i b.0 lt
-    ∙ and_from (agrees (get_or region.symbols i Dash) b.0) (matches (set region.symbols i Dash) p.point)
-    (ap (λ s. agrees s b.0) dash)
-    (and_parts (agrees (get_or region.symbols i Dash) (get_or p.point i false)) (matches (set region.symbols i Dash) p.point)
-    (sym (matches-own region.symbols p.point i lt) ∙ parts.0)).1)
-    parts.1 in
-    let in_half = narrowed_at region i t lt q in_region (ap (agrees t) (get_or-set_same p.point i b.0 false long) ∙ b.1) in
-    let w = list_any_witness (λ d. holds d q) rows (half q in_half) in
-    let d = w.0 in
-    let d_lt : i < length d.symbols = omega (arith, (sizes d w.1).0) in
-    let own = and_parts (matches d.symbols q.point) (get_or d.outputs p.output false) w.2 in
-    let agreed = and_parts (agrees (get_or d.symbols i Dash) b.0) (matches (set d.symbols i Dash) p.point)
-    (sym (matches-set_bit d.symbols p.point i b.0 d_lt) ∙ own.0) in
-    let free : get_or d.symbols i Dash ≡ Dash = b.2 (get_or d.symbols i Dash) (absent d w.1) agreed.0 in
-    list_any_from (λ x. holds x p) rows d w.1
-    (and_from (matches d.symbols p.point) (get_or d.outputs p.output false)
-    (matches-own d.symbols p.point i d_lt ∙ ap (λ s. agrees s (get_or p.point i false) && matches (set d.symbols i Dash) p.point) free ∙ agreed.1)
-    own.1)
+pub zero_literal : Zero ≡ Dash → ⊥
+zero_literal e = cc
+
+pub one_literal : One ≡ Dash → ⊥
+one_literal e = cc
 
 -- ---- no literal inside the region
 
@@ -162,25 +124,6 @@ inputs_hold region d size meets free point h =
           ]
     ])
 
-pub held_by_outputs : (rows : List Cube) (region : Cube) → ((d : Cube) → Contains rows d → SameSize d region)
-    → ((d : Cube) → Contains rows d → IsDisjoint (holds d) (holds region) → ⊥)
-    → ((d : Cube) (i : ℕ) → Contains rows d → i < length region.symbols → get_or region.symbols i Dash ≡ Dash → get_or d.symbols i Dash ≡ Dash)
-    → ((j : ℕ) → get_or region.outputs j false ≡ true → list_any (λ d. get_or d.outputs j false) rows ≡ true)
-    ↔ IsSubset (holds region) (places rows)
-held_by_outputs rows region sizes meets free = (
-  λ h p in_region.
-      let parts = and_parts (matches region.symbols p.point) (get_or region.outputs p.output false) in_region in
-      let w = list_any_witness (λ d. get_or d.outputs p.output false) rows (h p.output parts.1) in
-      list_any_from (λ d. holds d p) rows w.0 w.1
-      (and_from (matches w.0.symbols p.point) (get_or w.0.outputs p.output false)
-      (inputs_hold region w.0 (sizes w.0 w.1) (meets w.0 w.1) (λ i lt dash. free w.0 i w.1 lt dash) p.point parts.0) w.2),
-  λ h j on.
-      let p : Place = record { point = map pick region.symbols; output = j } in
-      let w = list_any_witness (λ d. holds d p) rows (h p (place_at region j on)) in
-      list_any_from (λ d. get_or d.outputs j false) rows w.0 w.1
-      (and_parts (matches w.0.symbols p.point) (get_or w.0.outputs j false) w.2).1,
-)
-
 -- ---- the steps of the recursion, over references
 
 module _ (rows lent : List (Bor Cube)) (region : Cube) (sizes : All (λ d. SameSize d.now region) rows)
@@ -188,12 +131,12 @@ module _ (rows lent : List (Bor Cube)) (region : Cube) (sizes : All (λ d. SameS
   sizes_behind : (d : Cube) → Contains (behind rows) d → SameSize d region
   sizes_behind = behind_all (λ d. SameSize d region) rows sizes
 
-  lent_sizes : (d : Cube) → Contains (behind lent) d → SameSize d region
+  pub lent_sizes : (d : Cube) → Contains (behind lent) d → SameSize d region
   lent_sizes d h =
       sizes_behind d (Contains-filter_cases (λ d. not (is_disjoint (size_of region) (holds d) (holds region))) (behind rows) d
       (subst (λ l. Contains l d) inside h)).0
 
-  lent_meets : (d : Cube) → Contains (behind lent) d → IsDisjoint (holds d) (holds region) → ⊥
+  pub lent_meets : (d : Cube) → Contains (behind lent) d → IsDisjoint (holds d) (holds region) → ⊥
   lent_meets d h apart =
       false≢true (sym (not-true (is_disjoint (size_of region) (holds d) (holds region))
       (Contains-filter_cases (λ d. not (is_disjoint (size_of region) (holds d) (holds region))) (behind rows) d
@@ -207,54 +150,6 @@ module _ (rows lent : List (Bor Cube)) (region : Cube) (sizes : All (λ d. SameS
   held_lent =
       subst (λ l. IsSubset (holds region) (places (behind rows)) ↔ IsSubset (holds region) (places l)) (sym inside)
       (held_inside (behind rows) region sizes_behind)
-
-  pub held_when_done : Narrows region (behind lent) Done
-      → ((j : ℕ) → get_or region.outputs j false ≡ true → list_any (λ d. get_or d.outputs j false) (behind lent) ≡ true)
-      ↔ IsSubset (holds region) (places (behind rows))
-  held_when_done done =
-      let outputs = held_by_outputs (behind lent) region lent_sizes lent_meets (λ d i member lt dash.
-      get_or_from_slice_get d.symbols i Dash Dash
-      (done d i member (slice_get-get_or region.symbols i Dash lt ∙ ap Some dash))) in
-      (λ h. held_lent.1 (outputs.0 h), λ h. outputs.1 (held_lent.0 h))
-
-  pub held_when_against : (i : ℕ) (t : Symbol) (half : Cube) → Narrows region (behind lent) (Against i t) → half ≡ with_symbol region i t
-      → IsSubset (holds half) (places (behind lent)) ↔ IsSubset (holds region) (places (behind rows))
-  held_when_against i t half (dash, literal, absent) e =
-      let lt = slice_get_within region.symbols i Dash dash in
-      let free = get_or_from_slice_get region.symbols i Dash Dash dash in (
-        λ h. held_lent.1 (held_by_half (behind lent) region i t lt literal lent_sizes
-            (λ d member same. absent d member
-            (slice_get-get_or d.symbols i Dash (omega (arith, (lent_sizes d member).0)) ∙ ap Some same))
-            (subst (λ x. IsSubset (holds x) (places (behind lent))) e h) free),
-        λ h p in_half. held_lent.0 h p (narrowed region i t lt free p (ap (λ x. holds x p) (sym e) ∙ in_half)),
-      )
-
-  pub held_when_both : (i : ℕ) (low high : Cube) → Narrows region (behind lent) (Both i) → low ≡ with_symbol region i Zero → high ≡ with_symbol region i One
-      → IsSubset (holds low) (places (behind lent)) × IsSubset (holds high) (places (behind lent)) ↔ IsSubset (holds region) (places (behind rows))
-  held_when_both i low high dash e_low e_high =
-      let lt = slice_get_within region.symbols i Dash dash in
-      let free = get_or_from_slice_get region.symbols i Dash Dash dash in (
-        λ h. held_lent.1 (held_by_halves (places (behind lent)) region i lt
-            (subst (λ x. IsSubset (holds x) (places (behind lent))) e_low h.0) (subst (λ x. IsSubset (holds x) (places (behind lent))) e_high h.1)),
-        λ h. (
-          λ p in_half. held_lent.0 h p (narrowed region i Zero lt free p (ap (λ x. holds x p) (sym e_low) ∙ in_half)),
-          λ p in_half. held_lent.0 h p (narrowed region i One lt free p (ap (λ x. holds x p) (sym e_high) ∙ in_half)),
-        ),
-      )
-
-  -- a half has fewer dashes, and the cubes have its size
-  pub sizes_half : (i : ℕ) (t : Symbol) (half : Cube) → half ≡ with_symbol region i t → All (λ d. SameSize d.now half) lent
-  sizes_half i t half e =
-      all_behind (λ d. SameSize d half) lent (λ d h.
-      let s = lent_sizes d h in
-      (s.0 ∙ sym (ap (λ x. length x.symbols) e ∙ length-set region.symbols i t), s.1 ∙ sym (ap (λ x. length x.outputs) e)))
-
--- what lies within a set lies within it by halves
-pub within_half : (lent : List (Bor Cube)) (region : Cube) (i : ℕ) (t : Symbol) (half : Cube) → slice_get region.symbols i ≡ Some Dash
-    → half ≡ with_symbol region i t → IsSubset (holds region) (places (behind lent)) → IsSubset (holds half) (places (behind lent))
-within_half lent region i t half dash e h p in_half =
-    h p (narrowed region i t (slice_get_within region.symbols i Dash dash) (get_or_from_slice_get region.symbols i Dash Dash dash) p
-    (ap (λ x. holds x p) (sym e) ∙ in_half))
 
 dashes-set : (ss : List Symbol) (i : ℕ) (t : Symbol) → i < length ss → get_or ss i Dash ≡ Dash → free t ≡ 0 → dashes (set ss i t) < dashes ss
 dashes-set [] i t lt dash lit = absurd (omega arith)
@@ -271,9 +166,3 @@ pub fewer_dashes : (region : Cube) (i : ℕ) (t : Symbol) (half : Cube) → slic
 fewer_dashes region i t half dash literal e =
     subst (λ x. dashes x.symbols < dashes region.symbols) (sym e)
     (dashes-set region.symbols i t (slice_get_within region.symbols i Dash dash) (get_or_from_slice_get region.symbols i Dash Dash dash) (free-literal t literal))
-
-pub zero_literal : Zero ≡ Dash → ⊥
-zero_literal e = cc
-
-pub one_literal : One ≡ Dash → ⊥
-one_literal e = cc

@@ -10,7 +10,8 @@ ghost use Rattle.cover.specs.Places.{places, behind};
 ghost use Rattle.cover.specs.Marks.{is_symbol};
 ghost use Rattle.cover.specs.Related.{AreRelated};
 
-use crate::region::{Tally, is_held};
+use crate::reason::is_held;
+use crate::region::Tally;
 use crate::symbols::{having, open_at};
 use cube::{Cube, Shape, Symbol};
 use std::alloc::{AllocError, Global};

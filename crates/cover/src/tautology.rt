@@ -5,7 +5,7 @@ ghost use Rattle.cube.specs.Sum.{is_subset};
 ghost use Rattle.cover.specs.Places.{places, holds_all, behind, universal as universal_of};
 
 use crate::list::Cover;
-use crate::region::is_held;
+use crate::reason::is_held;
 use cube::{Cube, Shape, Symbol};
 use std::alloc::{AllocError, Global};
 

@@ -22,7 +22,7 @@ compatible One Zero = false
 compatible s t = true
 
 -- what both symbols ask
-pub common : Symbol → Symbol → Symbol
+unfoldable pub common : Symbol → Symbol → Symbol
 common Dash t = t
 common s t = s
 
@@ -43,7 +43,7 @@ agrees-common One Zero bit h = absurd (false≢true h)
 agrees-common One One true h = refl
 agrees-common One One false h = refl
 
-compatible-from_agrees : (s t : Symbol) (bit : Bool) → agrees s bit ≡ true → agrees t bit ≡ true → compatible s t ≡ true
+pub compatible-from_agrees : (s t : Symbol) (bit : Bool) → agrees s bit ≡ true → agrees t bit ≡ true → compatible s t ≡ true
 unfolding compatible
 compatible-from_agrees Dash t bit a b = refl
 compatible-from_agrees Zero Dash bit a b = refl
@@ -112,7 +112,7 @@ regroup_and true false true s = refl
 regroup_and true false false s = refl
 regroup_and false q r s = refl
 
-compatible-past : (s t : Symbol) → s ≡ Dash → compatible s t ≡ true
+pub compatible-past : (s t : Symbol) → s ≡ Dash → compatible s t ≡ true
 unfolding compatible
 compatible-past s t e = ap (λ x. compatible x t) e
 
@@ -165,7 +165,7 @@ module _ (a b : Cube) (size : SameSize a b) where
       (p, both.0, both.1)
 
   module _ (ws vs : List ℕ) (pa : PacksInputs a.symbols ws) (pb : PacksInputs b.symbols vs) where
-    InputsMeet-from_words : PairsMeet ws vs → InputsMeet
+    pub InputsMeet-from_words : PairsMeet ws vs → InputsMeet
     InputsMeet-from_words words i =
         elim (cases_lt i (length a.symbols)) [
           | inl lt ↦
@@ -186,7 +186,7 @@ module _ (a b : Cube) (size : SameSize a b) where
           | inr past ↦ compatible-past (get_or a.symbols i Dash) (get_or b.symbols i Dash) (get_or_past a.symbols i Dash past)
         ]
 
-    PairsMeet-from_inputs : InputsMeet → PairsMeet ws vs
+    pub PairsMeet-from_inputs : InputsMeet → PairsMeet ws vs
     PairsMeet-from_inputs h v lt k small =
         let in_a : v < input_words (length a.symbols) = omega (arith, pa.words_len) in
         let in_b : v < input_words (length b.symbols) = omega (arith, pa.words_len, size.0) in
@@ -320,7 +320,7 @@ meet-from_not_disjoint a b size r says failed =
           false≢true (sym conflict.1 ∙ InputsMeet-from_place a b size p in_a in_b conflict.0))))
     ]
 
-ZipsBits-and : (x y w : ℕ) → w ≡ bit_and x y → ZipsBits (λ p r. p && r) x y w
+pub ZipsBits-and : (x y w : ℕ) → w ≡ bit_and x y → ZipsBits (λ p r. p && r) x y w
 ZipsBits-and x y w is = record {
   each = λ k p r _ ep er. ap (λ z. bit_at z k) is ∙ bit_at_and x y k
       ∙ ap (λ z. min z (bit_at y k)) ep ∙ ap (λ z. min (bit_of p) z) er ∙ min-bit_of p r;

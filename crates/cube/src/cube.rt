@@ -1,7 +1,7 @@
 //! A cube, kept in words.
-ghost use Rattle.std.specs.Prelude.{◌≡◌, ℕ, ◌+◌, ◌*◌, ◌<◌, ◌≤◌, ◌↔◌, IsTrue, IsOk, IsSome, IsNone, IfOk, IfSome, IfNone, OnOk, MatchOption, if◌then◌else◌, ◌++◌, length, map, drop, slice_get, slice_index_or, Some, Contains, not, true, false};
+ghost use Rattle.std.specs.Prelude.{◌≡◌, ℕ, ◌+◌, ◌*◌, ◌<◌, ◌≤◌, ◌↔◌, IsTrue, IsOk, IsSome, IsNone, IfOk, IfSome, IfNone, OnOk, MatchOption, if◌then◌else◌, ◌++◌, length, map, drop, slice_get, slice_index_or, Some, Contains, not, true, false, List, Bool, ◌&&◌, ◌||◌};
 ghost use Rattle.cube.specs.Cube.{HasSize, IsCube, SameSize, IsSubset, IsDisjoint, Place, holds, intersection, difference, word_count, size_of, with_symbol as cube_with_symbol, literals as literals_of, IsUniversal, IsNextLiteral, IsPlace};
-ghost use Rattle.cube.specs.Pattern.{agrees};
+ghost use Rattle.cube.specs.Pattern.{agrees, matches};
 ghost use Rattle.cube.specs.Size.{words_of_size};
 ghost use Rattle.std.specs.Int.{bit_at};
 ghost use Rattle.cube.specs.Join.{supercube};
@@ -299,6 +299,40 @@ impl Cube {
         })
     }
 
+    /// The cube with the symbols of both and the outputs of either, or `None` where no point matches
+    /// the symbols of both.
+    pub fn stack(&self, other: &Cube) -> Result<Option<Cube>, AllocError>
+        requires { SameSize self.now other.now }
+        ensures none { IfOk result (λ found. IfNone found ((point : List Bool)
+            → IsTrue (matches self.now.symbols point) → IsTrue (matches other.now.symbols point) → ⊥)) }
+        ensures size { IfOk result (λ found. IfSome found (λ c. SameSize c self.now)) }
+        ensures places { IfOk result (λ found. IfSome found (λ c. (p : Place)
+            → holds c p ≡ ((matches self.now.symbols p.point && matches other.now.symbols p.point)
+            && (slice_index_or self.now.outputs p.output false || slice_index_or other.now.outputs p.output false)))) }
+        ensures inline { word_count self.now ≤ 4 → IsOk result }
+    {
+        if !pairs_meet(self.input_part(), other.input_part()) {
+            return Ok(None);
+        }
+        let start = input_words(self.shape);
+        let words = zip_words(
+            *self.words.allocator(),
+            self.words(),
+            other.words(),
+            |k, mine, theirs| {
+                if k < start {
+                    mine & theirs
+                } else {
+                    mine | theirs
+                }
+            },
+        )?;
+        Ok(Some(Cube {
+            shape: self.shape,
+            words,
+        }))
+    }
+
     /// This cube with `symbol` at input `i`, and otherwise as it is.
     pub fn with_symbol(&self, i: usize, symbol: Symbol) -> Result<Cube, AllocError>
         requires { i < length self.now.symbols }
@@ -442,16 +476,16 @@ impl Cube {
         }
     }
 
-    // Whether this cube has an output that the other lacks.
-    fn has_more_outputs(&self, other: &Cube) -> bool
+    /// Whether this cube has an output that the other lacks.
+    pub fn has_more_outputs(&self, other: &Cube) -> bool
         requires { SameSize self.now other.now }
         ensures { IsTrue result ↔ IsTrue (list_any (λ b. b) (minus self.now.outputs other.now.outputs)) }
     {
         !covers_words(other.output_part(), self.output_part())
     }
 
-    // This cube without the outputs of the other.
-    fn without_outputs(&self, other: &Cube) -> Result<Cube, AllocError>
+    /// This cube without the outputs of the other.
+    pub fn without_outputs(&self, other: &Cube) -> Result<Cube, AllocError>
         requires size { SameSize self.now other.now }
         requires some { IsTrue (list_any (λ b. b) (minus self.now.outputs other.now.outputs)) }
         ensures { IfOk result (λ c. c ≡ rest_row self.now other.now) }

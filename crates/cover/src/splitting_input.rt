@@ -1,0 +1,174 @@
+//! Where a region is split: by the rows with fewest open literals.
+//!
+//! A literal of a row is open where the region has none at its input. A row with one holds one half
+//! of the region (a unit, as in Davis, Logemann and Loveland 1962); else the input counts at which
+//! most of the nearest rows have an open literal, and where these are as many, most of all rows. All
+//! of this is a wish, which is looked at before it is used.
+
+use cube::{Cube, Shape, Symbol};
+
+// At most so many of all rows are looked at.
+const SAMPLE: usize = 64;
+
+// How often one of the nearest rows counts against one of all rows.
+const NEAR: u32 = 64;
+
+// The open literals of a row at the 32 inputs of word `w`, as a cube's words have them.
+fn open_bits(row: &Cube, region: &Cube, w: usize) -> u64 {
+    row.literal_bits(w) & !region.literal_bits(w)
+}
+
+// How many open literals a row has.
+fn open_inputs(shape: Shape, row: &Cube, region: &Cube) -> u32 {
+    let mut count = 0u32;
+    for w in 0..shape.inputs() / 32 + 1 {
+        count = count.saturating_add(open_bits(row, region, w).count_ones());
+    }
+    count
+}
+
+// Whether a row lacks an output of the region.
+fn lacks_output(shape: Shape, row: &Cube, region: &Cube) -> bool {
+    for w in 0..shape.outputs() / 64 + 1 {
+        if region.output_bits(w) & !row.output_bits(w) != 0 {
+            return true;
+        }
+    }
+    false
+}
+
+/// How many open literals a row that meets the region has, where a lack of outputs is one more.
+pub(crate) fn open_literals(shape: Shape, row: &Cube, region: &Cube) -> u32 {
+    let lacking = lacks_output(shape, row, region) as u32;
+    open_inputs(shape, row, region).saturating_add(lacking)
+}
+
+// The literal of a bit of word `w`, with its input.
+fn literal_at(w: usize, bit: u32) -> (usize, Symbol) {
+    let i = w.saturating_mul(32).saturating_add(bit as usize / 2);
+    if bit % 2 == 0 {
+        (i, Symbol::One)
+    } else {
+        (i, Symbol::Zero)
+    }
+}
+
+// The first open literal of a row, with its input.
+fn first_open(shape: Shape, row: &Cube, region: &Cube) -> (usize, Symbol) {
+    for w in 0..shape.inputs() / 32 + 1 {
+        let bits = open_bits(row, region, w);
+        if bits != 0 {
+            return literal_at(w, bits.trailing_zeros());
+        }
+    }
+    (0, Symbol::Zero)
+}
+
+// Counts the literals that the bits stand for, two numbers an input, as a cube's words have them.
+fn count_bits(bits: u64, times: u32, counts: &mut [u32; 64]) {
+    let mut left = bits;
+    for _ in 0..64 {
+        if left == 0 {
+            return;
+        }
+        if let Some(count) = counts.get_mut(left.trailing_zeros() as usize) {
+            *count = count.saturating_add(times);
+        }
+        left &= left - 1;
+    }
+}
+
+// Counts the open literals of each row at the inputs of word `w`.
+fn count_near(near: &[&Cube], region: &Cube, w: usize, counts: &mut [u32; 64]) {
+    for row in near {
+        count_bits(open_bits(row, region, w), NEAR, counts);
+    }
+}
+
+// The same for some rows from all over the list.
+fn count_sample(rows: &[&Cube], region: &Cube, w: usize, counts: &mut [u32; 64]) {
+    let step = rows.len() / SAMPLE + 1;
+    for k in 0..SAMPLE {
+        match rows.get(k.saturating_mul(step)) {
+            Some(row) => count_bits(open_bits(row, region, w), 1, counts),
+            None => return,
+        }
+    }
+}
+
+// The input of word `w` with most counts, its literal that counts less, and the counts.
+fn heaviest(w: usize, counts: &[u32; 64]) -> ((usize, Symbol), u64) {
+    let mut best = (0usize, Symbol::Zero);
+    let mut most = 0u64;
+    for k in 0..32usize {
+        let (ones, zeros) = (counts[2 * k] as u64, counts[2 * k + 1] as u64);
+        if ones + zeros > most {
+            let literal = if zeros < ones {
+                Symbol::Zero
+            } else {
+                Symbol::One
+            };
+            best = (w.saturating_mul(32).saturating_add(k), literal);
+            most = ones + zeros;
+        }
+    }
+    (best, most)
+}
+
+// The input at which most of the nearest rows have an open literal, and the literal to ask first.
+fn splitting_input(shape: Shape, near: &[&Cube], rows: &[&Cube], region: &Cube) -> (usize, Symbol) {
+    let mut best = (0usize, Symbol::Zero);
+    let mut most = 0u64;
+    for w in 0..shape.inputs() / 32 + 1 {
+        let mut counts = [0u32; 64];
+        count_near(near, region, w, &mut counts);
+        count_sample(rows, region, w, &mut counts);
+        let (literal, weight) = heaviest(w, &counts);
+        if weight > most {
+            best = literal;
+            most = weight;
+        }
+    }
+    best
+}
+
+/// What is wished for next.
+#[derive(Clone, Copy)]
+pub(crate) enum Wish {
+    // The outputs of the row at this index, which has no open literal.
+    Row(usize),
+    // The halves at this input, that with the literal first.
+    Split(usize, Symbol),
+}
+
+// A row without an open literal, or a unit, if one is there.
+fn unit(shape: Shape, near: &[&Cube], region: &Cube) -> Option<Wish> {
+    for (k, row) in near.iter().enumerate() {
+        let inputs = open_inputs(shape, row, region);
+        if inputs == 0 {
+            return Some(Wish::Row(k));
+        }
+        if inputs == 1 && !lacks_output(shape, row, region) {
+            let (i, literal) = first_open(shape, row, region);
+            return Some(Wish::Split(i, literal));
+        }
+    }
+    None
+}
+
+/// What to do next with a region, of which the nearest rows have so many open literals.
+pub(crate) fn wished(
+    shape: Shape,
+    near: &[&Cube],
+    rows: &[&Cube],
+    fewest: u32,
+    region: &Cube,
+) -> Wish {
+    if fewest <= 1 {
+        if let Some(wish) = unit(shape, near, region) {
+            return wish;
+        }
+    }
+    let (i, literal) = splitting_input(shape, near, rows, region);
+    Wish::Split(i, literal)
+}
