@@ -21,5 +21,6 @@ pub mod Description
 pub mod State
 pub mod Parsing
 pub mod Vectors
+pub mod FormatExamples
 pub mod WiderLimits
 pub mod ReadBack
