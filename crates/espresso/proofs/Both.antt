@@ -1,6 +1,8 @@
 -- The first source of a run, and the second behind it.
 use Rattle.std.proofs.Common.{◌≡◌, ℕ, refl, sym, ap, subst, List, [], ◌++◌, Option, Some, None, Result, Ok, Err, append-nil}
 use Rattle.std.specs.Prelude.{string_bytes}
+use Rattle.pla.specs.declared.calls.ReadCalls.{ReadCalls}
+use Rattle.pla.specs.declared.calls.WriteCalls.{WriteCalls}
 use Rattle.pla.specs.Description.{Description}
 use Rattle.espresso.specs.declared.source.Source.{Source}
 use Rattle.espresso.specs.declared.source.Source.TheVariants.{Open, Closed}
@@ -20,14 +22,14 @@ abbrev pub untouched : {R : Type 0} → Option (Source R) → SecondIntake
 untouched None = Absent
 untouched (Some source) = Untouched
 
-pub takes_untouched : (R : Type 0) (left : R → Option (List ℕ)) (failures : R → ℕ) (first : Intake) (second : Option (Source R))
-    → TakesSecond left failures first second second (untouched second)
-takes_untouched R left failures first None = tt
-takes_untouched R left failures first (Some source) = refl
+pub takes_untouched : (R : Type 0) (left : R → Option (List ℕ)) (calls : R → ReadCalls) (first : Intake) (second : Option (Source R))
+    → TakesSecond left calls first second second (untouched second)
+takes_untouched R left calls first None = tt
+takes_untouched R left calls first (Some source) = refl
 
 -- ---- behind the second
 
-module _ (line : Meaning) (pla : Description) (name : Text) (taken : Intake) (old mid : Option (List ℕ)) (before count : ℕ) where
+module _ (line : Meaning) (pla : Description) (name : Text) (taken : Intake) (old mid : Option (List ℕ)) (before count : WriteCalls) where
   no_more : (names : Names) (out : Told) (result : Result Status Stop)
       → StandsAt (FileOf taken) (λ second. reading_then line name second.file (with_both line pla)) (echoes_due line taken ++ []) names out result
       → StandsAt (FileOf taken) (λ second. reading_then line name second.file (with_both line pla)) (echoes_due line taken) names out result
@@ -39,7 +41,7 @@ module _ (line : Meaning) (pla : Description) (name : Text) (taken : Intake) (ol
   second_stopped s h first = let names : Names = record { first = first; second = name } in no_more names _ (Err s)
       (stopped_there line Second name taken (FileOf taken) (λ x. x.file) (λ x. x.is_file) (λ _. with_both line pla) [] names old mid before count s refl h)
 
-  pub both_answered : (other : Description) (new : Option (List ℕ)) (after : ℕ) (result : Result Status Stop)
+  pub both_answered : (other : Description) (new : Option (List ℕ)) (after : WriteCalls) (result : Result Status Stop)
       → IsReadAs line Second name taken (told old mid before count) (Ok other)
       → Answers (with_both line pla other) (told mid new count after) result
       → StandsBehind line pla taken name (told old new before after) result
@@ -49,7 +51,7 @@ module _ (line : Meaning) (pla : Description) (name : Text) (taken : Intake) (ol
 
 -- ---- behind the first
 
-module _ (line : Meaning) (taken : Intakes) (names : Names) (named : names.first ≡ first_name line.files) (old mid : Option (List ℕ)) (before count : ℕ) where
+module _ (line : Meaning) (taken : Intakes) (names : Names) (named : names.first ≡ first_name line.files) (old mid : Option (List ℕ)) (before count : WriteCalls) where
   by_name : (r : Result Description Stop) → IsReadAs line First names.first taken.first (told old mid before count) r
       → IsReadAs line First (first_name line.files) taken.first (told old mid before count) r
   by_name r h = subst (λ name. IsReadAs line First name taken.first (told old mid before count) r) named h
@@ -59,7 +61,7 @@ module _ (line : Meaning) (taken : Intakes) (names : Names) (named : names.first
   first_stopped s h = stopped_there line First (first_name line.files) taken.first (FilesOf taken) (λ x. x.first) (λ x. x.is_first) (λ x. with_first line x.second)
       (second_due line taken.second) names old mid before count s named (by_name (Err s) h)
 
-  module _ (pla : Description) (new : Option (List ℕ)) (after : ℕ) (result : Result Status Stop) (read : IsReadAs line First names.first taken.first (told old mid before count) (Ok pla)) where
+  module _ (pla : Description) (new : Option (List ℕ)) (after : WriteCalls) (result : Result Status Stop) (read : IsReadAs line First names.first taken.first (told old mid before count) (Ok pla)) where
     first_read : StandsAt (FilesOf taken) (λ x. with_first line x.second pla) (second_due line taken.second) names (told mid new count after) result
         → Stands line taken names (told old new before after) result
     first_read h = went_on line First (first_name line.files) taken.first (FilesOf taken) (λ x. x.first) (λ x. x.is_first) (λ x. with_first line x.second)
@@ -100,25 +102,25 @@ module _ (line : Meaning) (taken : Intakes) (names : Names) (named : names.first
 -- ---- names
 
 -- a source keeps its name
-pub takes_name : (R : Type 0) (left : R → Option (List ℕ)) (failures : R → ℕ) (source after : Source R) (taken : Intake) → Takes left failures source after taken → name_of after ≡ name_of source
-takes_name R left failures (Closed name) (Closed name_after) Nothing h = ap string_bytes h
-takes_name R left failures (Open name input) (Open name_after input_after) (Bytes bytes met) h = ap string_bytes h.0
-takes_name R left failures (Closed name) (Closed name_after) (Bytes bytes met) h = absurd h
-takes_name R left failures (Closed name) (Open name_after input_after) taken h = absurd h
-takes_name R left failures (Open name input) (Open name_after input_after) Nothing h = absurd h
-takes_name R left failures (Open name input) (Closed name_after) taken h = absurd h
+pub takes_name : (R : Type 0) (left : R → Option (List ℕ)) (calls : R → ReadCalls) (source after : Source R) (taken : Intake) → Takes left calls source after taken → name_of after ≡ name_of source
+takes_name R left calls (Closed name) (Closed name_after) Nothing h = ap string_bytes h
+takes_name R left calls (Open name input) (Open name_after input_after) (Bytes bytes met) h = ap string_bytes h.0
+takes_name R left calls (Closed name) (Closed name_after) (Bytes bytes met) h = absurd h
+takes_name R left calls (Closed name) (Open name_after input_after) taken h = absurd h
+takes_name R left calls (Open name input) (Open name_after input_after) Nothing h = absurd h
+takes_name R left calls (Open name input) (Closed name_after) taken h = absurd h
 
 -- a second one does
-pub second_kept : (R : Type 0) (left : R → Option (List ℕ)) (failures : R → ℕ) (first : Intake) (second after : Option (Source R)) (taken : SecondIntake)
-    → TakesSecond left failures first second after taken → second_text after ≡ second_text second
-second_kept R left failures first None None Absent h = refl
-second_kept R left failures first None None Untouched h = absurd h
-second_kept R left failures first None None (Asked intake) h = absurd h
-second_kept R left failures first None (Some after) taken h = absurd h
-second_kept R left failures first (Some source) after Absent h = absurd h
-second_kept R left failures first (Some source) after Untouched h = ap second_text h
-second_kept R left failures first (Some source) None (Asked intake) h = absurd h
-second_kept R left failures first (Some source) (Some after) (Asked intake) h = takes_name R left failures source after intake h.1
+pub second_kept : (R : Type 0) (left : R → Option (List ℕ)) (calls : R → ReadCalls) (first : Intake) (second after : Option (Source R)) (taken : SecondIntake)
+    → TakesSecond left calls first second after taken → second_text after ≡ second_text second
+second_kept R left calls first None None Absent h = refl
+second_kept R left calls first None None Untouched h = absurd h
+second_kept R left calls first None None (Asked intake) h = absurd h
+second_kept R left calls first None (Some after) taken h = absurd h
+second_kept R left calls first (Some source) after Absent h = absurd h
+second_kept R left calls first (Some source) after Untouched h = ap second_text h
+second_kept R left calls first (Some source) None (Asked intake) h = absurd h
+second_kept R left calls first (Some source) (Some after) (Asked intake) h = takes_name R left calls source after intake h.1
 
 -- the last word, by names that are the same
 pub reports_by : (names others : Names) (err : Told) (done : Result Status Stop) (status : Status) → names.first ≡ others.first → names.second ≡ others.second

@@ -1,7 +1,9 @@
 -- What an output took, from one step to the next.
-use Rattle.std.proofs.Common.{◌≡◌, ◌∙◌, ℕ, ◌≤◌, refl, sym, ap, arith, List, [], ◌++◌, Option, Some, None, append_assoc, append-nil}
+use Rattle.std.proofs.Common.{◌≡◌, ◌∙◌, ℕ, refl, sym, ap, List, [], ◌++◌, Option, Some, None, append_assoc, append-nil}
 use Rattle.std.specs.Io.KnownBytes.{Appends, Keeps}
-use Rattle.pla.specs.Device.{AppendsFront, HasFailed, one_more}
+use Rattle.pla.specs.declared.calls.Counts.{Counts}
+use Rattle.pla.specs.declared.calls.WriteCalls.{WriteCalls}
+use Rattle.pla.specs.Device.{AllWritten, AppendsFront, LastUnwritten, one_failed}
 
 -- a text behind a text
 pub appends_more : (old mid new : Option (List ℕ)) (a b : List ℕ) → Appends old mid a → Appends mid new b → Appends old new (a ++ b)
@@ -38,16 +40,9 @@ front_more old mid new a b h k = (a ++ k.0, k.1, ap (λ t. a ++ t) k.2 ∙ sym (
 pub front_kept : (old mid new : Option (List ℕ)) (a : List ℕ) → AppendsFront old mid a → Keeps mid new → AppendsFront old new a
 front_kept old mid new a h k = (h.0, h.1, h.2, appends_kept old mid new h.0 h.3 k)
 
--- a failure after any number of failures is a failure
-pub failed_now : (before mid after : ℕ) → mid ≡ before → after ≡ one_more mid → HasFailed before after
-failed_now before mid after e h = omega arith
-
--- a failure stays one, whatever the next call does
-pub failed_before : (before mid after : ℕ) → HasFailed before mid → mid ≤ after → HasFailed before after
-failed_before before mid after h k = omega arith
-
-pub failed_again : (before mid after : ℕ) → HasFailed before mid → after ≡ one_more mid → HasFailed before after
-failed_again before mid after h e = omega arith
+-- a failure behind calls of which none failed
+pub failed_since : (before mid after : WriteCalls) → AllWritten before mid → LastUnwritten mid after → LastUnwritten before after
+failed_since before mid after same h = (h.0 ∙ ap one_failed same, h.1)
 
 -- a beginning of a text is one of a longer text
 pub front_longer : (old new : Option (List ℕ)) (a b : List ℕ) → AppendsFront old new a → AppendsFront old new (a ++ b)

@@ -7,7 +7,8 @@ use Rattle.pla.specs.declared.fault.ReadFault.{ReadFault}
 use Rattle.pla.specs.declared.fault.ReadKind.{ReadKind}
 use Rattle.pla.specs.declared.fault.ReadKind.TheVariants.{WriteFailed, OutOfMemory}
 use Rattle.pla.specs.Description.{Description, description_of}
-use Rattle.pla.specs.Device.{AppendsFront, HasFailed}
+use Rattle.pla.specs.declared.calls.WriteCalls.{WriteCalls}
+use Rattle.pla.specs.Device.{AllWritten, AppendsFront, LastUnwritten}
 use Rattle.pla.specs.Echoes.{due}
 use Rattle.pla.specs.Fault.{fault_of}
 use Rattle.pla.specs.Keywords.{looked_at}
@@ -27,7 +28,7 @@ each_file : (bytes : List ℕ) (met : Option Ending) (P : File → Type 0) → (
 each_file bytes met P h tool.Closed is = absurd is
 each_file bytes met P h (tool.Delivered delivered e) is = subst (λ d. P (tool.Delivered d e)) (sym is.0) (h e is.1)
 
-module _ (line : Meaning) (operand : Operand) (name : Text) (bytes : List ℕ) (met : Option Ending) (old mid : Option (List ℕ)) (before count : ℕ) where
+module _ (line : Meaning) (operand : Operand) (name : Text) (bytes : List ℕ) (met : Option Ending) (old mid : Option (List ℕ)) (before count : WriteCalls) where
   -- the echoes that are due, whatever the ending
   abbrev echoes : List ℕ
   echoes = due format_limits (echo_by line.eat) met bytes
@@ -52,15 +53,15 @@ module _ (line : Meaning) (operand : Operand) (name : Text) (bytes : List ℕ) (
       → ((e : Ending) → MayEnd met e → MatchCause kind (fault.line ≡ 0) (fault.line ≡ 0) (fault_of format_limits e bytes ≡ Some fault))
       → ((e : Ending) → MayEnd met e → MatchCause kind ⊤ ⊤ (due_at e ≡ echoes))
       → MatchCause kind (AppendsFront old mid echoes) (AppendsFront old mid echoes) (Appends old mid echoes)
-      → MatchCause kind (HasFailed before count) (count ≡ before) (count ≡ before)
+      → MatchCause kind (LastUnwritten before count) (AllWritten before count) (AllWritten before count)
       → IsReadAs line operand name (Bytes bytes met) (told old mid before count) (Err (stop_by operand fault kind))
   stopped_reading fault WriteFailed faulty same written counted = (written, counted)
-  stopped_reading fault OutOfMemory faulty same written counted = written
-  stopped_reading fault _ faulty same written counted = (faulty_passes fault faulty same written, refl)
+  stopped_reading fault OutOfMemory faulty same written counted = (written, counted)
+  stopped_reading fault _ faulty same written counted = (faulty_passes fault faulty same written, refl, counted)
 
   -- a reading that came to a description
   pub whole_reading : (pla : Description) → ((e : Ending) → MayEnd met e → (fault_of format_limits e bytes ≡ None) × (pla ≡ described e))
-      → ((e : Ending) → MayEnd met e → due_at e ≡ echoes) → Appends old mid echoes → count ≡ before
+      → ((e : Ending) → MayEnd met e → due_at e ≡ echoes) → Appends old mid echoes → AllWritten before count
       → IsReadAs line operand name (Bytes bytes met) (told old mid before count) (Ok pla)
   whole_reading pla answer same written counted = (
     record {

@@ -1,26 +1,28 @@
 -- Where a run stands, from step to step.
-use Rattle.std.proofs.Common.{◌≡◌, ◌∙◌, ℕ, refl, sym, ap, subst, inl, inr, List, [], ◌++◌, Option, Result, Ok, Err, true≢false, append-nil}
-use Rattle.std.specs.Prelude.{IsTrue}
+use Rattle.std.proofs.Common.{◌≡◌, ◌∙◌, ℕ, true, refl, sym, ap, subst, inl, inr, List, [], ◌++◌, Option, Result, Ok, Err, true≢false, append-nil}
+use Rattle.std.specs.Prelude.{◌⊎◌, IsTrue}
 use Rattle.std.specs.Io.KnownBytes.{Appends, Keeps}
 use Rattle.pla.specs.declared.device.Broken.{Broken}
 use Rattle.pla.specs.Description.{Description}
-use Rattle.pla.specs.Device.{AppendsFront, CountsFailure, HasFailed, one_more}
+use Rattle.pla.specs.declared.calls.Counts.{Counts}
+use Rattle.pla.specs.declared.calls.WriteCalls.{WriteCalls}
+use Rattle.pla.specs.Device.{AppendsFront, TellsFlush, flush_broke, flush_went, one_more}
 use Rattle.espresso.specs.declared.status.Status.{Status}
 use Rattle.espresso.specs.declared.status.Status.TheVariants.{Fault}
 use Rattle.espresso.specs.declared.stop.Operand.{Operand}
 use Rattle.espresso.specs.declared.stop.Stop.{Stop}
 use Rattle.espresso.specs.declared.stop.Stop.TheVariants as stop
 use Rattle.espresso.specs.Messages.{closed_message, fault_message, is_answer}
-use Rattle.espresso.specs.Run.{Ends, Finishes, Intake, Intakes, IsFileOf, Says, Told, TookBeginning, TookFront, echoes_due, second_due, told}
-use Rattle.espresso.specs.Steps.{Answers, Began, FilesOf, IsReadAs, Names, PassesOn, Prints, PutsOut, Reports, Stands, StandsAt, name_at}
+use Rattle.espresso.specs.Run.{Ends, Finishes, FlushBroke, FlushWent, FlushedLast, Intake, Intakes, IsFileOf, LastWriteBroke, Says, Told, Took, TookBeginning, TookFront, TookWhole, WritesWent, echoes_due, second_due, told}
+use Rattle.espresso.specs.Steps.{Answers, Began, Closes, FilesOf, IsReadAs, Names, PassesOn, Prints, PutsOut, Reports, Stands, StandsAt, name_at}
 use Rattle.espresso.specs.Answer.{Answer}
 use Rattle.espresso.specs.Tool.{File, Outcome, answered, behind, outcome_of, reading_of, reading_then, unless_stopped}
 use Rattle.espresso.specs.Words.{Meaning, Text}
-use Rattle.espresso.proofs.Outputs.{appends_kept, appends_more, failed_again, failed_now, front_kept, front_longer, front_more, front_whole}
+use Rattle.espresso.proofs.Outputs.{appends_kept, appends_more, failed_since, front_kept, front_longer, front_more, front_whole}
 
 -- ---- the reading of a source, and what follows
 
-module _ (line : Meaning) (operand : Operand) (name : Text) (taken : Intake) (X : Type 0) (file : X → File) (is_file : (x : X) → IsFileOf taken (file x)) (next : X → Description → Outcome) (rest : List ℕ) (names : Names) (old mid : Option (List ℕ)) (before count : ℕ) where
+module _ (line : Meaning) (operand : Operand) (name : Text) (taken : Intake) (X : Type 0) (file : X → File) (is_file : (x : X) → IsFileOf taken (file x)) (next : X → Description → Outcome) (rest : List ℕ) (names : Names) (old mid : Option (List ℕ)) (before count : WriteCalls) where
   abbrev whole : X → Outcome
   whole x = reading_then line name (file x) (next x)
 
@@ -38,16 +40,22 @@ module _ (line : Meaning) (operand : Operand) (name : Text) (taken : Intake) (X 
   -- the source stopped the run
   pub stopped_there : (s : Stop) → name_at operand names ≡ name → IsReadAs line operand name taken (told old mid before count) (Err s)
       → StandsAt X whole (echoes_due line taken ++ rest) names (told old mid before count) (Err s)
-  stopped_there (stop.NotOpened at) named h = stops_saying _ (subst (λ n. PassesOn line name taken (told old mid before count) (Err (closed_message n)))
-      (sym (ap (λ o. name_at o names) h.1 ∙ named)) h.0)
-  stopped_there (stop.Faulty at fault) named h = stops_saying _ (subst (λ n. PassesOn line name taken (told old mid before count) (Err (fault_message n fault)))
-      (sym (ap (λ o. name_at o names) h.1 ∙ named)) h.0)
+  stopped_there (stop.NotOpened at) named h = (
+    stops_saying _ (subst (λ n. PassesOn line name taken (told old mid before count) (Err (closed_message n)))
+        (sym (ap (λ o. name_at o names) h.1 ∙ named)) h.0),
+    h.2,
+  )
+  stopped_there (stop.Faulty at fault) named h = (
+    stops_saying _ (subst (λ n. PassesOn line name taken (told old mid before count) (Err (fault_message n fault)))
+        (sym (ap (λ o. name_at o names) h.1 ∙ named)) h.0),
+    h.2,
+  )
   stopped_there stop.SizesDiffer named h = absurd h
   stopped_there stop.WriteFailed named h = (inl (front_longer old mid _ rest h.0), h.1)
-  stopped_there stop.OutOfMemory named h = inl (front_longer old mid _ rest h)
+  stopped_there stop.OutOfMemory named h = (inl (front_longer old mid _ rest h.0), h.1)
 
   -- it came to a description, and the run went on
-  module _ (pla : Description) (new : Option (List ℕ)) (after : ℕ) (read : IsReadAs line operand name taken (told old mid before count) (Ok pla)) where
+  module _ (pla : Description) (new : Option (List ℕ)) (after : WriteCalls) (read : IsReadAs line operand name taken (told old mid before count) (Ok pla)) where
     prints_behind : (message : List ℕ) (status : Status) (x : X) → Prints (next x pla) (told mid new count after) message status
         → Prints (whole x) (told old new before after) message status
     prints_behind message status x h = subst (λ o. Prints o (told old new before after) message status) (sym (outcome_is x (Ok pla) read.0))
@@ -61,11 +69,11 @@ module _ (line : Meaning) (operand : Operand) (name : Text) (taken : Intake) (X 
     pub went_on : (result : Result Status Stop) → StandsAt X (λ x. next x pla) rest names (told mid new count after) result
         → StandsAt X whole (echoes_due line taken ++ rest) names (told old new before after) result
     went_on (Ok status) h = (λ x. prints_behind [] status x (h.0 x), h.1 ∙ read.1)
-    went_on (Err (stop.NotOpened at)) h = λ x. prints_behind _ Fault x (h x)
-    went_on (Err (stop.Faulty at fault)) h = λ x. prints_behind _ Fault x (h x)
-    went_on (Err stop.SizesDiffer) h = λ x. prints_behind _ Fault x (h x)
-    went_on (Err stop.WriteFailed) h = (began_behind h.0, subst (λ n. HasFailed n after) read.1 h.1)
-    went_on (Err stop.OutOfMemory) h = began_behind h
+    went_on (Err (stop.NotOpened at)) h = (λ x. prints_behind _ Fault x (h.0 x), h.1 ∙ read.1)
+    went_on (Err (stop.Faulty at fault)) h = (λ x. prints_behind _ Fault x (h.0 x), h.1 ∙ read.1)
+    went_on (Err stop.SizesDiffer) h = (λ x. prints_behind _ Fault x (h.0 x), h.1 ∙ read.1)
+    went_on (Err stop.WriteFailed) h = (began_behind h.0, failed_since before count after read.1 h.1)
+    went_on (Err stop.OutOfMemory) h = (began_behind h.0, h.1 ∙ read.1)
 
 -- ---- the same outcome in other words
 
@@ -79,11 +87,11 @@ module _ (X Y : Type 0) (at : X → Y) (outcome : X → Outcome) (other : Y → 
 
   pub stands_same : (result : Result Status Stop) → StandsAt Y other echoes names out result → StandsAt X outcome echoes names out result
   stands_same (Ok status) h = (prints_same [] status h.0, h.1)
-  stands_same (Err (stop.NotOpened operand)) h = prints_same _ Fault h
-  stands_same (Err (stop.Faulty operand fault)) h = prints_same _ Fault h
-  stands_same (Err stop.SizesDiffer) h = prints_same _ Fault h
+  stands_same (Err (stop.NotOpened operand)) h = (prints_same _ Fault h.0, h.1)
+  stands_same (Err (stop.Faulty operand fault)) h = (prints_same _ Fault h.0, h.1)
+  stands_same (Err stop.SizesDiffer) h = (prints_same _ Fault h.0, h.1)
   stands_same (Err stop.WriteFailed) h = (began_same h.0, h.1)
-  stands_same (Err stop.OutOfMemory) h = began_same h
+  stands_same (Err stop.OutOfMemory) h = (began_same h.0, h.1)
 
 -- one outcome, whatever the files
 pub answers_stand : (X : Type 0) (outcome : Outcome) (echoes : List ℕ) (names : Names) (out : Told) (result : Result Status Stop)
@@ -91,9 +99,9 @@ pub answers_stand : (X : Type 0) (outcome : Outcome) (echoes : List ℕ) (names 
 answers_stand X outcome echoes names out (Ok status) h = (λ _. h.0, h.1)
 answers_stand X outcome echoes names out (Err (stop.NotOpened operand)) h = absurd h
 answers_stand X outcome echoes names out (Err (stop.Faulty operand fault)) h = absurd h
-answers_stand X outcome echoes names out (Err stop.SizesDiffer) h = λ _. h
+answers_stand X outcome echoes names out (Err stop.SizesDiffer) h = (λ _. h.0, h.1)
 answers_stand X outcome echoes names out (Err stop.WriteFailed) h = (inr (λ _. h.0), h.1)
-answers_stand X outcome echoes names out (Err stop.OutOfMemory) h = inr (λ _. h)
+answers_stand X outcome echoes names out (Err stop.OutOfMemory) h = (inr (λ _. h.0), h.1)
 
 -- a command's answer, printed
 pub put_answers : (answer : Answer) (out : Told) (result : Result Status Stop) → PutsOut answer out result → Answers (answered answer) out result
@@ -106,7 +114,7 @@ put_answers answer out (Err stop.OutOfMemory) h = h
 
 -- ---- the last flush
 
-module _ (line : Meaning) (taken : Intakes) (names : Names) (old mid new : Option (List ℕ)) (before count after : ℕ) (kept : Keeps mid new) where
+module _ (line : Meaning) (taken : Intakes) (names : Names) (old mid new : Option (List ℕ)) (before count after : WriteCalls) (kept : Keeps mid new) where
   prints_kept : (outcome : Outcome) (message : List ℕ) (status : Status) → Prints outcome (told old mid before count) message status → Prints outcome (told old new before after) message status
   prints_kept outcome message status h = record { output = appends_kept old mid new outcome.output h.output kept; same_message = h.same_message; same_status = h.same_status }
 
@@ -120,34 +128,76 @@ module _ (line : Meaning) (taken : Intakes) (names : Names) (old mid new : Optio
   began_kept (inl h) = inl (front_kept old mid new echoes h kept)
   began_kept (inr h) = inr (λ files. front_kept old mid new _ (h files) kept)
 
+  abbrev end : Told
+  end = told old new before after
+
+  -- one flush was asked for, as the last call
+  flushed_last : (flush : Result (Unit {0}) Broken) → TellsFlush count after flush → count.counts.flushes ≡ before.counts.flushes → FlushedLast end
+  flushed_last (Ok x) e same = (ap (λ (c : WriteCalls). c.counts.flushes) e ∙ ap one_more same, ap (λ (c : WriteCalls). c.flushed) e)
+  flushed_last (Err x) e same = (ap (λ (c : WriteCalls). c.counts.flushes) e ∙ ap one_more same, ap (λ (c : WriteCalls). c.flushed) e)
+
+  -- it leaves the writes
+  writes_stay : (flush : Result (Unit {0}) Broken) → TellsFlush count after flush → after.counts.failures ≡ count.counts.failures
+  writes_stay (Ok x) e = ap (λ (c : WriteCalls). c.counts.failures) e
+  writes_stay (Err x) e = ap (λ (c : WriteCalls). c.counts.failures) e
+
+  broken_stays : (flush : Result (Unit {0}) Broken) → TellsFlush count after flush → after.broken ≡ count.broken
+  broken_stays (Ok x) e = ap (λ (c : WriteCalls). c.broken) e
+  broken_stays (Err x) e = ap (λ (c : WriteCalls). c.broken) e
+
+  flushes_of : count.counts ≡ before.counts → count.counts.flushes ≡ before.counts.flushes
+  flushes_of same = ap (λ (c : Counts). c.flushes) same
+
+  failures_of : count.counts ≡ before.counts → count.counts.failures ≡ before.counts.failures
+  failures_of same = ap (λ (c : Counts). c.failures) same
+
   -- a flush that went well
-  pub flush_kept : (x : Status) → after ≡ count → Stands line taken names (told old mid before count) (Ok x) → Stands line taken names (told old new before after) (Ok x)
-  flush_kept x e h = (λ files. prints_kept _ [] x (h.0 files), e ∙ h.1)
+  pub flush_kept : (x : Status) → after ≡ flush_went count → Stands line taken names (told old mid before count) (Ok x) → Closes line taken names end (Ok x)
+  flush_kept x e h = (
+    (
+      λ files. prints_kept _ [] x (h.0 files),
+      writes_stay (Ok tt) e ∙ failures_of h.1,
+      ap (λ (c : WriteCalls). c.counts.failed_flushes) e ∙ ap (λ (c : Counts). c.failed_flushes) h.1,
+    ),
+    flushed_last (Ok tt) e (flushes_of h.1),
+  )
 
   -- a flush that failed or not, where the run was stopped before
-  pub flush_ignored : (s : Stop) (flush : Result (Unit {0}) Broken) → CountsFailure count after flush
-      → Stands line taken names (told old mid before count) (Err s) → Stands line taken names (told old new before after) (Err s)
-  flush_ignored (stop.NotOpened operand) flush e h = λ files. prints_kept _ _ Fault (h files)
-  flush_ignored (stop.Faulty operand fault) flush e h = λ files. prints_kept _ _ Fault (h files)
-  flush_ignored stop.SizesDiffer flush e h = λ files. prints_kept _ _ Fault (h files)
-  flush_ignored stop.WriteFailed (Ok x) e h = (began_kept h.0, subst (λ n. HasFailed before n) (sym e) h.1)
-  flush_ignored stop.WriteFailed (Err x) e h = (began_kept h.0, failed_again before count after h.1 e)
-  flush_ignored stop.OutOfMemory flush e h = began_kept h
+  pub flush_ignored : (s : Stop) (flush : Result (Unit {0}) Broken) → TellsFlush count after flush
+      → Stands line taken names (told old mid before count) (Err s) → Closes line taken names end (Err s)
+  flush_ignored (stop.NotOpened operand) flush e h = ((λ files. prints_kept _ _ Fault (h.0 files), writes_stay flush e ∙ failures_of h.1), flushed_last flush e (flushes_of h.1))
+  flush_ignored (stop.Faulty operand fault) flush e h = ((λ files. prints_kept _ _ Fault (h.0 files), writes_stay flush e ∙ failures_of h.1), flushed_last flush e (flushes_of h.1))
+  flush_ignored stop.SizesDiffer flush e h = ((λ files. prints_kept _ _ Fault (h.0 files), writes_stay flush e ∙ failures_of h.1), flushed_last flush e (flushes_of h.1))
+  flush_ignored stop.WriteFailed flush e h = (
+    (began_kept h.0, inl (writes_stay flush e ∙ ap (λ (c : Counts). c.failures) h.1.0, broken_stays flush e ∙ h.1.1)),
+    flushed_last flush e (ap (λ (c : Counts). c.flushes) h.1.0),
+  )
+  flush_ignored stop.OutOfMemory flush e h = ((began_kept h.0, writes_stay flush e ∙ failures_of h.1), flushed_last flush e (flushes_of h.1))
 
   -- a flush that failed, where all was written
-  pub flush_failed : (x : Status) → after ≡ one_more count → Stands line taken names (told old mid before count) (Ok x) → Stands line taken names (told old new before after) (Err stop.WriteFailed)
-  flush_failed x e h = (inr (λ files. front_whole old new _ (appends_kept old mid new _ (h.0 files).output kept)), failed_now before count after h.1 e)
+  pub flush_failed : (x : Status) → after ≡ flush_broke count → Stands line taken names (told old mid before count) (Ok x) → Closes line taken names end (Err stop.WriteFailed)
+  flush_failed x e h =
+      let whole = λ (files : FilesOf taken). appends_kept old mid new _ (h.0 files).output kept in (
+        (
+          inr (λ files. front_whole old new _ (whole files)),
+          inr (whole, writes_stay (Err _) e ∙ failures_of h.1, ap (λ (c : WriteCalls). c.counts.failed_flushes) e ∙ ap (λ (c : Counts). one_more c.failed_flushes) h.1),
+        ),
+        flushed_last (Err _) e (flushes_of h.1),
+      )
 
 -- ---- the end
 
 module _ (line : Meaning) (taken : Intakes) (names : Names) (out err : Told) (status : Status) where
-  finishes : (message : List ℕ) (s : Status) → ((files : FilesOf taken) → Prints (outcome_of line files.first files.second) out message s) → Says err message → status ≡ s → (IsTrue (is_answer s) → out.failures_after ≡ out.failures) → Finishes line taken out err status
-  finishes message s h say e unbroken = record {
+  finishes : (message : List ℕ) (s : Status) → ((files : FilesOf taken) → Prints (outcome_of line files.first files.second) out message s) → Says err message → status ≡ s
+      → WritesWent out → FlushedLast out → (IsTrue (is_answer s) → FlushWent out) → Finishes line taken out err status
+  finishes message s h say e written flushed unbroken = record {
     outcome = λ first second is_first is_second. let p = h (record { first = first; second = second; is_first = is_first; is_second = is_second }) in record {
       output = p.output;
       message = subst (Says err) (sym p.same_message) say;
       same_status = e ∙ sym p.same_status;
     };
+    written = written;
+    flushed = flushed;
     unbroken = λ done. unbroken (subst (λ t. IsTrue (is_answer t)) e done);
   }
 
@@ -155,11 +205,16 @@ module _ (line : Meaning) (taken : Intakes) (names : Names) (out err : Told) (st
   beginning (inl h) = inl h
   beginning (inr h) = inr (λ first second is_first is_second. h (record { first = first; second = second; is_first = is_first; is_second = is_second }))
 
+  failing : LastWriteBroke out ⊎ (((files : FilesOf taken) → Took out (outcome_of line files.first files.second).output) × WritesWent out × FlushBroke out)
+      → LastWriteBroke out ⊎ (TookWhole line taken out × WritesWent out × FlushBroke out)
+  failing (inl h) = inl h
+  failing (inr h) = inr (λ first second is_first is_second. h.0 (record { first = first; second = second; is_first = is_first; is_second = is_second }), h.1, h.2)
+
   -- a run ends in one of the three ways
-  pub ends : (done : Result Status Stop) → Stands line taken names out done → Reports names err done status → Ends line taken out err status
-  ends (Ok x) h r = inl (finishes [] x h.0 r.1 r.0 (λ _. h.1))
-  ends (Err (stop.NotOpened operand)) h r = inl (finishes _ Fault h r.1 r.0 (λ e. absurd (true≢false (sym e))))
-  ends (Err (stop.Faulty operand fault)) h r = inl (finishes _ Fault h r.1 r.0 (λ e. absurd (true≢false (sym e))))
-  ends (Err stop.SizesDiffer) h r = inl (finishes _ Fault h r.1 r.0 (λ e. absurd (true≢false (sym e))))
-  ends (Err stop.WriteFailed) h r = inr (inr (record { beginning = beginning h.0; failed = h.1; message = r.1; same_status = r.0 }))
-  ends (Err stop.OutOfMemory) h r = inr (inl (record { beginning = beginning h; message = r.1; same_status = r.0 }))
+  pub ends : (done : Result Status Stop) → Closes line taken names out done → Reports names err done status → Ends line taken out err status
+  ends (Ok x) h r = inl (finishes [] x h.0.0 r.1 r.0 h.0.1 h.1 (λ _. h.0.2))
+  ends (Err (stop.NotOpened operand)) h r = inl (finishes _ Fault h.0.0 r.1 r.0 h.0.1 h.1 (λ e. absurd (true≢false (sym e))))
+  ends (Err (stop.Faulty operand fault)) h r = inl (finishes _ Fault h.0.0 r.1 r.0 h.0.1 h.1 (λ e. absurd (true≢false (sym e))))
+  ends (Err stop.SizesDiffer) h r = inl (finishes _ Fault h.0.0 r.1 r.0 h.0.1 h.1 (λ e. absurd (true≢false (sym e))))
+  ends (Err stop.WriteFailed) h r = inr (inr (record { beginning = beginning h.0.0; failed = failing h.0.1; flushed = h.1; message = r.1; same_status = r.0 }))
+  ends (Err stop.OutOfMemory) h r = inr (inl (record { beginning = beginning h.0.0; written = h.0.1; flushed = h.1; message = r.1; same_status = r.0 }))

@@ -10,3 +10,5 @@ pub mod Run
 pub mod Contents
 pub mod Steps
 pub mod ToolExamples
+pub mod CommandExamples
+pub mod MessageExamples

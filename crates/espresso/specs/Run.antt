@@ -1,12 +1,14 @@
 -- How a run ends, by what its devices tell: in one of three ways.
-use Rattle.std.specs.Prelude.{◌≡◌, ℕ, List, [], ◌++◌, Option, Some, None, ⊤, ◌⊎◌, string_bytes, MatchOption, IsTrue}
+use Rattle.std.specs.Prelude.{◌≡◌, ◌≤◌, ℕ, true, List, [], ◌++◌, length, Option, Some, None, ⊤, ◌⊎◌, string_bytes, MatchOption, IsTrue}
 use Rattle.std.specs.Io.KnownBytes.{Appends, Consumes}
 use Rattle.cube.specs.Limits.{format_limits}
+use Rattle.pla.specs.declared.calls.ReadCalls.{ReadCalls}
+use Rattle.pla.specs.declared.calls.WriteCalls.{WriteCalls}
 use Rattle.pla.specs.declared.ending.Ending.{Ending}
-use Rattle.pla.specs.Device.{AppendsFront, HasFailed}
+use Rattle.pla.specs.Device.{AllWritten, AppendsFront, LastUnwritten, NoneFailed, one_more}
 use Rattle.pla.specs.Echoes.{due}
 use Rattle.pla.specs.Fault.{fault_of}
-use Rattle.pla.specs.Reads.{MayEnd, Meets}
+use Rattle.pla.specs.Reads.{GoesOn, MayEnd, Meets, piece_bytes}
 use Rattle.espresso.specs.declared.source.Source.{Source}
 use Rattle.espresso.specs.declared.source.Source.TheVariants.{Open, Closed}
 use Rattle.espresso.specs.declared.status.Status.{Status}
@@ -61,16 +63,20 @@ name_of (Open name input) = string_bytes name
 name_of (Closed name) = string_bytes name
 
 -- what an input tells of the bytes that it delivered and of the ending that was met
-pub record Delivers (left left_after : Option (List ℕ)) (failures failures_after : ℕ) (bytes : List ℕ) (met : Option Ending) : Type 0 where
+pub record Delivers (left left_after : Option (List ℕ)) (calls calls_after : ReadCalls) (bytes : List ℕ) (met : Option Ending) : Type 0 where
   pub consumed : Consumes left left_after bytes
-  pub ended : MatchOption met (failures_after ≡ failures) (Meets left_after failures failures_after)
+  pub ended : MatchOption met (NoneFailed calls calls_after) (Meets left_after calls calls_after)
+  -- no more than a piece was asked for beyond a line that ends the description or a fault
+  pub front : List ℕ
+  pub piece : List ℕ
+  pub bounded : (bytes ≡ front ++ piece) × (length piece ≤ piece_bytes) × GoesOn front
 
 -- what was taken of a source, which keeps its case and its name
-abbrev pub Takes : {R : Type 0} → (R → Option (List ℕ)) → (R → ℕ) → Source R → Source R → Intake → Type 0
-Takes left failures (Closed name) (Closed name_after) Nothing = name_after ≡ name
-Takes left failures (Open name input) (Open name_after input_after) (Bytes bytes met) = (name_after ≡ name)
-    × Delivers (left input) (left input_after) (failures input) (failures input_after) bytes met
-Takes left failures _ _ _ = ⊥
+abbrev pub Takes : {R : Type 0} → (R → Option (List ℕ)) → (R → ReadCalls) → Source R → Source R → Intake → Type 0
+Takes left calls (Closed name) (Closed name_after) Nothing = name_after ≡ name
+Takes left calls (Open name input) (Open name_after input_after) (Bytes bytes met) = (name_after ≡ name)
+    × Delivers (left input) (left input_after) (calls input) (calls input_after) bytes met
+Takes left calls _ _ _ = ⊥
 
 -- a source that was read whole and has no fault
 abbrev pub IsFaultless : Intake → Type 0
@@ -78,11 +84,11 @@ IsFaultless Nothing = ⊥
 IsFaultless (Bytes bytes met) = (ending : Ending) → MayEnd met ending → fault_of format_limits ending bytes ≡ None
 
 -- what was taken of the second source, which is asked for behind a first one without a fault alone
-abbrev pub TakesSecond : {R : Type 0} → (R → Option (List ℕ)) → (R → ℕ) → Intake → Option (Source R) → Option (Source R) → SecondIntake → Type 0
-TakesSecond left failures first None None Absent = ⊤
-TakesSecond left failures first (Some source) after Untouched = after ≡ Some source
-TakesSecond left failures first (Some source) (Some after) (Asked intake) = IsFaultless first × Takes left failures source after intake
-TakesSecond left failures first _ _ _ = ⊥
+abbrev pub TakesSecond : {R : Type 0} → (R → Option (List ℕ)) → (R → ReadCalls) → Intake → Option (Source R) → Option (Source R) → SecondIntake → Type 0
+TakesSecond left calls first None None Absent = ⊤
+TakesSecond left calls first (Some source) after Untouched = after ≡ Some source
+TakesSecond left calls first (Some source) (Some after) (Asked intake) = IsFaultless first × Takes left calls source after intake
+TakesSecond left calls first _ _ _ = ⊥
 
 -- ---- what the outputs took
 
@@ -90,16 +96,16 @@ TakesSecond left failures first _ _ _ = ⊥
 pub record Told : Type 0 where
   pub taken : Option (List ℕ)
   pub taken_after : Option (List ℕ)
-  pub failures : ℕ
-  pub failures_after : ℕ
+  pub calls : WriteCalls
+  pub calls_after : WriteCalls
 
 -- what an output told before, and what it tells after
-abbrev pub told : Option (List ℕ) → Option (List ℕ) → ℕ → ℕ → Told
-told taken taken_after failures failures_after = record {
+abbrev pub told : Option (List ℕ) → Option (List ℕ) → WriteCalls → WriteCalls → Told
+told taken taken_after calls calls_after = record {
   taken = taken;
   taken_after = taken_after;
-  failures = failures;
-  failures_after = failures_after;
+  calls = calls;
+  calls_after = calls_after;
 }
 
 -- the output took this
@@ -110,13 +116,41 @@ Took out text = Appends out.taken out.taken_after text
 abbrev pub TookFront : Told → List ℕ → Type 0
 TookFront out text = AppendsFront out.taken out.taken_after text
 
--- a write or a flush failed
-abbrev pub Failed : Told → Type 0
-Failed out = HasFailed out.failures out.failures_after
+-- no write failed, and no flush was asked for
+abbrev pub Unbroken : Told → Type 0
+Unbroken out = AllWritten out.calls out.calls_after
 
--- standard error took the message, or a beginning of it where it failed
+-- one write failed, and none came behind it; no flush was asked for
+abbrev pub Failed : Told → Type 0
+Failed out = LastUnwritten out.calls out.calls_after
+
+-- standard error took the message, or a beginning of it where a write failed, and nothing behind it
 abbrev pub Says : Told → List ℕ → Type 0
-Says err message = Took err message ⊎ (TookFront err message × Failed err)
+Says err message = (Took err message × Unbroken err) ⊎ (TookFront err message × Failed err)
+
+-- ---- the calls of a whole run
+
+-- one flush was asked for, as the last call
+abbrev pub FlushedLast : Told → Type 0
+FlushedLast out = (out.calls_after.counts.flushes ≡ one_more out.calls.counts.flushes)
+    × (out.calls_after.flushed ≡ true)
+
+-- it went well
+abbrev pub FlushWent : Told → Type 0
+FlushWent out = out.calls_after.counts.failed_flushes ≡ out.calls.counts.failed_flushes
+
+-- it failed
+abbrev pub FlushBroke : Told → Type 0
+FlushBroke out = out.calls_after.counts.failed_flushes ≡ one_more out.calls.counts.failed_flushes
+
+-- no write failed
+abbrev pub WritesWent : Told → Type 0
+WritesWent out = out.calls_after.counts.failures ≡ out.calls.counts.failures
+
+-- one write failed, and none came behind it
+abbrev pub LastWriteBroke : Told → Type 0
+LastWriteBroke out = (out.calls_after.counts.failures ≡ one_more out.calls.counts.failures)
+    × (out.calls_after.broken ≡ true)
 
 -- the echoes that are due of what was taken, whose ending may be open
 abbrev pub echoes_due : Meaning → Intake → List ℕ
@@ -127,6 +161,10 @@ echoes_due line (Bytes bytes met) = due format_limits (echo_by line.eat) met byt
 abbrev pub second_due : Meaning → SecondIntake → List ℕ
 second_due line (Asked intake) = echoes_due line intake
 second_due line _ = []
+
+-- the output took the tool's output
+abbrev pub TookWhole : Meaning → Intakes → Told → Type 0
+TookWhole line taken out = OnFiles taken (λ first second. Took out (outcome_of line first second).output)
 
 -- the output took a beginning of the tool's output, or of the echoes of files that were still being read
 abbrev pub TookBeginning : Meaning → Intakes → Told → Type 0
@@ -141,21 +179,26 @@ pub record HasOutcome (outcome : Outcome) (out err : Told) (status : Status) : T
   pub message : Says err outcome.message
   pub same_status : status ≡ outcome.status
 
--- output, message and status are the tool's, and behind an answer no write failed
+-- output, message and status are the tool's; no write failed, and behind an answer no flush
 pub record Finishes (line : Meaning) (taken : Intakes) (out err : Told) (status : Status) : Type 0 where
   pub outcome : OnFiles taken (λ first second. HasOutcome (outcome_of line first second) out err status)
-  pub unbroken : IsTrue (is_answer status) → out.failures_after ≡ out.failures
+  pub written : WritesWent out
+  pub flushed : FlushedLast out
+  pub unbroken : IsTrue (is_answer status) → FlushWent out
 
 -- memory was refused on the way
 pub record RanOut (line : Meaning) (taken : Intakes) (out err : Told) (status : Status) : Type 0 where
   pub beginning : TookBeginning line taken out
+  pub written : WritesWent out
+  pub flushed : FlushedLast out
   pub message : Says err memory_message
   pub same_status : status ≡ Memory
 
--- the output failed on the way, or at the last flush
+-- a write failed on the way, or all was written and the flush failed
 pub record CouldNotWrite (line : Meaning) (taken : Intakes) (out err : Told) (status : Status) : Type 0 where
   pub beginning : TookBeginning line taken out
-  pub failed : Failed out
+  pub failed : LastWriteBroke out ⊎ (TookWhole line taken out × WritesWent out × FlushBroke out)
+  pub flushed : FlushedLast out
   pub message : Says err write_failed_message
   pub same_status : status ≡ Fault
 

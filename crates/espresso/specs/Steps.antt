@@ -1,5 +1,6 @@
 -- The steps of a run: what stopped it, and what the devices tell by then.
 use Rattle.std.specs.Prelude.{◌≡◌, ◌⊎◌, ℕ, List, [], ◌++◌, Option, Some, None, Result, Ok, Err}
+use Rattle.pla.specs.declared.calls.WriteCalls.{WriteCalls}
 use Rattle.pla.specs.declared.fault.ReadFault.{ReadFault}
 use Rattle.pla.specs.declared.fault.ReadKind.{ReadKind}
 use Rattle.pla.specs.declared.fault.ReadKind.TheVariants.{WriteFailed, OutOfMemory}
@@ -13,7 +14,7 @@ use Rattle.espresso.specs.declared.status.Status.{Status}
 use Rattle.espresso.specs.declared.status.Status.TheVariants.{Fault, Memory}
 use Rattle.espresso.specs.Answer.{Answer}
 use Rattle.espresso.specs.Messages.{closed_message, fault_message, memory_message, sizes_message, write_failed_message}
-use Rattle.espresso.specs.Run.{Failed, Intake, Intakes, IsFaultless, IsFileOf, IsSecondOf, Says, Told, Took, TookFront, echoes_due, name_of, second_due, told}
+use Rattle.espresso.specs.Run.{Failed, FlushBroke, FlushedLast, FlushWent, Intake, Intakes, IsFaultless, IsFileOf, IsSecondOf, LastWriteBroke, Says, Told, Took, TookFront, Unbroken, WritesWent, echoes_due, name_of, second_due, told}
 use Rattle.espresso.specs.Tool.{File, Outcome, outcome_of, passed_on, reading_of, reading_then, with_both}
 use Rattle.espresso.specs.Words.{Meaning, Text}
 
@@ -64,14 +65,14 @@ pub record PassesOn (line : Meaning) (name : Text) (taken : Intake) (out : Told)
 -- what came of it
 abbrev pub IsReadAs : Meaning → Operand → Text → Intake → Told → Result Description Stop → Type 0
 IsReadAs line operand name taken out (Ok pla) =
-    PassesOn line name taken out (Ok pla) × (out.failures_after ≡ out.failures) × IsFaultless taken
+    PassesOn line name taken out (Ok pla) × Unbroken out × IsFaultless taken
 IsReadAs line operand name taken out (Err (stop.NotOpened at)) =
-    PassesOn line name taken out (Err (closed_message name)) × (at ≡ operand)
+    PassesOn line name taken out (Err (closed_message name)) × (at ≡ operand) × Unbroken out
 IsReadAs line operand name taken out (Err (stop.Faulty at fault)) =
-    PassesOn line name taken out (Err (fault_message name fault)) × (at ≡ operand)
+    PassesOn line name taken out (Err (fault_message name fault)) × (at ≡ operand) × Unbroken out
 IsReadAs line operand name taken out (Err stop.SizesDiffer) = ⊥
 IsReadAs line operand name taken out (Err stop.WriteFailed) = TookFront out (echoes_due line taken) × Failed out
-IsReadAs line operand name taken out (Err stop.OutOfMemory) = TookFront out (echoes_due line taken)
+IsReadAs line operand name taken out (Err stop.OutOfMemory) = TookFront out (echoes_due line taken) × Unbroken out
 
 -- ---- where a run stands
 
@@ -88,11 +89,11 @@ Began X outcome echoes out = TookFront out echoes ⊎ ((x : X) → TookFront out
 -- where a run stands, stopped or not, whose outcome is one of these
 abbrev pub StandsAt : (X : Type 0) → (X → Outcome) → List ℕ → Names → Told → Result Status Stop → Type 0
 StandsAt X outcome echoes names out (Ok status) =
-    ((x : X) → Prints (outcome x) out [] status) × (out.failures_after ≡ out.failures)
+    ((x : X) → Prints (outcome x) out [] status) × Unbroken out
 StandsAt X outcome echoes names out (Err stop.WriteFailed) = Began X outcome echoes out × Failed out
-StandsAt X outcome echoes names out (Err stop.OutOfMemory) = Began X outcome echoes out
+StandsAt X outcome echoes names out (Err stop.OutOfMemory) = Began X outcome echoes out × Unbroken out
 StandsAt X outcome echoes names out (Err stopped) =
-    (x : X) → Prints (outcome x) out (message_of names stopped) Fault
+    ((x : X) → Prints (outcome x) out (message_of names stopped) Fault) × Unbroken out
 
 -- two files of what was taken
 pub record FilesOf (taken : Intakes) : Type 0 where
@@ -120,25 +121,40 @@ StandsBehind line pla taken name out result = (first : Text)
 -- what came of printing an answer
 abbrev pub PutsOut : Answer → Told → Result Status Stop → Type 0
 PutsOut answer out (Ok status) =
-    Took out answer.text × (out.failures_after ≡ out.failures) × (answer.status ≡ status)
+    Took out answer.text × Unbroken out × (answer.status ≡ status)
 PutsOut answer out (Err stop.WriteFailed) = TookFront out answer.text × Failed out
-PutsOut answer out (Err stop.OutOfMemory) = TookFront out answer.text
+PutsOut answer out (Err stop.OutOfMemory) = TookFront out answer.text × Unbroken out
 PutsOut answer out (Err _) = ⊥
 
 -- what came of what was left of a run, whose outcome is this
 abbrev pub Answers : Outcome → Told → Result Status Stop → Type 0
-Answers outcome out (Ok status) = Prints outcome out [] status × (out.failures_after ≡ out.failures)
-Answers outcome out (Err stop.SizesDiffer) = Prints outcome out sizes_message Fault
+Answers outcome out (Ok status) = Prints outcome out [] status × Unbroken out
+Answers outcome out (Err stop.SizesDiffer) = Prints outcome out sizes_message Fault × Unbroken out
 Answers outcome out (Err stop.WriteFailed) = TookFront out outcome.output × Failed out
-Answers outcome out (Err stop.OutOfMemory) = TookFront out outcome.output
+Answers outcome out (Err stop.OutOfMemory) = TookFront out outcome.output × Unbroken out
 Answers outcome out (Err _) = ⊥
 
--- where a run stands stays so, but for a last failure of the output
-abbrev pub Passes : Option (List ℕ) → Option (List ℕ) → ℕ → ℕ → Result Status Stop → Result Status Stop → Type 0
-Passes taken taken_after failures failures_after done result =
-    (line : Meaning) (intakes : Intakes) (names : Names) (old : Option (List ℕ)) (before : ℕ)
-    → Stands line intakes names (told old taken before failures) done
-    → Stands line intakes names (told old taken_after before failures_after) result
+-- where a run stands whose output was flushed, stopped or not, whose outcome is one of these
+abbrev pub ClosesAt : (X : Type 0) → (X → Outcome) → List ℕ → Names → Told → Result Status Stop → Type 0
+ClosesAt X outcome echoes names out (Ok status) =
+    ((x : X) → Prints (outcome x) out [] status) × WritesWent out × FlushWent out
+ClosesAt X outcome echoes names out (Err stop.WriteFailed) = Began X outcome echoes out
+    × (LastWriteBroke out ⊎ (((x : X) → Took out (outcome x).output) × WritesWent out × FlushBroke out))
+ClosesAt X outcome echoes names out (Err stop.OutOfMemory) = Began X outcome echoes out × WritesWent out
+ClosesAt X outcome echoes names out (Err stopped) =
+    ((x : X) → Prints (outcome x) out (message_of names stopped) Fault) × WritesWent out
+
+-- where a run with this line stands, behind its flush
+abbrev pub Closes : Meaning → Intakes → Names → Told → Result Status Stop → Type 0
+Closes line taken names out result = ClosesAt (FilesOf taken) (λ files. outcome_of line files.first files.second)
+    (echoes_due line taken.first ++ second_due line taken.second) names out result × FlushedLast out
+
+-- a run is flushed where it stands, and stops where that fails and nothing stopped it before
+abbrev pub Passes : Option (List ℕ) → Option (List ℕ) → WriteCalls → WriteCalls → Result Status Stop → Result Status Stop → Type 0
+Passes taken taken_after calls calls_after done result =
+    (line : Meaning) (intakes : Intakes) (names : Names) (old : Option (List ℕ)) (before : WriteCalls)
+    → Stands line intakes names (told old taken before calls) done
+    → Closes line intakes names (told old taken_after before calls_after) result
 
 -- the status and the message at the end
 abbrev pub Reports : Names → Told → Result Status Stop → Status → Type 0

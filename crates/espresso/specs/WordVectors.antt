@@ -1,6 +1,6 @@
 -- Lists of words whose meaning is computed: what is taken, and what is refused.
 use Rattle.std.specs.Prelude.{◌≡◌, refl, [], ◌∷◌, Some, None, codes, true, false}
-use Rattle.espresso.specs.declared.command.Command.TheVariants.{Echo, Check, Contain, Primes, Essen, Exact, Tautology}
+use Rattle.espresso.specs.declared.command.Command.TheVariants.{Echo, Check, Contain, Primes, Essen, Exact, Tautology, Verify, Intersect, Sharp}
 use Rattle.minimum.specs.declared.choice.Choice.TheVariants.{First, Literals}
 use Rattle.pla.specs.declared.out_type.OutType.TheVariants.{F, Fd, Fr, Fdr}
 use Rattle.espresso.specs.Words.{line_of, meaning_by}
@@ -196,3 +196,33 @@ refuses_a_part_of_a_long_option = refl
 
 takes_a_long_option_as_a_file_after_two_hyphens : line_of (codes "-Decho" ∷ codes "--" ∷ codes "--literals" ∷ []) ≡ Some (meaning_by Echo F false First (codes "--literals" ∷ []))
 takes_a_long_option_as_a_file_after_two_hyphens = refl
+
+takes_verify : line_of (codes "-Dverify" ∷ codes "a" ∷ codes "b" ∷ []) ≡ Some (meaning_by Verify F false First (codes "a" ∷ codes "b" ∷ []))
+takes_verify = refl
+
+takes_intersect : line_of (codes "-Dintersect" ∷ codes "-" ∷ codes "b" ∷ []) ≡ Some (meaning_by Intersect F false First (codes "-" ∷ codes "b" ∷ []))
+takes_intersect = refl
+
+takes_sharp : line_of (codes "-Dsharp" ∷ codes "a" ∷ codes "-" ∷ []) ≡ Some (meaning_by Sharp F false First (codes "a" ∷ codes "-" ∷ []))
+takes_sharp = refl
+
+takes_a_type_with_verify : line_of (codes "-Dverify" ∷ codes "-ofd" ∷ codes "a" ∷ codes "b" ∷ []) ≡ Some (meaning_by Verify Fd false First (codes "a" ∷ codes "b" ∷ []))
+takes_a_type_with_verify = refl
+
+refuses_a_type_with_intersect : line_of (codes "-Dintersect" ∷ codes "-ofd" ∷ codes "a" ∷ codes "b" ∷ []) ≡ None
+refuses_a_type_with_intersect = refl
+
+refuses_a_type_with_sharp : line_of (codes "-Dsharp" ∷ codes "-ofr" ∷ codes "a" ∷ codes "b" ∷ []) ≡ None
+refuses_a_type_with_sharp = refl
+
+refuses_one_file_for_two : line_of (codes "-Dverify" ∷ codes "a" ∷ []) ≡ None
+refuses_one_file_for_two = refl
+
+refuses_three_files : line_of (codes "-Dverify" ∷ codes "a" ∷ codes "b" ∷ codes "c" ∷ []) ≡ None
+refuses_three_files = refl
+
+refuses_standard_input_twice_for_two : line_of (codes "-Dsharp" ∷ codes "-" ∷ codes "-" ∷ []) ≡ None
+refuses_standard_input_twice_for_two = refl
+
+refuses_a_choice_with_verify : line_of (codes "-Dverify" ∷ codes "--literals" ∷ codes "a" ∷ codes "b" ∷ []) ≡ None
+refuses_a_choice_with_verify = refl

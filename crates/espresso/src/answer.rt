@@ -30,7 +30,7 @@ pub(crate) fn put_answer<W: Output>(
 ) -> Result<Status, Stop>
     requires { other.now.size ≡ pla.now.size }
     ensures { PutsOut (answer_of line.now.command line.now.out line.now.choice pla.now other.now)
-        (told (W.taken out.old) (W.taken out.new) (W.failures out.old) (W.failures out.new)) result }
+        (told (W.taken out.old) (W.taken out.new) (W.calls out.old) (W.calls out.new)) result }
 {
     match line.command() {
         Command::Echo => put_lists(alloc, pla, line.out(), pla.on(), out),
@@ -56,7 +56,7 @@ pub(crate) fn put_lists<W: Output>(
 ) -> Result<Status, Stop>
     requires { on.now.size ≡ pla.now.size }
     ensures { PutsOut (printed_with pla.now out_type on.now.cubes)
-        (told (W.taken out.old) (W.taken out.new) (W.failures out.old) (W.failures out.new)) result }
+        (told (W.taken out.old) (W.taken out.new) (W.calls out.old) (W.calls out.new)) result }
 {
     match open_lists(alloc, pla, out_type) {
         Ok(open) => {
@@ -100,7 +100,7 @@ fn put_covers<W: Output>(
     requires dc_size { dc.now.size ≡ pla.now.size }
     requires off_size { off.now.size ≡ pla.now.size }
     ensures { PutsOut (printed (text_of pla.now out_type (lists_of on.now dc.now off.now)))
-        (told (W.taken out.old) (W.taken out.new) (W.failures out.old) (W.failures out.new)) result }
+        (told (W.taken out.old) (W.taken out.new) (W.calls out.old) (W.calls out.new)) result }
 {
     match write_covers(pla, out_type, on, dc, off, out) {
         Ok(()) => Ok(Status::Done),
@@ -146,7 +146,7 @@ fn put_contained<W: Output>(
     out: &mut W,
 ) -> Result<Status, Stop>
     ensures { PutsOut (printed_with pla.now out_type (contained pla.now.size pla.now.on))
-        (told (W.taken out.old) (W.taken out.new) (W.failures out.old) (W.failures out.new)) result }
+        (told (W.taken out.old) (W.taken out.new) (W.calls out.old) (W.calls out.new)) result }
 {
     match contain(pla.on()) {
         Ok(on) => put_lists(alloc, pla, out_type, &on, out),
@@ -162,7 +162,7 @@ fn put_primes<W: Output>(
     out: &mut W,
 ) -> Result<Status, Stop>
     ensures { PutsOut (answer_of Command.Primes out_type Choice.First pla.now pla.now)
-        (told (W.taken out.old) (W.taken out.new) (W.failures out.old) (W.failures out.new)) result }
+        (told (W.taken out.old) (W.taken out.new) (W.calls out.old) (W.calls out.new)) result }
 {
     match with_primes(alloc, pla, is_off_printed(out_type)) {
         Ok(sets) => put_covers(pla, out_type, sets.on(), sets.dc(), sets.off(), out),
@@ -187,7 +187,7 @@ fn put_essential<W: Output>(
     out: &mut W,
 ) -> Result<Status, Stop>
     ensures { PutsOut (answer_of Command.Essen out_type Choice.First pla.now pla.now)
-        (told (W.taken out.old) (W.taken out.new) (W.failures out.old) (W.failures out.new)) result }
+        (told (W.taken out.old) (W.taken out.new) (W.calls out.old) (W.calls out.new)) result }
 {
     match with_essential(alloc, pla, is_off_printed(out_type)) {
         Ok(sets) => put_covers(pla, out_type, sets.on(), sets.dc(), sets.off(), out),
@@ -215,7 +215,7 @@ fn put_least<W: Output>(
     out: &mut W,
 ) -> Result<Status, Stop>
     ensures { PutsOut (answer_of Command.Exact out_type choice pla.now pla.now)
-        (told (W.taken out.old) (W.taken out.new) (W.failures out.old) (W.failures out.new)) result }
+        (told (W.taken out.old) (W.taken out.new) (W.calls out.old) (W.calls out.new)) result }
 {
     match with_least(alloc, pla, choice, is_off_printed(out_type)) {
         Ok(sets) => put_covers(pla, out_type, sets.on(), sets.dc(), sets.off(), out),
@@ -235,7 +235,7 @@ fn with_least(alloc: Global, pla: &Pla, choice: Choice, off: bool) -> Result<Set
 // Whether the three sets part the space.
 fn put_check<W: Output>(pla: &Pla, out: &mut W) -> Result<Status, Stop>
     ensures { PutsOut (answer_of Command.Check OutType.F Choice.First pla.now pla.now)
-        (told (W.taken out.old) (W.taken out.new) (W.failures out.old) (W.failures out.new)) result }
+        (told (W.taken out.old) (W.taken out.new) (W.calls out.old) (W.calls out.new)) result }
 {
     match flaws_in(pla) {
         Ok(flaws) => put_flaws(flaws, out),
@@ -246,7 +246,7 @@ fn put_check<W: Output>(pla: &Pla, out: &mut W) -> Result<Status, Stop>
 // Whether the ON-set is everything.
 fn put_tautology<W: Output>(pla: &Pla, out: &mut W) -> Result<Status, Stop>
     ensures { PutsOut (answer_of Command.Tautology OutType.F Choice.First pla.now pla.now)
-        (told (W.taken out.old) (W.taken out.new) (W.failures out.old) (W.failures out.new)) result }
+        (told (W.taken out.old) (W.taken out.new) (W.calls out.old) (W.calls out.new)) result }
 {
     match pla.on().tautology() {
         Ok(holds) => {
@@ -266,7 +266,7 @@ pub(crate) fn put_judgement<W: Output>(
     out: &mut W,
 ) -> Result<Status, Stop>
     ensures { PutsOut (judged holds yes.now no.now)
-        (told (W.taken out.old) (W.taken out.new) (W.failures out.old) (W.failures out.new)) result }
+        (told (W.taken out.old) (W.taken out.new) (W.calls out.old) (W.calls out.new)) result }
 {
     if holds {
         match write_bytes(out, yes) {

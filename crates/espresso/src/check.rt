@@ -99,7 +99,7 @@ impl Flaws {
 // A line for each flaw, or the one that says that there is none.
 pub(crate) fn put_flaws<W: Output>(flaws: Flaws, out: &mut W) -> Result<Status, Stop>
     ensures { PutsOut (checked flaws)
-        (told (W.taken out.old) (W.taken out.new) (W.failures out.old) (W.failures out.new)) result }
+        (told (W.taken out.old) (W.taken out.new) (W.calls out.old) (W.calls out.new)) result }
 {
     if flaws.some() {
         match write_flaws(flaws, out) {
@@ -116,7 +116,7 @@ pub(crate) fn put_flaws<W: Output>(flaws: Flaws, out: &mut W) -> Result<Status, 
 
 fn write_flaws<W: Output>(flaws: Flaws, out: &mut W) -> Result<(), WriteFault>
     ensures bytes { Writes (W.taken out.old) (W.taken out.new) result (flaws_text flaws) }
-    ensures count { TellsFailure (W.failures out.old) (W.failures out.new) result }
+    ensures count { TellsFailure (W.calls out.old) (W.calls out.new) result }
 {
     let line = line_if(flaws.on_dc, b"ON-set and DC-set intersect\n");
     let done = write_bytes(out, line);

@@ -22,7 +22,7 @@ pub(crate) fn put_comparison<W: Output>(
 ) -> Result<Status, Stop>
     requires { other.now.size ≡ pla.now.size }
     ensures { PutsOut (answer_of Command.Verify OutType.F Choice.First pla.now other.now)
-        (told (W.taken out.old) (W.taken out.new) (W.failures out.old) (W.failures out.new)) result }
+        (told (W.taken out.old) (W.taken out.new) (W.calls out.old) (W.calls out.new)) result }
 {
     match agree(alloc, pla, other) {
         Ok(holds) => {
@@ -55,7 +55,7 @@ pub(crate) fn put_intersection<W: Output>(
 ) -> Result<Status, Stop>
     requires { other.now.size ≡ pla.now.size }
     ensures { PutsOut (answer_of Command.Intersect OutType.F Choice.First pla.now other.now)
-        (told (W.taken out.old) (W.taken out.new) (W.failures out.old) (W.failures out.new)) result }
+        (told (W.taken out.old) (W.taken out.new) (W.calls out.old) (W.calls out.new)) result }
 {
     match intersect(pla.on(), other.on()) {
         Ok(on) => put_lists(alloc, pla, OutType::F, &on, out),
@@ -72,7 +72,7 @@ pub(crate) fn put_difference<W: Output>(
 ) -> Result<Status, Stop>
     requires { other.now.size ≡ pla.now.size }
     ensures { PutsOut (answer_of Command.Sharp OutType.F Choice.First pla.now other.now)
-        (told (W.taken out.old) (W.taken out.new) (W.failures out.old) (W.failures out.new)) result }
+        (told (W.taken out.old) (W.taken out.new) (W.calls out.old) (W.calls out.new)) result }
 {
     match difference(pla.on(), other.on()) {
         Ok(on) => put_lists(alloc, pla, OutType::F, &on, out),

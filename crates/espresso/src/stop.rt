@@ -52,7 +52,7 @@ impl Stop {
     // Says on standard error what stopped the run, with the name of the source that did. A failure
     // there is ignored.
     pub(crate) fn say<E: Output>(self, first: &[u8], second: &[u8], err: &mut E)
-        ensures { Says (told (E.taken err.old) (E.taken err.new) (E.failures err.old) (E.failures err.new))
+        ensures { Says (told (E.taken err.old) (E.taken err.new) (E.calls err.old) (E.calls err.new))
             (message_of (record { first = first.now; second = second.now }) self) }
     {
         let _ = match self {
@@ -79,7 +79,7 @@ impl Operand {
 
 fn say_closed<E: Output>(name: &[u8], err: &mut E) -> Result<(), WriteFault>
     ensures bytes { Writes (E.taken err.old) (E.taken err.new) result (closed_message name.now) }
-    ensures count { TellsFailure (E.failures err.old) (E.failures err.new) result }
+    ensures count { TellsFailure (E.calls err.old) (E.calls err.new) result }
 {
     let done = write_bytes(err, b"espresso: cannot open ");
     let done = then(err, done, name);
@@ -88,7 +88,7 @@ fn say_closed<E: Output>(name: &[u8], err: &mut E) -> Result<(), WriteFault>
 
 fn say_fault<E: Output>(name: &[u8], fault: ReadFault, err: &mut E) -> Result<(), WriteFault>
     ensures bytes { Writes (E.taken err.old) (E.taken err.new) result (fault_message name.now fault) }
-    ensures count { TellsFailure (E.failures err.old) (E.failures err.new) result }
+    ensures count { TellsFailure (E.calls err.old) (E.calls err.new) result }
 {
     let done = write_bytes(err, b"espresso: ");
     let done = then(err, done, name);
@@ -106,7 +106,7 @@ fn then_number<E: Output>(
     number: u64,
 ) -> Result<(), WriteFault>
     ensures bytes { Continues (E.taken err.old) done (E.taken err.new) result (decimal number) }
-    ensures count { CountsOn (E.failures err.old) done (E.failures err.new) result }
+    ensures count { CountsOn (E.calls err.old) done (E.calls err.new) result }
 {
     let mut digits = Buffer::new();
     then(err, done, digits.format(number).as_bytes())
@@ -119,7 +119,7 @@ fn then_kind<E: Output>(
     kind: ReadKind,
 ) -> Result<(), WriteFault>
     ensures bytes { Continues (E.taken err.old) done (E.taken err.new) result (kind_text kind) }
-    ensures count { CountsOn (E.failures err.old) done (E.failures err.new) result }
+    ensures count { CountsOn (E.calls err.old) done (E.calls err.new) result }
 {
     then(err, done, text_of_kind(kind))
 }

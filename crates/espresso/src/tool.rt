@@ -18,7 +18,7 @@ use std::alloc::Global;
 /// want of memory. Takes no memory; a failure of standard error is ignored.
 pub fn refuse<E: Output>(fault: &LineFault, err: &mut E) -> Status
     ensures status { result ≡ (refusal_of fault.now).status }
-    ensures message { Says (told (E.taken err.old) (E.taken err.new) (E.failures err.old) (E.failures err.new))
+    ensures message { Says (told (E.taken err.old) (E.taken err.new) (E.calls err.old) (E.calls err.new))
         (refusal_of fault.now).message }
 {
     match fault {
@@ -40,7 +40,8 @@ pub fn refuse<E: Output>(fault: &LineFault, err: &mut E) -> Status
 /// comments and unknown keyword lines go out as their lines end; then the sizes of two files are compared,
 /// the command's text is printed, and the output is flushed, once and last. The first that stops the run
 /// ends it: it is said in one line on `err`, whose own failures are ignored, and what comes behind it is
-/// left alone. Behind a write that failed nothing more is written.
+/// left alone. Behind a write that failed nothing more is written, and behind a read that failed nothing more
+/// is read. No input is asked for more than a piece beyond the line that ends its description or has a fault.
 ///
 /// A second source is there where the command takes two files. The sources have the names of the line's
 /// files, `(stdin)` for none or `-`, and keep them.
@@ -58,11 +59,11 @@ pub fn run<R: Input, W: Output, E: Output>(
     requires pair { is_some second.old ≡ takes_two line.now.command }
     requires first_name { name_of first.old ≡ first_name line.now.files }
     requires second_name { IfSome second.old (λ s. name_of s ≡ second_name line.now.files) }
-    ensures ends { (taken : Intakes) × Takes R.left R.failures first.old first.new taken.first
-        × TakesSecond R.left R.failures taken.first second.old second.new taken.second
+    ensures ends { (taken : Intakes) × Takes R.left R.calls first.old first.new taken.first
+        × TakesSecond R.left R.calls taken.first second.old second.new taken.second
         × Ends line.now taken
-        (told (W.taken out.old) (W.taken out.new) (W.failures out.old) (W.failures out.new))
-        (told (E.taken err.old) (E.taken err.new) (E.failures err.old) (E.failures err.new)) result }
+        (told (W.taken out.old) (W.taken out.new) (W.calls out.old) (W.calls out.new))
+        (told (E.taken err.old) (E.taken err.new) (E.calls err.old) (E.calls err.new)) result }
     ensures silent { IsTrue (is_answer result) → err.new ≡ err.old }
 {
     let done = carried_out(alloc, line, first, second, out);
@@ -90,10 +91,10 @@ fn carried_out<R: Input, W: Output>(
 ) -> Result<Status, Stop>
     requires first_name { name_of first.old ≡ first_name line.now.files }
     requires second_name { IfSome second.old (λ s. name_of s ≡ second_name line.now.files) }
-    ensures { (taken : Intakes) × Takes R.left R.failures first.old first.new taken.first
-        × TakesSecond R.left R.failures taken.first second.old second.new taken.second
+    ensures { (taken : Intakes) × Takes R.left R.calls first.old first.new taken.first
+        × TakesSecond R.left R.calls taken.first second.old second.new taken.second
         × Stands line.now taken (record { first = name_of first.old; second = second_text second.old })
-        (told (W.taken out.old) (W.taken out.new) (W.failures out.old) (W.failures out.new)) result }
+        (told (W.taken out.old) (W.taken out.new) (W.calls out.old) (W.calls out.new)) result }
 {
     let pla = read_source(alloc, line, Operand::First, first, out)?;
     match second {
@@ -110,9 +111,9 @@ fn go_on<R: Input, W: Output>(
     source: &mut Source<R>,
     out: &mut W,
 ) -> Result<Status, Stop>
-    ensures { (taken : Intake) × Takes R.left R.failures source.old source.new taken
+    ensures { (taken : Intake) × Takes R.left R.calls source.old source.new taken
         × StandsBehind line.now pla.now taken (name_of source.old)
-        (told (W.taken out.old) (W.taken out.new) (W.failures out.old) (W.failures out.new)) result }
+        (told (W.taken out.old) (W.taken out.new) (W.calls out.old) (W.calls out.new)) result }
 {
     let other = read_source(alloc, line, Operand::Second, source, out)?;
     put_together(alloc, line, pla, &other, out)
@@ -127,7 +128,7 @@ fn put_together<W: Output>(
     out: &mut W,
 ) -> Result<Status, Stop>
     ensures { Answers (with_both line.now pla.now other.now)
-        (told (W.taken out.old) (W.taken out.new) (W.failures out.old) (W.failures out.new)) result }
+        (told (W.taken out.old) (W.taken out.new) (W.calls out.old) (W.calls out.new)) result }
 {
     let size = pla.shape();
     let other_size = other.shape();
@@ -146,9 +147,9 @@ fn read_source<R: Input, W: Output>(
     source: &mut Source<R>,
     out: &mut W,
 ) -> Result<Pla, Stop>
-    ensures { (taken : Intake) × Takes R.left R.failures source.old source.new taken
+    ensures { (taken : Intake) × Takes R.left R.calls source.old source.new taken
         × IsReadAs line.now operand (name_of source.old) taken
-        (told (W.taken out.old) (W.taken out.new) (W.failures out.old) (W.failures out.new)) result }
+        (told (W.taken out.old) (W.taken out.new) (W.calls out.old) (W.calls out.new)) result }
 {
     match source {
         Source::Open { name: _, input } => match read_pla(alloc, input, out, line.echo()) {
@@ -161,7 +162,7 @@ fn read_source<R: Input, W: Output>(
 
 // Flushes the output, once and last. A failure stops a run that was not stopped yet.
 fn flushed<W: Output>(out: &mut W, done: Result<Status, Stop>) -> Result<Status, Stop>
-    ensures { Passes (W.taken out.old) (W.taken out.new) (W.failures out.old) (W.failures out.new) done result }
+    ensures { Passes (W.taken out.old) (W.taken out.new) (W.calls out.old) (W.calls out.new) done result }
 {
     match done {
         Ok(status) => match out.flush() {
@@ -178,7 +179,7 @@ fn flushed<W: Output>(out: &mut W, done: Result<Status, Stop>) -> Result<Status,
 // Says what stopped the run, if anything did.
 fn report<E: Output>(done: Result<Status, Stop>, first: &[u8], second: &[u8], err: &mut E) -> Status
     ensures said { Reports (record { first = first.now; second = second.now })
-        (told (E.taken err.old) (E.taken err.new) (E.failures err.old) (E.failures err.new)) done result }
+        (told (E.taken err.old) (E.taken err.new) (E.calls err.old) (E.calls err.new)) done result }
     ensures silent { IsTrue (is_answer result) → err.new ≡ err.old }
 {
     match done {

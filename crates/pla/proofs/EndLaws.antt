@@ -16,6 +16,8 @@ use Rattle.pla.specs.Fault.{sound, fault_on, line_fault, rest_fault, last_fault,
 use Rattle.pla.specs.Echoes.{due, delivered_lines, echo_all, echo_of}
 use Rattle.pla.specs.Description.{Description, description_of}
 use Rattle.pla.specs.State.{Parsed, State, StandsForLines, StandsFor}
+use Rattle.pla.specs.declared.calls.WriteCalls.{WriteCalls}
+use Rattle.pla.specs.Device.{AllWritten}
 use Rattle.pla.specs.Reads.{MatchCause, IsTold, WritesDue, WritesGrowth, CountsWrites, Answers}
 use Rattle.pla.specs.Steps.{Describes, TakesLine, WritesLine}
 use Rattle.pla.proofs.Cuts.{Cut, ended_cut, rest_cut}
@@ -112,7 +114,7 @@ pub described_writes : (r : Result Description ReadFault) (old new : Option (Lis
 described_writes (Ok pla) old new w h = h
 described_writes (Err f) old new w h = any_written f.kind old new w h
 
-pub described_counts : (r : Result Description ReadFault) (stated : Option ReadFault) (description : Description) (old new : ℕ) → Describes r stated description → new ≡ old → CountsWrites old new r
+pub described_counts : (r : Result Description ReadFault) (stated : Option ReadFault) (description : Description) (old new : WriteCalls) → Describes r stated description → AllWritten old new → CountsWrites old new r
 described_counts (Ok pla) stated description old new h e = e
 described_counts (Err f) stated description old new h e = cause_map f.kind (λ x. absurd x) (λ x. absurd x) (λ x. e) h
 
@@ -182,10 +184,10 @@ failed_fault state text number st going count =
 pub some_kept : (rest : List ℕ) (b : Bool) (size : ℕ) → b ≡ false → b ≡ eqb size 0 → size ≡ length rest → is_empty rest ≡ false
 some_kept rest b size h k e = ap (λ n. eqb n 0) (sym e) ∙ sym k ∙ h
 
-pub ended_counts : (r : Result Description ReadFault) (state : State) (text : List ℕ) (count : ℕ) → StandsFor format_limits state text → state.parsed.header.ended ≡ true
+pub ended_counts : (r : Result Description ReadFault) (state : State) (text : List ℕ) (count : WriteCalls) → StandsFor format_limits state text → state.parsed.header.ended ≡ true
     → ((lines : List (List ℕ)) → StandsForLines format_limits state.parsed lines → Describes r (end_fault format_limits lines) (description_of format_limits lines)) → CountsWrites count count r
 ended_counts r state text count st ended describes = described_counts r _ _ count count (describes (looked_at (ended_lines text)) (ended_lines_stand state text st ended)) refl
 
-pub last_counts : (r : Result Description ReadFault) (new : Parsed) (text : List ℕ) (old after : ℕ) → StandsForLines format_limits new (lines_of End text)
-    → ((lines : List (List ℕ)) → StandsForLines format_limits new lines → Describes r (end_fault format_limits lines) (description_of format_limits lines)) → after ≡ old → CountsWrites old after r
+pub last_counts : (r : Result Description ReadFault) (new : Parsed) (text : List ℕ) (old after : WriteCalls) → StandsForLines format_limits new (lines_of End text)
+    → ((lines : List (List ℕ)) → StandsForLines format_limits new lines → Describes r (end_fault format_limits lines) (description_of format_limits lines)) → AllWritten old after → CountsWrites old after r
 last_counts r new text old after st describes same = described_counts r _ _ old after (describes (lines_of End text) st) same

@@ -9,7 +9,8 @@ use Rattle.pla.specs.declared.fault.ReadKind.{ReadKind}
 use Rattle.pla.specs.declared.fault.ReadKind.TheVariants.{WriteFailed, OutOfMemory}
 use Rattle.pla.specs.declared.fault.ReadFault.{ReadFault}
 use Rattle.pla.specs.declared.fault.Echo.{Echo}
-use Rattle.pla.specs.Device.{AppendsFront, HasFailed}
+use Rattle.pla.specs.declared.calls.WriteCalls.{WriteCalls}
+use Rattle.pla.specs.Device.{AllWritten, AppendsFront, LastUnwritten}
 use Rattle.pla.specs.Keywords.{looked_at}
 use Rattle.pla.specs.Fault.{sound, sound_after, fault_on, at_line, rest_kind, open_fault}
 use Rattle.pla.specs.Echoes.{due, delivered_lines, echo_all, echo_of}
@@ -120,12 +121,12 @@ held_written f old text bytes more taken st going none refused =
     refused
 
 -- whether a step counted a failed write
-counts_by : (M X : Type 0) (kind : ReadKind) (count : ℕ) → MatchCause kind ⊥ M X → MatchCause kind (HasFailed count count) (count ≡ count) (count ≡ count)
+counts_by : (M X : Type 0) (kind : ReadKind) (count : WriteCalls) → MatchCause kind ⊥ M X → MatchCause kind (LastUnwritten count count) (AllWritten count count) (AllWritten count count)
 counts_by M X WriteFailed count h = absurd h
 counts_by M X OutOfMemory count h = refl
 counts_by M X _ count h = refl
 
-pub held_counts : (f : ReadFault) (M X : Type 0) (count : ℕ) → MatchCause f.kind ⊥ M X → MatchCause f.kind (HasFailed count count) (count ≡ count) (count ≡ count)
+pub held_counts : (f : ReadFault) (M X : Type 0) (count : WriteCalls) → MatchCause f.kind ⊥ M X → MatchCause f.kind (LastUnwritten count count) (AllWritten count count) (AllWritten count count)
 held_counts f M X count h = counts_by M X f.kind count h
 
 -- a fault of a line, by what the parser says
@@ -135,7 +136,7 @@ fault_takes before line old number kind st count e =
     own_cause kind _ _ (line_own format_limits (header_of format_limits before) line kind e)
     (ap (option_map (at_line (length before + 1))) e ∙ ap (λ n. Some (at_line (n + 1) kind)) (sym (count ∙ ap (λ p. p.header.lines) st.given)))
 
-pub fault_counts : (before : List (List ℕ)) (line : List ℕ) (kind : ReadKind) (count : ℕ) → fault_on format_limits before line ≡ Some kind → MatchCause kind (HasFailed count count) (count ≡ count) (count ≡ count)
+pub fault_counts : (before : List (List ℕ)) (line : List ℕ) (kind : ReadKind) (count : WriteCalls) → fault_on format_limits before line ≡ Some kind → MatchCause kind (LastUnwritten count count) (AllWritten count count) (AllWritten count count)
 fault_counts before line kind count e = own_cause kind _ _ (line_own format_limits (header_of format_limits before) line kind e) refl
 
 -- nothing was kept
@@ -145,7 +146,7 @@ none_kept rest b size h k e = nil_from_length rest (sym e ∙ eqb-true size 0 (s
 pub nothing_before : (rest bytes : List ℕ) → rest ≡ [] → bytes ≡ rest ++ bytes
 nothing_before rest bytes h = ap (λ r. r ++ bytes) (sym h)
 
-pub ends_counts : {T : Type 0} (r : Result T ReadFault) (old : State) (text : List ℕ) (count count_after : ℕ) → StandsFor format_limits old text → old.parsed.header.ended ≡ false
+pub ends_counts : {T : Type 0} (r : Result T ReadFault) (old : State) (text : List ℕ) (count count_after : WriteCalls) → StandsFor format_limits old text → old.parsed.header.ended ≡ false
     → ((before : List (List ℕ)) → StandsForLines format_limits old.parsed before → CountsWrites count count_after r) → CountsWrites count count_after r
 ends_counts r old text count count_after st going counts = let g = going_of format_limits old text st going in counts g.cut.lines g.stands
 

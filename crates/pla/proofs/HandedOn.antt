@@ -5,7 +5,8 @@ use Rattle.std.specs.Io.KnownBytes.{Appends}
 use Rattle.pla.specs.declared.fault.ReadKind.{ReadKind}
 use Rattle.pla.specs.declared.fault.ReadKind.TheVariants.{WriteFailed, OutOfMemory}
 use Rattle.pla.specs.declared.fault.ReadFault.{ReadFault}
-use Rattle.pla.specs.Device.{AppendsFront, HasFailed, Writes, TellsFailure}
+use Rattle.pla.specs.declared.calls.WriteCalls.{WriteCalls}
+use Rattle.pla.specs.Device.{AllWritten, AppendsFront, LastUnwritten, Writes, TellsFailure}
 use Rattle.pla.specs.Description.{Description}
 use Rattle.pla.specs.Reads.{MatchCause, IsTold, WritesDue, WritesGrowth, CountsWrites, Answers}
 use Rattle.pla.specs.Steps.{handed_on, held_kind}
@@ -53,10 +54,10 @@ handed_answer stated d r (Err e) p = refl
 handed_answer stated d (Ok x) (Ok u) p = p
 handed_answer stated d (Err f) (Ok u) p = told_held f.line f.kind stated p
 
-pub handed_counts : {T U E : Type 0} (old new : ℕ) (r : Result T ReadFault) (h : Result U E) → TellsFailure old new h → CountsWrites old new (handed_on r h)
+pub handed_counts : {T U E : Type 0} (old new : WriteCalls) (r : Result T ReadFault) (h : Result U E) → TellsFailure old new h → CountsWrites old new (handed_on r h)
 handed_counts old new r (Err e) p = p
 handed_counts old new (Ok x) (Ok u) p = p
-handed_counts old new (Err f) (Ok u) p = cause_held (HasFailed old new) (new ≡ old) (new ≡ old) f.kind (cause_all (new ≡ old) f.kind p)
+handed_counts old new (Err f) (Ok u) p = cause_held (LastUnwritten old new) (AllWritten old new) (AllWritten old new) f.kind (cause_all (AllWritten old new) f.kind p)
 
 -- what was held is a front of what was due
 held_front : {T : Type 0} (r : Result T ReadFault) (held w : List ℕ) → WritesDue (Some []) (Some held) r w → (rest : List ℕ) × (w ≡ held ++ rest)

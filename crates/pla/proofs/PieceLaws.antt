@@ -5,7 +5,9 @@ use Rattle.cube.specs.Limits.{format_limits}
 use Rattle.pla.specs.declared.fault.ReadKind.{ReadKind}
 use Rattle.pla.specs.declared.fault.ReadKind.TheVariants.{WriteFailed, OutOfMemory}
 use Rattle.pla.specs.declared.fault.ReadFault.{ReadFault}
-use Rattle.pla.specs.Device.{AppendsFront, HasFailed}
+use Rattle.pla.specs.declared.calls.Counts.{Counts}
+use Rattle.pla.specs.declared.calls.WriteCalls.{WriteCalls}
+use Rattle.pla.specs.Device.{AllWritten, AppendsFront, LastUnwritten, one_failed}
 use Rattle.pla.specs.Lines.{ended_lines, open_rest}
 use Rattle.pla.specs.Keywords.{looked_at}
 use Rattle.pla.specs.Fault.{sound, rest_kind, open_fault, has_ending}
@@ -20,24 +22,24 @@ use Rattle.pla.proofs.StepLaws.{going_of, rest_taken, rest_due}
 use Rattle.pla.proofs.Feeding.{due_grows, appends_nothing}
 
 -- the front of a piece was fed, and the rest comes next
-pub record Fed (old new : State) (piece rest : List ℕ) (taken taken_after : Option (List ℕ)) (writes writes_after : ℕ) : Type 0 where
+pub record Fed (old new : State) (piece rest : List ℕ) (taken taken_after : Option (List ℕ)) (writes writes_after : WriteCalls) : Type 0 where
   pub front : List ℕ
   pub whole : piece ≡ front ++ rest
   pub echo : new.echo ≡ old.echo
   pub stands : (text : List ℕ) → StandsFor format_limits old text → StandsFor format_limits new (text ++ front)
   pub written : (text : List ℕ) → StandsFor format_limits old text → (w : List ℕ) × (due format_limits old.echo None (text ++ front) ≡ due format_limits old.echo None text ++ w) × Appends taken taken_after w
-  pub count : (text : List ℕ) → StandsFor format_limits old text → writes_after ≡ writes
+  pub count : (text : List ℕ) → StandsFor format_limits old text → AllWritten writes writes_after
   pub onward : (text : List ℕ) → StandsFor format_limits old text → new.parsed.header.ended ≡ false → position_in old + length front ≤ position_in new
 
 -- a piece was fed whole
-pub record FedWhole (old new : State) (piece : List ℕ) (taken taken_after : Option (List ℕ)) (writes writes_after : ℕ) : Type 0 where
+pub record FedWhole (old new : State) (piece : List ℕ) (taken taken_after : Option (List ℕ)) (writes writes_after : WriteCalls) : Type 0 where
   pub echo : new.echo ≡ old.echo
   pub stands : (text : List ℕ) → StandsFor format_limits old text → StandsFor format_limits new (text ++ piece)
   pub written : (text : List ℕ) → StandsFor format_limits old text → (w : List ℕ) × (due format_limits old.echo None (text ++ piece) ≡ due format_limits old.echo None text ++ w) × Appends taken taken_after w
-  pub count : (text : List ℕ) → StandsFor format_limits old text → writes_after ≡ writes
+  pub count : (text : List ℕ) → StandsFor format_limits old text → AllWritten writes writes_after
   pub onward : (text : List ℕ) → StandsFor format_limits old text → new.parsed.header.ended ≡ false → position_in old + length piece ≤ position_in new
 
-pub fed_nothing : (state : State) (piece : List ℕ) (taken : Option (List ℕ)) (writes : ℕ) → Fed state state piece piece taken taken writes writes
+pub fed_nothing : (state : State) (piece : List ℕ) (taken : Option (List ℕ)) (writes : WriteCalls) → Fed state state piece piece taken taken writes writes
 fed_nothing state piece taken writes = record {
   front = [];
   whole = refl;
@@ -53,11 +55,11 @@ pub line_and_rest : (front line rest : List ℕ) → front ++ (line ++ 10 ∷ re
 line_and_rest front line rest = ap (λ t. front ++ t) (sym (append_assoc line (10 ∷ []) rest)) ∙ sym (append_assoc front (line ++ 10 ∷ []) rest)
 
 -- one more line was fed
-pub fed_line : (old mid new : State) (piece rest line after : List ℕ) (taken near taken_after : Option (List ℕ)) (writes writes_near writes_after : ℕ)
+pub fed_line : (old mid new : State) (piece rest line after : List ℕ) (taken near taken_after : Option (List ℕ)) (writes writes_near writes_after : WriteCalls)
     → Fed old mid piece rest taken near writes writes_near → mid.parsed.header.ended ≡ false → rest ≡ line ++ 10 ∷ after → new.echo ≡ mid.echo
     → ((text : List ℕ) → StandsFor format_limits mid text → StandsFor format_limits new (text ++ (line ++ 10 ∷ [])))
     → ((text : List ℕ) → StandsFor format_limits mid text → (w : List ℕ) × (due format_limits mid.echo None (text ++ (line ++ 10 ∷ [])) ≡ due format_limits mid.echo None text ++ w) × Appends near taken_after w)
-    → ((text : List ℕ) → StandsFor format_limits mid text → writes_after ≡ writes_near)
+    → ((text : List ℕ) → StandsFor format_limits mid text → AllWritten writes_near writes_after)
     → ((text : List ℕ) → StandsFor format_limits mid text → position_in mid + length line + 1 ≤ position_in new)
     → Fed old new piece after taken taken_after writes writes_after
 fed_line old mid new piece rest line after taken near taken_after writes writes_near writes_after fed going cut echo stands written count onward = record {
@@ -91,7 +93,7 @@ whole_text : (text front part after : List ℕ) → ((text ++ front) ++ part) ++
 whole_text text front part after = append_assoc (text ++ front) part after ∙ append_assoc text front (part ++ after)
 
 -- the fault stays when the rest of the piece follows
-pub fed_fault : (f : ReadFault) (old mid : State) (piece rest part after : List ℕ) (taken near : Option (List ℕ)) (writes writes_near : ℕ) (text : List ℕ)
+pub fed_fault : (f : ReadFault) (old mid : State) (piece rest part after : List ℕ) (taken near : Option (List ℕ)) (writes writes_near : WriteCalls) (text : List ℕ)
     → Fed old mid piece rest taken near writes writes_near → rest ≡ part ++ after → StandsFor format_limits old text
     → ((text : List ℕ) → StandsFor format_limits mid text → IsTold (open_fault format_limits (text ++ part)) f) → IsTold (open_fault format_limits (text ++ piece)) f
 fed_fault f old mid piece rest part after taken near writes writes_near text fed cut st told =
@@ -114,7 +116,7 @@ written_on W M OutOfMemory taken near taken_after before mid now later w v a b c
 written_on W M _ taken near taken_after before mid now later w v a b c grows same h k =
     (w ++ v, same h ∙ c ∙ ap (λ t. t ++ v) a ∙ append_assoc before w v, appends_then taken near taken_after w v b k)
 
-pub fed_written : (f : ReadFault) (old mid : State) (piece rest part after : List ℕ) (taken near taken_after : Option (List ℕ)) (writes writes_near : ℕ) (text : List ℕ)
+pub fed_written : (f : ReadFault) (old mid : State) (piece rest part after : List ℕ) (taken near taken_after : Option (List ℕ)) (writes writes_near : WriteCalls) (text : List ℕ)
     → Fed old mid piece rest taken near writes writes_near → rest ≡ part ++ after → StandsFor format_limits old text
     → ((text : List ℕ) → StandsFor format_limits mid text → IsTold (open_fault format_limits (text ++ part)) f)
     → ((text : List ℕ) → StandsFor format_limits mid text → (w : List ℕ) × (due format_limits mid.echo None (text ++ part) ≡ due format_limits mid.echo None text ++ w)
@@ -133,17 +135,17 @@ fed_written f old mid piece rest part after taken near taken_after writes writes
     (λ e. ap (due format_limits old.echo None) (sym all) ∙ (fault_fixed format_limits here f e).echoes old.echo None after)
     (told (text ++ fed.front) (fed.stands text st)) v.2
 
-pub fed_count : (f : ReadFault) (old mid : State) (piece rest : List ℕ) (taken near : Option (List ℕ)) (writes writes_near writes_after : ℕ) (text : List ℕ)
+pub fed_count : (f : ReadFault) (old mid : State) (piece rest : List ℕ) (taken near : Option (List ℕ)) (writes writes_near writes_after : WriteCalls) (text : List ℕ)
     → Fed old mid piece rest taken near writes writes_near → StandsFor format_limits old text
-    → ((text : List ℕ) → StandsFor format_limits mid text → MatchCause f.kind (HasFailed writes_near writes_after) (writes_after ≡ writes_near) (writes_after ≡ writes_near))
-    → MatchCause f.kind (HasFailed writes writes_after) (writes_after ≡ writes) (writes_after ≡ writes)
+    → ((text : List ℕ) → StandsFor format_limits mid text → MatchCause f.kind (LastUnwritten writes_near writes_after) (AllWritten writes_near writes_after) (AllWritten writes_near writes_after))
+    → MatchCause f.kind (LastUnwritten writes writes_after) (AllWritten writes writes_after) (AllWritten writes writes_after)
 fed_count f old mid piece rest taken near writes writes_near writes_after text fed st counts =
-    subst (λ n. MatchCause f.kind (HasFailed n writes_after) (writes_after ≡ n) (writes_after ≡ n)) (fed.count text st) (counts (text ++ fed.front) (fed.stands text st))
+    subst (λ (n : Counts). MatchCause f.kind ((writes_after.counts ≡ one_failed n) × (writes_after.broken ≡ true)) (writes_after.counts ≡ n) (writes_after.counts ≡ n)) (fed.count text st) (counts (text ++ fed.front) (fed.stands text st))
 
 -- ---- the end of a piece
 
 -- what stands behind the last line feed was kept
-pub fed_rest : (old mid new : State) (piece rest : List ℕ) (taken near : Option (List ℕ)) (writes writes_near : ℕ)
+pub fed_rest : (old mid new : State) (piece rest : List ℕ) (taken near : Option (List ℕ)) (writes writes_near : WriteCalls)
     → Fed old mid piece rest taken near writes writes_near → mid.parsed.header.ended ≡ false → NoFeed rest → new ≡ record { echo = mid.echo; parsed = mid.parsed; rest = mid.rest ++ rest }
     → rest_kind format_limits mid.parsed.header.lines (mid.rest ++ rest) ≡ None → FedWhole old new piece taken near writes writes_near
 fed_rest old mid new piece rest taken near writes writes_near fed going none kept fits = record {
@@ -174,7 +176,7 @@ stands_ended state text more st ended =
           ∙ ap (λ ls. record { echo = state.echo; parsed = parsed_of format_limits ls; rest = cond (has_ending ls) [] (open_rest (text ++ more)) }) (sym same);
     }
 
-pub fed_ended : (old mid : State) (piece rest : List ℕ) (taken near : Option (List ℕ)) (writes writes_near : ℕ)
+pub fed_ended : (old mid : State) (piece rest : List ℕ) (taken near : Option (List ℕ)) (writes writes_near : WriteCalls)
     → Fed old mid piece rest taken near writes writes_near → mid.parsed.header.ended ≡ true → FedWhole old mid piece taken near writes writes_near
 fed_ended old mid piece rest taken near writes writes_near fed ended = record {
   echo = fed.echo;

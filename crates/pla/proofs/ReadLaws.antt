@@ -10,7 +10,10 @@ use Rattle.pla.specs.declared.fault.ReadKind.{ReadKind}
 use Rattle.pla.specs.declared.fault.ReadKind.TheVariants.{WriteFailed, OutOfMemory}
 use Rattle.pla.specs.declared.fault.ReadFault.{ReadFault}
 use Rattle.pla.specs.declared.fault.Echo.{Echo}
-use Rattle.pla.specs.Device.{AppendsFront, HasFailed, one_more}
+use Rattle.pla.specs.declared.calls.Counts.{Counts}
+use Rattle.pla.specs.declared.calls.ReadCalls.{ReadCalls}
+use Rattle.pla.specs.declared.calls.WriteCalls.{WriteCalls}
+use Rattle.pla.specs.Device.{AllWritten, AppendsFront, LastFailed, LastUnwritten, NoneFailed, one_failed, one_more, read_broke}
 use Rattle.pla.specs.Lines.{ended_lines, lines_of}
 use Rattle.pla.specs.Keywords.{looked_at}
 use Rattle.pla.specs.Fault.{sound, fault_of, open_fault, has_ending}
@@ -27,14 +30,14 @@ use Rattle.pla.proofs.Overlong.{rest_length, sound_count}
 use Rattle.pla.proofs.StepLaws.{going_of}
 
 -- what was read so far, and what stands for it
-pub record ReadsOn (echo : Echo) (scan : State) (left left_after : Option (List ℕ)) (reads reads_after : ℕ) (taken taken_after : Option (List ℕ)) (writes writes_after : ℕ) : Type 0 where
+pub record ReadsOn (echo : Echo) (scan : State) (left left_after : Option (List ℕ)) (reads reads_after : ReadCalls) (taken taken_after : Option (List ℕ)) (writes writes_after : WriteCalls) : Type 0 where
   pub bytes : List ℕ
   pub consumed : Consumes left left_after bytes
   pub stands : StandsFor format_limits scan bytes
   pub same_echo : scan.echo ≡ echo
-  pub reads_same : reads_after ≡ reads
+  pub reads_same : NoneFailed reads reads_after
   pub written : Appends taken taken_after (due format_limits echo None bytes)
-  pub writes_same : writes_after ≡ writes
+  pub writes_same : AllWritten writes writes_after
   pub front : List ℕ
   pub piece : List ℕ
   pub bounded : (bytes ≡ front ++ piece) × (length piece ≤ 4096) × GoesOn front
@@ -55,7 +58,7 @@ keeps_consumes (Some xs) (Some ys) h = sym h
 consumes_same : (left mid left_after : Option (List ℕ)) (bytes : List ℕ) → Consumes left mid bytes → Consumes mid left_after [] → Consumes left left_after bytes
 consumes_same left mid left_after bytes h k = subst (Consumes left left_after) (append-nil bytes) (consumes_then left mid left_after bytes [] h k)
 
-pub reads_nothing : (echo : Echo) (scan : State) (left : Option (List ℕ)) (reads : ℕ) (taken : Option (List ℕ)) (writes : ℕ) → StandsFor format_limits scan [] → scan.echo ≡ echo → ReadsOn echo scan left left reads reads taken taken writes writes
+pub reads_nothing : (echo : Echo) (scan : State) (left : Option (List ℕ)) (reads : ReadCalls) (taken : Option (List ℕ)) (writes : WriteCalls) → StandsFor format_limits scan [] → scan.echo ≡ echo → ReadsOn echo scan left left reads reads taken taken writes writes
 reads_nothing echo scan left reads taken writes st same = record {
   bytes = [];
   consumed = consumes_nothing left;
@@ -70,11 +73,11 @@ reads_nothing echo scan left reads taken writes st same = record {
 }
 
 -- one more piece
-pub reads_piece : (echo : Echo) (scan new : State) (left near left_after : Option (List ℕ)) (reads reads_near reads_after : ℕ) (taken mid taken_after : Option (List ℕ)) (writes writes_near writes_after : ℕ) (piece : List ℕ)
-    → ReadsOn echo scan left near reads reads_near taken mid writes writes_near → scan.parsed.header.ended ≡ false → Consumes near left_after piece → reads_after ≡ reads_near → length piece ≤ 4096
+pub reads_piece : (echo : Echo) (scan new : State) (left near left_after : Option (List ℕ)) (reads reads_near reads_after : ReadCalls) (taken mid taken_after : Option (List ℕ)) (writes writes_near writes_after : WriteCalls) (piece : List ℕ)
+    → ReadsOn echo scan left near reads reads_near taken mid writes writes_near → scan.parsed.header.ended ≡ false → Consumes near left_after piece → NoneFailed reads_near reads_after → length piece ≤ 4096
     → new.echo ≡ scan.echo → ((text : List ℕ) → StandsFor format_limits scan text → StandsFor format_limits new (text ++ piece))
     → ((text : List ℕ) → StandsFor format_limits scan text → (w : List ℕ) × (due format_limits scan.echo None (text ++ piece) ≡ due format_limits scan.echo None text ++ w) × Appends mid taken_after w)
-    → ((text : List ℕ) → StandsFor format_limits scan text → writes_after ≡ writes_near)
+    → ((text : List ℕ) → StandsFor format_limits scan text → AllWritten writes_near writes_after)
     → ReadsOn echo new left left_after reads reads_after taken taken_after writes writes_after
 reads_piece echo scan new left near left_after reads reads_near reads_after taken mid taken_after writes writes_near writes_after piece on going consumed same short new_echo stands written count =
     let w = written on.bytes on.stands in
@@ -93,6 +96,12 @@ reads_piece echo scan new left near left_after reads reads_near reads_after take
     }
 
 -- ---- the exits
+
+-- no write failed before
+counts_since : {T : Type 0} (writes near after : WriteCalls) (r : Result T ReadFault) → AllWritten writes near → CountsWrites near after r → CountsWrites writes after r
+counts_since writes near after (Ok x) same h = h ∙ same
+counts_since writes near after (Err f) same h =
+    subst (λ (n : Counts). MatchCause f.kind ((after.counts ≡ one_failed n) × (after.broken ≡ true)) (after.counts ≡ n) (after.counts ≡ n)) same h
 
 writes_by : (kind : ReadKind) (taken mid taken_after : Option (List ℕ)) (a w : List ℕ) → Appends taken mid a → MatchCause kind (AppendsFront mid taken_after w) (AppendsFront mid taken_after w) (Appends mid taken_after w)
     → MatchCause kind (AppendsFront taken taken_after (a ++ w)) (AppendsFront taken taken_after (a ++ w)) (Appends taken taken_after (a ++ w))
@@ -116,8 +125,8 @@ on_whole (Err f) P h = always f.kind P h
     always _ P h = h
 
 -- reading met an ending
-pub reads_ending : (echo : Echo) (scan : State) (left near left_after : Option (List ℕ)) (reads reads_near reads_after : ℕ) (taken mid taken_after : Option (List ℕ)) (writes writes_near writes_after : ℕ) (result : Result Description ReadFault) (ending : Ending)
-    → ReadsOn echo scan left near reads reads_near taken mid writes writes_near → scan.parsed.header.ended ≡ false → Consumes near left_after [] → (reads_near ≡ reads → Meets left_after reads reads_after ending)
+pub reads_ending : (echo : Echo) (scan : State) (left near left_after : Option (List ℕ)) (reads reads_near reads_after : ReadCalls) (taken mid taken_after : Option (List ℕ)) (writes writes_near writes_after : WriteCalls) (result : Result Description ReadFault) (ending : Ending)
+    → ReadsOn echo scan left near reads reads_near taken mid writes writes_near → scan.parsed.header.ended ≡ false → Consumes near left_after [] → (NoneFailed reads reads_near → Meets left_after reads reads_after ending)
     → ((text : List ℕ) → StandsFor format_limits scan text → Answers result (fault_of format_limits ending text) (description_of format_limits (looked_at (lines_of ending text))))
     → ((text : List ℕ) → StandsFor format_limits scan text → WritesGrowth mid taken_after result (due format_limits scan.echo None text) (due format_limits scan.echo (Some ending) text))
     → ((text : List ℕ) → StandsFor format_limits scan text → CountsWrites writes_near writes_after result)
@@ -131,14 +140,14 @@ reads_ending echo scan left near left_after reads reads_near reads_after taken m
   written = grown_written result taken mid taken_after (due format_limits echo None on.bytes) (due format_limits echo (Some ending) on.bytes) on.written
       (subst (λ e. WritesGrowth mid taken_after result (due format_limits e None on.bytes) (due format_limits e (Some ending) on.bytes)) on.same_echo (written on.bytes on.stands));
   echoes = λ e is. on_whole result _ (ap (λ x. due format_limits echo (Some x) on.bytes) is);
-  counted = subst (λ n. CountsWrites n writes_after result) on.writes_same (count on.bytes on.stands);
+  counted = counts_since writes writes_near writes_after result on.writes_same (count on.bytes on.stands);
   front = on.bytes;
   piece = [];
   bounded = (sym (append-nil on.bytes), omega arith, goes_on scan on.bytes on.stands going);
 }
 
 -- a line ended the description
-pub reads_done : (echo : Echo) (scan : State) (left left_after : Option (List ℕ)) (reads reads_after : ℕ) (taken mid taken_after : Option (List ℕ)) (writes writes_near writes_after : ℕ) (result : Result Description ReadFault)
+pub reads_done : (echo : Echo) (scan : State) (left left_after : Option (List ℕ)) (reads reads_after : ReadCalls) (taken mid taken_after : Option (List ℕ)) (writes writes_near writes_after : WriteCalls) (result : Result Description ReadFault)
     → ReadsOn echo scan left left_after reads reads_after taken mid writes writes_near → scan.parsed.header.ended ≡ true
     → ((text : List ℕ) → StandsFor format_limits scan text → Answers result (fault_of format_limits End text) (description_of format_limits (looked_at (lines_of End text))))
     → ((text : List ℕ) → StandsFor format_limits scan text → WritesGrowth mid taken_after result (due format_limits scan.echo None text) (due format_limits scan.echo (Some End) text))
@@ -162,19 +171,19 @@ reads_done echo scan left left_after reads reads_after taken mid taken_after wri
       written = subst (WritesDue taken taken_after result) (dues (Some End)) (grown_written result taken mid taken_after (due format_limits echo None bytes) (due format_limits echo (Some End) bytes) on.written
           (subst (λ e. WritesGrowth mid taken_after result (due format_limits e None bytes) (due format_limits e (Some End) bytes)) on.same_echo (written bytes on.stands)));
       echoes = λ e is. on_whole result _ (dues (Some e));
-      counted = subst (λ n. CountsWrites n writes_after result) on.writes_same (count bytes on.stands);
+      counted = counts_since writes writes_near writes_after result on.writes_same (count bytes on.stands);
       front = on.front;
       piece = on.piece;
       bounded = on.bounded;
     }
 
 -- the piece had a fault, or a write or memory failed
-pub reads_fault : (echo : Echo) (scan : State) (left near left_after : Option (List ℕ)) (reads reads_near reads_after : ℕ) (taken mid taken_after : Option (List ℕ)) (writes writes_near writes_after : ℕ) (piece : List ℕ) (f : ReadFault)
-    → ReadsOn echo scan left near reads reads_near taken mid writes writes_near → scan.parsed.header.ended ≡ false → Consumes near left_after piece → reads_after ≡ reads_near → length piece ≤ 4096
+pub reads_fault : (echo : Echo) (scan : State) (left near left_after : Option (List ℕ)) (reads reads_near reads_after : ReadCalls) (taken mid taken_after : Option (List ℕ)) (writes writes_near writes_after : WriteCalls) (piece : List ℕ) (f : ReadFault)
+    → ReadsOn echo scan left near reads reads_near taken mid writes writes_near → scan.parsed.header.ended ≡ false → Consumes near left_after piece → NoneFailed reads_near reads_after → length piece ≤ 4096
     → ((text : List ℕ) → StandsFor format_limits scan text → IsTold (open_fault format_limits (text ++ piece)) f)
     → ((text : List ℕ) → StandsFor format_limits scan text → (w : List ℕ) × (due format_limits scan.echo None (text ++ piece) ≡ due format_limits scan.echo None text ++ w)
     × MatchCause f.kind (AppendsFront mid taken_after w) (AppendsFront mid taken_after w) (Appends mid taken_after w))
-    → ((text : List ℕ) → StandsFor format_limits scan text → MatchCause f.kind (HasFailed writes_near writes_after) (writes_after ≡ writes_near) (writes_after ≡ writes_near))
+    → ((text : List ℕ) → StandsFor format_limits scan text → MatchCause f.kind (LastUnwritten writes_near writes_after) (AllWritten writes_near writes_after) (AllWritten writes_near writes_after))
     → Reads echo left left_after reads reads_after taken taken_after writes writes_after (Err f)
 reads_fault echo scan left near left_after reads reads_near reads_after taken mid taken_after writes writes_near writes_after piece f on going consumed same short told written count =
     let bytes = on.bytes ++ piece in
@@ -187,7 +196,7 @@ reads_fault echo scan left near left_after reads reads_near reads_after taken mi
       written = grown_written {T = Description} (Err f) taken mid taken_after (due format_limits echo None on.bytes) (due format_limits echo None bytes) on.written
           (subst (λ e. WritesGrowth {T = Description} mid taken_after (Err f) (due format_limits e None on.bytes) (due format_limits e None bytes)) on.same_echo (written on.bytes on.stands));
       echoes = λ e is. cause_map f.kind (λ h. tt) (λ h. tt) (λ h. ap (due format_limits echo (Some e)) (sym (append-nil bytes)) ∙ (fault_fixed format_limits bytes f h).echoes echo (Some e) []) (told on.bytes on.stands);
-      counted = subst (λ n. MatchCause f.kind (HasFailed n writes_after) (writes_after ≡ n) (writes_after ≡ n)) on.writes_same (count on.bytes on.stands);
+      counted = subst (λ (n : Counts). MatchCause f.kind ((writes_after.counts ≡ one_failed n) × (writes_after.broken ≡ true)) (writes_after.counts ≡ n) (writes_after.counts ≡ n)) on.writes_same (count on.bytes on.stands);
       front = on.bytes;
       piece = piece;
       bounded = (refl, short, goes_on scan on.bytes on.stands going);
@@ -224,8 +233,5 @@ pub end_consumes : (left left_after : Option (List ℕ)) (n : ℕ) (xs : List �
 end_consumes left left_after n xs e h = subst (λ k. Consumes left left_after (take k xs)) e h
 
 -- a read that failed
-pub failed_count : (reads near after : ℕ) → near ≡ reads → after ≡ one_more near → HasFailed reads after
-failed_count reads near after e h = subst (λ n. one_more reads ≤ n) (sym (h ∙ ap one_more e)) (self (one_more reads))
-  where
-    self : (n : ℕ) → n ≤ n
-    self n = omega arith
+pub failed_count : (reads near after : ReadCalls) → NoneFailed reads near → after ≡ read_broke near → LastFailed reads after
+failed_count reads near after e h = (ap (λ calls. calls.failures) h ∙ ap one_more e, ap (λ calls. calls.broken) h)

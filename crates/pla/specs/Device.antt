@@ -1,18 +1,75 @@
--- What a device tells: the bytes that it has left or has taken, and how often it failed.
-use Rattle.std.specs.Prelude.{◌≡◌, ℕ, ◌+◌, ◌-◌, ◌^◌, ◌≤◌, min, List, ◌++◌, Option, Result, MatchResult}
+-- What a device tells: the bytes that it has left or has taken, and what came of the calls that were made to it.
+use Rattle.std.specs.Prelude.{◌≡◌, ℕ, ◌+◌, ◌-◌, ◌^◌, true, false, min, List, ◌++◌, Option, Result, MatchResult}
 use Rattle.std.specs.Io.KnownBytes.{Appends}
+use Rattle.pla.specs.declared.calls.Counts.{Counts}
+use Rattle.pla.specs.declared.calls.ReadCalls.{ReadCalls}
+use Rattle.pla.specs.declared.calls.WriteCalls.{WriteCalls}
 
--- a count of failures one higher, which stays at the last value of a u64
+-- a count one higher, which stays at the last value of a u64
 abbrev pub one_more : ℕ → ℕ
 one_more count = min (count + 1) (2 ^ 64 - 1)
 
--- at least one failure came between the two counts; at the last value each call counts as one
-abbrev pub HasFailed : ℕ → ℕ → Type 0
-HasFailed before after = one_more before ≤ after
+-- ---- one more call
 
--- a call that is Broken raises the count by one, and no other changes it
-abbrev pub CountsFailure : {T E : Type 0} → ℕ → ℕ → Result T E → Type 0
-CountsFailure before after r = MatchResult r (λ _. after ≡ before) (λ _. after ≡ one_more before)
+-- a read that went well, and one that was Broken
+abbrev pub read_went : ReadCalls → ReadCalls
+read_went calls = record calls { broken = false }
+
+abbrev pub read_broke : ReadCalls → ReadCalls
+read_broke calls = record { failures = one_more calls.failures; broken = true }
+
+-- one more failed write
+abbrev pub one_failed : Counts → Counts
+one_failed counts = record counts { failures = one_more counts.failures }
+
+-- one more flush that went well, and one that was Broken
+abbrev pub one_flushed : Counts → Counts
+one_flushed counts = record counts { flushes = one_more counts.flushes }
+
+abbrev pub one_unflushed : Counts → Counts
+one_unflushed counts = record counts { flushes = one_more counts.flushes; failed_flushes = one_more counts.failed_flushes }
+
+-- a write that went well, and one that was Broken
+abbrev pub write_went : WriteCalls → WriteCalls
+write_went calls = record calls { broken = false; flushed = false }
+
+abbrev pub write_broke : WriteCalls → WriteCalls
+write_broke calls = record { counts = one_failed calls.counts; broken = true; flushed = false }
+
+-- a flush that went well, and one that was Broken
+abbrev pub flush_went : WriteCalls → WriteCalls
+flush_went calls = record calls { counts = one_flushed calls.counts; flushed = true }
+
+abbrev pub flush_broke : WriteCalls → WriteCalls
+flush_broke calls = record calls { counts = one_unflushed calls.counts; flushed = true }
+
+-- what a device tells of a call, by its result
+abbrev pub TellsRead : {T E : Type 0} → ReadCalls → ReadCalls → Result T E → Type 0
+TellsRead before after r = MatchResult r (λ _. after ≡ read_went before) (λ _. after ≡ read_broke before)
+
+abbrev pub TellsWrite : {T E : Type 0} → WriteCalls → WriteCalls → Result T E → Type 0
+TellsWrite before after r = MatchResult r (λ _. after ≡ write_went before) (λ _. after ≡ write_broke before)
+
+abbrev pub TellsFlush : {T E : Type 0} → WriteCalls → WriteCalls → Result T E → Type 0
+TellsFlush before after r = MatchResult r (λ _. after ≡ flush_went before) (λ _. after ≡ flush_broke before)
+
+-- ---- calls in a row
+
+-- no read failed
+abbrev pub NoneFailed : ReadCalls → ReadCalls → Type 0
+NoneFailed before after = after.failures ≡ before.failures
+
+-- one read failed, and none came behind it
+abbrev pub LastFailed : ReadCalls → ReadCalls → Type 0
+LastFailed before after = (after.failures ≡ one_more before.failures) × (after.broken ≡ true)
+
+-- no write failed, and no flush was asked for
+abbrev pub AllWritten : WriteCalls → WriteCalls → Type 0
+AllWritten before after = after.counts ≡ before.counts
+
+-- one write failed, and none came behind it; no flush was asked for
+abbrev pub LastUnwritten : WriteCalls → WriteCalls → Type 0
+LastUnwritten before after = (after.counts ≡ one_failed before.counts) × (after.broken ≡ true)
 
 -- known bytes grow by a front of the text
 abbrev pub AppendsFront : Option (List ℕ) → Option (List ℕ) → List ℕ → Type 0
@@ -22,17 +79,17 @@ AppendsFront old new text = (front : List ℕ) × (rest : List ℕ) × (text ≡
 abbrev pub Writes : {T E : Type 0} → Option (List ℕ) → Option (List ℕ) → Result T E → List ℕ → Type 0
 Writes old new r text = MatchResult r (λ _. Appends old new text) (λ _. AppendsFront old new text)
 
--- at `Ok` no failure came, and at `Err` at least one
-abbrev pub TellsFailure : {T E : Type 0} → ℕ → ℕ → Result T E → Type 0
-TellsFailure before after r = MatchResult r (λ _. after ≡ before) (λ _. HasFailed before after)
+-- at `Ok` no write failed, and at `Err` the last one did; no flush was asked for
+abbrev pub TellsFailure : {T E : Type 0} → WriteCalls → WriteCalls → Result T E → Type 0
+TellsFailure before after r = MatchResult r (λ _. AllWritten before after) (λ _. LastUnwritten before after)
 
 -- whatever was being written comes out with the text behind it
 abbrev pub Continues : {T E : Type 0} → Option (List ℕ) → Result T E → Option (List ℕ) → Result T E → List ℕ → Type 0
 Continues taken done new r text = (old : Option (List ℕ)) (front : List ℕ) → Writes old taken done front → Writes old new r (front ++ text)
 
--- whether a failure came since any earlier count is told on
-abbrev pub CountsOn : {T E : Type 0} → ℕ → Result T E → ℕ → Result T E → Type 0
-CountsOn count done new r = (before : ℕ) → TellsFailure before count done → TellsFailure before new r
+-- whether a write failed since any earlier call is told on
+abbrev pub CountsOn : {T E : Type 0} → WriteCalls → Result T E → WriteCalls → Result T E → Type 0
+CountsOn calls done new r = (before : WriteCalls) → TellsFailure before calls done → TellsFailure before new r
 
 -- a text was put together: at `Ok` all of it was taken but for what is pending, and at `Err` a front of it
 abbrev pub Puts : {T E : Type 0} → Option (List ℕ) → Option (List ℕ) → List ℕ → Result T E → List ℕ → Type 0

@@ -21,6 +21,7 @@ pub mod Description
 pub mod State
 pub mod Parsing
 pub mod Vectors
+pub mod FormatExamples
 pub mod WiderLimits
 pub mod ReadBack
 pub mod LawExamples

@@ -1,5 +1,6 @@
 -- What a reader or a writer of std as a device holds.
-use Rattle.std.specs.Prelude.{ℕ}
+use Rattle.pla.specs.declared.calls.ReadCalls.{ReadCalls}
+use Rattle.pla.specs.declared.calls.WriteCalls.{WriteCalls}
 use Rattle.pla.specs.declared.over_std.Reading.{Reading}
 use Rattle.pla.specs.declared.over_std.Writing.{Writing}
 
@@ -7,14 +8,14 @@ use Rattle.pla.specs.declared.over_std.Writing.{Writing}
 abbrev pub reader_of : {R : Type 0} → Reading R → R
 reader_of reading = reading.inner
 
--- how often a read failed
-abbrev pub read_failures : {R : Type 0} → Reading R → ℕ
-read_failures reading = reading.failures
+-- what came of the reads
+abbrev pub read_calls : {R : Type 0} → Reading R → ReadCalls
+read_calls reading = reading.calls
 
 -- the writer of std
 abbrev pub writer_of : {W : Type 0} → Writing W → W
 writer_of writing = writing.inner
 
--- how often a write or a flush failed
-abbrev pub write_failures : {W : Type 0} → Writing W → ℕ
-write_failures writing = writing.failures
+-- what came of the writes and flushes
+abbrev pub write_calls : {W : Type 0} → Writing W → WriteCalls
+write_calls writing = writing.calls

@@ -8,7 +8,9 @@ use Rattle.pla.specs.declared.fault.Echo.{Echo}
 use Rattle.pla.specs.declared.fault.ReadKind.{ReadKind}
 use Rattle.pla.specs.declared.fault.ReadKind.TheVariants.{WriteFailed, OutOfMemory}
 use Rattle.pla.specs.declared.fault.ReadFault.{ReadFault}
-use Rattle.pla.specs.Device.{AppendsFront, HasFailed}
+use Rattle.pla.specs.declared.calls.ReadCalls.{ReadCalls}
+use Rattle.pla.specs.declared.calls.WriteCalls.{WriteCalls}
+use Rattle.pla.specs.Device.{AllWritten, AppendsFront, LastFailed, LastUnwritten, NoneFailed}
 use Rattle.pla.specs.Lines.{ended_lines}
 use Rattle.pla.specs.Keywords.{looked_at}
 use Rattle.pla.specs.Fault.{fault_of, open_fault, has_ending}
@@ -32,9 +34,10 @@ abbrev pub WritesDue : {T : Type 0} → Option (List ℕ) → Option (List ℕ) 
 WritesDue old new result text = MatchResult result (λ _. Appends old new text)
     (λ fault. MatchCause fault.kind (AppendsFront old new text) (AppendsFront old new text) (Appends old new text))
 
--- a count of failures grew where a write failed, and no other way
-abbrev pub CountsWrites : {T : Type 0} → ℕ → ℕ → Result T ReadFault → Type 0
-CountsWrites old new result = MatchResult result (λ _. new ≡ old) (λ fault. MatchCause fault.kind (HasFailed old new) (new ≡ old) (new ≡ old))
+-- one write failed, as the last, where that is told, and otherwise none did
+abbrev pub CountsWrites : {T : Type 0} → WriteCalls → WriteCalls → Result T ReadFault → Type 0
+CountsWrites old new result = MatchResult result (λ _. AllWritten old new)
+    (λ fault. MatchCause fault.kind (LastUnwritten old new) (AllWritten old new) (AllWritten old new))
 
 -- what was due before grew to what is due now by a text, which was written as WritesDue says
 abbrev pub WritesGrowth : {T : Type 0} → Option (List ℕ) → Option (List ℕ) → Result T ReadFault → List ℕ → List ℕ → Type 0
@@ -51,10 +54,10 @@ abbrev pub MayEnd : Option Ending → Ending → Type 0
 MayEnd None ending = ⊤
 MayEnd (Some met) ending = ending ≡ met
 
--- the ending was met: all was delivered and no read failed, or one failed
-abbrev pub Meets : Option (List ℕ) → ℕ → ℕ → Ending → Type 0
-Meets left before after End = (after ≡ before) × IsAtEnd left
-Meets left before after Failed = HasFailed before after
+-- the ending was met: all was delivered and no read failed, or one failed and none came behind it
+abbrev pub Meets : Option (List ℕ) → ReadCalls → ReadCalls → Ending → Type 0
+Meets left before after End = NoneFailed before after × IsAtEnd left
+Meets left before after Failed = LastFailed before after
 
 -- no line that ends the description has come, and no fault
 pub record GoesOn (text : List ℕ) : Type 0 where
@@ -70,14 +73,14 @@ abbrev pub OnWhole : {T : Type 0} → Result T ReadFault → Type 0 → Type 0
 OnWhole result P = MatchResult result (λ _. P) (λ fault. MatchCause fault.kind ⊤ ⊤ P)
 
 -- How an input was read, an output written and what came of it: of each device what it has left or
--- has taken, before and after, and its counts of failures.
-pub record Reads (echo : Echo) (left left_after : Option (List ℕ)) (reads reads_after : ℕ) (taken taken_after : Option (List ℕ)) (writes writes_after : ℕ) (result : Result Description ReadFault) : Type 0 where
+-- has taken, before and after, and what it tells of the calls.
+pub record Reads (echo : Echo) (left left_after : Option (List ℕ)) (reads reads_after : ReadCalls) (taken taken_after : Option (List ℕ)) (writes writes_after : WriteCalls) (result : Result Description ReadFault) : Type 0 where
   -- what was delivered
   pub bytes : List ℕ
   pub consumed : Consumes left left_after bytes
   -- how reading ended; nothing where it stopped before it met an ending
   pub ending : Option Ending
-  pub met : MatchOption ending (reads_after ≡ reads) (Meets left_after reads reads_after)
+  pub met : MatchOption ending (NoneFailed reads reads_after) (Meets left_after reads reads_after)
   -- the description or the fault of the bytes
   pub answer : (e : Ending) → MayEnd ending e → Answers result (fault_of format_limits e bytes) (described format_limits e bytes)
   -- the echoes that are due, which the ending doesn't change where it wasn't met

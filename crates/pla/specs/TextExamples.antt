@@ -3,7 +3,7 @@ use Rattle.std.specs.Prelude.{◌≡◌, true, false, [], ◌∷◌, None, Some,
 use Rattle.std.specs.Fmt.{digits}
 use Rattle.cube.specs.declared.symbol.Symbol.TheVariants.{Dash, Zero, One}
 use Rattle.pla.specs.declared.fault.FileType.TheVariants.{Fd as file_fd}
-use Rattle.pla.specs.declared.out_type.OutType.TheVariants.{F, Fr, Fdr}
+use Rattle.pla.specs.declared.out_type.OutType.TheVariants.{F, Fd, Fr, Fdr}
 use Rattle.pla.specs.Description.{Description}
 use Rattle.pla.specs.Sets.{SetLists, given_lists}
 use Rattle.pla.specs.Text.{text_of}
@@ -61,6 +61,21 @@ three_lists : text_of named Fdr (given_lists named)
     ≡ codes ".i 2\n.o 2\n.ilb a b\n.ob f g\n.type fdr\n.p 3\n11 1~\n11 ~-\n0- 0~\n.e\n"
 unfolding digits
 three_lists = refl
+
+with_dc : text_of named Fd (given_lists named)
+    ≡ codes ".i 2\n.o 2\n.ilb a b\n.ob f g\n.type fd\n.p 2\n11 1~\n11 ~-\n.e\n"
+unfolding digits
+with_dc = refl
+
+with_off : text_of named Fr (given_lists named)
+    ≡ codes ".i 2\n.o 2\n.ilb a b\n.ob f g\n.type fr\n.p 2\n11 1~\n0- 0~\n.e\n"
+unfolding digits
+with_off = refl
+
+on_alone : text_of named F (given_lists named)
+    ≡ codes ".i 2\n.o 2\n.ilb a b\n.ob f g\n.p 1\n11 10\n.e\n"
+unfolding digits
+on_alone = refl
 
 -- no row at all, and numbers of several digits
 abbrev wide : Description

@@ -54,7 +54,7 @@ impl Batch {
         done: Result<(), WriteFault>,
     ) -> Result<(), WriteFault>
         ensures bytes { PutsOn (W.taken out.old) self.old done (W.taken out.new) self.new result [] }
-        ensures count { CountsOn (W.failures out.old) done (W.failures out.new) result }
+        ensures count { CountsOn (W.calls out.old) done (W.calls out.new) result }
         ensures empty { self.new ≡ [] }
     {
         let done = then(out, done, &self.bytes[..self.used]);
@@ -70,7 +70,7 @@ impl Batch {
         done: Result<(), WriteFault>,
     ) -> Result<(), WriteFault>
         ensures bytes { PutsOn (W.taken out.old) self.old done (W.taken out.new) self.new result [] }
-        ensures count { CountsOn (W.failures out.old) done (W.failures out.new) result }
+        ensures count { CountsOn (W.calls out.old) done (W.calls out.new) result }
         ensures room { length self.new + min count 32768 ≤ 32768 }
     {
         if count > BATCH_BYTES - self.used {
@@ -92,7 +92,7 @@ impl Batch {
         bytes: &[u8],
     ) -> Result<(), WriteFault>
         ensures bytes { PutsOn (W.taken out.old) self.old done (W.taken out.new) self.new result bytes.now }
-        ensures count { CountsOn (W.failures out.old) done (W.failures out.new) result }
+        ensures count { CountsOn (W.calls out.old) done (W.calls out.new) result }
     {
         let done = self.make_room(bytes.len(), out, done);
         if bytes.len() > BATCH_BYTES {
@@ -127,7 +127,7 @@ impl Batch {
         other: u8,
     ) -> Result<(), WriteFault>
         ensures bytes { PutsOn (W.taken out.old) self.old done (W.taken out.new) self.new result (row_text mark other cube.now) }
-        ensures count { CountsOn (W.failures out.old) done (W.failures out.new) result }
+        ensures count { CountsOn (W.calls out.old) done (W.calls out.new) result }
     {
         let done = self.make_room(ROW_BYTES, out, done);
         self.keep_row(cube, mark, other);

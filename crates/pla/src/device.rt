@@ -1,21 +1,23 @@
 //! What a reader reads from and a writer writes to.
 ghost use Rattle.std.specs.Prelude.{◌≡◌, ℕ, List, Option, ◌≤◌, ◌<◌, length, IfOk};
 ghost use Rattle.std.specs.Io.KnownBytes.{Keeps, ReadConsumes, WriteAppends};
-ghost use Rattle.pla.specs.Device.{CountsFailure};
+ghost use Rattle.pla.specs.declared.calls.ReadCalls.{ReadCalls};
+ghost use Rattle.pla.specs.declared.calls.WriteCalls.{WriteCalls};
+ghost use Rattle.pla.specs.Device.{TellsFlush, TellsRead, TellsWrite};
 
 /// A read, a write or a flush that failed. It delivered and took nothing.
 #[derive(Clone, Copy, Debug, PartialEq, Eq)]
 pub struct Broken;
 
-/// Where bytes come from. A contract sees the bytes that are left, where the device tells them, and
-/// how many reads failed.
+/// Where bytes come from. A contract sees the bytes that are left, where the device tells them, how many
+/// reads failed, and whether the last one did.
 pub trait Input {
     /// The bytes that reads will deliver from here on, where the device tells them. A device tells
     /// them throughout or not at all.
     ghost left: { Self → Option (List ℕ) };
 
-    /// How many reads failed, up to the last value of a u64, at which it stays.
-    ghost failures: { Self → ℕ };
+    /// What came of the reads.
+    ghost calls: { Self → ReadCalls };
 
     /// Puts the next bytes at the front of the buffer, and answers how many. None for a buffer with
     /// room is the end.
@@ -26,18 +28,18 @@ pub trait Input {
     fn read(&mut self, buffer: &mut [u8]) -> Result<usize, Broken>
         ensures bound { IfOk result (λ n. n ≤ length buffer.new) }
         ensures bytes { ReadConsumes (left self.old) (left self.new) result buffer.new }
-        ensures count { CountsFailure (failures self.old) (failures self.new) result };
+        ensures count { TellsRead (calls self.old) (calls self.new) result };
 }
 
-/// Where bytes go. A contract sees the bytes that were taken, where the device tells them, and how
-/// many writes and flushes failed.
+/// Where bytes go. A contract sees the bytes that were taken, where the device tells them, how many writes
+/// and flushes failed, how many flushes were asked for, and what the last call was.
 pub trait Output {
     /// The bytes that were taken so far, where the device tells them. A device tells them throughout
     /// or not at all.
     ghost taken: { Self → Option (List ℕ) };
 
-    /// How many writes and flushes failed, up to the last value of a u64, at which it stays.
-    ghost failures: { Self → ℕ };
+    /// What came of the writes and flushes.
+    ghost calls: { Self → WriteCalls };
 
     /// Takes bytes from the front, and answers how many: at least one, where there is one.
     ///
@@ -48,7 +50,7 @@ pub trait Output {
         ensures bound { IfOk result (λ n. n ≤ length bytes.now) }
         ensures some { IfOk result (λ n. 0 < length bytes.now → 0 < n) }
         ensures bytes { WriteAppends (taken self.old) (taken self.new) result bytes.now }
-        ensures count { CountsFailure (failures self.old) (failures self.new) result };
+        ensures count { TellsWrite (calls self.old) (calls self.new) result };
 
     /// Asks for what was taken to be passed on.
     ///
@@ -57,5 +59,5 @@ pub trait Output {
     /// `Broken` where the device fails; what was taken stays taken.
     fn flush(&mut self) -> Result<(), Broken>
         ensures bytes { Keeps (taken self.old) (taken self.new) }
-        ensures count { CountsFailure (failures self.old) (failures self.new) result };
+        ensures count { TellsFlush (calls self.old) (calls self.new) result };
 }

@@ -69,7 +69,7 @@ fn echo_text(echo: Echo, line: &[u8]) -> &[u8]
 /// where it has one and comments are kept, with a line feed. Takes no memory.
 pub fn write_echo<W: Output>(echo: Echo, line: &[u8], output: &mut W) -> Result<(), WriteFault>
     ensures bytes { Writes (W.taken output.old) (W.taken output.new) result (echo_of echo line.now) }
-    ensures count { TellsFailure (W.failures output.old) (W.failures output.new) result }
+    ensures count { TellsFailure (W.calls output.old) (W.calls output.new) result }
 {
     let text = echo_text(echo, line);
     if text.is_empty() {

@@ -1,21 +1,25 @@
 //! Devices that tell their bytes, for tests.
-ghost use Rattle.std.specs.Prelude.{◌≡◌, ◌+◌, ◌<◌, ◌≤◌, ◌↔◌, Some, [], length, min, IfOk, IsErr, IsTrue};
+ghost use Rattle.std.specs.Prelude.{◌≡◌, ◌+◌, ◌-◌, ◌<◌, ◌≤◌, ◌↔◌, ◌⊎◌, Some, None, false, [], length, min, IfOk, IfErr, IsErr, IsTrue};
 ghost use Rattle.std.specs.Io.KnownBytes.{Keeps, ReadConsumes, WriteAppends};
-ghost use Rattle.pla.specs.Device.{CountsFailure};
+ghost use Rattle.pla.specs.Device.{TellsFlush, TellsRead, TellsWrite};
+ghost use Rattle.pla.specs.Fakes.{one_nearer};
 
+use crate::calls::{ReadCalls, WriteCalls};
 use crate::device::{Broken, Input, Output};
 use crate::ending::Ending;
 use std::alloc::{AllocError, Global};
 use std::marker::Model;
 
-/// An input that delivers stored bytes, at most so many a read, and then ends or fails.
+/// An input that delivers stored bytes, at most so many a read, and then ends or fails. One read may fail
+/// alone, before which and behind which it works.
 #[derive(Drop)]
 pub struct Given {
     bytes: Vec<u8>,
     at: usize,
     most: usize,
     ending: Ending,
-    failures: u64,
+    until_failure: Option<u64>,
+    calls: ReadCalls,
 }
 
 impl Model for Given {
@@ -24,7 +28,7 @@ impl Model for Given {
 
     ghost Value = { Store };
 
-    ghost view = { λ s. record { left = drop s.at s.bytes.items; delivered = s.at; most = s.most; ending = s.ending; failures = s.failures } };
+    ghost view = { λ s. record { left = drop s.at s.bytes.items; delivered = s.at; most = s.most; ending = s.ending; until_failure = s.until_failure; calls = s.calls } };
 
     ghost invariant = { λ s. (s.at ≤ vec_len s.bytes) × (0 < s.most) };
 }
@@ -34,14 +38,36 @@ impl Given {
     /// read behind the last byte.
     pub fn new(bytes: Vec<u8>, most: usize, ending: Ending) -> Given
         requires { 0 < most }
-        ensures { result ≡ record { left = bytes.items; delivered = 0; most = most; ending = ending; failures = 0 } }
+        ensures { result ≡ record {
+          left = bytes.items;
+          delivered = 0;
+          most = most;
+          ending = ending;
+          until_failure = None;
+          calls = record { failures = 0; broken = false };
+        } }
     {
         Given {
             bytes,
             at: 0,
             most,
             ending,
-            failures: 0,
+            until_failure: None,
+            calls: ReadCalls::new(),
+        }
+    }
+
+    /// The same, but that one read fails alone: the first from here on where `reads` is 0.
+    pub fn failing_after(self, reads: u64) -> Given
+        ensures { result ≡ record self { until_failure = Some reads } }
+    {
+        Given {
+            bytes: self.bytes,
+            at: self.at,
+            most: self.most,
+            ending: self.ending,
+            until_failure: Some(reads),
+            calls: self.calls,
         }
     }
 
@@ -56,37 +82,58 @@ impl Given {
 impl Input for Given {
     ghost left = { λ s. Some s.left };
 
-    ghost failures = { λ s. s.failures };
+    ghost calls = { λ s. s.calls };
 
     fn read(&mut self, buffer: &mut [u8]) -> Result<usize, Broken>
         ensures bound { IfOk result (λ n. n ≤ length buffer.new) }
         ensures bytes { ReadConsumes (Some self.old.left) (Some self.new.left) result buffer.new }
-        ensures count { CountsFailure self.old.failures self.new.failures result }
+        ensures count { TellsRead self.old.calls self.new.calls result }
         ensures delivered { IfOk result (λ n. self.new.delivered ≡ self.old.delivered + n) }
         ensures most { IfOk result (λ n. n ≡ min (min (length self.old.left) self.old.most) (length buffer.old)) }
-        ensures fails { IsErr result ↔ ((self.old.left ≡ []) × (self.old.ending ≡ Ending.Failed)) }
+        ensures fails { IsErr result ↔ ((self.old.until_failure ≡ Some 0)
+            ⊎ ((self.old.left ≡ []) × (self.old.ending ≡ Ending.Failed))) }
+        ensures undelivered { IfErr result (λ _. self.new.delivered ≡ self.old.delivered) }
+        ensures same_left { IfErr result (λ _. self.new.left ≡ self.old.left) }
+        ensures same_most { self.new.most ≡ self.old.most }
+        ensures same_ending { self.new.ending ≡ self.old.ending }
+        ensures nearer { self.new.until_failure ≡ one_nearer self.old.until_failure }
     {
+        let due = self.until_failure == Some(0);
+        self.until_failure = nearer(self.until_failure);
         let rest = self.bytes.len() - self.at;
-        if rest == 0 && self.ending == Ending::Failed {
-            self.failures = self.failures.saturating_add(1);
+        if due || (rest == 0 && self.ending == Ending::Failed) {
+            self.calls = self.calls.after_broken_read();
             return Err(Broken);
         }
         let count = rest.min(self.most).min(buffer.len());
         let from = self.at;
         buffer[..count].copy_from_slice(&self.bytes[from..from + count]);
         self.at += count;
+        self.calls = self.calls.after_read();
         Ok(count)
     }
 }
 
-/// An output that takes bytes up to its room, at most so many a write, and then breaks.
+// One call nearer to the one that fails alone.
+fn nearer(until_failure: Option<u64>) -> Option<u64>
+    ensures { result ≡ one_nearer until_failure }
+{
+    match until_failure {
+        Some(0) | None => None,
+        Some(calls) => Some(calls - 1),
+    }
+}
+
+/// An output that takes bytes up to its room, at most so many a write, and then breaks. One write may fail
+/// alone, before which and behind which it works.
 #[derive(Drop)]
 pub struct Taken {
     bytes: Vec<u8>,
     used: usize,
     most: usize,
     flush_fails: bool,
-    failures: u64,
+    until_failure: Option<u64>,
+    calls: WriteCalls,
 }
 
 impl Model for Taken {
@@ -95,7 +142,7 @@ impl Model for Taken {
 
     ghost Value = { Room };
 
-    ghost view = { λ s. record { taken = take s.used s.bytes.items; room = vec_len s.bytes - s.used; most = s.most; flush_fails = s.flush_fails; failures = s.failures } };
+    ghost view = { λ s. record { taken = take s.used s.bytes.items; room = vec_len s.bytes - s.used; most = s.most; flush_fails = s.flush_fails; until_failure = s.until_failure; calls = s.calls } };
 
     ghost invariant = { λ s. (s.used ≤ vec_len s.bytes) × (0 < s.most) };
 }
@@ -110,7 +157,14 @@ impl Taken {
         flush_fails: bool,
     ) -> Result<Taken, AllocError>
         requires { 0 < most }
-        ensures { IfOk result (λ t. t ≡ record { taken = []; room = room; most = most; flush_fails = flush_fails; failures = 0 }) }
+        ensures { IfOk result (λ t. t ≡ record {
+          taken = [];
+          room = room;
+          most = most;
+          flush_fails = flush_fails;
+          until_failure = None;
+          calls = record { counts = record { failures = 0; flushes = 0; failed_flushes = 0 }; broken = false; flushed = false };
+        }) }
     {
         let bytes = vec![in alloc; 0; room]?;
         Ok(Taken {
@@ -118,8 +172,30 @@ impl Taken {
             used: 0,
             most,
             flush_fails,
-            failures: 0,
+            until_failure: None,
+            calls: WriteCalls::new(),
         })
+    }
+
+    /// The same, but that one write fails alone: the first from here on where `writes` is 0.
+    pub fn failing_after(self, writes: u64) -> Taken
+        ensures { result ≡ record self { until_failure = Some writes } }
+    {
+        Taken {
+            bytes: self.bytes,
+            used: self.used,
+            most: self.most,
+            flush_fails: self.flush_fails,
+            until_failure: Some(writes),
+            calls: self.calls,
+        }
+    }
+
+    /// What came of the writes and flushes.
+    pub fn calls(&self) -> WriteCalls
+        ensures { result ≡ self.now.calls }
+    {
+        self.calls
     }
 
     /// What it has taken.
@@ -133,38 +209,51 @@ impl Taken {
 impl Output for Taken {
     ghost taken = { λ s. Some s.taken };
 
-    ghost failures = { λ s. s.failures };
+    ghost calls = { λ s. s.calls };
 
     fn write(&mut self, bytes: &[u8]) -> Result<usize, Broken>
         ensures bound { IfOk result (λ n. n ≤ length bytes.now) }
         ensures some { IfOk result (λ n. 0 < length bytes.now → 0 < n) }
         ensures bytes { WriteAppends (Some self.old.taken) (Some self.new.taken) result bytes.now }
-        ensures count { CountsFailure self.old.failures self.new.failures result }
+        ensures count { TellsWrite self.old.calls self.new.calls result }
         ensures most { IfOk result (λ n. n ≡ min (min self.old.room self.old.most) (length bytes.now)) }
         ensures room { IfOk result (λ n. self.new.room + n ≡ self.old.room) }
-        ensures fails { IsErr result ↔ ((self.old.room ≡ 0) × (0 < length bytes.now)) }
+        ensures fails { IsErr result ↔ ((self.old.until_failure ≡ Some 0)
+            ⊎ ((self.old.room ≡ 0) × (0 < length bytes.now))) }
+        ensures same_room { IfErr result (λ _. self.new.room ≡ self.old.room) }
+        ensures same_most { self.new.most ≡ self.old.most }
+        ensures same_flush { self.new.flush_fails ≡ self.old.flush_fails }
+        ensures nearer { self.new.until_failure ≡ one_nearer self.old.until_failure }
     {
+        let due = self.until_failure == Some(0);
+        self.until_failure = nearer(self.until_failure);
         let room = self.bytes.len() - self.used;
-        if room == 0 && !bytes.is_empty() {
-            self.failures = self.failures.saturating_add(1);
+        if due || (room == 0 && !bytes.is_empty()) {
+            self.calls = self.calls.after_broken_write();
             return Err(Broken);
         }
         let count = room.min(self.most).min(bytes.len());
         let from = self.used;
         self.bytes[from..from + count].copy_from_slice(&bytes[..count]);
         self.used += count;
+        self.calls = self.calls.after_write();
         Ok(count)
     }
 
     fn flush(&mut self) -> Result<(), Broken>
         ensures bytes { self.new.taken ≡ self.old.taken }
-        ensures count { CountsFailure self.old.failures self.new.failures result }
+        ensures count { TellsFlush self.old.calls self.new.calls result }
         ensures fails { IsErr result ↔ IsTrue self.old.flush_fails }
+        ensures same_room { self.new.room ≡ self.old.room }
+        ensures same_most { self.new.most ≡ self.old.most }
+        ensures same_flush { self.new.flush_fails ≡ self.old.flush_fails }
+        ensures same_until { self.new.until_failure ≡ self.old.until_failure }
     {
         if self.flush_fails {
-            self.failures = self.failures.saturating_add(1);
+            self.calls = self.calls.after_broken_flush();
             return Err(Broken);
         }
+        self.calls = self.calls.after_flush();
         Ok(())
     }
 }

@@ -2,6 +2,7 @@
 ghost use Rattle.std.specs.Prelude.{◌≡◌, [], Some};
 ghost use Rattle.pla.specs.Device.{TellsFailure, Writes};
 
+use crate::calls::WriteCalls;
 use crate::device::{Broken, Output};
 use crate::writing::{WriteFault, write_bytes};
 use std::alloc::Global;
@@ -11,7 +12,7 @@ use std::alloc::Global;
 #[derive(Drop)]
 pub struct Held {
     pub bytes: Vec<u8>,
-    pub failures: u64,
+    pub calls: WriteCalls,
 }
 
 impl Held {
@@ -21,7 +22,7 @@ impl Held {
     {
         Held {
             bytes: Vec::new(alloc),
-            failures: 0,
+            calls: WriteCalls::new(),
         }
     }
 
@@ -32,9 +33,9 @@ impl Held {
     /// `WriteFault` where the output fails; it took a beginning of the bytes then.
     pub fn hand_on<W: Output>(&mut self, output: &mut W) -> Result<(), WriteFault>
         ensures bytes { Writes (W.taken output.old) (W.taken output.new) result self.old.bytes.items }
-        ensures count { TellsFailure (W.failures output.old) (W.failures output.new) result }
+        ensures count { TellsFailure (W.calls output.old) (W.calls output.new) result }
         ensures empty { self.new.bytes.items ≡ [] }
-        ensures failures { self.new.failures ≡ self.old.failures }
+        ensures calls { self.new.calls ≡ self.old.calls }
     {
         let done = write_bytes(output, &self.bytes);
         self.bytes.clear();
@@ -45,19 +46,23 @@ impl Held {
 impl Output for Held {
     ghost taken = { λ s. Some s.bytes.items };
 
-    ghost failures = { λ s. s.failures };
+    ghost calls = { λ s. s.calls };
 
     fn write(&mut self, bytes: &[u8]) -> Result<usize, Broken> {
         match self.bytes.extend_from_slice(bytes) {
-            Ok(()) => Ok(bytes.len()),
+            Ok(()) => {
+                self.calls = self.calls.after_write();
+                Ok(bytes.len())
+            }
             Err(_) => {
-                self.failures = self.failures.saturating_add(1);
+                self.calls = self.calls.after_broken_write();
                 Err(Broken)
             }
         }
     }
 
     fn flush(&mut self) -> Result<(), Broken> {
+        self.calls = self.calls.after_flush();
         Ok(())
     }
 }

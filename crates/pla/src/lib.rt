@@ -29,6 +29,7 @@
 #![tactic(auto)]
 
 mod batch;
+mod calls;
 mod description;
 mod device;
 mod echo;
@@ -50,6 +51,7 @@ mod sets;
 mod text;
 mod writing;
 
+pub use calls::{Counts, ReadCalls, WriteCalls};
 pub use description::Pla;
 pub use device::{Broken, Input, Output};
 pub use ending::Ending;

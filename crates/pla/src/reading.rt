@@ -31,8 +31,8 @@ pub fn read_pla<R: Input, W: Output>(
     output: &mut W,
     echo: Echo,
 ) -> Result<Pla, ReadFault>
-    ensures { Reads echo (R.left input.old) (R.left input.new) (R.failures input.old) (R.failures input.new)
-        (W.taken output.old) (W.taken output.new) (W.failures output.old) (W.failures output.new) result }
+    ensures { Reads echo (R.left input.old) (R.left input.new) (R.calls input.old) (R.calls input.new)
+        (W.taken output.old) (W.taken output.new) (W.calls output.old) (W.calls output.new) result }
 {
     let mut scan = Scan::new(alloc, echo);
     let mut held = Held::new(alloc);
@@ -64,7 +64,7 @@ fn feed<W: Output>(
     ensures written { (text : List ℕ) → StandsFor format_limits scan text →
         WritesGrowth (W.taken output.old) (W.taken output.new) result
         (due format_limits scan.echo None text) (due format_limits scan.echo None (text ++ piece.now)) }
-    ensures count { CountsWrites (W.failures output.old) (W.failures output.new) result }
+    ensures count { CountsWrites (W.calls output.old) (W.calls output.new) result }
     ensures onward { (text : List ℕ) → StandsFor format_limits scan text →
         IfOk result (λ next. next.parsed.header.ended ≡ false → position_in scan + length piece.now ≤ position_in next) }
 {
@@ -86,7 +86,7 @@ fn finish<W: Output>(
     ensures written { (text : List ℕ) → StandsFor format_limits scan text →
         WritesGrowth (W.taken output.old) (W.taken output.new) result
         (due format_limits scan.echo None text) (due format_limits scan.echo (Some ending) text) }
-    ensures count { CountsWrites (W.failures output.old) (W.failures output.new) result }
+    ensures count { CountsWrites (W.calls output.old) (W.calls output.new) result }
 {
     let finished = scan.finish(ending, held);
     let handed = held.hand_on(output);

@@ -58,7 +58,7 @@ fn take_line<W: Output>(
         TakesLine format_limits before line.now parser.new result }
     ensures written { WritesLine (W.taken output.old) (W.taken output.new) result echo line.now }
     ensures count { (before : List (List ℕ)) → StandsForLines format_limits parser.old before →
-        CountsWrites (W.failures output.old) (W.failures output.new) result }
+        CountsWrites (W.calls output.old) (W.calls output.new) result }
 {
     let number = parser.lines() + 1;
     match parser.take(line) {
@@ -149,7 +149,7 @@ impl Scan {
             WritesGrowth (W.taken output.old) (W.taken output.new) result
             (due format_limits self.old.echo None text) (due format_limits self.old.echo None (text ++ (bytes.now ++ 10 ∷ []))) }
         ensures count { (text : List ℕ) → StandsFor format_limits self.old text →
-            CountsWrites (W.failures output.old) (W.failures output.new) result }
+            CountsWrites (W.calls output.old) (W.calls output.new) result }
         ensures onward { (text : List ℕ) → StandsFor format_limits self.old text →
             OnOk result (position_in self.old + length bytes.now + 1 ≤ position_in self.new) }
     {
@@ -177,7 +177,7 @@ impl Scan {
             WritesGrowth (W.taken output.old) (W.taken output.new) result
             (due format_limits self.echo None text) (due format_limits self.echo None (text ++ piece.now)) }
         ensures count { (text : List ℕ) → StandsFor format_limits self text →
-            CountsWrites (W.failures output.old) (W.failures output.new) result }
+            CountsWrites (W.calls output.old) (W.calls output.new) result }
         ensures onward { (text : List ℕ) → StandsFor format_limits self text →
             IfOk result (λ scan. scan.parsed.header.ended ≡ false → position_in self + length piece.now ≤ position_in scan) }
     {
@@ -208,7 +208,7 @@ impl Scan {
             WritesGrowth (W.taken output.old) (W.taken output.new) result
             (due format_limits self.old.echo None text) (due format_limits self.old.echo (Some Ending.End) text) }
         ensures count { (text : List ℕ) → StandsFor format_limits self.old text →
-            CountsWrites (W.failures output.old) (W.failures output.new) result }
+            CountsWrites (W.calls output.old) (W.calls output.new) result }
     {
         if self.rest.is_empty() {
             return Ok(());
@@ -238,7 +238,7 @@ impl Scan {
             WritesGrowth (W.taken output.old) (W.taken output.new) result
             (due format_limits self.echo None text) (due format_limits self.echo (Some ending) text) }
         ensures count { (text : List ℕ) → StandsFor format_limits self text →
-            CountsWrites (W.failures output.old) (W.failures output.new) result }
+            CountsWrites (W.calls output.old) (W.calls output.new) result }
     {
         if self.done() {
             return self.describe();

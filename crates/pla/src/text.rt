@@ -32,7 +32,7 @@ pub fn write_pla<W: Output>(
 ) -> Result<(), WriteFault>
     requires { sets.now.size ≡ pla.now.size }
     ensures bytes { Writes (W.taken out.old) (W.taken out.new) result (text_of pla.now out_type sets.now) }
-    ensures count { TellsFailure (W.failures out.old) (W.failures out.new) result }
+    ensures count { TellsFailure (W.calls out.old) (W.calls out.new) result }
 {
     write_covers(pla, out_type, sets.on(), sets.dc(), sets.off(), out)
 }
@@ -55,7 +55,7 @@ pub fn write_covers<W: Output>(
     requires dc_size { dc.now.size ≡ pla.now.size }
     requires off_size { off.now.size ≡ pla.now.size }
     ensures bytes { Writes (W.taken out.old) (W.taken out.new) result (text_of pla.now out_type (lists_of on.now dc.now off.now)) }
-    ensures count { TellsFailure (W.failures out.old) (W.failures out.new) result }
+    ensures count { TellsFailure (W.calls out.old) (W.calls out.new) result }
 {
     let shape = pla.shape();
     let mut digits = Buffer::new();
@@ -113,7 +113,7 @@ fn write_names<W: Output>(
     names: Option<&[Vec<u8>]>,
 ) -> Result<(), WriteFault>
     ensures bytes { PutsOn (W.taken out.old) batch.old done (W.taken out.new) batch.new result (names_text keyword.now (lent_names names.entry)) }
-    ensures count { CountsOn (W.failures out.old) done (W.failures out.new) result }
+    ensures count { CountsOn (W.calls out.old) done (W.calls out.new) result }
 {
     match names {
         Some(names) => {
@@ -133,7 +133,7 @@ fn write_each<W: Output>(
     names: &[Vec<u8>],
 ) -> Result<(), WriteFault>
     ensures bytes { PutsOn (W.taken out.old) batch.old done (W.taken out.new) batch.new result (flat_map (λ name. 32 ∷ name) (name_bytes names.now)) }
-    ensures count { CountsOn (W.failures out.old) done (W.failures out.new) result }
+    ensures count { CountsOn (W.calls out.old) done (W.calls out.new) result }
 {
     let mut done = done;
     for name in names {
@@ -155,7 +155,7 @@ fn write_sections<W: Output>(
 ) -> Result<(), WriteFault>
     ensures bytes { PutsOn (W.taken out.old) batch.old done (W.taken out.new) batch.new result
         (flat_map (rows_text (elsewhere out_type)) (sections out_type (lists_of on.now dc.now off.now))) }
-    ensures count { CountsOn (W.failures out.old) done (W.failures out.new) result }
+    ensures count { CountsOn (W.calls out.old) done (W.calls out.new) result }
 {
     match out_type {
         OutType::F => write_rows(batch, out, done, on, b'1', b'0'),
@@ -186,7 +186,7 @@ fn write_rows<W: Output>(
 ) -> Result<(), WriteFault>
     ensures bytes { PutsOn (W.taken out.old) batch.old done (W.taken out.new) batch.new result
         (rows_text other (record { mark = mark; cubes = list.now.cubes })) }
-    ensures count { CountsOn (W.failures out.old) done (W.failures out.new) result }
+    ensures count { CountsOn (W.calls out.old) done (W.calls out.new) result }
 {
     let mut done = done;
     for cube in list.as_slice() {

@@ -19,7 +19,7 @@ pub struct WriteFault;
 /// `WriteFault` where the output fails; it took a beginning of the bytes then.
 pub fn write_bytes<W: Output>(out: &mut W, bytes: &[u8]) -> Result<(), WriteFault>
     ensures bytes { Writes (W.taken out.old) (W.taken out.new) result bytes.now }
-    ensures count { TellsFailure (W.failures out.old) (W.failures out.new) result }
+    ensures count { TellsFailure (W.calls out.old) (W.calls out.new) result }
 {
     let mut rest = bytes;
     while !rest.is_empty() {
@@ -42,7 +42,7 @@ pub fn then<W: Output>(
     bytes: &[u8],
 ) -> Result<(), WriteFault>
     ensures bytes { Continues (W.taken out.old) done (W.taken out.new) result bytes.now }
-    ensures count { CountsOn (W.failures out.old) done (W.failures out.new) result }
+    ensures count { CountsOn (W.calls out.old) done (W.calls out.new) result }
     ensures failed { OnErr done (result ≡ done) }
     ensures untouched { OnErr done (out.new ≡ out.old) }
 {

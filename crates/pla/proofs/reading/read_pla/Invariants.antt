@@ -5,8 +5,8 @@ use Rattle.pla.proofs.reading.read_pla.Given as goal
 
 abbrev pub invariant-loop-buffer : goal.invariant-loop-buffer
 invariant-loop-buffer g l = record {
-  on : ReadsOn l.fn.echo l.scan (g.R.Input.left l.fn.input) (g.R.Input.left l.input) (g.R.Input.failures l.fn.input) (g.R.Input.failures l.input)
-      (g.W.Output.taken l.fn.output) (g.W.Output.taken l.output) (g.W.Output.failures l.fn.output) (g.W.Output.failures l.output);
+  on : ReadsOn l.fn.echo l.scan (g.R.Input.left l.fn.input) (g.R.Input.left l.input) (g.R.Input.calls l.fn.input) (g.R.Input.calls l.input)
+      (g.W.Output.taken l.fn.output) (g.W.Output.taken l.output) (g.W.Output.calls l.fn.output) (g.W.Output.calls l.output);
   size : length l.buffer ≡ 4096;
   empty : l.held.bytes.items ≡ [];
 }

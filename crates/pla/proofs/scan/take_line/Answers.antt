@@ -1,6 +1,6 @@
 use Rattle.std.proofs.Common.{◌≡◌, ◌+◌, None, Some, length, option_map, refl, sym, subst}
 use Rattle.cube.specs.Limits.{format_limits}
-use Rattle.pla.specs.Device.{HasFailed}
+use Rattle.pla.specs.Device.{AllWritten, LastUnwritten}
 use Rattle.pla.specs.Fault.{fault_on, at_line}
 use Rattle.pla.specs.State.{Refuses}
 use Rattle.pla.specs.Reads.{MatchCause}
@@ -21,6 +21,6 @@ returns-in-Err-Fault-clause-takes g c = λ before st.
 
 pub returns-in-Err-Fault-clause-count : goal.returns-in-Err-Fault-clause-count
 returns-in-Err-Fault-clause-count g c = λ before st.
-    let count = g.W.Output.failures c.args.output.now in
-    subst (λ k. MatchCause k (HasFailed count count) (count ≡ count) (count ≡ count)) (sym c.in-Err-Fault.kind-is)
+    let count = g.W.Output.calls c.args.output.now in
+    subst (λ k. MatchCause k (LastUnwritten count count) (AllWritten count count) (AllWritten count count)) (sym c.in-Err-Fault.kind-is)
     (fault_counts before c.args.line.now c.in-Err-Fault.kind count (subst (Refuses format_limits before c.args.line.now) c.in-Err-Fault.field-0-is (c.in-Err-Fault.ensures.stands before st)))

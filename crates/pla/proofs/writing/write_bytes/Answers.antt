@@ -9,5 +9,5 @@ loop-rest-preserved g c =
     let rest = c.loop-rest.rest.now in
     record {
       bytes = (inv.bytes.0 ++ take n rest, (front_more c.args.bytes.now inv.bytes.0 rest n inv.bytes.1 ∙ ap (λ w. (inv.bytes.0 ++ take n rest) ++ w) (drop_is n rest)), appends_then _ _ _ inv.bytes.0 (take n rest) inv.bytes.2 c.in-Ok.ensures.bytes);
-      count = c.in-Ok.ensures.count ∙ inv.count;
+      count = ap (λ calls. calls.counts) c.in-Ok.ensures.count ∙ inv.count;
     }

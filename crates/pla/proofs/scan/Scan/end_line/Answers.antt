@@ -25,7 +25,7 @@ returns-then-is_empty-clause-written g c =
     (ap (λ s. s.parsed.header.ended) c.self.view_is ∙ c.requires.open) c.requires.line (nothing_before _ c.args.bytes.now empty) c.take_line.ensures.takes c.take_line.ensures.written)
 
 pub returns-then-is_empty-clause-count : goal.returns-then-is_empty-clause-count
-returns-then-is_empty-clause-count g c = rw (← c.self.view_is) (λ text st. ends_counts c.take_line.result _ text _ _ st (ap (λ s. s.parsed.header.ended) c.self.view_is ∙ c.requires.open) c.take_line.ensures.count)
+returns-then-is_empty-clause-count g c = rw (← c.self.view_is) (λ text st. ends_counts c.take_line.result _ text (g.W.Output.calls c.args.output.now) (g.W.Output.calls c.take_line.new.output) st (ap (λ s. s.parsed.header.ended) c.self.view_is ∙ c.requires.open) c.take_line.ensures.count)
 
 pub returns-then-is_empty-clause-onward : goal.returns-then-is_empty-clause-onward
 returns-then-is_empty-clause-onward g c =
@@ -46,7 +46,7 @@ returns-in_err-hold-clause-written g c =
 pub returns-in_err-hold-clause-count : goal.returns-in_err-hold-clause-count
 returns-in_err-hold-clause-count g c =
     let p = err_from_is_err_and c.from_residual.result c.from_residual.ensures.1 in
-    rw (p.1, p.2) (λ text st. held_counts c.in_err-hold.field-0.0 _ _ _ c.in_err-hold.ensures.fault)
+    rw (p.1, p.2) (λ text st. held_counts c.in_err-hold.field-0.0 _ _ (g.W.Output.calls c.args.output.now) c.in_err-hold.ensures.fault)
 
 pub returns-in_err-take_line-clause-fault : goal.returns-in_err-take_line-clause-fault
 returns-in_err-take_line-clause-fault g c =
@@ -67,7 +67,7 @@ pub returns-in_err-take_line-clause-count : goal.returns-in_err-take_line-clause
 returns-in_err-take_line-clause-count g c =
     let p = err_from_is_err_and c.from_residual-in_err-take_line.result c.from_residual-in_err-take_line.ensures.1 in
     let kept = c.self-2.view_is ∙ c.in_ok-hold.ensures.kept in
-    rw (p.1, p.2) (λ text st. ends_counts {T = Unit {0}} (Err c.in_err-take_line.field-0.0) c.args.self.now text _ _ st c.requires.open
+    rw (p.1, p.2) (λ text st. ends_counts {T = Unit {0}} (Err c.in_err-take_line.field-0.0) c.args.self.now text (g.W.Output.calls c.args.output.now) (g.W.Output.calls c.take_line-2.new.output) st c.requires.open
     (λ before sb. c.in_err-take_line.ensures.count before (subst (λ s. StandsForLines format_limits s.parsed before) (sym kept) sb)))
 
 pub returns-clause-stands : goal.returns-clause-stands
@@ -86,7 +86,7 @@ returns-clause-written g c =
 pub returns-clause-count : goal.returns-clause-count
 returns-clause-count g c =
     let kept = c.self-2.view_is ∙ c.in_ok-hold.ensures.kept in
-    λ text st. ends_counts {T = Unit {0}} (Ok tt) c.args.self.now text _ _ st c.requires.open
+    λ text st. ends_counts {T = Unit {0}} (Ok tt) c.args.self.now text (g.W.Output.calls c.args.output.now) (g.W.Output.calls c.take_line-2.new.output) st c.requires.open
     (λ before sb. c.in_ok-take_line.ensures.count before (subst (λ s. StandsForLines format_limits s.parsed before) (sym kept) sb))
 
 pub returns-clause-onward : goal.returns-clause-onward

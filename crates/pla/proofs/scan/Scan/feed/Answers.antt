@@ -13,8 +13,8 @@ loop-rest-preserved g c =
     let rest = c.loop-rest.rest.now in
     let end = c.in-Some.end in
     let e = c.in_ok-end_line-in-Some.ensures in
-    subst (λ r. Fed c.args.self c.end_line.new.self c.args.piece.now r (g.W.Output.taken c.args.output.now) (g.W.Output.taken c.end_line.new.output) (g.W.Output.failures c.args.output.now) (g.W.Output.failures c.end_line.new.output)) (drop_is (end + 1) rest)
-    (fed_line c.args.self c.loop-rest.self c.end_line.new.self c.args.piece.now rest (take end rest) (drop (end + 1) rest) _ (g.W.Output.taken c.loop-rest.output) _ _ (g.W.Output.failures c.loop-rest.output) _
+    subst (λ r. Fed c.args.self c.end_line.new.self c.args.piece.now r (g.W.Output.taken c.args.output.now) (g.W.Output.taken c.end_line.new.output) (g.W.Output.calls c.args.output.now) (g.W.Output.calls c.end_line.new.output)) (drop_is (end + 1) rest)
+    (fed_line c.args.self c.loop-rest.self c.end_line.new.self c.args.piece.now rest (take end rest) (drop (end + 1) rest) _ (g.W.Output.taken c.loop-rest.output) _ _ (g.W.Output.calls c.loop-rest.output) _
     c.loop-rest.invariant (sym c.done.ensures ∙ c.loop-rest-test.true) c.in-Some.ensures.2 e.echo e.stands e.written e.count e.onward)
 
 pub returns-in_err-end_line-in-Some-clause-fault : goal.returns-in_err-end_line-in-Some-clause-fault
@@ -39,7 +39,7 @@ pub returns-in_err-end_line-in-Some-clause-count : goal.returns-in_err-end_line-
 returns-in_err-end_line-in-Some-clause-count g c =
     let e = c.in_err-end_line-in-Some.ensures in
     let p = err_from_is_err_and c.from_residual.result c.from_residual.ensures.1 in
-    rw (p.1, p.2) (λ text st. fed_count c.in_err-end_line-in-Some.field-0.0 c.args.self c.loop-rest.self c.args.piece.now c.loop-rest.rest.now _ _ _ _ _ text c.loop-rest.invariant st e.count)
+    rw (p.1, p.2) (λ text st. fed_count c.in_err-end_line-in-Some.field-0.0 c.args.self c.loop-rest.self c.args.piece.now c.loop-rest.rest.now _ _ (g.W.Output.calls c.args.output.now) (g.W.Output.calls c.loop-rest.output) (g.W.Output.calls c.end_line.new.output) text c.loop-rest.invariant st e.count)
 
 pub returns-in_err-hold-in-None-clause-fault : goal.returns-in_err-hold-in-None-clause-fault
 returns-in_err-hold-in-None-clause-fault g c =
@@ -61,8 +61,8 @@ returns-in_err-hold-in-None-clause-written g c =
 pub returns-in_err-hold-in-None-clause-count : goal.returns-in_err-hold-in-None-clause-count
 returns-in_err-hold-in-None-clause-count g c =
     let p = err_from_is_err_and c.from_residual-in_err-hold-in-None.result c.from_residual-in_err-hold-in-None.ensures.1 in
-    rw (p.1, p.2) (λ text st. fed_count c.in_err-hold-in-None.field-0.0 c.args.self c.loop-rest.self c.args.piece.now c.loop-rest.rest.now _ _ _ _ _ text c.loop-rest.invariant st
-    (λ t s. held_counts c.in_err-hold-in-None.field-0.0 _ _ (g.W.Output.failures c.loop-rest.output) c.in_err-hold-in-None.ensures.fault))
+    rw (p.1, p.2) (λ text st. fed_count c.in_err-hold-in-None.field-0.0 c.args.self c.loop-rest.self c.args.piece.now c.loop-rest.rest.now _ _ (g.W.Output.calls c.args.output.now) (g.W.Output.calls c.loop-rest.output) (g.W.Output.calls c.loop-rest.output) text c.loop-rest.invariant st
+    (λ t s. held_counts c.in_err-hold-in-None.field-0.0 _ _ (g.W.Output.calls c.loop-rest.output) c.in_err-hold-in-None.ensures.fault))
 
 pub returns-in-None : goal.returns-in-None
 returns-in-None g c =

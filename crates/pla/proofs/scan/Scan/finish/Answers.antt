@@ -12,7 +12,7 @@ returns-then-done-clause-written g c = λ text st.
     ([], ended_due c.args.self text (Some c.args.ending) st (sym c.done.ensures ∙ c.if-done.true) ∙ sym (append-nil _), described_writes c.describe.result _ _ [] (appends_nothing _))
 
 pub returns-then-done-clause-count : goal.returns-then-done-clause-count
-returns-then-done-clause-count g c = λ text st. ended_counts c.describe.result c.args.self text _ st (sym c.done.ensures ∙ c.if-done.true) c.describe.ensures
+returns-then-done-clause-count g c = λ text st. ended_counts c.describe.result c.args.self text (g.W.Output.calls c.args.output.now) st (sym c.done.ensures ∙ c.if-done.true) c.describe.ensures
 
 pub returns-in_err-last_line-in-End-clause-answer : goal.returns-in_err-last_line-in-End-clause-answer
 returns-in_err-last_line-in-End-clause-answer g c =
@@ -34,4 +34,4 @@ returns-in_ok-last_line-in-End-clause-written g c = rw c.in-End.is (λ text st.
 
 pub returns-in_ok-last_line-in-End-clause-count : goal.returns-in_ok-last_line-in-End-clause-count
 returns-in_ok-last_line-in-End-clause-count g c = λ text st.
-    last_counts c.describe-in-End.result c.last_line.new.self.parsed text _ _ (c.in_ok-last_line-in-End.ensures.takes text st) c.describe-in-End.ensures (c.in_ok-last_line-in-End.ensures.count text st)
+    last_counts c.describe-in-End.result c.last_line.new.self.parsed text (g.W.Output.calls c.args.output.now) (g.W.Output.calls c.last_line.new.output) (c.in_ok-last_line-in-End.ensures.takes text st) c.describe-in-End.ensures (c.in_ok-last_line-in-End.ensures.count text st)

@@ -29,4 +29,4 @@ returns-clause-written g c =
     rw (← c.self.view_is) (λ text st. last_written c.take_line.result _ c.take_line.new.parser text c.deref.result.now _ _ st (ap (λ s. s.parsed.header.ended) c.self.view_is ∙ c.requires) c.deref.ensures.value some c.take_line.ensures.takes c.take_line.ensures.written)
 
 pub returns-clause-count : goal.returns-clause-count
-returns-clause-count g c = rw (← c.self.view_is) (λ text st. ends_counts c.take_line.result _ text _ _ st (ap (λ s. s.parsed.header.ended) c.self.view_is ∙ c.requires) c.take_line.ensures.count)
+returns-clause-count g c = rw (← c.self.view_is) (λ text st. ends_counts c.take_line.result _ text (g.W.Output.calls c.args.output.now) (g.W.Output.calls c.take_line.new.output) st (ap (λ s. s.parsed.header.ended) c.self.view_is ∙ c.requires) c.take_line.ensures.count)

@@ -1,0 +1,142 @@
+//! What a device tells of the calls that were made to it.
+ghost use Rattle.std.specs.Prelude.{◌≡◌, false};
+ghost use Rattle.pla.specs.Device.{flush_broke, flush_went, read_broke, read_went, write_broke, write_went};
+
+/// The reads from an input.
+#[derive(Clone, Copy, Debug, PartialEq, Eq)]
+pub struct ReadCalls {
+    /// How many failed, up to the last value of a u64, at which it stays.
+    pub failures: u64,
+    /// The last one failed.
+    pub broken: bool,
+}
+
+/// How many writes to an output failed, how many flushes were asked for, and how many of these failed:
+/// each up to the last value of a u64, at which it stays.
+#[derive(Clone, Copy, Debug, PartialEq, Eq)]
+pub struct Counts {
+    /// Writes that failed.
+    pub failures: u64,
+    /// Flushes that were asked for.
+    pub flushes: u64,
+    /// Flushes that failed.
+    pub failed_flushes: u64,
+}
+
+/// The writes and flushes of an output.
+#[derive(Clone, Copy, Debug, PartialEq, Eq)]
+pub struct WriteCalls {
+    /// How many there were, by what came of them.
+    pub counts: Counts,
+    /// The last write failed.
+    pub broken: bool,
+    /// The last call was a flush.
+    pub flushed: bool,
+}
+
+impl ReadCalls {
+    /// None so far.
+    pub fn new() -> ReadCalls
+        ensures { result ≡ record { failures = 0; broken = false } }
+    {
+        ReadCalls {
+            failures: 0,
+            broken: false,
+        }
+    }
+
+    /// One more read, which went well.
+    pub fn after_read(self) -> ReadCalls
+        ensures { result ≡ read_went self }
+    {
+        ReadCalls {
+            failures: self.failures,
+            broken: false,
+        }
+    }
+
+    /// One more read, which failed.
+    pub fn after_broken_read(self) -> ReadCalls
+        ensures { result ≡ read_broke self }
+    {
+        ReadCalls {
+            failures: self.failures.saturating_add(1),
+            broken: true,
+        }
+    }
+}
+
+impl WriteCalls {
+    /// None so far.
+    pub fn new() -> WriteCalls
+        ensures counts { result.counts ≡ record { failures = 0; flushes = 0; failed_flushes = 0 } }
+        ensures broken { result.broken ≡ false }
+        ensures flushed { result.flushed ≡ false }
+    {
+        WriteCalls {
+            counts: Counts {
+                failures: 0,
+                flushes: 0,
+                failed_flushes: 0,
+            },
+            broken: false,
+            flushed: false,
+        }
+    }
+
+    /// One more write, which went well.
+    pub fn after_write(self) -> WriteCalls
+        ensures { result ≡ write_went self }
+    {
+        WriteCalls {
+            counts: self.counts,
+            broken: false,
+            flushed: false,
+        }
+    }
+
+    /// One more write, which failed.
+    pub fn after_broken_write(self) -> WriteCalls
+        ensures { result ≡ write_broke self }
+    {
+        WriteCalls {
+            counts: Counts {
+                failures: self.counts.failures.saturating_add(1),
+                flushes: self.counts.flushes,
+                failed_flushes: self.counts.failed_flushes,
+            },
+            broken: true,
+            flushed: false,
+        }
+    }
+
+    /// One more flush, which went well.
+    pub fn after_flush(self) -> WriteCalls
+        ensures { result ≡ flush_went self }
+    {
+        WriteCalls {
+            counts: Counts {
+                failures: self.counts.failures,
+                flushes: self.counts.flushes.saturating_add(1),
+                failed_flushes: self.counts.failed_flushes,
+            },
+            broken: self.broken,
+            flushed: true,
+        }
+    }
+
+    /// One more flush, which failed.
+    pub fn after_broken_flush(self) -> WriteCalls
+        ensures { result ≡ flush_broke self }
+    {
+        WriteCalls {
+            counts: Counts {
+                failures: self.counts.failures,
+                flushes: self.counts.flushes.saturating_add(1),
+                failed_flushes: self.counts.failed_flushes.saturating_add(1),
+            },
+            broken: self.broken,
+            flushed: true,
+        }
+    }
+}
