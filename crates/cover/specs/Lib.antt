@@ -9,3 +9,4 @@ pub mod Complete
 pub mod Parts
 pub mod Reduced
 pub mod Sides
+pub mod Apart

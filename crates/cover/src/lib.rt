@@ -34,12 +34,14 @@ mod marking;
 mod region;
 mod sum;
 mod sum_absorb;
+mod sum_apart;
 mod sum_branch;
 mod sum_choice;
 mod sum_join;
 mod sum_leaf;
 mod sum_parts;
 mod sum_rows;
+mod sum_sides;
 mod sum_table;
 #[cfg(test)]
 mod sum_tests;
