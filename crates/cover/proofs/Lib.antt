@@ -26,3 +26,6 @@ pub mod SumFreed
 pub mod SumSides
 pub mod SumJoin
 pub mod SumUncovered
+pub mod SumMixed
+pub mod SumApart
+pub mod Dividing

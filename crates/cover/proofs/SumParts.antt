@@ -123,6 +123,30 @@ cond-le true false h = omega arith
 cond-le false true h = absurd (false≢true (sym (h refl)))
 cond-le false false h = omega arith
 
+-- how many inputs have a literal in two lists that have none where two others have none
+module _ (cs ds es fs : List Cube) (none_later : (k : ℕ) → (has_literal k cs || has_literal k ds) ≡ false → (has_literal k es || has_literal k fs) ≡ false) where
+  pub live-at_most : (n : ℕ) → live n es fs ≤ live n cs ds
+  live-at_most zero = omega arith
+  live-at_most (suc n) =
+      omega (arith, live-at_most n, cond-le (has_literal n cs || has_literal n ds) (has_literal n es || has_literal n fs) (none_later n))
+
+-- the same, where one is gone
+module _ (i : ℕ) (cs ds es fs : List Cube) (none_later : (k : ℕ) → (has_literal k cs || has_literal k ds) ≡ false → (has_literal k es || has_literal k fs) ≡ false)
+    (gone : (has_literal i es || has_literal i fs) ≡ false) where
+  pub live-below : (n : ℕ) → i < n → (has_literal i cs || has_literal i ds) ≡ true → live n es fs < live n cs ds
+  live-below zero lt on = absurd (omega arith)
+  live-below (suc n) lt on = elim (cases_eq i n) [
+    | inl e ↦
+        let was : ◌≡◌ {A = ℕ} (cond (has_literal n cs || has_literal n ds) 1 0) 1 =
+        ap (λ x. cond x 1 0) (ap (λ x. has_literal x cs || has_literal x ds) (sym e) ∙ on) in
+        let is : ◌≡◌ {A = ℕ} (cond (has_literal n es || has_literal n fs) 1 0) 0 =
+        ap (λ x. cond x 1 0) (ap (λ x. has_literal x es || has_literal x fs) (sym e) ∙ gone) in
+        omega (arith, live-at_most cs ds es fs none_later n, was, is)
+    | inr ne ↦
+        let below : i < n = omega arith in
+        omega (arith, live-below n below on, cond-le (has_literal n cs || has_literal n ds) (has_literal n es || has_literal n fs) (none_later n))
+  ]
+
 module _ (i : ℕ) (cs ds es fs : List Cube) (inner : Frees i cs es) (outer : Frees i ds fs) where
   none_later : (k : ℕ) → (has_literal k cs || has_literal k ds) ≡ false → (has_literal k es || has_literal k fs) ≡ false
   none_later k h = elim (cases_eq k i) [
@@ -132,24 +156,8 @@ module _ (i : ℕ) (cs ds es fs : List Cube) (inner : Frees i cs es) (outer : Fr
         or_from (has_literal k es) (has_literal k fs) (inner.others k ne both.0) (outer.others k ne both.1)
   ]
 
-  live-le : (n : ℕ) → live n es fs ≤ live n cs ds
-  live-le zero = omega arith
-  live-le (suc n) =
-      omega (arith, live-le n, cond-le (has_literal n cs || has_literal n ds) (has_literal n es || has_literal n fs) (none_later n))
-
   pub live-less : (n : ℕ) → i < n → (has_literal i cs || has_literal i ds) ≡ true → live n es fs < live n cs ds
-  live-less zero lt on = absurd (omega arith)
-  live-less (suc n) lt on = elim (cases_eq i n) [
-    | inl e ↦
-        let was : ◌≡◌ {A = ℕ} (cond (has_literal n cs || has_literal n ds) 1 0) 1 =
-        ap (λ x. cond x 1 0) (ap (λ x. has_literal x cs || has_literal x ds) (sym e) ∙ on) in
-        let is : ◌≡◌ {A = ℕ} (cond (has_literal n es || has_literal n fs) 1 0) 0 =
-        ap (λ x. cond x 1 0) (ap (λ x. has_literal x es || has_literal x fs) (sym e) ∙ or_from (has_literal i es) (has_literal i fs) inner.there outer.there) in
-        omega (arith, live-le n, was, is)
-    | inr ne ↦
-        let below : i < n = omega arith in
-        omega (arith, live-less n below on, cond-le (has_literal n cs || has_literal n ds) (has_literal n es || has_literal n fs) (none_later n))
-  ]
+  live-less = live-below i cs ds es fs none_later (or_from (has_literal i es) (has_literal i fs) inner.there outer.there)
 
 -- ---- meets
 

@@ -16,7 +16,7 @@ use Rattle.cover.specs.Marks.{is_symbol}
 use Rattle.cover.specs.Parts.{has_literal, live}
 use Rattle.cover.specs.Reduced.{IsUncovered}
 use Rattle.cover.proofs.Lists.{all_members, members_all, list_any_from, list_any_witness}
-use Rattle.cover.proofs.SumParts.{cond-le}
+use Rattle.cover.proofs.SumParts.{live-at_most}
 
 pub IsUncovered-all : (cubes others : List Cube) → IsUncovered cubes others cubes
 IsUncovered-all cubes others = record { within = λ c h. h; over = λ c h. inl h }
@@ -69,15 +69,10 @@ module _ (cubes others kept : List Cube) (left : IsUncovered cubes others kept) 
       list_any_false test kept (λ c m t. list_any_none test cubes c h (left.within c m) t)
 
   pub live-uncovered : (n : ℕ) → live n kept others ≤ live n cubes others
-  live-uncovered zero = omega arith
-  live-uncovered (suc n) =
-      omega (
-        arith,
-        live-uncovered n,
-        cond-le (has_literal n cubes || has_literal n others) (has_literal n kept || has_literal n others)
-            (λ h. let both = or_parts (has_literal n cubes) (has_literal n others) h in
-            or_from (has_literal n kept) (has_literal n others) (has_literal-uncovered n both.0) both.1),
-      )
+  live-uncovered =
+      live-at_most cubes others kept others
+      (λ k h. let both = or_parts (has_literal k cubes) (has_literal k others) h in
+      or_from (has_literal k kept) (has_literal k others) (has_literal-uncovered k both.0) both.1)
 
   places-uncovered : (p : Place) → difference (places kept) (places others) p ≡ difference (places cubes) (places others) p
   places-uncovered p = elim (cases_Bool (places others p)) [

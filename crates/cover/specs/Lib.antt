@@ -10,3 +10,4 @@ pub mod Parts
 pub mod Reduced
 pub mod Sides
 pub mod Reason
+pub mod Apart

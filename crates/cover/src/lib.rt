@@ -36,12 +36,14 @@ mod region;
 mod splitting_input;
 mod sum;
 mod sum_absorb;
+mod sum_apart;
 mod sum_branch;
 mod sum_choice;
 mod sum_join;
 mod sum_leaf;
 mod sum_parts;
 mod sum_rows;
+mod sum_sides;
 mod sum_table;
 #[cfg(test)]
 mod sum_tests;

@@ -13,9 +13,10 @@
 //! no prime is compared with the others: each merge takes time in the lengths of its lists, which are
 //! in row order. The input with most literals is split at, and lists with one literal at each input
 //! are their own sum but for the cubes that lie in others (Brayton et al. 1984).
-ghost use Rattle.std.specs.Prelude.{◌≡◌, ◌<◌, ◌||◌, IfOk, not, true};
+ghost use Rattle.std.specs.Prelude.{◌≡◌, ◌<◌, ◌||◌, ◌++◌, IfOk, not, true};
 ghost use Rattle.cube.specs.Cube.{intersection, difference as difference_of};
 ghost use Rattle.cube.specs.Sum.{complete_sum as complete_sum_of};
+ghost use Rattle.cover.specs.Apart.{IsInParts};
 ghost use Rattle.cover.specs.Cubes.{AreCubes};
 ghost use Rattle.cover.specs.Parts.{has_literal};
 ghost use Rattle.cover.specs.Places.{places};
@@ -23,12 +24,13 @@ ghost use Rattle.cover.specs.Sides.{IsSide};
 
 use crate::list::Cover;
 use crate::sum_absorb::{reduced, without_covered};
+use crate::sum_apart::{Parts, has_free_row, parts_apart};
 use crate::sum_branch::{at_both_values, at_either_value, literal, thin_at_value};
-use crate::sum_choice::{choose, hold_everything, is_unate};
+use crate::sum_choice::{choose, has_literal_in_each, hold_everything, is_unate};
 use crate::sum_join::joined;
 use crate::sum_leaf::free_sum;
 use crate::sum_parts::has_symbol;
-use crate::sum_rows::{merge_three, sorted};
+use crate::sum_rows::{merge, merge_three, sorted};
 use crate::sum_table::{Sums, hash_of};
 use crate::tautology::universal;
 use cube::{Cube, Shape};
@@ -107,12 +109,41 @@ fn split_sum(
     let Some(i) = choose(shape, inner, outer) else {
         return free_sum(alloc, shape, inner, outer);
     };
+    if outer.is_empty() && !has_literal_in_each(shape, inner, i) {
+        if let Some(parts) = parts_apart(alloc, shape, inner)? {
+            return apart_sum(alloc, shape, found, parts);
+        }
+    }
     let both_inner = at_both_values(alloc, shape, inner, i)?;
     let both_outer = at_either_value(alloc, shape, outer, i)?;
     let both = sum_between(alloc, shape, found, both_inner, both_outer)?;
     let low = side_sum(alloc, shape, found, i, false, inner, outer)?;
     let high = side_sum(alloc, shape, found, i, true, inner, outer)?;
     merge_three(alloc, shape, i, both, low, high)
+}
+
+// The complete sum of the places of two parts that have no input in common: the sums of both, or that
+// of one, where it holds everything.
+#[cycle(sum)]
+fn apart_sum(
+    alloc: Global,
+    shape: Shape,
+    found: &mut Sums,
+    parts: Parts,
+) -> Result<Vec<Cube>, AllocError>
+    requires { IsInParts shape (parts.one.items ++ parts.other.items) parts.one.items parts.other.items }
+    ensures { IfOk result (λ rows. rows.items ≡ complete_sum_of shape (places (parts.one.items ++ parts.other.items))) }
+{
+    let Parts { one, other } = parts;
+    let sum = left_sum(alloc, shape, found, one, Vec::new(alloc))?;
+    if has_free_row(&sum) {
+        return Ok(sum);
+    }
+    let other_sum = left_sum(alloc, shape, found, other, Vec::new(alloc))?;
+    if has_free_row(&other_sum) {
+        return Ok(other_sum);
+    }
+    merge(alloc, shape, sum, other_sum)
 }
 
 // What the places at one value of input `i` add to those at both: their complete sum, or nothing

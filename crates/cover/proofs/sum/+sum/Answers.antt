@@ -1,15 +1,22 @@
-use Rattle.std.proofs.Common.{◌≡◌, ◌∙◌, ◌<◌, ◌≤◌, ap, refl, sym, subst, arith, true, vec_len, IfSome}
+use Rattle.std.proofs.Common.{◌≡◌, ◌∙◌, ◌<◌, ◌≤◌, ◌++◌, ap, refl, sym, subst, arith, true, vec_len, length, IfSome}
+use Rattle.std.specs.List.{Contains}
 use Rattle.std.proofs.lemmas.Bool.{eqb-true}
 use Rattle.std.proofs.lemmas.Result.{IfOk-weaker}
-use Rattle.cube.specs.Cube.{Place, IsPlace, difference}
+use Rattle.std.proofs.lemmas.List.Elements.{All-nil}
+use Rattle.cube.specs.Cube.{Cube, Place, IsCube, IsPlace, difference}
 use Rattle.cube.specs.Sum.{complete_sum}
+use Rattle.cover.specs.Apart.{IsFree, IsInParts}
+use Rattle.cover.specs.Cubes.{AreCubes}
 use Rattle.cover.specs.Places.{places}
 use Rattle.cover.specs.Complete.{at_input, at_both, at_either}
 use Rattle.cover.specs.Parts.{live, has_symbol}
 use Rattle.cover.specs.Reduced.{IsUnate, IsUncovered}
+use Rattle.cover.proofs.Dividing.{IsInParts-appended, complete_sum-appended, live-parts, live-one, live-other}
+use Rattle.cover.proofs.Lists.{all_members}
+use Rattle.cover.proofs.SumApart.{complete_sum-whole, complete_sum-whole_other, complete_sum-parts}
 use Rattle.cover.proofs.SumRows.{nothing_left}
 use Rattle.cover.proofs.SumUnate.{complete_sum-unate}
-use Rattle.cover.proofs.SumStep.{sum_of_lists, branch_falls, branch_sum, both_sum, complete_sum-no_outer, complete_sum-empty, complete_sum-single, complete_sum-sharp, complete_sum-covered, AreCubes-complete_sum}
+use Rattle.cover.proofs.SumStep.{sum_of_lists, branch_falls, branch_sum, both_sum, complete_sum-no_outer, sum_of_list, complete_sum-empty, complete_sum-single, complete_sum-sharp, complete_sum-covered, AreCubes-complete_sum}
 use Rattle.cover.proofs.SumUncovered.{AreCubes-uncovered, live-uncovered, complete_sum-uncovered}
 use Rattle.cover.proofs.SumSides.{IsSide-none, IsSide-sum, complete_sum-sides}
 use Rattle.cover.proofs.sum.+sum.Goals as goal
@@ -124,3 +131,75 @@ pub sum_between-returns : goal.sum_between-returns
 sum_between-returns t c =
     let kept = subst (λ l. IsUncovered c.args.inner.items l c.in_ok-left.left.items) c.deref.ensures.value c.in_ok-left.ensures in
     IfOk-weaker c.left_sum.result _ _ (λ rows h. h ∙ complete_sum-uncovered c.args.shape c.args.inner.items c.args.outer.items c.in_ok-left.left.items kept) c.left_sum.ensures
+
+pub split_sum-apart_sum-requires : goal.split_sum-apart_sum-requires
+split_sum-apart_sum-requires t c =
+    let parts = subst (λ found. IfSome found (λ parts. IsInParts c.args.shape c.args.inner.now parts.one.items parts.other.items)) c.in-Some-2.is c.in_ok-parts.ensures in
+    let one = c.in-Some-2.parts.one.items in
+    let other = c.in-Some-2.parts.other.items in
+    let less : live c.args.shape.inputs one other ≤ live c.args.shape.inputs c.args.inner.now c.args.outer.now =
+    live-parts c.args.shape c.args.inner.now one other parts c.args.outer.now c.args.shape.inputs in
+    (omega arith, IsInParts-appended c.args.shape c.args.inner.now one other parts)
+
+pub split_sum-returns-in-Some-2 : goal.split_sum-returns-in-Some-2
+split_sum-returns-in-Some-2 t c =
+    let parts = subst (λ found. IfSome found (λ parts. IsInParts c.args.shape c.args.inner.now parts.one.items parts.other.items)) c.in-Some-2.is c.in_ok-parts.ensures in
+    IfOk-weaker c.apart_sum.result _ _ (λ rows h.
+    complete_sum-no_outer c.args.shape rows.items c.args.inner.now c.args.outer.now
+    (nothing_left c.args.outer.now (eqb-true (length c.args.outer.now) 0 (sym c.is_empty.ensures ∙ c.if-is_empty.true)))
+    (h ∙ complete_sum-appended c.args.shape c.args.inner.now c.in-Some-2.parts.one.items c.in-Some-2.parts.other.items parts)) c.apart_sum.ensures
+
+pub apart_sum-left_sum-requires : goal.apart_sum-left_sum-requires
+apart_sum-left_sum-requires t c =
+    let one = c.args.parts.one.items in
+    let other = c.args.parts.other.items in
+    let less : live c.args.shape.inputs one c.new.result.items < live c.args.shape.inputs one other =
+    subst (λ l. live c.args.shape.inputs one l < live c.args.shape.inputs one other) (sym c.new.ensures.items) (live-one c.args.shape (one ++ other) one other c.requires) in
+    (omega arith, (c.requires.one_cubes, subst (AreCubes c.args.shape) (sym c.new.ensures.items) (All-nil (IsCube c.args.shape))))
+
+pub apart_sum-returns-then-has_free_row : goal.apart_sum-returns-then-has_free_row
+apart_sum-returns-then-has_free_row t c =
+    let one = c.args.parts.one.items in
+    let other = c.args.parts.other.items in
+    let w = c.has_free_row.ensures.some c.if-has_free_row.true in
+    complete_sum-whole c.args.shape (one ++ other) one other c.requires c.in_ok-sum.sum.items
+    (c.in_ok-sum.ensures ∙ sum_of_list c.args.shape one one c.new.result.items refl c.new.ensures.items)
+    w.0 (subst (λ l. Contains l w.0) c.deref.ensures.value w.1) w.2
+
+pub apart_sum-left_sum-requires-2 : goal.apart_sum-left_sum-requires-2
+apart_sum-left_sum-requires-2 t c =
+    let one = c.args.parts.one.items in
+    let other = c.args.parts.other.items in
+    let less : live c.args.shape.inputs other c.new-2.result.items < live c.args.shape.inputs one other =
+    subst (λ l. live c.args.shape.inputs other l < live c.args.shape.inputs one other) (sym c.new-2.ensures.items) (live-other c.args.shape (one ++ other) one other c.requires) in
+    (omega arith, (c.requires.other_cubes, subst (AreCubes c.args.shape) (sym c.new-2.ensures.items) (All-nil (IsCube c.args.shape))))
+
+pub apart_sum-returns-then-has_free_row-2 : goal.apart_sum-returns-then-has_free_row-2
+apart_sum-returns-then-has_free_row-2 t c =
+    let one = c.args.parts.one.items in
+    let other = c.args.parts.other.items in
+    let w = c.has_free_row-2.ensures.some c.if-has_free_row-2.true in
+    complete_sum-whole_other c.args.shape (one ++ other) one other c.requires c.in_ok-other_sum.other_sum.items
+    (c.in_ok-other_sum.ensures ∙ sum_of_list c.args.shape other other c.new-2.result.items refl c.new-2.ensures.items)
+    w.0 (subst (λ l. Contains l w.0) c.deref-2.ensures.value w.1) w.2
+
+pub apart_sum-merge-requires-clause-rows : goal.apart_sum-merge-requires-clause-rows
+apart_sum-merge-requires-clause-rows t c =
+    AreCubes-complete_sum c.args.shape (difference (places c.args.parts.one.items) (places c.new.result.items)) c.in_ok-sum.sum.items c.in_ok-sum.ensures
+
+pub apart_sum-merge-requires-clause-others : goal.apart_sum-merge-requires-clause-others
+apart_sum-merge-requires-clause-others t c =
+    AreCubes-complete_sum c.args.shape (difference (places c.args.parts.other.items) (places c.new-2.result.items)) c.in_ok-other_sum.other_sum.items c.in_ok-other_sum.ensures
+
+pub apart_sum-returns : goal.apart_sum-returns
+apart_sum-returns t c =
+    let one = c.args.parts.one.items in
+    let other = c.args.parts.other.items in
+    let bound = λ (d : Cube). IsFree d → ⊥ in
+    IfOk-weaker c.merge.result _ _ (λ rows h.
+    complete_sum-parts c.args.shape (one ++ other) one other c.requires c.in_ok-sum.sum.items c.in_ok-other_sum.other_sum.items rows.items
+    (c.in_ok-sum.ensures ∙ sum_of_list c.args.shape one one c.new.result.items refl c.new.ensures.items)
+    (c.in_ok-other_sum.ensures ∙ sum_of_list c.args.shape other other c.new-2.result.items refl c.new-2.ensures.items)
+    (λ m k. all_members bound c.deref.result.now (c.has_free_row.ensures.none c.if-has_free_row.false) m (subst (λ l. Contains l m) (sym c.deref.ensures.value) k))
+    (λ m k. all_members bound c.deref-2.result.now (c.has_free_row-2.ensures.none c.if-has_free_row-2.false) m (subst (λ l. Contains l m) (sym c.deref-2.ensures.value) k))
+    h) c.merge.ensures

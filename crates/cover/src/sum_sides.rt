@@ -1,0 +1,182 @@
+//! A wish: inputs on two sides, such that no row has literals on both.
+//!
+//! Inputs hang together where a row has literals at both. Rows that all hang together are told apart
+//! from others in one pass over their words, mostly; only where they fall apart are the inputs joined one
+//! by one, and whole groups are then put on one side until it has half of the rows.
+
+use cube::{Cube, Shape};
+use std::alloc::{AllocError, Global};
+
+// The lower bit of each pair.
+const LOWER_BITS: u64 = 0x5555_5555_5555_5555;
+
+// The most words that the inputs of a cube take.
+const WORDS: usize = 32;
+
+// So often the rows are gone through for those that hang together with the first.
+const PASSES: usize = 8;
+
+// The inputs of word `w` at which the row has a literal, a bit each.
+fn inputs_of(row: &Cube, w: usize) -> u64 {
+    let bits = row.literal_bits(w);
+    (bits | (bits >> 1)) & LOWER_BITS
+}
+
+// Whether the row has a literal at one of these inputs.
+fn meets(row: &Cube, words: usize, reached: &[u64; WORDS]) -> bool {
+    for w in 0..words.min(WORDS) {
+        if inputs_of(row, w) & reached[w] != 0 {
+            return true;
+        }
+    }
+    false
+}
+
+// Adds the inputs at which the row has a literal.
+fn add_inputs(row: &Cube, words: usize, reached: &mut [u64; WORDS]) {
+    for w in 0..words.min(WORDS) {
+        reached[w] |= inputs_of(row, w);
+    }
+}
+
+// Adds the inputs of the rows that have one of those that were reached.
+fn reach(rows: &[Cube], words: usize, reached: &mut [u64; WORDS]) {
+    for row in rows {
+        if meets(row, words, reached) {
+            add_inputs(row, words, reached);
+        }
+    }
+}
+
+// Whether it is seen that all rows hang together.
+fn hang_together(shape: Shape, rows: &[Cube]) -> bool {
+    let words = shape.inputs() / 32 + 1;
+    let mut used = [0u64; WORDS];
+    for row in rows {
+        add_inputs(row, words, &mut used);
+    }
+    let mut reached = [0u64; WORDS];
+    if let Some(first) = rows.first() {
+        add_inputs(first, words, &mut reached);
+    }
+    for _ in 0..PASSES {
+        let before = reached;
+        reach(rows, words, &mut reached);
+        if reached == used {
+            return true;
+        }
+        if reached == before {
+            return false;
+        }
+    }
+    false
+}
+
+// The input that stands for those that hang together with input `i`.
+fn leader(leaders: &[usize], i: usize) -> usize {
+    let mut at = i;
+    for _ in 0..leaders.len() {
+        match leaders.get(at) {
+            Some(next) if *next != at => at = *next,
+            _ => return at,
+        }
+    }
+    at
+}
+
+// Joins the inputs at which the row has literals.
+fn join_inputs(row: &Cube, shape: Shape, leaders: &mut [usize]) {
+    let mut first = None;
+    for w in 0..shape.inputs() / 32 + 1 {
+        let mut left = inputs_of(row, w);
+        for _ in 0..32 {
+            if left == 0 {
+                break;
+            }
+            let i = leader(
+                leaders,
+                w.saturating_mul(32)
+                    .saturating_add(left.trailing_zeros() as usize / 2),
+            );
+            left &= left - 1;
+            match first {
+                None => first = Some(i),
+                Some(own) => {
+                    if let Some(slot) = leaders.get_mut(i) {
+                        *slot = own;
+                    }
+                }
+            }
+        }
+    }
+}
+
+// The first input at which the row has a literal.
+fn first_input(row: &Cube, shape: Shape) -> usize {
+    for w in 0..shape.inputs() / 32 + 1 {
+        let bits = inputs_of(row, w);
+        if bits != 0 {
+            return w
+                .saturating_mul(32)
+                .saturating_add(bits.trailing_zeros() as usize / 2);
+        }
+    }
+    0
+}
+
+// How many rows have literals in each group, at the input that stands for it.
+fn sizes(
+    alloc: Global,
+    shape: Shape,
+    rows: &[Cube],
+    leaders: &[usize],
+) -> Result<Vec<usize>, AllocError> {
+    let mut sizes = vec![in alloc; 0usize; leaders.len()]?;
+    for row in rows {
+        if let Some(size) = sizes.get_mut(leader(leaders, first_input(row, shape))) {
+            *size = size.saturating_add(1);
+        }
+    }
+    Ok(sizes)
+}
+
+// For each input the one that stands for its group.
+fn grouped(alloc: Global, shape: Shape, rows: &[Cube]) -> Result<Vec<usize>, AllocError> {
+    let mut leaders = Vec::with_capacity(alloc, shape.inputs())?;
+    for i in 0..shape.inputs() {
+        leaders.push(i)?;
+    }
+    for row in rows {
+        join_inputs(row, shape, &mut leaders);
+    }
+    Ok(leaders)
+}
+
+/// For each input whether it is on the one side, or `None` where all rows hang together.
+pub(crate) fn wished_sides(
+    alloc: Global,
+    shape: Shape,
+    rows: &[Cube],
+) -> Result<Option<Vec<bool>>, AllocError> {
+    if hang_together(shape, rows) {
+        return Ok(None);
+    }
+    let leaders = grouped(alloc, shape, rows)?;
+    let sizes = sizes(alloc, shape, rows, &leaders)?;
+    let mut chosen = vec![in alloc; false; leaders.len()]?;
+    let mut taken = 0usize;
+    for i in 0..leaders.len() {
+        let size = sizes.get(i).copied().unwrap_or(0);
+        if size > 0 && taken < rows.len() / 2 {
+            taken = taken.saturating_add(size);
+            if let Some(side) = chosen.get_mut(i) {
+                *side = true;
+            }
+        }
+    }
+    let mut sides = Vec::with_capacity(alloc, leaders.len())?;
+    for i in 0..leaders.len() {
+        sides.push(chosen.get(leader(&leaders, i)).copied().unwrap_or(false))?;
+    }
+    Ok(Some(sides))
+}
