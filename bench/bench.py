@@ -314,4 +314,5 @@ def main():
         print(f"{name:32} {min(times):9.3f} s {kilobytes / 1024:8.1f} MB  {within}  status {status}", flush=True)
 
 
-main()
+if __name__ == "__main__":
+    main()
