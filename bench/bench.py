@@ -25,9 +25,10 @@ def write(name, lines):
     os.makedirs(DATA, exist_ok=True)
     path = os.path.join(DATA, name)
     if not os.path.exists(path):
-        with open(path + ".part", "w") as out:
+        part = f"{path}.{os.getpid()}.part"
+        with open(part, "w") as out:
             out.writelines(line + "\n" for line in lines)
-        os.rename(path + ".part", path)
+        os.rename(part, path)
     return path
 
 

@@ -196,10 +196,10 @@ seconds. Single functions, memory, and long files are timed by `bench/bench.py P
 
 HOW = """## How it was measured
 
-On a machine of {cores} cores ({processor}{speed}) and {memory} of memory, under {system}; its load was {load} at the end. One
-process ran at a time, on one core. Its time is that from its start to its end, with the reading of the files: the least of three
-runs, or that of one run where it takes more than {short:g} seconds. A tool leaves a family at the first size that it does not
-answer within {limit:g} seconds and {bytes:.0f} GiB.
+On a machine of {cores} cores ({processor}{speed}) and {memory} of memory, under {system}; its load was {load} at the end.
+{running} The time of a process is that from its start to its end, with the reading of
+the files: the least of three runs, or that of one run where it takes more than {short:g} seconds. A tool leaves a family at the first
+size that it does not answer within {limit:g} seconds and {bytes:.0f} GiB.
 
 In the tables, times are seconds, *none* is no answer within the limit, and – a size that a tool was no longer run on. The ratio says how
 many times as long the other tool takes as this one, in bold where the other is faster. Wherever two tools answered, their answers
@@ -213,10 +213,12 @@ def agreement(found):
     return f"{len(rows)} times, and {'they agreed each time' if not wrong else f'{len(wrong)} TIMES THEY DIFFER'}."
 
 
-def lines(found, limit, minutes):
-    yield HEAD.format(options="" if limit == 60 else f" --limit {limit:g}", minutes=minutes)
+def lines(found, limit, jobs, minutes):
+    yield HEAD.format(minutes=minutes,
+                      options=("" if limit == 60 else f" --limit {limit:g}") + ("" if jobs == 1 else f" --jobs {jobs}"))
     yield HOW.format(cores=os.cpu_count(), processor=processor(), speed=megahertz(), memory=memory(), system=platform.system(),
-                     load=f"{os.getloadavg()[0]:.1f}", short=SHORT, limit=limit, bytes=MEMORY / 2 ** 30,
+                     load=f"{os.getloadavg()[0]:.1f}", short=SHORT,
+                     running="One process ran at a time, on one core." if jobs == 1 else f"{jobs} processes ran at a time, each on one core.", limit=limit, bytes=MEMORY / 2 ** 30,
                      agreed=agreement(found))
     yield from tools_table(found)
     yield "## In short"
@@ -243,10 +245,10 @@ def lines(found, limit, minutes):
             yield from family_table(comparison, tools, result, limit)
 
 
-def write(found, limit, minutes):
+def write(found, limit, jobs, minutes):
     os.makedirs(os.path.join(DOCS, "performance"), exist_ok=True)
     for comparison, tools, results in found:
         with open(os.path.join(DOCS, "performance", f"{comparison.name}.svg"), "w") as out:
             out.write(drawn(comparison, tools, results, limit))
     with open(os.path.join(DOCS, "PERFORMANCE.md"), "w") as out:
-        out.write("\n".join(lines(found, limit, minutes)).rstrip() + "\n")
+        out.write("\n".join(lines(found, limit, jobs, minutes)).rstrip() + "\n")

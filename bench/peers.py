@@ -1,14 +1,15 @@
 #!/usr/bin/env python3
 """Runs the built program and other tools on the same files of families that grow, and prints their times side by side.
 
-usage: bench/peers.py PROGRAM [--limit SECONDS] [--quick] [--only WORD] [--write]
+usage: bench/peers.py PROGRAM [--limit SECONDS] [--quick] [--only WORD] [--jobs NUMBER] [--write]
 
 verify runs beside berkeley-abc's cec, tautology beside minisat, exact beside cbc (the size of a least cover alone), and
 primes and exact of single outputs beside sympy's SOPform. Their answers are compared too; the status is 1 where two
 differ. A tool that is not installed is left out, and this is said. A tool leaves a family at the first size that it does
 not answer within the limit (60 seconds without --limit) or in 8 GiB of memory; --quick stands for a limit of 2 seconds.
---only runs the comparisons and families that have the word in their names. --write writes docs/PERFORMANCE.md and the
-pictures in docs/performance.
+--only runs the comparisons and families that have the word in their names, and --jobs so many families at the same time
+(one without it; leave cores free, for the sake of the times). --write writes docs/PERFORMANCE.md and the pictures in
+docs/performance.
 
 The files are written to bench/data by fixed seeds, once.
 """
@@ -16,6 +17,7 @@ import argparse
 import functools
 import importlib.util
 import json
+import multiprocessing
 import os
 import resource
 import shutil
@@ -24,7 +26,7 @@ import sys
 import tempfile
 import threading
 import time
-from dataclasses import dataclass, field
+from dataclasses import dataclass
 from typing import Callable
 
 sys.dont_write_bytecode = True
@@ -79,7 +81,7 @@ class Row:
 @dataclass
 class Result:
     family: object
-    rows: list = field(default_factory=list)
+    rows: list
 
 
 # Running.
@@ -344,8 +346,8 @@ def seconds_told(outcome):
 
 
 def measured(comparison, tools, family, limit):
-    """The sizes of a family, until no tool is left that answers in time."""
-    result = Result(family)
+    """The rows of a family, until no tool is left that answers in time."""
+    found = []
     running = list(tools)
     for size in family.sizes:
         paths = size.files()
@@ -355,23 +357,42 @@ def measured(comparison, tools, family, limit):
         answers = {label: outcome.answer for label, outcome in outcomes.items() if outcome.answer is not None}
         agree = comparison.agree(answers, paths) if len(answers) > 1 else None
         rows = sum(len(rows_of(path)) for path in paths)
-        result.rows.append(Row(size.label, rows, outcomes, agree, comparison.shown(answers)))
+        found.append(Row(size.label, rows, outcomes, agree, comparison.shown(answers)))
         told = ", ".join(f"{label} {seconds_told(outcome)}" for label, outcome in outcomes.items())
         differ = ": THE ANSWERS DIFFER" if agree is False else ""
         print(f"{comparison.name}, {family.name}, {size.label}: {told}{differ}", flush=True)
         if not running:
             break
-    return result
+    return found
 
 
-def run_all(program, limit, only):
+def run_all(program, limit, only, jobs):
     """For each comparison its tools that are installed, and the results of its families."""
-    found = []
+    chosen = []
     for comparison in comparisons(program):
         tools = [tool for tool in comparison.tools if installed(tool)]
-        chosen = [family for family in comparison.families if only in f"{comparison.name}, {family.name}"]
-        found.append((comparison, tools, [measured(comparison, tools, family, limit) for family in chosen]))
-    return found
+        kept = [family for family in comparison.families if only in f"{comparison.name}, {family.name}"]
+        chosen.append((comparison, tools, kept))
+    tasks = [functools.partial(measured, comparison, tools, family, limit)
+             for comparison, tools, kept in chosen for family in kept]
+    rows = iter(done(tasks, jobs))
+    return [(comparison, tools, [Result(family, next(rows)) for family in kept]) for comparison, tools, kept in chosen]
+
+
+TASKS = []                         # what the processes of `done` run, by number
+
+
+def run_task(number):
+    return TASKS[number]()
+
+
+def done(tasks, jobs):
+    """What the tasks answer, so many of them running at a time."""
+    TASKS[:] = tasks
+    if jobs == 1:
+        return [task() for task in tasks]
+    with multiprocessing.get_context("fork").Pool(jobs) as pool:
+        return pool.map(run_task, range(len(tasks)), chunksize=1)
 
 
 def words():
@@ -380,6 +401,7 @@ def words():
     reader.add_argument("--limit", type=float, default=60)
     reader.add_argument("--quick", action="store_true")
     reader.add_argument("--only", default="")
+    reader.add_argument("--jobs", type=int, default=1)
     reader.add_argument("--write", action="store_true")
     return reader.parse_args()
 
@@ -393,10 +415,10 @@ def main():
     limit = 2.0 if chosen.quick else chosen.limit
     resource.setrlimit(resource.RLIMIT_AS, (MEMORY, resource.getrlimit(resource.RLIMIT_AS)[1]))
     begin = time.monotonic()
-    found = run_all(os.path.abspath(chosen.program), limit, chosen.only)
+    found = run_all(os.path.abspath(chosen.program), limit, chosen.only, chosen.jobs)
     if chosen.write:
         import page
-        page.write(found, limit, (time.monotonic() - begin) / 60)
+        page.write(found, limit, chosen.jobs, (time.monotonic() - begin) / 60)
     differing = sum(row.agree is False for _, _, results in found for result in results for row in result.rows)
     print(f"{differing} answers differ")
     return 1 if differing else 0
