@@ -28,9 +28,10 @@ def write(name, lines):
     os.makedirs(DATA, exist_ok=True)
     path = os.path.join(DATA, name)
     if not os.path.exists(path):
-        with open(path + ".part", "w") as out:
+        part = f"{path}.{os.getpid()}.part"
+        with open(part, "w") as out:
             out.writelines(line + "\n" for line in lines)
-        os.rename(path + ".part", path)
+        os.rename(part, path)
     return path
 
 
@@ -455,4 +456,5 @@ def main():
         print(f"{name:32} {min(times):9.3f} s {kilobytes / 1024:8.1f} MB  {within}  status {status}", flush=True)
 
 
-main()
+if __name__ == "__main__":
+    main()

@@ -1,0 +1,327 @@
+"""Families of functions that grow: for each comparison its name, what it is, and its sizes with their files.
+
+Every file is made by a fixed seed. The generators of single functions are those of bench.py.
+"""
+import itertools
+import random
+from dataclasses import dataclass
+from typing import Callable
+
+from bench import adder, function_rows, number, ones_within, partition, pla, rings, shuffled, sparse_rows, split_rows, write
+
+
+@dataclass(frozen=True)
+class Size:
+    """One member of a family: what it is called, and what makes its files (the paths, when they are asked for)."""
+    label: str
+    files: Callable
+
+
+@dataclass(frozen=True)
+class Family:
+    name: str
+    told: str                      # what its members are
+    sizes: list
+
+
+def file_of(name, inputs, outputs, rows, head=()):
+    return write(f"{name.replace(' ', '-')}.pla", pla(inputs, outputs, itertools.chain(head, rows)))
+
+
+# Covers of random cubes, and the same places in other cubes.
+
+def random_cover(inputs, cubes, literals, seed):
+    """Cubes of so many literals at random inputs."""
+    chance = random.Random(seed)
+    for _ in range(cubes):
+        cube = ["-"] * inputs
+        for i in chance.sample(range(inputs), literals):
+            cube[i] = chance.choice("01")
+        yield "".join(cube)
+
+
+def quartered(cubes, chance):
+    """Each cube cut in two at a random input, and each half again."""
+    for cube in cubes:
+        halves = [cube]
+        for _ in range(2):
+            cut = []
+            for half in halves:
+                i = chance.choice([i for i, symbol in enumerate(half) if symbol == "-"])
+                cut += [half[:i] + symbol + half[i + 1:] for symbol in "01"]
+            halves = cut
+        yield from halves
+
+
+def consensus(a, b):
+    """The consensus of two cubes that differ in the sign of one literal alone, else None."""
+    signs = [i for i, pair in enumerate(zip(a, b)) if "-" not in pair and pair[0] != pair[1]]
+    if len(signs) != 1:
+        return None
+    return "".join("-" if i == signs[0] else y if x == "-" else x for i, (x, y) in enumerate(zip(a, b)))
+
+
+def consensus_cubes(cubes, count, chance):
+    """Consensus cubes of random pairs, which add no place."""
+    found = []
+    while len(found) < count:
+        cube = consensus(*chance.sample(cubes, 2))
+        if cube:
+            found.append(cube)
+    return found
+
+
+def rewritten(inputs, cubes, dropped=False):
+    """Files of these cubes and of the same places: each cube in four, and as many consensus cubes. Where a literal is
+    dropped, one cube of the second file lacks one, and the places may be others."""
+    first = list(random_cover(inputs, cubes, 3, inputs))
+    chance = random.Random(cubes)
+    second = list(quartered(first, chance)) + consensus_cubes(first, cubes, chance)
+    chance.shuffle(second)
+    if dropped:
+        i = chance.choice([i for i, symbol in enumerate(second[0]) if symbol != "-"])
+        second[0] = second[0][:i] + "-" + second[0][i + 1:]
+    name = f"peers-cover-{inputs}-{cubes}"
+    return (file_of(name, inputs, 1, (cube + " 1" for cube in first)),
+            file_of(f"{name}-{'dropped' if dropped else 'rewritten'}", inputs, 1, (cube + " 1" for cube in second)))
+
+
+def two_of(inputs):
+    """At least two ones: the products of two inputs, and each of them in four, shuffled."""
+    products = []
+    for i, j in itertools.combinations(range(inputs), 2):
+        products.append("".join("1" if k in (i, j) else "-" for k in range(inputs)))
+    chance = random.Random(inputs)
+    second = list(quartered(products, chance))
+    chance.shuffle(second)
+    return (file_of(f"peers-two-of-{inputs}", inputs, 1, (cube + " 1" for cube in products)),
+            file_of(f"peers-two-of-{inputs}-rewritten", inputs, 1, (cube + " 1" for cube in second)))
+
+
+def leaves(inputs, count, missing=0):
+    """The leaves of a random decision tree; without the first ones of them, where some are missing."""
+    return file_of(f"peers-leaves-{inputs}-{count}-{missing}", inputs, 1,
+                   (cube + " 1" for cube in partition(count, inputs, count)[missing:]))
+
+
+def leaves_cut(inputs, count):
+    """Half of the leaves of a decision tree, and the same cut into twice as many cubes."""
+    kept = partition(count, inputs, count)[:count // 2]
+    return (file_of(f"peers-half-{inputs}-{count}", inputs, 1, (cube + " 1" for cube in kept)),
+            file_of(f"peers-half-{inputs}-{count}-cut", inputs, 1,
+                    (cube + " 1" for cube in split_rows(kept, count, 7))))
+
+
+def symmetric_halves(inputs):
+    """At least half of the inputs are 1, or fewer: the products of ones, and of noughts. A tautology."""
+    def products():
+        for count, symbol in ((inputs // 2, "1"), (inputs - inputs // 2 + 1, "0")):
+            for chosen in itertools.combinations(range(inputs), count):
+                yield "".join(symbol if i in chosen else "-" for i in range(inputs)) + " 1"
+    return file_of(f"peers-halves-{inputs}", inputs, 1, products())
+
+
+def pigeonholes(holes):
+    """One pigeon more than there are holes: a pigeon in none, or two in one. A tautology."""
+    def rows():
+        inputs = range((holes + 1) * holes)          # input pigeon * holes + hole
+        for pigeon in range(holes + 1):
+            yield "".join("0" if i // holes == pigeon else "-" for i in inputs) + " 1"
+        for hole in range(holes):
+            for pair in itertools.combinations(range(holes + 1), 2):
+                yield "".join("1" if i % holes == hole and i // holes in pair else "-" for i in inputs) + " 1"
+    return file_of(f"peers-pigeons-{holes}", (holes + 1) * holes, 1, rows())
+
+
+# Functions that are listed point by point.
+
+def multiplier(width):
+    return 2 * width, 2 * width, lambda bits: number(bits[:width]) * number(bits[width:])
+
+
+def square(inputs):
+    return inputs, 2 * inputs, lambda bits: number(bits) ** 2
+
+
+def count_of_ones(inputs):
+    return inputs, inputs.bit_length(), sum
+
+
+def middle_ones(inputs):
+    """1 where about the middle third of the inputs is 1."""
+    return ones_within(inputs, inputs // 3, (2 * inputs + 2) // 3)
+
+
+def output_of(function, which):
+    """One output of a function, counted from the last."""
+    inputs, _, value = function
+    return inputs, 1, lambda bits: value(bits) >> which & 1
+
+
+def points_of(name, function):
+    inputs, outputs, value = function
+    return file_of(f"peers-{name}", inputs, outputs, function_rows(inputs, outputs, value))
+
+
+def joined(inputs, outputs, value):
+    """The same places in other cubes: those of each output alone, and where two differ at one input they are put
+    together, an input at a time."""
+    points = [[number >> (inputs - 1 - i) & 1 for i in range(inputs)] for number in range(2 ** inputs)]
+    values = [value(point) for point in points]
+    for j in range(outputs):
+        found = {"".join(map(str, point)) for point, bits in zip(points, values) if bits >> (outputs - 1 - j) & 1}
+        for i in range(inputs):
+            kept = set()
+            for cube in found:
+                other = cube[:i] + ("1" if cube[i] == "0" else "0") + cube[i + 1:]
+                kept.add(cube[:i] + "-" + cube[i + 1:] if other in found else cube)
+            found = kept
+        yield from (f"{cube} {1 << (outputs - 1 - j):0{outputs}b}" for cube in sorted(found))
+
+
+def points_and_joined(name, function):
+    """The points of a function, and the same places in larger cubes of one output each."""
+    inputs, outputs, _ = function
+    return points_of(name, function), file_of(f"peers-{name}-joined", inputs, outputs, joined(*function))
+
+
+def random_points(inputs, outputs, ones, dashes, seed):
+    """Each output of each point is 1 or a don't-care, in these shares."""
+    chance = random.Random(seed)
+
+    def rows():
+        for point in range(2 ** inputs):
+            symbols = "".join("1" if share < ones else "-" if share < ones + dashes else "0"
+                              for share in (chance.random() for _ in range(outputs)))
+            if symbols.strip("0"):
+                yield f"{point:0{inputs}b} {symbols}"
+    return file_of(f"peers-points-{inputs}-{outputs}-{ones}-{dashes}", inputs, outputs, rows(), (".type fd",))
+
+
+def random_cubes(rows):
+    """Random cubes of ten inputs and two outputs, of which four symbols in ten are dashes."""
+    return file_of(f"peers-cubes-{rows}", 10, 2, sparse_rows(rows, 10, 2, 0.4, rows))
+
+
+def ring_file(count):
+    inputs, rows = rings(count)
+    return file_of(f"peers-rings-{count}", inputs, 1, rows)
+
+
+def shuffled_cubes(rows):
+    """Random cubes of 30 inputs and four outputs, and the same in another order."""
+    cubes = list(sparse_rows(rows, 30, 4, 0.33, rows))
+    return (file_of(f"peers-rows-{rows}", 30, 4, cubes),
+            file_of(f"peers-rows-{rows}-shuffled", 30, 4, shuffled(cubes, 9)))
+
+
+def family(name, told, sizes, label, files):
+    return Family(name, told, [Size(label(size), lambda size=size: files(size)) for size in sizes])
+
+
+def inputs_label(inputs):
+    return f"{inputs} inputs"
+
+
+def width_label(sign):
+    return lambda width: f"{width} {sign} {width} bits"
+
+
+def ring_label(count):
+    return f"{count} ring{'s' if count > 1 else ''}"
+
+
+def for_verify():
+    """Each size is a pair of files."""
+    points = [
+        ("adders", "the points of a sum; against the same in larger cubes of one output each", range(2, 9), width_label("+"), adder),
+        ("multipliers", "the points of a product; against the same in larger cubes of one output each", range(2, 9), width_label("×"),
+         multiplier),
+        ("squares", "the points of a square; against the same in larger cubes of one output each", range(4, 15, 2), inputs_label, square),
+        ("symmetric functions", "the points with about a third to two thirds ones; against the same in larger cubes of one output each",
+         range(6, 17, 2), inputs_label, middle_ones),
+    ]
+    covers = (20, 40, 60, 80, 100, 140, 200, 300)
+    return [
+        family("random 3-literal covers", "four cubes an input; against each cube cut in four and as many consensus cubes, shuffled",
+               covers, inputs_label, lambda n: rewritten(n, 4 * n)),
+        family("the same, a literal dropped", "one cube of the second file lacks a literal, so that the answer may be no", covers, inputs_label,
+               lambda n: rewritten(n, 4 * n, dropped=True)),
+        family("two ones of n", "the products of two inputs each; against each product cut in four, shuffled",
+               (6, 10, 20, 30, 40, 60, 80, 120), inputs_label, two_of),
+        family("partitions", "half of the leaves of a random decision tree of 64 inputs; against the same cut into twice as many",
+               (250, 500, 1000, 2000, 4000, 8000, 16000, 32000), lambda n: f"{n} leaves", lambda n: leaves_cut(64, n)),
+        family("random cubes", "30 inputs and four outputs; against the same in another order",
+               (100, 300, 1000, 3000, 10000, 30000, 100000), lambda n: f"{n} cubes", shuffled_cubes),
+        *(family(name, told, sizes, label, lambda n, name=name, make=make: points_and_joined(f"{name}-{n}", make(n)))
+          for name, told, sizes, label, make in points),
+    ]
+
+
+def for_tautology():
+    """Each size is a file of one output."""
+    def cover(inputs, tenths):
+        cubes = inputs * tenths // 10
+        return file_of(f"peers-cover-{inputs}-{cubes}", inputs, 1,
+                       (cube + " 1" for cube in random_cover(inputs, cubes, 3, inputs)))
+    counts = (250, 500, 1000, 2000, 4000, 8000, 16000, 32000)
+    return [
+        family("random covers, 5.2 cubes an input", "cubes of three literals; most covers are tautologies",
+               (20, 40, 60, 80, 100, 120, 160, 200, 250, 300, 400), inputs_label, lambda n: (cover(n, 52),)),
+        family("random covers, 4 cubes an input", "cubes of three literals; most covers are no tautologies",
+               (20, 40, 80, 120, 160, 200, 300, 400, 600, 1000), inputs_label, lambda n: (cover(n, 40),)),
+        family("partitions", "all leaves of a random decision tree of 64 inputs", counts, lambda n: f"{n} leaves",
+               lambda n: (leaves(64, n),)),
+        family("partitions, one missing", "the same without one of the leaves", counts, lambda n: f"{n} leaves",
+               lambda n: (leaves(64, n, 1),)),
+        family("symmetric functions", "the products of half of the inputs, and of so many inputs negated that always one of both holds",
+               range(4, 19, 2), inputs_label, lambda n: (symmetric_halves(n),)),
+        family("pigeonholes", "one pigeon more than holes: one is in none, or two are in one; known to be hard for resolution",
+               range(2, 13), lambda n: f"{n} holes", lambda n: (pigeonholes(n),)),
+    ]
+
+
+def for_exact():
+    """Each size is a file whose points can be listed."""
+    points = [
+        ("adders", "the points of a sum", range(1, 8), width_label("+"), adder),
+        ("multipliers", "the points of a product", range(1, 7), width_label("×"), multiplier),
+        ("squares", "the points of a square", range(3, 10), inputs_label, square),
+        ("symmetric functions", "the points with about a third to two thirds ones", range(4, 13), inputs_label,
+         middle_ones),
+        ("ones counted", "the number of ones (rd53, rd73, rd84 are among them)", range(3, 11), inputs_label,
+         count_of_ones),
+    ]
+    return [
+        *(family(name, told, sizes, label, lambda n, name=name, make=make: (points_of(f"{name}-{n}", make(n)),))
+          for name, told, sizes, label, make in points),
+        family("random points", "one output: 40 % are 1 and 20 % don't-cares", range(5, 14), inputs_label,
+               lambda n: (random_points(n, 1, 0.4, 0.2, n),)),
+        family("random points, two outputs", "30 % are 1 and 30 % don't-cares", range(4, 12), inputs_label,
+               lambda n: (random_points(n, 2, 0.3, 0.3, n),)),
+        family("random cubes", "ten inputs and two outputs, four symbols in ten are dashes",
+               (5, 10, 20, 30, 40, 60, 80, 120, 160), lambda n: f"{n} cubes", lambda n: (random_cubes(n),)),
+        family("rings", "six points of three inputs, side by side: six primes each, none essential",
+               (1, 2, 4, 8, 16, 32, 64, 128, 256), ring_label, lambda n: (ring_file(n),)),
+    ]
+
+
+def for_single_outputs():
+    """Each size is a file of one output whose points are listed."""
+    points = [
+        ("symmetric functions", "the points with about a third to two thirds ones", range(4, 13), inputs_label,
+         middle_ones),
+        ("carries", "the highest output of a sum", range(1, 7), width_label("+"), lambda n: output_of(adder(n), n)),
+        ("products", "the middle output of a product", range(2, 7), width_label("×"),
+         lambda n: output_of(multiplier(n), n)),
+        ("parity", "1 where the number of ones is odd", range(3, 13), inputs_label,
+         lambda n: (n, 1, lambda bits: sum(bits) % 2)),
+    ]
+    return [
+        *(family(name, told, sizes, label, lambda n, name=name, make=make: (points_of(f"one-{name}-{n}", make(n)),))
+          for name, told, sizes, label, make in points),
+        family("random points", "40 % are 1 and 20 % don't-cares", range(4, 13), inputs_label,
+               lambda n: (random_points(n, 1, 0.4, 0.2, n),)),
+        family("rings", "six points of three inputs, side by side: six primes each, none essential", (1, 2, 4, 8, 16, 32, 64, 128),
+               ring_label, lambda n: (ring_file(n),)),
+    ]
