@@ -1,40 +1,31 @@
-//! Whole runs, on devices that tell their bytes.
-ghost use Rattle.std.specs.Prelude.{◌≡◌, ◌<◌, IfOk, true, false};
+//! Each public call once with ample memory, and runs on devices that fail. What a run prints of whole
+//! texts is tested on the built program.
+ghost use Rattle.std.specs.Prelude.{◌≡◌, ◌<◌, IfOk, IfSome, is_some};
+ghost use Rattle.espresso.specs.Run.{name_of};
+ghost use Rattle.espresso.specs.Tool.{second_name};
 ghost use Rattle.espresso.specs.Words.{takes_two};
 
-mod commands;
-mod devices;
-mod files;
-mod format;
-mod minima;
-mod pairs;
-mod sets;
-mod sizes;
-mod words;
-
-use crate::content::source_name;
-use crate::{Line, Source, run};
+use crate::content::{after_first, source_name};
+use crate::{Line, LineFault, Source, Status, refuse, run, tool_in_parts};
 use pla::{Ending, Given, Taken};
-use std::alloc::{AllocError, Global};
+use std::alloc::Global;
 use std::process::Abort;
 use std::test::Fail;
 
-// What a run left behind.
+const TEXT: &[u8] = b"# a\n.i 2\n.o 1\n11 1\n.e\n";
+
+const PRINTED: &[u8] = b"# a\n.i 2\n.o 1\n.p 1\n11 1\n.e\n";
+
+const WRITE_FAILED: &[u8] = b"espresso: write failed\n";
+
+// What a run left behind, and how many bytes of its files it has asked for.
 #[derive(Drop)]
 struct Ran {
     output: Taken,
     message: Taken,
-    code: u8,
-    delivered: usize,
-}
-
-// What a run must give.
-#[derive(Drop)]
-struct Case<'a> {
-    words: &'a [&'a str],
-    output: &'a str,
-    message: &'a str,
-    code: u8,
+    status: Status,
+    first: usize,
+    second: usize,
 }
 
 fn line_of(alloc: Global, words: &[&str]) -> Result<Line, Fail> {
@@ -45,172 +36,152 @@ fn line_of(alloc: Global, words: &[&str]) -> Result<Line, Fail> {
     Ok(Line::read(alloc, &list).map_err(|_| "the words say no line")?)
 }
 
-// The line of words that name a command on one file.
-fn single_line(alloc: Global, words: &[&str]) -> Result<Line, Fail>
-    ensures { IfOk result (λ line. takes_two line.command ≡ false) }
-{
-    let line = line_of(alloc, words)?;
-    if line.pair() {
-        return Err(Fail::from("the command takes two files"));
-    }
-    Ok(line)
+fn given(alloc: Global, text: &[u8], ending: Ending) -> Result<Given, Fail> {
+    Ok(Given::new(text.to_vec(alloc)?, 3, ending))
 }
 
-// The line of words that name a command on two files.
-fn pair_line(alloc: Global, words: &[&str]) -> Result<Line, Fail>
-    ensures { IfOk result (λ line. takes_two line.command ≡ true) }
+// The second source of the line, where its command takes two.
+fn second_source(alloc: Global, line: &Line, input: Given) -> Result<Option<Source<Given>>, Fail>
+    ensures pair { IfOk result (λ source. is_some source ≡ takes_two line.now.command) }
+    ensures name { IfOk result (λ source. IfSome source (λ s. name_of s ≡ second_name line.now.files)) }
 {
-    let line = line_of(alloc, words)?;
     if !line.pair() {
-        return Err(Fail::from("the command takes one file"));
+        return Ok(None);
     }
-    Ok(line)
+    let name = source_name(alloc, after_first(line.files()))?;
+    Ok(Some(Source::Open { name, input }))
 }
 
-fn bytes_of(alloc: Global, text: &[u8]) -> Result<Vec<u8>, AllocError> {
-    Vec::from_slice(alloc, text)
+fn delivered(source: &Source<Given>) -> usize {
+    match source {
+        Source::Open { name: _, input } => input.delivered(),
+        Source::Closed { name: _ } => 0,
+    }
 }
 
-fn run_on(alloc: Global, words: &[&str], input: Given, output: Taken) -> Result<Ran, Fail> {
-    let line = single_line(alloc, words)?;
+// A run of the words on these files.
+fn run_on(
+    alloc: Global,
+    words: &[&str],
+    first: Given,
+    second: Given,
+    output: Taken,
+) -> Result<Ran, Fail> {
+    let line = line_of(alloc, words)?;
     let name = source_name(alloc, line.files())?;
-    let mut first = Source::Open { name, input };
+    let mut first = Source::Open { name, input: first };
+    let mut second = second_source(alloc, &line, second)?;
     let mut output = output;
-    let mut message = Taken::new(alloc, 1000, 1000, false)?;
+    let mut message = Taken::new(alloc, 100, 7, false)?;
     let status = run(
         alloc,
         &line,
         &mut first,
-        &mut None,
+        &mut second,
         &mut output,
         &mut message,
     );
-    let delivered = match &first {
-        Source::Open { name: _, input } => input.delivered(),
-        Source::Closed { name: _ } => 0,
-    };
     Ok(Ran {
         output,
         message,
-        code: status.code(),
-        delivered,
+        status,
+        first: delivered(&first),
+        second: second.as_ref().map_or(0, delivered),
     })
 }
 
-// The case on a text that comes in pieces of at most so many bytes.
-fn check_in_pieces(
-    rt: &impl Abort,
-    alloc: Global,
-    case: &Case<'_>,
-    text: &[u8],
-    ending: Ending,
-    piece: usize,
-) -> Result<(), Fail>
-    requires { 0 < piece }
-{
-    let input = Given::new(bytes_of(alloc, text)?, piece, ending);
-    let output = Taken::new(alloc, case.output.len() + 1, piece, false)?;
-    let ran = run_on(alloc, case.words, input, output)?;
-    let words = case.words;
-    assert_eq!(rt;
-        ran.output.bytes(),
-        case.output.as_bytes(),
-        "output of {words:?} in pieces of {piece}"
-    );
-    assert_eq!(rt;
-        ran.message.bytes(),
-        case.message.as_bytes(),
-        "message of {words:?} in pieces of {piece}"
-    );
-    assert_eq!(rt;
-        ran.code,
-        case.code,
-        "status of {words:?} in pieces of {piece}"
-    );
+// A run of an echo of this text.
+fn echo_on(alloc: Global, text: &[u8], output: Taken) -> Result<Ran, Fail> {
+    let none = given(alloc, b"", Ending::End)?;
+    let text = given(alloc, text, Ending::End)?;
+    run_on(alloc, &["-Decho"], text, none, output)
+}
+
+// The run has this output, this message and this status.
+fn check(rt: &impl Abort, ran: &Ran, output: &[u8], message: &[u8], status: Status) {
+    assert_eq!(rt; ran.output.bytes(), output);
+    assert_eq!(rt; ran.message.bytes(), message);
+    assert_eq!(rt; ran.status, status);
+}
+
+#[test]
+fn words_are_read(rt: HostRuntime) -> Result<(), Fail> {
+    let alloc = rt.alloc();
+    let line = line_of(alloc, &["-Decho", "--", "-x"])?;
+    assert!(rt; !line.pair());
+    assert_eq!(rt; line.files().len(), 1);
+    assert_eq!(rt; line.files()[0].as_str(), "-x");
+    let line = line_of(alloc, &["-Dsharp", "-of", "-", "b"])?;
+    assert!(rt; line.pair());
+    assert_eq!(rt; line.files().len(), 2);
+    assert_eq!(rt; Line::read(alloc, &[]).err(), Some(LineFault::Usage));
+    tool_in_parts();
     Ok(())
 }
 
-// The case on a text that comes a byte at a time, in threes, and as whole as the reader asks for it.
-fn check(
-    rt: &impl Abort,
-    alloc: Global,
-    case: &Case<'_>,
-    text: &[u8],
-    ending: Ending,
-) -> Result<(), Fail> {
-    check_in_pieces(rt, alloc, case, text, ending, 1)?;
-    check_in_pieces(rt, alloc, case, text, ending, 3)?;
-    check_in_pieces(rt, alloc, case, text, ending, 1 << 20)
+#[test]
+fn a_refusal_is_one_line_and_a_status(rt: HostRuntime) -> Result<(), Fail> {
+    let alloc = rt.alloc();
+    let usage = b"usage: espresso -Dcommand [-o type] [-e eat] [file [file]]\n";
+    let mut err = Taken::new(alloc, 200, 7, false)?;
+    assert_eq!(rt; refuse(&LineFault::Usage, &mut err).code(), 2);
+    assert_eq!(rt; err.bytes(), usage.as_slice());
+    let mut err = Taken::new(alloc, 200, 7, false)?;
+    assert_eq!(rt; refuse(&LineFault::Memory, &mut err).code(), 3);
+    assert_eq!(rt; err.bytes(), b"espresso: out of memory\n".as_slice());
+    let mut err = Taken::new(alloc, 5, 7, false)?;
+    assert_eq!(rt; refuse(&LineFault::Usage, &mut err).code(), 2);
+    assert_eq!(rt; err.bytes(), b"usage".as_slice());
+    assert_eq!(rt; Status::Done.code(), 0);
+    assert_eq!(rt; Status::No.code(), 1);
+    Ok(())
 }
 
-// An echo of standard input must give this, without a message.
-fn check_echo(rt: &impl Abort, alloc: Global, text: &[u8], output: &str) -> Result<(), Fail> {
-    let case = Case {
-        words: &["-Decho"],
-        output,
-        message: "",
-        code: 0,
-    };
-    check(rt, alloc, &case, text, Ending::End)
+#[test]
+fn two_files_are_read_one_behind_the_other(rt: HostRuntime) -> Result<(), Fail> {
+    let alloc = rt.alloc();
+    let words = ["-Dverify", "a", "b"];
+    let second = b"# b\n.i 2\n.o 1\n1- 1\n.e\n";
+    let printed = b"# a\n# b\nPLA comparison failed; the PLAs are not equivalent\n";
+    let one = given(alloc, TEXT, Ending::Failed)?;
+    let other = given(alloc, second, Ending::Failed)?;
+    let ran = run_on(alloc, &words, one, other, Taken::new(alloc, 100, 3, false)?)?;
+    check(&rt, &ran, printed, b"", Status::No);
+    let one = given(alloc, b"# a\n", Ending::Failed)?;
+    let other = given(alloc, second, Ending::Failed)?;
+    let ran = run_on(alloc, &words, one, other, Taken::new(alloc, 100, 3, true)?)?;
+    check(
+        &rt,
+        &ran,
+        b"# a\n",
+        b"espresso: a:2: read failed\n",
+        Status::Fault,
+    );
+    assert_eq!(rt; (ran.first, ran.second), (4, 0));
+    Ok(())
 }
 
-// An echo of standard input must end with this fault, which follows the file's name.
-fn check_fault(
-    rt: &impl Abort,
-    alloc: Global,
-    text: &[u8],
-    ending: Ending,
-    output: &str,
-    fault: &str,
-) -> Result<(), Fail> {
-    let message = format!(in alloc; "espresso: (stdin):{fault}\n")?;
-    let case = Case {
-        words: &["-Decho"],
-        output,
-        message: message.as_str(),
-        code: 2,
-    };
-    check(rt, alloc, &case, text, ending)
+#[test]
+fn an_output_that_fails_has_taken_a_beginning(rt: HostRuntime) -> Result<(), Fail> {
+    let alloc = rt.alloc();
+    for room in 0..PRINTED.len() {
+        for piece in [1, 5, 100] {
+            let ran = echo_on(alloc, TEXT, Taken::new(alloc, room, piece, false)?)?;
+            check(&rt, &ran, &PRINTED[..room], WRITE_FAILED, Status::Fault);
+        }
+    }
+    let ran = echo_on(alloc, TEXT, Taken::new(alloc, 100, 100, false)?)?;
+    check(&rt, &ran, PRINTED, b"", Status::Done);
+    Ok(())
 }
 
-// The first bytes of a text.
-fn cut(text: &str, count: usize) -> &[u8] {
-    let bytes = text.as_bytes();
-    &bytes[..count.min(bytes.len())]
-}
-
-// These words, with a space between each two, must answer this on the text.
-fn check_line(
-    rt: &impl Abort,
-    alloc: Global,
-    line: &str,
-    text: &[u8],
-    output: &str,
-    code: u8,
-) -> Result<(), Fail> {
-    let words: Vec<&str> = line.split(' ').collect(alloc)?;
-    let case = Case {
-        words: words.as_slice(),
-        output,
-        message: "",
-        code,
-    };
-    check(rt, alloc, &case, text, Ending::End)
-}
-
-// The rows of a function of so many inputs and outputs, between its head and its end.
-fn file(alloc: Global, inputs: usize, outputs: usize, rows: &str) -> Result<Vec<u8>, Fail> {
-    let text = format!(in alloc; ".i {inputs}\n.o {outputs}\n{rows}.e\n")?;
-    Ok(text.into_bytes())
-}
-
-// The same as it is printed with type f.
-fn printed(
-    alloc: Global,
-    inputs: usize,
-    outputs: usize,
-    count: usize,
-    rows: &str,
-) -> Result<String, Fail> {
-    Ok(format!(in alloc; ".i {inputs}\n.o {outputs}\n.p {count}\n{rows}.e\n")?)
+#[test]
+fn the_output_is_flushed_once_more_at_the_end(rt: HostRuntime) -> Result<(), Fail> {
+    let alloc = rt.alloc();
+    let ran = echo_on(alloc, TEXT, Taken::new(alloc, 100, 100, true)?)?;
+    check(&rt, &ran, PRINTED, WRITE_FAILED, Status::Fault);
+    let ran = echo_on(alloc, b"", Taken::new(alloc, 100, 100, true)?)?;
+    let message = b"espresso: (stdin):0: .i or .o missing\n";
+    check(&rt, &ran, b"", message, Status::Fault);
+    Ok(())
 }

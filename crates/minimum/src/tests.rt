@@ -2,8 +2,17 @@
 use crate::choice::Choice;
 use crate::reduction::reduce;
 use crate::table::Table;
+use pla::{Echo, Ending, Given, Pla, Taken, read_pla};
 use std::alloc::{AllocError, Global};
 use std::test::Fail;
+
+/// What a file describes.
+pub(crate) fn read(alloc: Global, text: &[u8]) -> Result<Pla, Fail> {
+    let mut input = Given::new(text.to_vec(alloc)?, 4096, Ending::End);
+    let mut output = Taken::new(alloc, 0, 1, false)?;
+    let read = read_pla(alloc, &mut input, &mut output, Echo::Eat);
+    Ok(read.map_err(|_| "the file has a fault")?)
+}
 
 /// The table of these rows; `None` where they aren't rows.
 fn table(alloc: Global, rows: &[&[usize]], weights: &[u32]) -> Result<Option<Table>, AllocError> {
@@ -145,11 +154,12 @@ fn drawn(alloc: Global, seed: u64) -> Result<Option<Table>, AllocError> {
     Table::new(alloc, rows, weights)
 }
 
-/// Whether both searches answer the same, on the table as drawn and as reduced.
-fn searches_agree(alloc: Global, seed: u64, choice: Choice) -> Result<bool, AllocError> {
-    let Some(made) = drawn(alloc, seed)? else {
-        return Ok(false);
-    };
+/// Whether both searches answer the same, on the table as it is and as reduced.
+pub(crate) fn searches_agree(
+    alloc: Global,
+    made: Table,
+    choice: Choice,
+) -> Result<bool, AllocError> {
     let plain = made.least_cover_plain(alloc, choice)?;
     let least = made.least_cover(alloc, choice)?;
     let reduced = reduce(alloc, made, choice)?;
@@ -165,8 +175,10 @@ fn searches_agree(alloc: Global, seed: u64, choice: Choice) -> Result<bool, Allo
 #[test]
 fn searches_agree_on_drawn_tables(rt: HostRuntime) -> Result<(), Fail> {
     for seed in 0..300u64 {
-        assert!(rt; searches_agree(rt.alloc(), seed, Choice::First)?);
-        assert!(rt; searches_agree(rt.alloc(), seed, Choice::Literals)?);
+        for choice in [Choice::First, Choice::Literals] {
+            let made = drawn(rt.alloc(), seed)?.ok_or("rows")?;
+            assert!(rt; searches_agree(rt.alloc(), made, choice)?);
+        }
     }
     Ok(())
 }
