@@ -7,7 +7,8 @@ import random
 from dataclasses import dataclass
 from typing import Callable
 
-from bench import adder, function_rows, number, ones_within, partition, pla, rings, shuffled, sparse_rows, split_rows, write
+from bench import (adder, function_rows, number, ones_within, partition, pla, rings, shuffled, sparse_rows, split_rows,
+                   write)
 
 
 @dataclass(frozen=True)
@@ -227,6 +228,14 @@ def width_label(sign):
     return lambda width: f"{width} {sign} {width} bits"
 
 
+def leaves_label(count):
+    return f"{count} leaves"
+
+
+def cubes_label(count):
+    return f"{count} cubes"
+
+
 def ring_label(count):
     return f"{count} ring{'s' if count > 1 else ''}"
 
@@ -234,26 +243,29 @@ def ring_label(count):
 def for_verify():
     """Each size is a pair of files."""
     points = [
-        ("adders", "the points of a sum; against the same in larger cubes of one output each", range(2, 9), width_label("+"), adder),
-        ("multipliers", "the points of a product; against the same in larger cubes of one output each", range(2, 9), width_label("×"),
-         multiplier),
-        ("squares", "the points of a square; against the same in larger cubes of one output each", range(4, 15, 2), inputs_label, square),
-        ("symmetric functions", "the points with about a third to two thirds ones; against the same in larger cubes of one output each",
-         range(6, 17, 2), inputs_label, middle_ones),
+        ("adders", "the points of a sum", range(2, 9), width_label("+"), adder),
+        ("multipliers", "the points of a product", range(2, 9), width_label("×"), multiplier),
+        ("squares", "the points of a square", range(4, 15, 2), inputs_label, square),
+        ("symmetric functions", "the points with about a third to two thirds ones", range(6, 17, 2), inputs_label,
+         middle_ones),
     ]
     covers = (20, 40, 60, 80, 100, 140, 200, 300)
     return [
-        family("random 3-literal covers", "four cubes an input; against each cube cut in four and as many consensus cubes, shuffled",
+        family("random 3-literal covers",
+               "four cubes an input; against each cube cut in four and as many consensus cubes, shuffled",
                covers, inputs_label, lambda n: rewritten(n, 4 * n)),
-        family("the same, a literal dropped", "one cube of the second file lacks a literal, so that the answer may be no", covers, inputs_label,
-               lambda n: rewritten(n, 4 * n, dropped=True)),
+        family("random covers, a literal dropped",
+               "the same, where one cube of the second file lacks a literal: the answer may be no",
+               covers, inputs_label, lambda n: rewritten(n, 4 * n, dropped=True)),
         family("two ones of n", "the products of two inputs each; against each product cut in four, shuffled",
                (6, 10, 20, 30, 40, 60, 80, 120), inputs_label, two_of),
-        family("partitions", "half of the leaves of a random decision tree of 64 inputs; against the same cut into twice as many",
-               (250, 500, 1000, 2000, 4000, 8000, 16000, 32000), lambda n: f"{n} leaves", lambda n: leaves_cut(64, n)),
+        family("partitions",
+               "half of the leaves of a random decision tree of 64 inputs; against the same cut into twice as many",
+               (250, 500, 1000, 2000, 4000, 8000, 16000, 32000), leaves_label, lambda n: leaves_cut(64, n)),
         family("random cubes", "30 inputs and four outputs; against the same in another order",
-               (100, 300, 1000, 3000, 10000, 30000, 100000), lambda n: f"{n} cubes", shuffled_cubes),
-        *(family(name, told, sizes, label, lambda n, name=name, make=make: points_and_joined(f"{name}-{n}", make(n)))
+               (100, 300, 1000, 3000, 10000, 30000, 100000), cubes_label, shuffled_cubes),
+        *(family(name, f"{told}; against the same in larger cubes of one output each", sizes, label,
+                 lambda n, name=name, make=make: points_and_joined(f"{name}-{n}", make(n)))
           for name, told, sizes, label, make in points),
     ]
 
@@ -270,13 +282,15 @@ def for_tautology():
                (20, 40, 60, 80, 100, 120, 160, 200, 250, 300, 400), inputs_label, lambda n: (cover(n, 52),)),
         family("random covers, 4 cubes an input", "cubes of three literals; most covers are no tautologies",
                (20, 40, 80, 120, 160, 200, 300, 400, 600, 1000), inputs_label, lambda n: (cover(n, 40),)),
-        family("partitions", "all leaves of a random decision tree of 64 inputs", counts, lambda n: f"{n} leaves",
+        family("partitions", "all leaves of a random decision tree of 64 inputs", counts, leaves_label,
                lambda n: (leaves(64, n),)),
-        family("partitions, one missing", "the same without one of the leaves", counts, lambda n: f"{n} leaves",
+        family("partitions, one missing", "the same without one of the leaves", counts, leaves_label,
                lambda n: (leaves(64, n, 1),)),
-        family("symmetric functions", "the products of half of the inputs, and of so many inputs negated that always one of both holds",
+        family("symmetric functions",
+               "the products of half of the inputs, and of so many inputs negated that always one of both holds",
                range(4, 19, 2), inputs_label, lambda n: (symmetric_halves(n),)),
-        family("pigeonholes", "one pigeon more than holes: one is in none, or two are in one; known to be hard for resolution",
+        family("pigeonholes",
+               "one pigeon more than holes: one is in none, or two are in one; known to be hard for resolution",
                range(2, 13), lambda n: f"{n} holes", lambda n: (pigeonholes(n),)),
     ]
 
@@ -300,7 +314,7 @@ def for_exact():
         family("random points, two outputs", "30 % are 1 and 30 % don't-cares", range(4, 12), inputs_label,
                lambda n: (random_points(n, 2, 0.3, 0.3, n),)),
         family("random cubes", "ten inputs and two outputs, four symbols in ten are dashes",
-               (5, 10, 20, 30, 40, 60, 80, 120, 160), lambda n: f"{n} cubes", lambda n: (random_cubes(n),)),
+               (5, 10, 20, 30, 40, 60, 80, 120, 160), cubes_label, lambda n: (random_cubes(n),)),
         family("rings", "six points of three inputs, side by side: six primes each, none essential",
                (1, 2, 4, 8, 16, 32, 64, 128, 256), ring_label, lambda n: (ring_file(n),)),
     ]
@@ -322,6 +336,6 @@ def for_single_outputs():
           for name, told, sizes, label, make in points),
         family("random points", "40 % are 1 and 20 % don't-cares", range(4, 13), inputs_label,
                lambda n: (random_points(n, 1, 0.4, 0.2, n),)),
-        family("rings", "six points of three inputs, side by side: six primes each, none essential", (1, 2, 4, 8, 16, 32, 64, 128),
-               ring_label, lambda n: (ring_file(n),)),
+        family("rings", "six points of three inputs, side by side: six primes each, none essential",
+               (1, 2, 4, 8, 16, 32, 64, 128), ring_label, lambda n: (ring_file(n),)),
     ]

@@ -320,7 +320,7 @@ def comparisons(program):
             "DC-set. It finds the size of a least cover alone; espresso finds the primes, builds the table, and answers the "
             "first of the least covers. Finding the primes and making the table takes none of cbc's time."),
         Comparison(
-            "single", "primes and exact of one output beside sympy",
+            "one output", "primes and exact of one output beside sympy",
             [Tool("primes", run("primes", printed_rows), told="espresso -Dprimes A"),
              Tool("exact", run("exact", printed_rows), told="espresso -Dexact A"),
              Tool("SOPform", sopform, "sympy", "SOPform(variables, minterms, dontcares)")],

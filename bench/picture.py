@@ -8,6 +8,7 @@ LEFT, TOP, RIGHT, BOTTOM = 46, 30, 14, 34
 HEAD = 62                          # title and legend
 COLUMNS = 3
 LOWEST, HIGHEST = 1e-3, 1e2        # the least range of seconds
+ABOVE = 3                          # times the limit that a panel reaches up to
 STEP = 9                           # between the marks of several series past the limit
 
 
@@ -98,7 +99,7 @@ def curve(series, points, x, y, past):
 def drawn(panel, series, left, top, lowest, limit):
     sizes = [size for line in panel.lines for size, _ in line] or [1]
     x = Scale(min(sizes) / 1.25, max(sizes) * 1.25, left + LEFT, left + WIDTH - RIGHT)
-    y = Scale(lowest, max(HIGHEST, limit), top + HEIGHT - BOTTOM, top + TOP)
+    y = Scale(lowest, max(HIGHEST, ABOVE * limit), top + HEIGHT - BOTTOM, top + TOP)
     yield from axes(panel, x, y, limit)
     past = y.at(limit)
     for one, points in zip(series, panel.lines):
@@ -107,9 +108,9 @@ def drawn(panel, series, left, top, lowest, limit):
 
 
 def lowest_line(panels):
-    """The power of ten below all times."""
+    """The power of ten below all times, or a little above the least."""
     times = [seconds for panel in panels for line in panel.lines for _, seconds in line if seconds]
-    return min(LOWEST, 10.0 ** math.floor(math.log10(min(times)))) if times else LOWEST
+    return min(LOWEST, 10.0 ** math.floor(math.log10(2 * min(times)))) if times else LOWEST
 
 
 def legend(series, limit):
