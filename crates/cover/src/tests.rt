@@ -47,7 +47,7 @@ pub(crate) fn cover(
     Ok(list)
 }
 
-fn push(list: &mut Cover, row: Cube) -> Result<(), Fail> {
+pub(crate) fn push(list: &mut Cover, row: Cube) -> Result<(), Fail> {
     let (mine, theirs) = (list.shape(), row.shape());
     if mine.inputs() != theirs.inputs() || mine.outputs() != theirs.outputs() {
         return Err("shape")?;
