@@ -9,9 +9,11 @@ ghost use Rattle.cube.specs.Cube.{HasSize, SameSize, IsSubset, IsDisjoint, holds
 ghost use Rattle.cover.specs.Places.{places, behind};
 ghost use Rattle.cover.specs.Marks.{is_symbol};
 ghost use Rattle.cover.specs.Related.{AreRelated};
+ghost use Rattle.cover.specs.Reason.{AreAmong};
 
-use crate::reason::is_held;
+use crate::reason::is_held_near;
 use crate::region::Tally;
+use crate::splitting_input::{fewest_literals, share_literal};
 use crate::symbols::{having, open_at};
 use cube::{Cube, Shape, Symbol};
 use std::alloc::{AllocError, Global};
@@ -53,7 +55,32 @@ fn are_apart(shape: Shape, rows: &[&Cube], others: &[&Cube]) -> bool
     true
 }
 
-// Whether the others hold each row, one by one.
+// Of so few rows all are looked at.
+const FEW: usize = 64;
+
+// The rows that have a literal of the region, as it is meant: of each other row all literals are open.
+fn touched<'a>(
+    alloc: Global,
+    shape: Shape,
+    rows: &[&'a Cube],
+    region: &Cube,
+) -> Result<Vec<&'a Cube>, AllocError>
+    ensures { IfOk result (λ some. AreAmong some.items rows.now) }
+{
+    let mut some = Vec::new(alloc);
+    if rows.len() <= FEW {
+        return Ok(some);
+    }
+    for row in rows {
+        if share_literal(shape, row, region) {
+            some.push(*row)?;
+        }
+    }
+    Ok(some)
+}
+
+// Whether the others hold each row, one by one. Those that have a literal of the row come first: each
+// of the rest has all of its literals open.
 fn are_held(
     alloc: Global,
     shape: Shape,
@@ -64,8 +91,10 @@ fn are_held(
     requires others { All (λ d. HasSize d.now shape) others.now }
     ensures { IfOk result (λ held. IsTrue held ↔ IsSubset (places (behind rows.now)) (places (behind others.now))) }
 {
+    let bound = fewest_literals(shape, others);
     for row in rows {
-        if !is_held(alloc, others, row)? {
+        let near = touched(alloc, shape, others, row)?;
+        if !is_held_near(alloc, others, &near, bound, row)? {
             return Ok(false);
         }
     }
@@ -117,11 +146,24 @@ fn opposites(rows: &Tally, others: &Tally, i: usize) -> u64
     low.saturating_add(high)
 }
 
+// How many such pairs of some rows pay for going through all rows once more: a row may ask for all of
+// the others, so there have to be as many as two rows' pairs.
+fn least_weight(relation: Relation, some: &[&Cube], others: &[&Cube], rows: usize) -> u64 {
+    match relation {
+        Relation::Apart => 0,
+        Relation::Within => {
+            let pairs = (some.len() as u64).saturating_mul(others.len() as u64);
+            pairs.saturating_mul(2) / (rows as u64).max(1)
+        }
+    }
+}
+
 // The input at which most pairs of a row of each list have opposite literals, as far as some of the
-// rows tell, if some have.
+// rows tell, if enough have.
 fn parting_input(
     alloc: Global,
     shape: Shape,
+    relation: Relation,
     rows: &[&Cube],
     others: &[&Cube],
 ) -> Result<Option<usize>, AllocError>
@@ -133,7 +175,7 @@ fn parting_input(
     let mine = Tally::of(alloc, &some, shape.inputs())?;
     let theirs = Tally::of(alloc, &others, shape.inputs())?;
     let mut best = None;
-    let mut most = 0u64;
+    let mut most = least_weight(relation, &some, &others, rows.len());
     for i in 0..shape.inputs() {
         let weight = opposites(&mine, &theirs, i);
         if weight > most {
@@ -161,7 +203,7 @@ pub(crate) fn related(
     if depth == 0 || rows.len() <= SMALL || others.len() <= SMALL {
         return row_by_row(alloc, shape, relation, rows, others);
     }
-    let Some(i) = parting_input(alloc, shape, rows, others)? else {
+    let Some(i) = parting_input(alloc, shape, relation, rows, others)? else {
         return row_by_row(alloc, shape, relation, rows, others);
     };
     let rest = depth - 1;

@@ -32,6 +32,8 @@ mod joint;
 mod list;
 mod marking;
 mod reason;
+#[cfg(test)]
+mod reason_tests;
 mod region;
 mod splitting_input;
 mod sum;

@@ -75,7 +75,7 @@ fn survey_rows<'a>(
     };
     for row in rows {
         if !row.disjoint(region) {
-            let open = open_literals(shape, row, region);
+            let open = open_literals(shape, row, region, survey.fewest);
             if open == 0 && row.contains(region) {
                 survey.found = Some(row.try_clone()?);
                 return Ok(survey);
@@ -333,5 +333,21 @@ pub(crate) fn is_held(alloc: Global, rows: &[&Cube], region: &Cube) -> Result<bo
     requires { All (λ d. SameSize d.now region.now) rows.now }
     ensures { IfOk result (λ held. IsTrue held ↔ IsSubset (holds region.now) (places (behind rows.now))) }
 {
-    Ok(reason(alloc, rows, &[], 0, region)?.is_some())
+    is_held_near(alloc, rows, &[], 0, region)
+}
+
+/// The same, where near rows are looked at first, and they alone while one of them has at most so many
+/// open literals.
+pub(crate) fn is_held_near(
+    alloc: Global,
+    rows: &[&Cube],
+    near: &[&Cube],
+    bound: u32,
+    region: &Cube,
+) -> Result<bool, AllocError>
+    requires sizes { All (λ d. SameSize d.now region.now) rows.now }
+    requires near { AreAmong near.now rows.now }
+    ensures { IfOk result (λ held. IsTrue held ↔ IsSubset (holds region.now) (places (behind rows.now))) }
+{
+    Ok(reason(alloc, rows, near, bound, region)?.is_some())
 }

@@ -37,10 +37,37 @@ fn lacks_output(shape: Shape, row: &Cube, region: &Cube) -> bool {
     false
 }
 
-/// How many open literals a row that meets the region has, where a lack of outputs is one more.
-pub(crate) fn open_literals(shape: Shape, row: &Cube, region: &Cube) -> u32 {
-    let lacking = lacks_output(shape, row, region) as u32;
-    open_inputs(shape, row, region).saturating_add(lacking)
+/// How many open literals a row that meets the region has, where a lack of outputs is one more; it
+/// isn't looked for where there are more than `enough`.
+pub(crate) fn open_literals(shape: Shape, row: &Cube, region: &Cube, enough: u32) -> u32 {
+    let count = open_inputs(shape, row, region);
+    if count > enough {
+        return count;
+    }
+    count.saturating_add(lacks_output(shape, row, region) as u32)
+}
+
+/// The fewest literals of a row.
+pub(crate) fn fewest_literals(shape: Shape, rows: &[&Cube]) -> u32 {
+    let mut fewest = u32::MAX;
+    for row in rows {
+        let mut count = 0u32;
+        for w in 0..shape.inputs() / 32 + 1 {
+            count = count.saturating_add(row.literal_bits(w).count_ones());
+        }
+        fewest = fewest.min(count);
+    }
+    fewest
+}
+
+/// Whether the two have a literal in common.
+pub(crate) fn share_literal(shape: Shape, row: &Cube, region: &Cube) -> bool {
+    for w in 0..shape.inputs() / 32 + 1 {
+        if row.literal_bits(w) & region.literal_bits(w) != 0 {
+            return true;
+        }
+    }
+    false
 }
 
 // The literal of a bit of word `w`, with its input.

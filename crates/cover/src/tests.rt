@@ -46,6 +46,11 @@ pub(crate) fn same_shape(mine: Shape, theirs: Shape) -> Result<(), Fail>
     Ok(())
 }
 
+pub(crate) fn push(list: &mut Cover, row: Cube) -> Result<(), Fail> {
+    same_shape(list.shape(), row.shape())?;
+    Ok(list.push(row).map_err(|_| "memory")?)
+}
+
 // The list of these rows.
 pub(crate) fn cover(
     alloc: Global,
@@ -57,8 +62,7 @@ pub(crate) fn cover(
     let mut list = Cover::new(alloc, shape);
     for (symbols, outputs) in rows {
         let row = cube(alloc, symbols, outputs)?;
-        same_shape(list.shape(), row.shape())?;
-        list.push(row).map_err(|_| "memory")?;
+        push(&mut list, row)?;
     }
     Ok(list)
 }

@@ -11,7 +11,7 @@ use Rattle.cover.proofs.joint.are_held.Goals as goal
 pub returns-then-not-branch : goal.returns-then-not-branch
 returns-then-not-branch c = (
   λ on. absurd (false≢true on),
-  λ h. absurd (false≢true (sym c.if-not-branch.true ∙ c.in_ok-is_held.ensures.1
+  λ h. absurd (false≢true (sym c.if-not-branch.true ∙ c.in_ok-is_held_near.ensures.1
       (IsSubset-row (places (behind c.args.others.now)) c.args.rows.now c.loop-row.row-index c.row-item.result c.loop-row-test.true c.row-item.is h))),
 )
 
@@ -19,7 +19,7 @@ pub loop-row-preserved : goal.loop-row-preserved
 loop-row-preserved c =
     let P : Bor Cube → Type 0 = λ d. IsSubset (holds d.now) (places (behind c.args.others.now)) in
     All-more P c.args.rows.now c.loop-row.row-index c.row-item.result c.loop-row-test.true c.loop-row.invariant
-    (subst P c.row-item.is (c.in_ok-is_held.ensures.0 c.if-not-branch.false))
+    (subst P c.row-item.is (c.in_ok-is_held_near.ensures.0 c.if-not-branch.false))
 
 pub returns : goal.returns
 returns c =
