@@ -19,8 +19,9 @@ use crate::pack::{byte_by_bits, input_word, input_words, output_word, output_wor
 use crate::shape::Shape;
 use crate::symbol::Symbol;
 use crate::words::{
-    clear_from, count_clear, covers_words, first_clear, first_difference, freed_word, has_all,
-    minus_word, pairs_meet, share_bit, widened_word, with_bit, with_word, zip_words,
+    clear_from, copied_words, count_clear, covers_words, first_clear, first_difference, freed_word,
+    has_all, minus_word, pairs_meet, set_word, share_bit, widened_word, with_bit, with_word,
+    zip_words,
 };
 use smallvec::SmallVec;
 use std::alloc::{AllocError, Global};
@@ -351,12 +352,23 @@ impl Cube {
         })
     }
 
+    /// Puts `symbol` at input `i`, and leaves the rest as it is. It takes no memory.
+    pub fn set_symbol(&mut self, i: usize, symbol: Symbol)
+        requires { i < length self.old.symbols }
+        ensures { self.new ≡ cube_with_symbol self.old i symbol }
+    {
+        let at = 2 * (i % 32);
+        let word = with_bit(self.words.as_slice()[i / 32], at, symbol.allows(false));
+        let word = with_bit(word, at + 1, symbol.allows(true));
+        set_word(&mut self.words, i / 32, word);
+    }
+
     /// An equal cube.
     pub fn try_clone(&self) -> Result<Cube, AllocError>
         ensures value { IfOk result (λ c. c ≡ self.now) }
         ensures inline { word_count self.now ≤ 4 → IsOk result }
     {
-        let words = SmallVec::from_slice(*self.words.allocator(), self.words())?;
+        let words = copied_words(*self.words.allocator(), self.words())?;
         Ok(Cube {
             shape: self.shape,
             words,

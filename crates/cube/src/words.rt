@@ -69,6 +69,21 @@ pub(crate) fn zip_words<F: Fn(usize, u64, u64) -> u64>(
     Ok(words)
 }
 
+/// The words again. Few are put in their places one by one, which is quicker than a copy by length.
+pub(crate) fn copied_words(alloc: Global, words: &[u64]) -> Result<SmallVec<u64, 4>, AllocError>
+    ensures value { IfOk result (λ v. v.items ≡ words.now) }
+    ensures inline { length words.now ≤ 4 → IsOk result }
+{
+    if words.len() > 4 {
+        return SmallVec::from_slice(alloc, words);
+    }
+    let mut copy = SmallVec::with_capacity(alloc, words.len())?;
+    for k in 0..words.len() {
+        copy.push_reserved(words[k]);
+    }
+    Ok(copy)
+}
+
 /// The words with one of them replaced.
 pub(crate) fn with_word(
     alloc: Global,
@@ -80,9 +95,17 @@ pub(crate) fn with_word(
     ensures value { IfOk result (λ v. v.items ≡ slice_set words.now at word) }
     ensures inline { length words.now ≤ 4 → IsOk result }
 {
-    let mut new = SmallVec::from_slice(alloc, words)?;
+    let mut new = copied_words(alloc, words)?;
     new.as_mut_slice()[at] = word;
     Ok(new)
+}
+
+/// Puts another word at its place.
+pub(crate) fn set_word(words: &mut SmallVec<u64, 4>, at: usize, word: u64)
+    requires { at < length words.old.items }
+    ensures { words.new.items ≡ slice_set words.old.items at word }
+{
+    words.as_mut_slice()[at] = word;
 }
 
 /// The word with bit `at` as given.

@@ -1,0 +1,6 @@
+use Rattle.std.proofs.Common.{◌≡◌, ◌≤◌, take, length}
+use Rattle.std.proofs.Common.{max}
+use Rattle.cube.proofs.words.copied_words.Given as goal
+
+abbrev pub invariant-loop-k : goal.invariant-loop-k
+invariant-loop-k l = (l.copy.items ≡ take l.k l.words) × (length l.words ≤ l.copy.capacity)
