@@ -1,14 +1,14 @@
 /* Loaded before a program, this makes some of its calls of the system fail, or move fewer bytes than they
    could, and keeps a log. It is built and used by faults.py, which tells it by the environment:
 
-   FAULT_CALL    which calls are counted: r (reads), w (writes to standard output), m (writes to standard
-                 error), a (requests for memory)
+   FAULT_CALL    which calls are counted: r (reads), e (reads that find the end), w (writes to standard
+                 output), m (writes to standard error), a (requests for memory)
    FAULT_FIRST   the number of the first call that fails, counted from 1; 0: none
    FAULT_LAST    the number of the last call that fails
    FAULT_ERROR   the error of a call that fails; 0: it answers 0 as if it moved nothing
    FAULT_PIECE   the most bytes that a read or a write moves; 0: as many as it can
-   FAULT_LOG     the descriptor that gets a letter for each call: o for opening a file, and r, w and m, all of
-                 them capital where the call failed by this, and A for a request for memory that did */
+   FAULT_LOG     the descriptor that gets a letter for each call: o for opening a file, and r, w and m; R, E, W,
+                 M and A for one that failed by this */
 #define _GNU_SOURCE
 #include <dlfcn.h>
 #include <errno.h>
@@ -74,8 +74,11 @@ ssize_t read(int from, void *bytes, size_t size)
 {
     if (fails('r'))
         return failed();
+    ssize_t moved = syscall(SYS_read, from, bytes, most(size));
+    if (moved == 0 && size > 0 && fails('e'))
+        return failed();
     note('r');
-    return syscall(SYS_read, from, bytes, most(size));
+    return moved;
 }
 
 ssize_t write(int to, const void *bytes, size_t size)

@@ -9,7 +9,7 @@ from typing import NamedTuple
 import support
 from support import Answer, STRANGER
 
-READ, WRITE, MESSAGE, MEMORY = "r", "w", "m", "a"
+READ, END, WRITE, MESSAGE, MEMORY = "r", "e", "w", "m", "a"
 FOR_GOOD = 10 ** 9
 
 

@@ -73,6 +73,8 @@ class Answers(ProgramTest):
 
     def test_contained_cubes_are_left_out(self):
         self.answers("-Dcontain", CONTAIN)
+        self.check(on_input("behind a comment", "-Dcontain", slashed("# rows / .i 2 / .o 1 / 11 1 / 1- 1 / 1- 1 / 0- 1 / .e"),
+                            b"# rows\n" + printed(2, 1, "1- 1", "0- 1")))
 
     def test_primes(self):
         self.answers("-Dprimes", PRIMES)

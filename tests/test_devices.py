@@ -6,12 +6,12 @@ that cannot be written changes nothing else."""
 import errno
 import re
 
-from faults import MESSAGE, READ, WRITE, Fault, alone, answer_under, for_good
-from support import Answer, ProgramTest, WRITE_FAILED, fault, folder_of
+from faults import END, MESSAGE, READ, WRITE, Fault, alone, answer_under, for_good
+from support import Answer, Case, ProgramTest, WRITE_FAILED, fault, folder_of
 from worked import ROW, WIDE_CASES, WORKED, one, printed
 
 # A run opens and reads, then writes its output, then its message.
-IN_ORDER = re.compile(r"[orRwW]*[mM]*\Z")
+IN_ORDER = re.compile(r"[orREwW]*[mM]*\Z")
 
 
 def reads_of(case):
@@ -35,10 +35,7 @@ class FailingCalls(ProgramTest):
         words = [*case.word_list, f"with {what}, calls {log[:200]}:"]
         self.same(found, due, words)
         self.assertRegex(log, IN_ORDER, "output behind a message")
-        self.assertTrue("R" not in log or "r" not in log[log.index("R"):], f"a read behind one that failed: {log[:200]}")
-        for call in "wm":
-            last = log.find(call.upper())
-            self.assertTrue(last < 0 or call not in log[last:], f"a write behind one that failed: {log[:200]}")
+        self.assertNotRegex(log, "[RE].*[rRE]|W.*[wW]|M.*[mM]", "a call behind one that failed")
         return what.call.upper() in log
 
     def test_bytes_that_come_and_go_one_by_one(self):
@@ -60,6 +57,24 @@ class FailingCalls(ProgramTest):
 
     def test_all_reads_fail_from_one_on(self):
         self.fail_each_read(for_good)
+
+    def test_a_read_fails_behind_a_text(self):
+        """The text comes whole, and the read that would find its end fails; behind the line `.e` none is needed."""
+        whole = b".i 1\n.o 1\n.e\n"
+        for text, due in (
+                (b".i 1\n.o ", Answer(b"", fault(2, "read failed", "f"), 2)),
+                (b"# a\n", Answer(b"# a\n", fault(2, "read failed", "f"), 2)),
+                (b"# a\n.i 2000", Answer(b"# a\n", fault(2, "read failed", "f"), 2)),
+                (b"# a\n.i 2000\n", Answer(b"# a\n", fault(2, "bad number", "f"), 2)),
+                (whole, Answer(printed(1, 1), b"", 0)),
+                (whole[:-1], Answer(b"", fault(3, "read failed", "f"), 2)),
+                (whole[:-1] + b" # a", Answer(b"", fault(3, "read failed", "f"), 2)),
+                (b"#" + b"x" * 131071, Answer(b"", fault(1, "read failed", "f"), 2)),
+                (b"#" + b"x" * 131072, Answer(b"", fault(1, "line longer than 131072 bytes", "f"), 2))):
+            case = Case("", "-Decho f", {"f": text})
+            for what in (alone, for_good):
+                with self.subTest(text[:20], what=what.__name__), folder_of(case.files) as folder:
+                    self.due_under(what(END, 1), case, folder, due)
 
     def test_the_first_read_of_a_source_fails(self):
         for case in WORKED + WIDE_CASES:

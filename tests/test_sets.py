@@ -24,6 +24,7 @@ GIVEN = [
              typed(1, 1, "fdr", "1 1", "1 1", "1 -", "0 0")),
     on_input("fd without a type", "-Decho -o fd", pla(2, 1, "11 1", "01 -"), typed(2, 1, "fd", "11 1", "01 -")),
     on_input("no DC list under f", "-Decho -o fd", slashed(".i 1 / .o 1 / .type f / 1 1 / 0 - / .e"), typed(1, 1, "fd", "1 1")),
+    on_input("type f as fd", "-Decho -o fd", slashed(".i 1 / .o 1 / .type f / 1 1 / .e"), typed(1, 1, "fd", "1 1")),
     on_input("2 is a dash, 3 is none", "-Decho -o fd", slashed(".i 1 / .o 1 / 1 2 / 0 3"), typed(1, 1, "fd", "1 -")),
     on_input("all symbols of outputs", "-Decho -o fd", slashed(".i 1 / .o 4 / 1 0132 / 0 4~-- / .e"),
              typed(1, 4, "fd", "1 ~1~~", "0 1~~~", "1 ~~~-", "0 ~~--")),
@@ -84,6 +85,8 @@ CHECKS = [
 TAUTOLOGIES = [
     (True, "two halves", pla(40, 1, "0" + "-" * 39 + " 1", "1" + "-" * 39 + " 1")),
     (True, "each output by a row", pla(1, 2, "- 10", "- 01")),
+    (True, "without an end line", slashed(".i 1 / .o 2 / - 10 / - 01")),
+    (False, "one output, without an end line", slashed(".i 1 / .o 2 / - 10")),
     (True, "no inputs, two rows", slashed(".i 0 / .o 2 / 10 / 01 / .e")),
     (True, "no inputs, one output", slashed(".i 0 / .o 1 / 1")),
     (True, "a don't-care too", pla(1, 1, "1 1", "0 1", "0 -")),

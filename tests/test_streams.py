@@ -31,6 +31,13 @@ class Streams(ProgramTest):
                 due = Answer(b"", WRITE_FAILED, 2) if case.output else case.due
                 self.stopped(case.word_list, case.files, due, stdout=full)
 
+    def test_comments_go_out_as_they_come(self):
+        """Where the first can't be written, no more than a piece of 4,096 bytes has been read."""
+        with folder_of({}) as folder, open("/dev/full", "wb") as full:
+            found, taken = support.answer_in(folder, ["-Decho"], b"# b\n" * 100000, stdout=full)
+            self.assertEqual(found[1:], (WRITE_FAILED, 2))
+            self.assertLessEqual(taken, 4096)
+
     def test_a_full_device_for_messages(self):
         for case in WORKED:
             with self.subTest(case.name), open("/dev/full", "wb") as full:

@@ -104,6 +104,8 @@ class TwoFiles(ProgramTest):
                 pair(f"{command}: empty", f"-D{command} a b", X, b"", b"# x\n", fault(0, ".i or .o missing", "b"), 2),
                 Case(f"{command}: standard input", f"-D{command} a -", {"a": X, "-": bad}, b"# x\n# y\n",
                      fault(4, "bad symbol"), 2),
+                Case(f"{command}: no numbers", f"-D{command} a -", {"a": X, "-": b"# y\n? 1\n"}, b"# x\n# y\n",
+                     fault(2, "row before .i and .o"), 2),
                 Case(f"{command}: missing", f"-D{command} a b", {"a": X}, b"# x\n", closed("b"), 2))
 
     def test_the_first_at_fault(self):

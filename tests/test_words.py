@@ -27,6 +27,9 @@ TAKEN = [
     Case("a dash before the command", "- -Decho", {"-": ONE}, PRINTED),
     Case("a dash behind --", "-Decho -- -", {"-": ONE}, PRINTED),
     Case("options and a dash behind --", "-o f -Decho -e eat -- -", {"-": NOTED}, PRINTED),
+    Case("all options and a dash", "-eeat -of -Decho -", {"-": NOTED}, PRINTED),
+    Case("a file -x, and no comments", "-Decho -eeat -- -x", {"-x": NOTED}, PRINTED),
+    Case("a file --, and no comments", "-Decho -eeat -- --", {"--": NOTED}, PRINTED),
     Case("nothing behind --", "-Decho --", {"-": ONE}, PRINTED),
     Case("a file -x", "-Decho -- -x", {"-x": NOTED}, b"# c\n" + PRINTED),
     Case("a file -Decho", "-Dexact -- -Decho", {"-Decho": ONE}, PRINTED),
@@ -63,7 +66,7 @@ REFUSED = [
     "-Decho -o x", "-Decho -o r", "-Decho -o d", "-Decho -o dr", "-Decho -oF", "-Decho -o=", "-Decho -o fdd",
     "-Dexact -o r", "-Dcheck -o x", "-Decho -e x", "-Decho -e fast", "-Decho -eEat", "-Decho -e=", "-Decho -o -- f",
     # too few files, too many, standard input twice
-    "-Dverify", "-Dverify a", "-Dverify -", "-Dverify -- a", "-Dintersect a", "-Dsharp", "-Dverify a b f",
+    "-Dverify", "-Dverify a", "-Dverify -", "-Dverify -- a", "-Dintersect a", "-Dsharp", "-Dverify a b f", "-Dverify a b c",
     "-Dverify a b -- f", "-Decho a b", "-Decho a -- b", "-Decho - -", "-Decho -- - -", "-Decho -- -x f",
     "-Dprimes a b", "-Dcheck a b", "-Dtautology a b", "-Dexact a b", "-Dessen a b", "-Dcontain a b",
     "-Dverify - -", "-Dverify -- - -", "-Dverify - -- -", "-Dverify a -- - -", "-Dsharp - -", "-Dintersect - -",

@@ -70,6 +70,7 @@ FEWER = pla(3, 1, "100 1", "000 -", "101 -", "11- -")
 
 WORKED = [
     one("echo of a row", "-Decho", ROW, printed(2, 1, "11 1")),
+    one("echo of a row behind a comment", "-Decho", b"# a\n" + ROW, b"# a\n" + printed(2, 1, "11 1"), passed={1: b"# a\n"}),
     one("echo of nothing", "-Decho", b"", b"", fault(0, ".i or .o missing"), 2),
     one("echo up to a fault", "-Decho", FAULTY, slashed("# a / .foo x / # b"), fault(6, "bad symbol"), 2,
         passed={1: b"# a\n", 4: b".foo x\n", 5: b"# b\n"}, over=6),
