@@ -226,7 +226,7 @@ answered, their answers were compared: {agreed}
 SHORTLY = """## In short
 
 The largest size of each family that this tool and the other answered, and how many times as long the other takes at the
-largest size that both answered. A family also ends where no larger size was tried.
+largest size that both answered. A family also ends where no larger size was tried. For one output, *here* is `exact`.
 """
 
 LOSSES = """## Where others are faster

@@ -6,7 +6,7 @@ usage: bench/peers.py PROGRAM [--limit SECONDS] [--quick] [--only WORD] [--jobs 
 verify runs beside berkeley-abc's cec, tautology beside minisat, exact beside cbc (the size of a least cover alone), and
 primes and exact of single outputs beside sympy's SOPform. Their answers are compared too; the status is 1 where two
 differ. A tool that is not installed is left out, and this is said. A tool leaves a family at the first size that it does
-not answer within the limit (60 seconds without --limit) or in 8 GiB of memory; --quick stands for a limit of 2 seconds.
+not answer within the limit (60 seconds without --limit) or in 4 GiB of memory; --quick stands for a limit of 2 seconds.
 --only runs the comparisons and families that have the word in their names, and --jobs so many families at the same time
 (one without it; leave cores free, for the sake of the times). --write writes docs/PERFORMANCE.md and the pictures in
 docs/performance.
@@ -33,7 +33,7 @@ sys.dont_write_bytecode = True
 
 import families  # noqa: E402
 
-MEMORY = 8 << 30                   # bytes that a run may take
+MEMORY = 4 << 30                   # bytes that a run may take
 SHORT = 2.0                        # seconds; shorter runs are made three times, and the least time counts
 
 
