@@ -54,10 +54,6 @@ PASSED_ON = [
          slashed("# i / # o / # n / # m / # p / # e") + printed(1, 1, head=[".ilb a", ".ob b"])),
     echo("sharps in a comment", slashed("## a # b / .i 1 # c # d / .o 1"), slashed("## a # b / # c # d") + printed(1, 1)),
     echo("bytes of any value in a comment", b"#\x00\xff\x80|~\n.i 1\n.o 1\n", b"#\x00\xff\x80|~\n" + printed(1, 1)),
-    on_input("two gates", "-Decho -o fd", lines("# two gates", ".i 2", ".o 2", ".ilb a b", ".ob f g", ".unknown x # y",
-                                                "11 1-", "0- 0", "0 # last", ".e # end", "junk"),
-             lines("# two gates", ".unknown x # y", "# last", "# end") +
-             printed(2, 2, "11 1~", "11 ~-", head=[".ilb a b", ".ob f g", ".type fd"])),
     refused("comments up to a fault", "-Decho", slashed("# a / .i 1 / .o 1 / .foo x / # b / z 1 # c / # d"), 6,
             "bad symbol", slashed("# a / .foo x / # b")),
     refused("unknown keywords up to a fault", "-Decho -e eat", slashed("# a / .i 1 / .o 1 / .foo x / # b / z 1"), 6,
