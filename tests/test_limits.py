@@ -45,7 +45,8 @@ class Limits(ProgramTest):
                             printed(1024, 1024, row)))
 
     def test_the_largest_numbers(self):
-        self.check(on_input("1,024 and 1,024", "-Decho", lines(".i 1024", ".o 1024", ".e"), printed(1024, 1024)),
+        self.check(on_input("256 and 256", "-Decho", lines(".i 256", ".o 256", ".e"), printed(256, 256)),
+                   on_input("1,024 and 1,024", "-Decho", lines(".i 1024", ".o 1024", ".e"), printed(1024, 1024)),
                    refused("inputs", "-Decho", lines(".i 1025"), 1, "bad number"),
                    refused("outputs", "-Decho", lines(".o 1025"), 1, "bad number"))
 
@@ -66,7 +67,9 @@ class Limits(ProgramTest):
                 on_input(f"{name} at the end", "-Decho", lines(*NUMBERS, longest)[:-1], passed + EMPTY),
                 refused(f"{name} of one byte more", "-Decho", lines(*NUMBERS, longest + fill, ".e"), 3, TOO_LONG),
                 refused(f"{name} of one byte more at the end", "-Decho", lines(*NUMBERS, longest + fill)[:-1], 3, TOO_LONG))
-        self.check(on_input("a line feed is not counted, a carriage return is", "-Decho",
+        half = "#" + "x" * (LONGEST // 2 - 1)
+        self.check(on_input("half as long", "-Decho", lines(*NUMBERS, half, ".e"), lines(half) + EMPTY),
+                   on_input("a line feed is not counted, a carriage return is", "-Decho",
                             lines(*NUMBERS, "#" + "x" * (LONGEST - 2) + "\r"), lines("#" + "x" * (LONGEST - 2) + "\r") + EMPTY),
                    refused("a carriage return more", "-Decho", lines(*NUMBERS, "#" + "x" * (LONGEST - 1) + "\r"), 3, TOO_LONG))
 
