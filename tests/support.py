@@ -136,6 +136,17 @@ def run(words, folder, stdin, **more):
     return subprocess.run([PROGRAM, *words], cwd=folder, stdin=stdin, **options)
 
 
+@contextlib.contextmanager
+def ended(process):
+    """A process that ends in time, or is ended."""
+    timer = threading.Timer(SECONDS, process.kill)
+    timer.start()
+    try:
+        yield process
+    finally:
+        timer.cancel()
+
+
 def fed(words, folder, pieces, before_end=None, take=None):
     """The answer of a run that is fed these pieces through a pipe while its output is taken. What `before_end` does
     with the process is done between the last piece and the end of its input; `take` gets the output in pieces."""
@@ -152,22 +163,17 @@ def fed(words, folder, pieces, before_end=None, take=None):
                 before_end(process)
 
     feeding = threading.Thread(target=feed)
-    ending = threading.Timer(SECONDS, process.kill)
     output = b""
-    with process:
+    with process, ended(process):
         feeding.start()
-        ending.start()
-        try:
-            while piece := process.stdout.read(1 << 16):
-                if take:
-                    take(piece)
-                else:
-                    output += piece
-            message = process.stderr.read()
-            status = process.wait()
-        finally:
-            ending.cancel()
-            feeding.join()
+        while piece := process.stdout.read(1 << 16):
+            if take:
+                take(piece)
+            else:
+                output += piece
+        message = process.stderr.read()
+        status = process.wait()
+        feeding.join()
     return Answer(output, message, status)
 
 

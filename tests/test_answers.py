@@ -90,6 +90,7 @@ class Answers(ProgramTest):
 
     def test_fewest_literals(self):
         self.answers("-Dexact", [("the first", FEWER, (3, 1, "-00 1"))])
+        self.answers("--literals -Dexact", [("a chain", CHAIN, (3, 1, "-00 1", "0-1 1"))])
         for words in ("-Dexact --literals", "--literals -D exact -"):
             self.answers(words, [("the one of fewest literals", FEWER, (3, 1, "1-- 1"))])
 

@@ -121,7 +121,7 @@ class Files(ProgramTest):
             pipe = os.path.join(folder, "b")
             os.mkfifo(pipe)
             with subprocess.Popen([support.PROGRAM, *words.split()], cwd=folder, stdin=stdin,
-                                  stdout=subprocess.PIPE, stderr=subprocess.PIPE) as process:
+                                  stdout=subprocess.PIPE, stderr=subprocess.PIPE) as process, support.ended(process):
                 is_opened = False
                 while process.poll() is None:
                     # a pipe can be opened for writing at once where it is open for reading, and then alone

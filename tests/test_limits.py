@@ -45,7 +45,8 @@ class Limits(ProgramTest):
                             printed(1024, 1024, row)))
 
     def test_the_largest_numbers(self):
-        self.check(on_input("1,024 and 1,024", "-Decho", lines(".i 1024", ".o 1024", ".e"), printed(1024, 1024)),
+        self.check(on_input("256 and 256", "-Decho", lines(".i 256", ".o 256", ".e"), printed(256, 256)),
+                   on_input("1,024 and 1,024", "-Decho", lines(".i 1024", ".o 1024", ".e"), printed(1024, 1024)),
                    refused("inputs", "-Decho", lines(".i 1025"), 1, "bad number"),
                    refused("outputs", "-Decho", lines(".o 1025"), 1, "bad number"))
 
@@ -57,15 +58,18 @@ class Limits(ProgramTest):
                            "wrong number of names"))
 
     def test_the_longest_line(self):
-        for name, start, due in (("a comment", "#", lambda line: [line]), ("an unknown keyword", ".x", lambda line: [line]),
-                                 ("blanks", " ", lambda line: []), ("a keyword", ".p ", lambda line: [])):
-            longest = start + " " * (LONGEST - len(start))
+        for name, start, fill, passes in (("a comment", "#", "x", True), ("an unknown keyword", ".", "x", True),
+                                          ("blanks", " ", " ", False), ("a keyword", ".p", " ", False)):
+            longest = start + fill * (LONGEST - len(start))
+            passed = lines(longest) if passes else b""
             self.check(
-                on_input(f"{name}", "-Decho", lines(*NUMBERS, longest, ".e"), lines(*due(longest)) + EMPTY),
-                on_input(f"{name} at the end", "-Decho", lines(*NUMBERS, longest)[:-1], lines(*due(longest)) + EMPTY),
-                refused(f"{name} of one byte more", "-Decho", lines(*NUMBERS, longest + " ", ".e"), 3, TOO_LONG),
-                refused(f"{name} of one byte more at the end", "-Decho", lines(*NUMBERS, longest + " ")[:-1], 3, TOO_LONG))
-        self.check(on_input("a line feed is not counted, a carriage return is", "-Decho",
+                on_input(f"{name}", "-Decho", lines(*NUMBERS, longest, ".e"), passed + EMPTY),
+                on_input(f"{name} at the end", "-Decho", lines(*NUMBERS, longest)[:-1], passed + EMPTY),
+                refused(f"{name} of one byte more", "-Decho", lines(*NUMBERS, longest + fill, ".e"), 3, TOO_LONG),
+                refused(f"{name} of one byte more at the end", "-Decho", lines(*NUMBERS, longest + fill)[:-1], 3, TOO_LONG))
+        half = "#" + "x" * (LONGEST // 2 - 1)
+        self.check(on_input("half as long", "-Decho", lines(*NUMBERS, half, ".e"), lines(half) + EMPTY),
+                   on_input("a line feed is not counted, a carriage return is", "-Decho",
                             lines(*NUMBERS, "#" + "x" * (LONGEST - 2) + "\r"), lines("#" + "x" * (LONGEST - 2) + "\r") + EMPTY),
                    refused("a carriage return more", "-Decho", lines(*NUMBERS, "#" + "x" * (LONGEST - 1) + "\r"), 3, TOO_LONG))
 
@@ -103,6 +107,7 @@ class Limits(ProgramTest):
             refused("the end on the last line", "-Decho", feeds[1:] + b".e\n", MOST_LINES, missing),
             refused("the end without its line feed", "-Decho", feeds[1:] + b".e", MOST_LINES, missing),
             refused("the end one line later", "-Decho", feeds + b".e\n", MOST_LINES + 1, TOO_MANY),
+            refused("the end one line later, without its line feed", "-Decho", feeds + b".e", MOST_LINES + 1, TOO_MANY),
             refused("one byte more", "-Decho", feeds + b"#", MOST_LINES + 1, TOO_MANY),
             refused("a line too many before one too long", "-Decho", feeds + b"x" * (LONGEST + 1), MOST_LINES + 1, TOO_MANY),
             refused("a fault on the last line", "-Decho", feeds[1:] + b".mv", MOST_LINES, "keyword outside the profile"),

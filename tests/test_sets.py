@@ -36,6 +36,8 @@ GIVEN = [
 
 COMPUTED = [
     on_input("OFF under fd", "-Decho -o fr", pla(2, 1, "11 1"), typed(2, 1, "fr", "11 1", "-0 0", "0- 0")),
+    on_input("OFF of two outputs, two words", "-Decho -o fr", pla(1, 2, "1 10"), typed(1, 2, "fr", "1 1~", "- ~0", "0 00")),
+    on_input("OFF of nothing, two words", "-Decho -o fr", pla(2, 1), typed(2, 1, "fr", "-- 0")),
     on_input("OFF of two outputs", "-Decho -ofr", pla(1, 2, "1 10"), typed(1, 2, "fr", "1 1~", "- ~0", "0 00")),
     on_input("OFF of nothing", "-o=fr -Decho", pla(2, 1), typed(2, 1, "fr", "-- 0")),
     on_input("OFF under f", "-Decho -o fdr", slashed(".i 2 / .o 1 / .type f / 11 1"), typed(2, 1, "fdr", "11 1", "-0 0", "0- 0")),

@@ -73,7 +73,7 @@ class Streams(ProgramTest):
         with folder_of({"f": LARGE}) as folder:
             process = subprocess.Popen([support.PROGRAM, "-Decho", "f"], cwd=folder, stdin=subprocess.DEVNULL,
                                        stdout=subprocess.PIPE, stderr=subprocess.PIPE, bufsize=0)
-            with process:
+            with process, support.ended(process):
                 self.assertEqual(process.stdout.read(5), b".i 20")
                 process.stdout.close()
                 self.assertEqual(process.stderr.read(), WRITE_FAILED)

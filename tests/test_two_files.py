@@ -83,6 +83,8 @@ class TwoFiles(ProgramTest):
         self.check(
             Case("intersect", "-Dintersect a b", files, b"# p\n# q\n" + by_name),
             Case("without comments", "-Dintersect a b -e eat", files, by_name),
+            Case("files without comments", "-Dintersect a b", {"a": first[4:], "b": second[4:]}, by_name),
+            Case("comments of both", "-Dverify a -", {"a": X, "-": b"# y\n" + ONE}, b"# x\n# y\n" + EQUAL),
             Case("nothing is left", "-Dsharp a b", files, slashed("# p / # q / .i 1 / .o 1 / .ilb p / .p 0 / .e")),
             Case("exchanged", "-Dsharp b a", files, b"# q\n# p\n" + other),
             Case("verify", "-Dverify a b", files, b"# p\n# q\n" + DIFFERENT, b"", 1),

@@ -24,6 +24,7 @@ TAKEN = [
         "-Decho f -e eat", "-eeat -of -Decho -- f", "-eeat -D=echo -o=f f")),
     Case("no file", "-Decho", {"-": ONE}, PRINTED),
     Case("a dash alone", "-Decho -", {"-": ONE}, PRINTED),
+    Case("a dash alone, no rows", "-Decho -", {"-": pla(1, 1)}, EMPTY),
     Case("a dash before the command", "- -Decho", {"-": ONE}, PRINTED),
     Case("a dash behind --", "-Decho -- -", {"-": ONE}, PRINTED),
     Case("options and a dash behind --", "-o f -Decho -e eat -- -", {"-": NOTED}, PRINTED),
@@ -61,7 +62,7 @@ REFUSED = [
     # an option twice, one without its value, one that is none
     "-Decho -Decho", "-Decho -D echo", "-Decho -o f -o f", "-Decho -of -of", "-Decho -e eat -e eat", "-Decho -eeat -eeat",
     "-Decho -o", "-Decho -e", "-Decho -x", "-Decho -s", "-Decho -h", "-Decho --help", "-Decho -V", "-Decho --version",
-    "-Decho --e eat", "-Decho -q", "-Decho -t f", "-Decho -S1", "-Decho -help",
+    "-Decho --e eat", "-Decho -q", "-Decho --lit", "-Decho -t f", "-Decho -S1", "-Decho -help",
     # a value that is none
     "-Decho -o x", "-Decho -o r", "-Decho -o d", "-Decho -o dr", "-Decho -oF", "-Decho -o=", "-Decho -o fdd",
     "-Dexact -o r", "-Dcheck -o x", "-Decho -e x", "-Decho -e fast", "-Decho -eEat", "-Decho -e=", "-Decho -o -- f",

@@ -4,7 +4,7 @@ Each answer is worked out by hand from the format's page and the commands' meani
 from dataclasses import dataclass
 from typing import NamedTuple
 
-from support import Case, USAGE, closed, fault, pla, printed, slashed
+from support import Case, USAGE, closed, fault, lines, pla, printed, slashed
 
 TAUTOLOGY = b"ON-set is a tautology\n"
 NO_TAUTOLOGY = b"ON-set is not a tautology\n"
@@ -66,6 +66,8 @@ CRLF = b".i 1\r\n.o 1\r\n1 1\r\n.e\r\n"
 CUBES = pla(2, 1, "11 1", "1- 1", "1- 1", "0- 1")
 HALVES = pla(40, 1, "0" + "-" * 39 + " 1", "1" + "-" * 39 + " 1")
 STEPS = pla(40, 1, "1" + "-" * 39 + " 1", "01" + "-" * 38 + " 1")
+GATES = lines("# two gates", ".i 2", ".o 2", ".ilb a b", ".ob f g", ".unknown x # y", "11 1-", "0- 0", "0 # last",
+              ".e # end", "junk")
 FEWER = pla(3, 1, "100 1", "000 -", "101 -", "11- -")
 
 WORKED = [
@@ -80,6 +82,9 @@ WORKED = [
     one("a keyword inside a row", "-Decho", slashed(".i 2 / .o 1 / 1 / .p 1"), b"",
         fault(4, "keyword inside a row"), 2, over=4),
     one("a row that the end cuts", "-Decho", slashed(".i 2 / .o 1 / 1 / .e"), b"", fault(4, "unfinished row"), 2),
+    one("two gates", "-Decho -o fd", GATES, slashed("# two gates / .unknown x # y / # last / # end") +
+        printed(2, 2, "11 1~", "11 ~-", head=[".ilb a b", ".ob f g", ".type fd"]),
+        passed={1: b"# two gates\n", 6: b".unknown x # y\n", 9: b"# last\n"}, over=10),
     one("primes of a ring", "-Dprimes", RING, printed(3, 1, "-01 1", "-10 1", "0-0 1", "00- 1", "1-1 1", "11- 1")),
     one("essential primes of a ring", "-Dessen", RING, printed(3, 1)),
     one("least cover of a ring", "-Dexact", RING, printed(3, 1, "-01 1", "0-0 1", "11- 1")),
