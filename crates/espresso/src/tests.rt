@@ -8,6 +8,7 @@ mod files;
 mod format;
 mod minima;
 mod pairs;
+mod program;
 mod sets;
 mod sizes;
 mod words;
