@@ -11,3 +11,4 @@ pub mod Readings
 pub mod Both
 pub mod Printed
 pub mod Checking
+mod Executing

@@ -189,7 +189,7 @@ module _ (line : Meaning) (taken : Intakes) (names : Names) (old mid new : Optio
 
 module _ (line : Meaning) (taken : Intakes) (names : Names) (out err : Told) (status : Status) where
   finishes : (message : List ℕ) (s : Status) → ((files : FilesOf taken) → Prints (outcome_of line files.first files.second) out message s) → Says err message → status ≡ s
-      → WritesWent out → FlushedLast out → (IsTrue (is_answer s) → FlushWent out) → Finishes line taken out err status
+      → WritesWent out → FlushedLast out → (IsTrue (is_answer s) → FlushWent out) → Finishes (outcome_of line) taken out err status
   finishes message s h say e written flushed unbroken = record {
     outcome = λ first second is_first is_second. let p = h (record { first = first; second = second; is_first = is_first; is_second = is_second }) in record {
       output = p.output;
@@ -201,12 +201,12 @@ module _ (line : Meaning) (taken : Intakes) (names : Names) (out err : Told) (st
     unbroken = λ done. unbroken (subst (λ t. IsTrue (is_answer t)) e done);
   }
 
-  beginning : Began (FilesOf taken) (λ files. outcome_of line files.first files.second) (echoes_due line taken.first ++ second_due line taken.second) out → TookBeginning line taken out
+  beginning : Began (FilesOf taken) (λ files. outcome_of line files.first files.second) (echoes_due line taken.first ++ second_due line taken.second) out → TookBeginning (outcome_of line) (echoes_due line taken.first ++ second_due line taken.second) taken out
   beginning (inl h) = inl h
   beginning (inr h) = inr (λ first second is_first is_second. h (record { first = first; second = second; is_first = is_first; is_second = is_second }))
 
   failing : LastWriteBroke out ⊎ (((files : FilesOf taken) → Took out (outcome_of line files.first files.second).output) × WritesWent out × FlushBroke out)
-      → LastWriteBroke out ⊎ (TookWhole line taken out × WritesWent out × FlushBroke out)
+      → LastWriteBroke out ⊎ (TookWhole (outcome_of line) taken out × WritesWent out × FlushBroke out)
   failing (inl h) = inl h
   failing (inr h) = inr (λ first second is_first is_second. h.0 (record { first = first; second = second; is_first = is_first; is_second = is_second }), h.1, h.2)
 

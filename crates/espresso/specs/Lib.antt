@@ -7,6 +7,7 @@ pub mod Check
 pub mod Answer
 pub mod Tool
 pub mod Run
+pub mod Program
 pub mod Contents
 pub mod Steps
 pub mod ToolExamples

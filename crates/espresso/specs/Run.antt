@@ -162,16 +162,16 @@ abbrev pub second_due : Meaning → SecondIntake → List ℕ
 second_due line (Asked intake) = echoes_due line intake
 second_due line _ = []
 
--- the output took the tool's output
-abbrev pub TookWhole : Meaning → Intakes → Told → Type 0
-TookWhole line taken out = OnFiles taken (λ first second. Took out (outcome_of line first second).output)
+-- ---- the three ways, by what the tool answers on the files
 
--- the output took a beginning of the tool's output, or of the echoes of files that were still being read
-abbrev pub TookBeginning : Meaning → Intakes → Told → Type 0
-TookBeginning line taken out = TookFront out (echoes_due line taken.first ++ second_due line taken.second)
-    ⊎ OnFiles taken (λ first second. TookFront out (outcome_of line first second).output)
+-- the output took what the tool prints
+abbrev pub TookWhole : (File → Option File → Outcome) → Intakes → Told → Type 0
+TookWhole answer taken out = OnFiles taken (λ first second. Took out (answer first second).output)
 
--- ---- the three ways
+-- the output took a beginning of it, or of the echoes of files that were still being read
+abbrev pub TookBeginning : (File → Option File → Outcome) → List ℕ → Intakes → Told → Type 0
+TookBeginning answer echoes taken out = TookFront out echoes
+    ⊎ OnFiles taken (λ first second. TookFront out (answer first second).output)
 
 -- output, message and status are these
 pub record HasOutcome (outcome : Outcome) (out err : Told) (status : Status) : Type 0 where
@@ -180,29 +180,37 @@ pub record HasOutcome (outcome : Outcome) (out err : Told) (status : Status) : T
   pub same_status : status ≡ outcome.status
 
 -- output, message and status are the tool's; no write failed, and behind an answer no flush
-pub record Finishes (line : Meaning) (taken : Intakes) (out err : Told) (status : Status) : Type 0 where
-  pub outcome : OnFiles taken (λ first second. HasOutcome (outcome_of line first second) out err status)
+pub record Finishes (answer : File → Option File → Outcome) (taken : Intakes) (out err : Told) (status : Status) : Type 0 where
+  pub outcome : OnFiles taken (λ first second. HasOutcome (answer first second) out err status)
   pub written : WritesWent out
   pub flushed : FlushedLast out
   pub unbroken : IsTrue (is_answer status) → FlushWent out
 
 -- memory was refused on the way
-pub record RanOut (line : Meaning) (taken : Intakes) (out err : Told) (status : Status) : Type 0 where
-  pub beginning : TookBeginning line taken out
+pub record RanOut (answer : File → Option File → Outcome) (echoes : List ℕ) (taken : Intakes) (out err : Told) (status : Status) : Type 0 where
+  pub beginning : TookBeginning answer echoes taken out
   pub written : WritesWent out
   pub flushed : FlushedLast out
   pub message : Says err memory_message
   pub same_status : status ≡ Memory
 
 -- a write failed on the way, or all was written and the flush failed
-pub record CouldNotWrite (line : Meaning) (taken : Intakes) (out err : Told) (status : Status) : Type 0 where
-  pub beginning : TookBeginning line taken out
-  pub failed : LastWriteBroke out ⊎ (TookWhole line taken out × WritesWent out × FlushBroke out)
+pub record CouldNotWrite (answer : File → Option File → Outcome) (echoes : List ℕ) (taken : Intakes) (out err : Told) (status : Status) : Type 0 where
+  pub beginning : TookBeginning answer echoes taken out
+  pub failed : LastWriteBroke out ⊎ (TookWhole answer taken out × WritesWent out × FlushBroke out)
   pub flushed : FlushedLast out
   pub message : Says err write_failed_message
   pub same_status : status ≡ Fault
 
+-- a run that took this from its sources, and on whose files the tool answers this
+abbrev pub EndsAs : (File → Option File → Outcome) → List ℕ → Intakes → Told → Told → Status → Type 0
+EndsAs answer echoes taken out err status = Finishes answer taken out err status
+    ⊎ (RanOut answer echoes taken out err status ⊎ CouldNotWrite answer echoes taken out err status)
+
+-- the echoes that are due of all that was taken
+abbrev pub all_due : Meaning → Intakes → List ℕ
+all_due line taken = echoes_due line taken.first ++ second_due line taken.second
+
 -- a run with this line, which took this from its sources
 abbrev pub Ends : Meaning → Intakes → Told → Told → Status → Type 0
-Ends line taken out err status = Finishes line taken out err status
-    ⊎ (RanOut line taken out err status ⊎ CouldNotWrite line taken out err status)
+Ends line taken = EndsAs (outcome_of line) (all_due line taken) taken

@@ -3,8 +3,8 @@
 //! A command line names a command and a file, or two files that are read one behind the other.
 //! [`Line::read`] takes the words after the program's name, and [`run`] reads the files, passes their
 //! comments on, and prints what the command answers; where the words say no line, [`refuse`] says so.
-//! Together they answer what `specs/Tool.antt` defines as `tool`: what goes to standard output, the one
-//! line that may go to standard error, and the exit status.
+//! [`execute`] is all of it, with the files opened: it answers what `specs/Tool.antt` defines as `tool`: what
+//! goes to standard output, the one line that may go to standard error, and the exit status.
 //!
 //! Some commands print a PLA, with the lists that the output type asks for:
 //!
@@ -54,8 +54,10 @@ mod command;
 mod content;
 mod laws;
 mod line;
+mod opener;
 mod pair;
 mod parser;
+mod program;
 mod source;
 mod status;
 mod stop;
@@ -64,37 +66,20 @@ mod tests;
 mod tool;
 
 pub use command::Command;
-use content::{opened, opened_second, words_of};
+use content::words_of;
 pub use laws::tool_in_parts;
 pub use line::{Line, LineFault};
-use pla::{Output, Writing};
+pub use opener::Opener;
+use pla::Writing;
+pub use program::execute;
 pub use source::Source;
 pub use status::Status;
 use std::process::ExitCode;
 pub use tool::{refuse, run};
 
-// Reads the words, opens the files that they name, and runs the line.
+// The words of the process, its files and its streams.
 fn main(rt: HostRuntime) -> ExitCode {
-    let mut err = Writing::new(rt.stderr());
-    ExitCode::from(answered(rt, &mut err).code())
-}
-
-fn answered<E: Output>(rt: HostRuntime, err: &mut E) -> Status {
-    let alloc = rt.alloc();
-    let line = match words_of(&rt) {
-        Ok(words) => Line::read(alloc, &words),
-        Err(fault) => Err(fault),
-    };
-    let line = match line {
-        Ok(line) => line,
-        Err(fault) => return refuse(&fault, err),
-    };
-    let Ok(mut first) = opened(&rt, rt.stdin(), line.files()) else {
-        return refuse(&LineFault::Memory, err);
-    };
-    let Ok(mut second) = opened_second(&rt, rt.stdin(), &line) else {
-        return refuse(&LineFault::Memory, err);
-    };
     let mut out = Writing::new(rt.stdout());
-    run(alloc, &line, &mut first, &mut second, &mut out, err)
+    let mut err = Writing::new(rt.stderr());
+    ExitCode::from(execute(rt.alloc(), words_of(&rt), &rt, &mut out, &mut err).code())
 }

@@ -5,6 +5,8 @@ ghost use Rattle.espresso.specs.Run.{name_of};
 ghost use Rattle.espresso.specs.Tool.{second_name};
 ghost use Rattle.espresso.specs.Words.{takes_two};
 
+mod program;
+
 use crate::content::{after_first, source_name};
 use crate::{Line, LineFault, Source, Status, refuse, run, tool_in_parts};
 use pla::{Ending, Given, Taken};

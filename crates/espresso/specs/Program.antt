@@ -1,0 +1,89 @@
+-- What a process does that was started with these words: which files it opens, and how it ends.
+use Rattle.std.specs.Prelude.{◌≡◌, ℕ, Bool, true, false, List, [], ◌∷◌, Option, Some, None, Result, Ok, Err, ⊤, ◌⊎◌, MatchOption, codes, drop, if◌then◌else◌}
+use Rattle.std.specs.Str.{bytes_eq}
+use Rattle.pla.specs.declared.calls.ReadCalls.{ReadCalls}
+use Rattle.espresso.specs.declared.line.LineFault.{LineFault}
+use Rattle.espresso.specs.declared.source.Source.{Source}
+use Rattle.espresso.specs.declared.source.Source.TheVariants.{Open, Closed}
+use Rattle.espresso.specs.declared.status.Status.{Status}
+use Rattle.espresso.specs.declared.status.Status.TheVariants.{Memory}
+use Rattle.espresso.specs.Messages.{memory_message}
+use Rattle.espresso.specs.Run.{EndsAs, HasOutcome, Intakes, Says, Takes, TakesSecond, Told, all_due}
+use Rattle.espresso.specs.Tool.{File, Outcome, refusal_of, tool}
+use Rattle.espresso.specs.Words.{Meaning, Text, line_of, takes_two}
+
+-- ---- the words
+
+-- the words of a process, the program's name first: what stands behind it, or why there are none
+abbrev pub words_behind : {V : Type 0} → (V → List Text) → Result V LineFault → Result (List Text) LineFault
+words_behind texts (Ok given) = Ok (drop 1 (texts given))
+words_behind texts (Err fault) = Err fault
+
+-- the line that they say
+abbrev pub line_said : Result (List Text) LineFault → Option Meaning
+line_said (Ok words) = line_of words
+line_said (Err fault) = None
+
+-- what the tool answers on them: words that are no text are refused, and want of memory is said
+abbrev pub tool_on : Result (List Text) LineFault → File → Option File → Outcome
+tool_on (Ok words) first second = tool words first second
+tool_on (Err fault) first second = refusal_of fault
+
+-- ---- the sources
+
+-- the file that the first of these words names: none for standard input, which is `-` or no word at all
+abbrev pub named_file : List Text → Option Text
+named_file [] = None
+named_file (file ∷ files) = if bytes_eq file (codes "-") then None else Some file
+
+-- a source of standard input, or of the file of that name: what it was opened as, or closed where it could not be
+abbrev pub IsOpenedAs : {D : Type 0} → (Text → Option D → Type 0) → (D → Type 0) → Option Text → Source D → Type 0
+IsOpenedAs file input None (Open name device) = input device
+IsOpenedAs file input None (Closed name) = ⊥
+IsOpenedAs file input (Some word) (Open name device) = file word (Some device)
+IsOpenedAs file input (Some word) (Closed name) = file word None
+
+-- the second source, where the command takes two
+abbrev pub IsSecondOpened : {D : Type 0} → (Text → Option D → Type 0) → (D → Type 0) → Meaning → Option (Source D) → Type 0
+IsSecondOpened file input line None = takes_two line.command ≡ false
+IsSecondOpened file input line (Some source) =
+    (takes_two line.command ≡ true) × IsOpenedAs file input (named_file (drop 1 line.files)) source
+
+-- ---- how it ends
+
+-- the words say no line: nothing is printed, not even a flush is asked for, and that is said
+pub record Refuses (words : Result (List Text) LineFault) (out err : Told) (status : Status) : Type 0 where
+  pub refused : line_said words ≡ None
+  pub outcome : (first : File) (second : Option File) → HasOutcome (tool_on words first second) out err status
+  pub untouched : out.calls_after ≡ out.calls
+
+-- memory was refused before a run: the output was not called, and that is said
+pub record GivesUp (out err : Told) (status : Status) : Type 0 where
+  pub nothing : out.taken_after ≡ out.taken
+  pub untouched : out.calls_after ≡ out.calls
+  pub message : Says err memory_message
+  pub same_status : status ≡ Memory
+
+-- the files of a line are opened, and it is run on them; this is the tool's answer on files
+pub record RunsOn {D : Type 0} (file : Text → Option D → Type 0) (input : D → Type 0) (left : D → Option (List ℕ)) (calls : D → ReadCalls) (line : Meaning) (answer : File → Option File → Outcome) (out err : Told) (status : Status) : Type 0 where
+  pub first : Source D
+  pub first_after : Source D
+  pub second : Option (Source D)
+  pub second_after : Option (Source D)
+  pub first_opened : IsOpenedAs file input (named_file line.files) first
+  pub second_opened : IsSecondOpened file input line second
+  pub taken : Intakes
+  pub first_taken : Takes left calls first first_after taken.first
+  pub second_taken : TakesSecond left calls taken.first second second_after taken.second
+  pub ends : EndsAs answer (all_due line taken) taken out err status
+
+-- a line is run, unless memory is refused before
+abbrev pub RunsLine : {D : Type 0} → (Text → Option D → Type 0) → (D → Type 0) → (D → Option (List ℕ)) → (D → ReadCalls) → Meaning → (File → Option File → Outcome) → Told → Told → Status → Type 0
+RunsLine file input left calls line answer out err status = GivesUp out err status ⊎ RunsOn file input left calls line answer out err status
+
+-- what a process does with these words: it refuses them, or there are words and memory is refused before a run, or they
+-- say a line, which is run
+abbrev pub Executes : {D : Type 0} → (Text → Option D → Type 0) → (D → Type 0) → (D → Option (List ℕ)) → (D → ReadCalls) → Result (List Text) LineFault → Told → Told → Status → Type 0
+Executes file input left calls words out err status = Refuses words out err status
+    ⊎ (((texts : List Text) × (words ≡ Ok texts) × GivesUp out err status)
+    ⊎ ((line : Meaning) × (line_said words ≡ Some line) × RunsOn file input left calls line (tool_on words) out err status))

@@ -1,0 +1,271 @@
+//! Whole processes: words, files by name, both outputs, the status.
+use crate::{LineFault, Opener, Status, execute};
+use pla::{Broken, Ending, Given, Output, Taken, WriteCalls};
+use std::alloc::Global;
+use std::cell::Cell;
+use std::test::Fail;
+
+// Two files by name, and standard input.
+#[derive(Drop)]
+struct Shelf {
+    alloc: Global,
+    a: &'static str,
+    b: &'static str,
+    input: &'static str,
+}
+
+impl Shelf {
+    fn given(&self, text: &str) -> Option<Given> {
+        match text.as_bytes().to_vec(self.alloc) {
+            Ok(bytes) => Some(Given::new(bytes, 3, Ending::End)),
+            Err(_) => None,
+        }
+    }
+}
+
+impl Opener for Shelf {
+    ghost use Rattle.std.specs.Prelude.{⊤};
+
+    type Device = Given;
+
+    ghost file = { λ _ _ _. ⊤ };
+
+    ghost input = { λ _ _. ⊤ };
+
+    fn open(&self, name: &str) -> Option<Given> {
+        match name {
+            "a" => self.given(self.a),
+            "b" => self.given(self.b),
+            "-" => self.given("a file that a hyphen names"),
+            _ => None,
+        }
+    }
+
+    fn standard_input(&self) -> Given {
+        match self.given(self.input) {
+            Some(given) => given,
+            None => Given::new(Vec::new(self.alloc), 1, Ending::Failed),
+        }
+    }
+}
+
+// What a process left behind.
+#[derive(Drop)]
+struct Left {
+    output: Taken,
+    message: Taken,
+    code: u8,
+}
+
+fn two_files(alloc: Global) -> Shelf {
+    Shelf {
+        alloc,
+        a: ".i 1\n.o 1\n1 1\n",
+        b: "# b\n.i 1\n.o 1\n0 1\n",
+        input: "# in\n.i 1\n.o 1\n- 1\n",
+    }
+}
+
+fn words_of(alloc: Global, words: &[&str]) -> Result<Vec<String>, Fail> {
+    let mut list = Vec::new(alloc);
+    for word in words {
+        list.push(String::from_str(alloc, word)?)?;
+    }
+    Ok(list)
+}
+
+fn left_by(alloc: Global, words: Result<Vec<String>, LineFault>) -> Result<Left, Fail> {
+    let mut output = Taken::new(alloc, 200, 200, false)?;
+    let mut message = Taken::new(alloc, 200, 200, false)?;
+    let status = execute(alloc, words, &two_files(alloc), &mut output, &mut message);
+    Ok(Left {
+        output,
+        message,
+        code: status.code(),
+    })
+}
+
+#[test]
+fn each_word_names_its_own_source(rt: HostRuntime) -> Result<(), Fail> {
+    let alloc = rt.alloc();
+    for (words, output, message, code) in [
+        (["x", "-Decho", "a"], ".i 1\n.o 1\n.p 1\n1 1\n.e\n", "", 0),
+        (
+            ["-Decho", "-Decho", "b"],
+            "# b\n.i 1\n.o 1\n.p 1\n0 1\n.e\n",
+            "",
+            0,
+        ),
+        (
+            ["x", "-Decho", "-"],
+            "# in\n.i 1\n.o 1\n.p 1\n- 1\n.e\n",
+            "",
+            0,
+        ),
+        (
+            ["x", "-D", "echo"],
+            "# in\n.i 1\n.o 1\n.p 1\n- 1\n.e\n",
+            "",
+            0,
+        ),
+        (["x", "-Decho", "c"], "", "espresso: cannot open c\n", 2),
+        (
+            ["x", "-Dtautology", "a"],
+            "ON-set is not a tautology\n",
+            "",
+            1,
+        ),
+        (["x", "-Decho", "-Decho"], "", USAGE, 2),
+    ] {
+        let left = left_by(alloc, Ok(words_of(alloc, &words)?))?;
+        assert_eq!(rt; left.output.bytes(), output.as_bytes());
+        assert_eq!(rt; left.message.bytes(), message.as_bytes());
+        assert_eq!(rt; left.code, code);
+    }
+    Ok(())
+}
+
+const USAGE: &str = "usage: espresso -Dcommand [-o type] [-e eat] [file [file]]\n";
+
+#[test]
+fn each_of_two_words_names_its_own_source(rt: HostRuntime) -> Result<(), Fail> {
+    let alloc = rt.alloc();
+    for (words, output, message, code) in [
+        (
+            ["x", "-Dsharp", "-", "a"],
+            "# in\n.i 1\n.o 1\n.p 1\n0 1\n.e\n",
+            "",
+            0,
+        ),
+        (
+            ["x", "-Dsharp", "b", "-"],
+            "# b\n# in\n.i 1\n.o 1\n.p 0\n.e\n",
+            "",
+            0,
+        ),
+        (
+            ["x", "-Dsharp", "a", "c"],
+            "",
+            "espresso: cannot open c\n",
+            2,
+        ),
+        (
+            ["x", "-Dsharp", "c", "a"],
+            "",
+            "espresso: cannot open c\n",
+            2,
+        ),
+    ] {
+        let left = left_by(alloc, Ok(words_of(alloc, &words)?))?;
+        assert_eq!(rt; left.output.bytes(), output.as_bytes());
+        assert_eq!(rt; left.message.bytes(), message.as_bytes());
+        assert_eq!(rt; left.code, code);
+    }
+    Ok(())
+}
+
+#[test]
+fn words_that_are_none_are_told(rt: HostRuntime) -> Result<(), Fail> {
+    let alloc = rt.alloc();
+    let left = left_by(alloc, Err(LineFault::Usage))?;
+    assert_eq!(rt; left.message.bytes(), USAGE.as_bytes());
+    assert_eq!(rt; left.code, 2);
+    assert_eq!(rt; left.output.calls(), WriteCalls::new());
+    let left = left_by(alloc, Err(LineFault::Memory))?;
+    assert_eq!(rt;
+        left.message.bytes(),
+        b"espresso: out of memory\n".as_slice()
+    );
+    assert_eq!(rt; left.code, 3);
+    Ok(())
+}
+
+// An output that marks its calls on a slate that others mark too: 1 for a write of the first output,
+// 2 for its flush, 3 for a write of the second.
+#[derive(Drop)]
+struct Marking<'a> {
+    slate: &'a Cell<u64>,
+    mark: u64,
+    calls: WriteCalls,
+}
+
+impl Marking<'_> {
+    fn put(&self, mark: u64) {
+        self.slate
+            .set(self.slate.get().wrapping_mul(10).wrapping_add(mark));
+    }
+}
+
+impl Output for Marking<'_> {
+    ghost use Rattle.std.specs.Prelude.{None};
+
+    ghost taken = { λ _. None };
+
+    ghost calls = { λ s. s.calls };
+
+    fn write(&mut self, bytes: &[u8]) -> Result<usize, Broken> {
+        self.put(self.mark);
+        self.calls = self.calls.after_write();
+        Ok(bytes.len())
+    }
+
+    fn flush(&mut self) -> Result<(), Broken> {
+        self.put(2);
+        self.calls = self.calls.after_flush();
+        Ok(())
+    }
+}
+
+// The marks of a process with these words.
+fn marks_of(alloc: Global, words: &[&str]) -> Result<u64, Fail> {
+    let slate = Cell::new(0);
+    let mut out = Marking {
+        slate: &slate,
+        mark: 1,
+        calls: WriteCalls::new(),
+    };
+    let mut err = Marking {
+        slate: &slate,
+        mark: 3,
+        calls: WriteCalls::new(),
+    };
+    let words = words_of(alloc, words)?;
+    let _ = execute(alloc, Ok(words), &two_files(alloc), &mut out, &mut err);
+    Ok(slate.get())
+}
+
+#[test]
+fn a_message_comes_behind_the_flush(rt: HostRuntime) -> Result<(), Fail> {
+    let alloc = rt.alloc();
+    assert_eq!(rt; marks_of(alloc, &["x", "-Decho", "a"])?, 12);
+    assert_eq!(rt; marks_of(alloc, &["x", "-Decho", "c"])?, 2333);
+    assert_eq!(rt; marks_of(alloc, &["x", "-Dsharp", "b", "c"])?, 12333);
+    assert_eq!(rt; marks_of(alloc, &["x", "-Dsharp"])?, 3);
+    Ok(())
+}
+
+#[test]
+fn a_failed_call_is_the_last_of_its_kind(rt: HostRuntime) -> Result<(), Fail> {
+    let alloc = rt.alloc();
+    for writes in 0..2 {
+        let output = Taken::new(alloc, 200, 10, false)?;
+        let mut output = output.failing_after(writes);
+        let mut message = Taken::new(alloc, 200, 200, false)?;
+        let words = words_of(alloc, &["x", "-Decho", "a"])?;
+        let status = execute(
+            alloc,
+            Ok(words),
+            &two_files(alloc),
+            &mut output,
+            &mut message,
+        );
+        assert_eq!(rt; status, Status::Fault);
+        assert_eq!(rt; message.bytes(), b"espresso: write failed\n".as_slice());
+        assert!(rt; output.calls().broken);
+        assert!(rt; output.calls().flushed);
+        assert_eq!(rt; output.calls().counts.failures, 1);
+        assert_eq!(rt; output.calls().counts.flushes, 1);
+        assert_eq!(rt; output.calls().counts.failed_flushes, 0);
+    }
+    Ok(())
+}
