@@ -217,15 +217,15 @@ pub(crate) fn reason(
     let Survey {
         found,
         meeting,
-        nearest: _,
+        nearest,
         fewest,
     } = survey_rows(alloc, near, region)?;
     if let Some(cube) = found {
         return Ok(Some(cube));
     }
     if fewest <= bound && !meeting.is_empty() {
-        let rest = bound.saturating_sub(1);
-        return by_step(alloc, rows, &meeting, fewest, rest, region);
+        let rest = fewest.min(bound.saturating_sub(1));
+        return by_step(alloc, rows, &nearest, fewest, rest, region);
     }
     let Survey {
         found,
