@@ -77,17 +77,6 @@ behind-more_cases rows i row lt at d h =
       ]
     ]
 
--- no row so far has the output
-pub output_more : (rows : List (Bor Cube)) (i : ℕ) (row : Bor Cube) (j : ℕ) → i < length rows → row ≡ get_or rows i row
-    → list_any (λ d. get_or d.outputs j false) (behind (take i rows)) ≡ false → get_or row.now.outputs j false ≡ false
-    → list_any (λ d. get_or d.outputs j false) (behind (take (i + 1) rows)) ≡ false
-output_more rows i row j lt at none' off =
-    list_any_false (λ d. get_or d.outputs j false) (behind (take (i + 1) rows)) (λ d h on.
-    elim (behind-more_cases rows i row lt at d h) [
-      | inl before ↦ list_any_none (λ d. get_or d.outputs j false) (behind (take i rows)) d none' before on
-      | inr e ↦ false≢true (sym off ∙ ap (λ d. get_or d.outputs j false) e ∙ on)
-    ])
-
 -- references to cubes of a size go with a cube of that size
 pub sizes_of_cubes : (size : Size) (cubes : List Cube) → AreCubes size cubes → (lent : List (Bor Cube)) → behind lent ≡ cubes
     → (region : Cube) → HasSize region size → All (λ d. SameSize d.now region) lent

@@ -264,31 +264,6 @@ module _ (rows : List Cube) (region row rest : Cube) (size : SameSize row region
             (sub p (place_at rest j (output_rest j ∙ and_from (get_or region.outputs j false) (not (get_or row.outputs j false)) on (not_from_false (get_or row.outputs j false) off))))).1
       ]
 
--- the cube of the symbols of both with the outputs of either
-pub stacked_above : (region one other c : Cube)
-    → ((p : Place) → holds c p ≡ ((matches one.symbols p.point && matches other.symbols p.point) && (get_or one.outputs p.output false || get_or other.outputs p.output false)))
-    → ((point : List Bool) → matches region.symbols point ≡ true → matches one.symbols point ≡ true)
-    → ((point : List Bool) → matches region.symbols point ≡ true → matches other.symbols point ≡ true)
-    → ((j : ℕ) → get_or region.outputs j false ≡ true → (get_or one.outputs j false || get_or other.outputs j false) ≡ true)
-    → IsSubset (holds region) (holds c)
-stacked_above region one other c e in_one in_other outputs p h =
-    let parts = and_parts (matches region.symbols p.point) (get_or region.outputs p.output false) h in
-    e p
-    ∙ and_from (matches one.symbols p.point && matches other.symbols p.point) (get_or one.outputs p.output false || get_or other.outputs p.output false)
-    (and_from (matches one.symbols p.point) (matches other.symbols p.point) (in_one p.point parts.0) (in_other p.point parts.0))
-    (outputs p.output parts.1)
-
-pub stacked_within : (one other c : Cube)
-    → ((p : Place) → holds c p ≡ ((matches one.symbols p.point && matches other.symbols p.point) && (get_or one.outputs p.output false || get_or other.outputs p.output false)))
-    → IsSubset (holds c) (λ p. holds one p || holds other p)
-stacked_within one other c e p h =
-    let parts = and_parts (matches one.symbols p.point && matches other.symbols p.point) (get_or one.outputs p.output false || get_or other.outputs p.output false) (sym (e p) ∙ h) in
-    let inputs = and_parts (matches one.symbols p.point) (matches other.symbols p.point) parts.0 in
-    elim (or_cases (get_or one.outputs p.output false) (get_or other.outputs p.output false) parts.1) [
-      | inl a ↦ or_left (holds one p) (holds other p) (and_from (matches one.symbols p.point) (get_or one.outputs p.output false) inputs.0 a)
-      | inr b ↦ or_right (holds one p) (holds other p) (and_from (matches other.symbols p.point) (get_or other.outputs p.output false) inputs.1 b)
-    ]
-
 -- ---- rows among others
 
 pub among_more : (some rows : List (Bor Cube)) (row : Bor Cube) → AreAmong some rows → AreAmong some (rows ++ row ∷ [])

@@ -143,9 +143,6 @@ module _ (rows lent : List (Bor Cube)) (region : Cube) (sizes : All (λ d. SameS
       (subst (λ l. Contains l d) inside h)).1)
       ∙ is_disjoint-from_fact (size_of region) (holds d) (holds region) apart)
 
-  pub sizes_lent : All (λ d. SameSize d.now region) lent
-  sizes_lent = all_behind (λ d. SameSize d region) lent lent_sizes
-
   pub held_lent : IsSubset (holds region) (places (behind rows)) ↔ IsSubset (holds region) (places (behind lent))
   held_lent =
       subst (λ l. IsSubset (holds region) (places (behind rows)) ↔ IsSubset (holds region) (places l)) (sym inside)

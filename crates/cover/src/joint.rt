@@ -13,7 +13,7 @@ ghost use Rattle.cover.specs.Reason.{AreAmong};
 
 use crate::reason::is_held_near;
 use crate::region::Tally;
-use crate::splitting_input::{fewest_literals, share_literal};
+use crate::splitting_input::{fewest_literals, literal_words, shares_literal};
 use crate::symbols::{having, open_at};
 use cube::{Cube, Shape, Symbol};
 use std::alloc::{AllocError, Global};
@@ -71,8 +71,9 @@ fn touched<'a>(
     if rows.len() <= FEW {
         return Ok(some);
     }
+    let words = literal_words(alloc, shape, region)?;
     for row in rows {
-        if share_literal(shape, row, region) {
+        if shares_literal(row, &words) {
             some.push(*row)?;
         }
     }

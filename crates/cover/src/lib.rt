@@ -16,9 +16,10 @@
 //! `tautology` answers true; `contain` leaves `1- 1` and `0- 1`; the cofactor by `1- 1` has the
 //! rows `-1 1`, `-- 1` and `-- 1`; its complete sum is the row `-- 1`, and its complement is empty.
 //!
-//! No call lists points. `cofactor` looks at each cube once. `tautology` and `holds_cube` take time
-//! in the number of cubes times the depth of the splits where the cubes hardly overlap, and at worst
-//! exponential time in the inputs. `contain` looks at far fewer than all pairs of cubes where these
+//! No call lists points. `cofactor` looks at each cube once. `tautology`, `holds_cube` and
+//! [`agree_outside`] split at inputs, each half answered by an implicant that says why it is held: so
+//! a split that has no part in the answer is undone at once. They take time in the number of cubes
+//! times that of the splits, which may be exponential in the inputs at worst. `contain` looks at far fewer than all pairs of cubes where these
 //! have literals at many inputs, and at worst at all of them. Each takes memory for indices or
 //! references; `cofactor`, `contain` and `try_clone` also for the cubes of their answer.
 #![tactic(auto)]

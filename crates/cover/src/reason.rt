@@ -1,14 +1,16 @@
 //! Why cubes hold every place of a region: a cube that holds the region, and of which they hold each
-//! place.
+//! place (an implicant of the list).
 //!
 //! A region is a cube. A row that holds it is such a cube. Else the region is split at an input, and
 //! each half is asked by itself. Where the cube for one half has no literal at that input, it holds
-//! the whole region, and the other half is never asked; else the consensus of both cubes is the
-//! answer, which has `-` at the input and elsewhere what either asks. So a split that had no part in
-//! an answer is undone at once, wherever it was made. A row with one literal inside the region is
-//! split at first, since it holds one of the halves; else the input counts at which the literals are
-//! those of rows with few. Where a row has no literal inside the region, the rest of the outputs is
-//! asked.
+//! the whole region, and the other half is never asked: so a split that had no part in an answer is
+//! undone at once, wherever it was made (Marques-Silva and Sakallah 1996). Else the consensus of both
+//! cubes is the answer, which has `-` at the input and elsewhere what either asks (Brayton et al.
+//! 1984). A row with one open literal holds one of the halves, so that the other decides (Davis,
+//! Logemann and Loveland 1962). Where a row has no open literal, the rest of the outputs is asked.
+//!
+//! Each question looks at the rows once. While some rows of a region have few open literals, its parts
+//! look at those rows alone, and at all rows that meet the region only once these have more.
 ghost use Rattle.std.specs.Prelude.{◌≡◌, ◌≢◌, ◌↔◌, ℕ, ◌≤◌, ◌<◌, Bool, List, true, false, ◌||◌, ⊤, IsTrue, IfOk, IfSome, IfNone, OnOk, ◌++◌, ◌∷◌, [], length, slice_get, slice_index_or, Some, Contains, All};
 ghost use Rattle.cube.specs.Cube.{SameSize, IsSubset, IsDisjoint, Place, holds, with_symbol, size_of};
 ghost use Rattle.cube.specs.Pattern.{agrees, matches};
@@ -215,15 +217,15 @@ pub(crate) fn reason(
     let Survey {
         found,
         meeting,
-        nearest: _,
+        nearest,
         fewest,
     } = survey_rows(alloc, near, region)?;
     if let Some(cube) = found {
         return Ok(Some(cube));
     }
     if fewest <= bound && !meeting.is_empty() {
-        let rest = bound.saturating_sub(1);
-        return by_step(alloc, rows, &meeting, fewest, rest, region);
+        let rest = fewest.min(bound.saturating_sub(1));
+        return by_step(alloc, rows, &nearest, fewest, rest, region);
     }
     let Survey {
         found,

@@ -6,6 +6,7 @@
 //! of this is a wish, which is looked at before it is used.
 
 use cube::{Cube, Shape, Symbol};
+use std::alloc::{AllocError, Global};
 
 // At most so many of all rows are looked at.
 const SAMPLE: usize = 64;
@@ -60,10 +61,26 @@ pub(crate) fn fewest_literals(shape: Shape, rows: &[&Cube]) -> u32 {
     fewest
 }
 
-/// Whether the two have a literal in common.
-pub(crate) fn share_literal(shape: Shape, row: &Cube, region: &Cube) -> bool {
+/// The words of the literals of a cube that has some there, with their numbers.
+pub(crate) fn literal_words(
+    alloc: Global,
+    shape: Shape,
+    cube: &Cube,
+) -> Result<Vec<(usize, u64)>, AllocError> {
+    let mut words = Vec::new(alloc);
     for w in 0..shape.inputs() / 32 + 1 {
-        if row.literal_bits(w) & region.literal_bits(w) != 0 {
+        let bits = cube.literal_bits(w);
+        if bits != 0 {
+            words.push((w, bits))?;
+        }
+    }
+    Ok(words)
+}
+
+/// Whether a row has one of the literals.
+pub(crate) fn shares_literal(row: &Cube, words: &[(usize, u64)]) -> bool {
+    for (w, bits) in words {
+        if row.literal_bits(*w) & *bits != 0 {
             return true;
         }
     }

@@ -1,4 +1,4 @@
--- The rows that are left of one without another, where they meet. No public clause cites this module.
+-- The rows that are left of one without another, where they meet.
 use Rattle.std.specs.Prelude.{ℕ, zero, suc, Bool, true, false, not, ◌&&◌, cond, List, [], ◌∷◌, slice_index_or}
 use Rattle.std.specs.List.{list_any}
 use Rattle.cube.specs.declared.symbol.Symbol.{Symbol}

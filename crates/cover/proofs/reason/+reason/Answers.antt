@@ -152,18 +152,15 @@ reason-by_step-requires t c =
     let region = c.args.region.now in
     let near = c.args.near.now in
     let met = c.in_ok-found.field-0.meeting.items in
+    let nearest = c.in_ok-found.field-0.nearest.items in
     let inside : behind met ≡ meeting (size_of region) region (behind near) =
-    subst (λ o. IfNone o (behind met ≡ meeting (size_of region) region (behind near))) c.in_default.is
-    c.in_ok-found.ensures.meeting in
+    subst (λ o. IfNone o (behind met ≡ meeting (size_of region) region (behind near))) c.in_default.is c.in_ok-found.ensures.meeting in
     let sizes = sizes_among near c.args.rows.now region c.requires.sizes c.requires.near in
-    let among : AreAmong met c.args.rows.now = λ d k. c.requires.near d (among_lent near met region inside d k) in
-    let known : AreAmong met c.args.rows.now × (All (λ d. IsDisjoint (holds d.now) (holds region) → ⊥) met × (1 ≤ length met)) = (
-      among,
-      (
-        meets_among met near met region sizes inside (λ d k. k),
-        some_left met (vec_len c.in_ok-found.field-0.meeting) c.is_empty.result c.in_ok-found.field-0.meeting.ok.0 c.is_empty.ensures c.if-not-is_empty.true,
-      ),
-    ) in (
+    let inner : AreAmong nearest met = c.in_ok-found.ensures.nearest in
+    let among : AreAmong nearest c.args.rows.now = λ d k. c.requires.near d (among_lent near met region inside d (inner d k)) in
+    let there = c.in_ok-found.ensures.some (some_left met (vec_len c.in_ok-found.field-0.meeting) c.is_empty.result c.in_ok-found.field-0.meeting.ok.0 c.is_empty.ensures c.if-not-is_empty.true) in
+    let known : AreAmong nearest c.args.rows.now × (All (λ d. IsDisjoint (holds d.now) (holds region) → ⊥) nearest × (1 ≤ length nearest)) =
+    (among, (meets_among nearest near met region sizes inside inner, there)) in (
       omega arith,
       (
         c.requires.sizes,
