@@ -29,3 +29,4 @@ pub mod SumUncovered
 pub mod SumMixed
 pub mod SumApart
 pub mod Dividing
+pub mod SumSymbols

@@ -8,7 +8,7 @@ use Rattle.cube.specs.Cube.{Cube, Place, holds, IsCube, IsSubset}
 use Rattle.cube.proofs.Members.{list_any_none, list_any_false}
 use Rattle.cover.specs.Cubes.{AreCubes}
 use Rattle.cover.specs.Places.{places}
-use Rattle.cover.specs.Complete.{at_input, at_both}
+use Rattle.cover.specs.Complete.{literal, at_input, at_both}
 use Rattle.cover.specs.Marks.{is_symbol}
 use Rattle.cover.specs.Parts.{part, has_literal}
 use Rattle.cover.specs.Reduced.{IsMeets, IsBranch, IsAbsorbed, IsThinned, HasSameCubes}
@@ -79,3 +79,21 @@ module _ (size : Size) (i : ℕ) (lt : i < size.inputs) (cubes : List Cube) (h :
   IsBranch-both_list dashes zeros ones common all d z o meets is =
       subst (IsBranch size i cubes (at_both i (places cubes))) (sym (is ∙ ap (λ l. l ++ common) d))
       (IsBranch-both common (subst (λ l. IsMeets size l (part i One cubes) common) z (subst (λ l. IsMeets size zeros l common) o meets)))
+
+  -- those at one value: the cubes with its literal, and those without one
+  pub IsBranch-side : (b : Bool) (side dashes all : List Cube) → side ≡ part i (literal b) cubes → dashes ≡ part i Dash cubes → all ≡ side ++ dashes
+      → IsBranch size i cubes (at_input i b (places cubes)) all
+  IsBranch-side b side dashes all e d is =
+      let own = part i (literal b) cubes in
+      let free = part i Dash cubes in
+      subst (IsBranch size i cubes (at_input i b (places cubes))) (sym (is ∙ ap (λ l. l ++ dashes) e ∙ ap (λ l. own ++ l) d)) (record {
+        are_cubes = All-append (IsCube size) own free (AreCubes-part size i (literal b) cubes h) (AreCubes-part size i Dash cubes h);
+        places = λ p. places-append own free p ∙ swapped (places own p) (places free p) ∙ places-at_input size i lt b cubes p h;
+        frees = Frees-append i cubes own free (Frees-part size i (literal b) cubes lt h) (Frees-part size i Dash cubes lt h);
+      })
+    where
+      swapped : (x y : Bool) → (x || y) ≡ (y || x)
+      swapped true true = refl
+      swapped true false = refl
+      swapped false true = refl
+      swapped false false = refl

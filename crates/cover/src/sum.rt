@@ -18,14 +18,16 @@ ghost use Rattle.cube.specs.Cube.{intersection, difference as difference_of};
 ghost use Rattle.cube.specs.Sum.{complete_sum as complete_sum_of};
 ghost use Rattle.cover.specs.Apart.{IsInParts};
 ghost use Rattle.cover.specs.Cubes.{AreCubes};
+ghost use Rattle.cover.specs.Complete.{at_input};
 ghost use Rattle.cover.specs.Parts.{has_literal};
 ghost use Rattle.cover.specs.Places.{places};
+ghost use Rattle.cover.specs.Reduced.{IsBranch};
 ghost use Rattle.cover.specs.Sides.{IsSide};
 
 use crate::list::Cover;
-use crate::sum_absorb::{reduced, without_covered};
+use crate::sum_absorb::{reduced, thinned, without_covered};
 use crate::sum_apart::{Parts, has_free_row, parts_apart};
-use crate::sum_branch::{at_both_values, at_either_value, literal, thin_at_value};
+use crate::sum_branch::{Branches, at_either_value, branches_at, literal, thin_at_value};
 use crate::sum_choice::{choose, has_literal_in_each, hold_everything, is_unate};
 use crate::sum_join::joined;
 use crate::sum_leaf::free_sum;
@@ -114,11 +116,15 @@ fn split_sum(
             return apart_sum(alloc, shape, found, parts);
         }
     }
-    let both_inner = at_both_values(alloc, shape, inner, i)?;
+    let Branches {
+        both: both_inner,
+        low: low_inner,
+        high: high_inner,
+    } = branches_at(alloc, shape, inner, i)?;
     let both_outer = at_either_value(alloc, shape, outer, i)?;
     let both = sum_between(alloc, shape, found, both_inner, both_outer)?;
-    let low = side_sum(alloc, shape, found, i, false, inner, outer)?;
-    let high = side_sum(alloc, shape, found, i, true, inner, outer)?;
+    let low = side_sum(alloc, shape, found, i, false, inner, outer, low_inner)?;
+    let high = side_sum(alloc, shape, found, i, true, inner, outer, high_inner)?;
     merge_three(alloc, shape, i, both, low, high)
 }
 
@@ -147,7 +153,7 @@ fn apart_sum(
 }
 
 // What the places at one value of input `i` add to those at both: their complete sum, or nothing
-// where the other value has them too.
+// where the other value has them too. `side` has the first list's places there.
 #[cycle(sum)]
 fn side_sum(
     alloc: Global,
@@ -157,8 +163,10 @@ fn side_sum(
     value: bool,
     inner: &[Cube],
     outer: &[Cube],
+    side: Vec<Cube>,
 ) -> Result<Vec<Cube>, AllocError>
     requires input { i < shape.inputs }
+    requires side { IsBranch shape i inner.now (at_input i value (places inner.now)) side.items }
     requires literal { (has_literal i inner.now || has_literal i outer.now) ≡ true }
     requires inner { AreCubes shape inner.now }
     requires outer { AreCubes shape outer.now }
@@ -167,7 +175,7 @@ fn side_sum(
     if !has_symbol(inner, i, literal(value)) && !has_symbol(outer, i, literal(!value)) {
         return Ok(Vec::new(alloc));
     }
-    let side_inner = thin_at_value(alloc, shape, inner, i, value)?;
+    let side_inner = thinned(alloc, shape, side)?;
     let side_outer = thin_at_value(alloc, shape, outer, i, value)?;
     sum_between(alloc, shape, found, side_inner, side_outer)
 }

@@ -46,10 +46,28 @@ fn absorb(alloc: Global, shape: Shape, rows: &[Cube]) -> Result<Vec<Cube>, Alloc
     Ok(kept)
 }
 
+// Whether all rows have as many literals and, as far as the first 64 tell, outputs. Of such rows none
+// lies in another.
+fn have_one_size(rows: &[Cube]) -> bool {
+    let Some(first) = rows.first() else {
+        return true;
+    };
+    let (literals, outputs) = (first.literals(), first.output_bits(0).count_ones());
+    for row in rows {
+        if row.literals() != literals || row.output_bits(0).count_ones() != outputs {
+            return false;
+        }
+    }
+    true
+}
+
 // Whether some row lies in one before it.
 fn has_covered(shape: Shape, rows: &[Cube]) -> bool
     requires { AreCubes shape rows.now }
 {
+    if have_one_size(rows) {
+        return false;
+    }
     for at in 0..rows.len() {
         let (before, _) = rows.split_at(at);
         if is_covered(before, &rows[at]) {
@@ -104,7 +122,7 @@ pub(crate) fn without_covered(
     ensures { IfOk result (λ kept. IsUncovered rows.items others.now kept.items) }
 {
     let pairs = rows.len().saturating_mul(others.len());
-    if pairs > PAIRS {
+    if pairs == 0 || pairs > PAIRS {
         return Ok(rows);
     }
     if !has_covered_by(shape, &rows, others) {

@@ -11,23 +11,38 @@ use crate::symbols::has_symbol_at;
 use cube::{Cube, Shape, Symbol};
 use std::alloc::{AllocError, Global};
 
-/// The rows with this symbol at input `i`, with `-` there.
-pub(crate) fn part(
-    alloc: Global,
-    rows: &[Cube],
-    i: usize,
-    symbol: Symbol,
-) -> Result<Vec<Cube>, AllocError>
+/// Rows by their symbol at an input, with `-` there.
+#[derive(Drop)]
+pub(crate) struct BySymbol {
+    pub(crate) dashes: Vec<Cube>,
+    pub(crate) zeros: Vec<Cube>,
+    pub(crate) ones: Vec<Cube>,
+}
+
+/// The rows by their symbol at input `i`.
+pub(crate) fn by_symbol(alloc: Global, rows: &[Cube], i: usize) -> Result<BySymbol, AllocError>
     requires { All (λ c. i < length c.symbols) rows.now }
-    ensures { IfOk result (λ kept. kept.items ≡ part_of i symbol rows.now) }
+    ensures dashes { IfOk result (λ b. b.dashes.items ≡ part_of i Symbol.Dash rows.now) }
+    ensures zeros { IfOk result (λ b. b.zeros.items ≡ part_of i Symbol.Zero rows.now) }
+    ensures ones { IfOk result (λ b. b.ones.items ≡ part_of i Symbol.One rows.now) }
 {
-    let mut kept = Vec::new(alloc);
+    let mut dashes = Vec::new(alloc);
+    let mut zeros = Vec::with_capacity(alloc, rows.len() / 2)?;
+    let mut ones = Vec::with_capacity(alloc, rows.len() / 2)?;
     for row in rows {
-        if has_symbol_at(row, i, symbol) {
-            kept.push(row.with_symbol(i, Symbol::Dash)?)?;
+        let mut freed = row.try_clone()?;
+        freed.set_symbol(i, Symbol::Dash);
+        match row.symbol(i) {
+            Symbol::Dash => dashes.push(freed)?,
+            Symbol::Zero => zeros.push(freed)?,
+            Symbol::One => ones.push(freed)?,
         }
     }
-    Ok(kept)
+    Ok(BySymbol {
+        dashes,
+        zeros,
+        ones,
+    })
 }
 
 /// Whether some row has this symbol at input `i`.

@@ -17,6 +17,7 @@ use Rattle.cover.proofs.SumApart.{complete_sum-whole, complete_sum-whole_other, 
 use Rattle.cover.proofs.SumRows.{nothing_left}
 use Rattle.cover.proofs.SumUnate.{complete_sum-unate}
 use Rattle.cover.proofs.SumStep.{sum_of_lists, branch_falls, branch_sum, both_sum, complete_sum-no_outer, sum_of_list, complete_sum-empty, complete_sum-single, complete_sum-sharp, complete_sum-covered, AreCubes-complete_sum}
+use Rattle.cover.proofs.SumBranches.{IsBranch-thinned}
 use Rattle.cover.proofs.SumUncovered.{AreCubes-uncovered, live-uncovered, complete_sum-uncovered}
 use Rattle.cover.proofs.SumSides.{IsSide-none, IsSide-sum, complete_sum-sides}
 use Rattle.cover.proofs.sum.+sum.Goals as goal
@@ -59,17 +60,17 @@ left_sum-returns t c =
 
 pub split_sum-sum_between-requires : goal.split_sum-sum_between-requires
 split_sum-sum_between-requires t c =
-    let inner = c.in_ok-both_inner.ensures in
+    let inner = c.in_ok-both_inner.ensures.both in
     let outer = c.in_ok-both_outer.ensures in
-    let less : live c.args.shape.inputs c.in_ok-both_inner.both_inner.items c.in_ok-both_outer.both_outer.items < live c.args.shape.inputs c.args.inner.now c.args.outer.now =
-    branch_falls c.args.shape c.in-Some.i c.args.inner.now c.args.outer.now c.in_ok-both_inner.both_inner.items c.in_ok-both_outer.both_outer.items
+    let less : live c.args.shape.inputs c.in_ok-both_inner.field-0.both.items c.in_ok-both_outer.both_outer.items < live c.args.shape.inputs c.args.inner.now c.args.outer.now =
+    branch_falls c.args.shape c.in-Some.i c.args.inner.now c.args.outer.now c.in_ok-both_inner.field-0.both.items c.in_ok-both_outer.both_outer.items
     (at_both c.in-Some.i (places c.args.inner.now)) (at_either c.in-Some.i (places c.args.outer.now)) c.args.inner.now c.args.outer.now c.in-Some.ensures.bound refl refl
     c.in-Some.ensures.some inner outer in
     (omega arith, (inner.are_cubes, outer.are_cubes))
 
 pub split_sum-merge_three-requires-clause-both : goal.split_sum-merge_three-requires-clause-both
 split_sum-merge_three-requires-clause-both t c =
-    AreCubes-complete_sum c.args.shape (difference (places c.in_ok-both_inner.both_inner.items) (places c.in_ok-both_outer.both_outer.items)) c.in_ok-both.both.items c.in_ok-both.ensures
+    AreCubes-complete_sum c.args.shape (difference (places c.in_ok-both_inner.field-0.both.items) (places c.in_ok-both_outer.both_outer.items)) c.in_ok-both.both.items c.in_ok-both.ensures
 
 pub split_sum-merge_three-requires-clause-low : goal.split_sum-merge_three-requires-clause-low
 split_sum-merge_three-requires-clause-low t c = c.in_ok-low.ensures.are_cubes
@@ -86,12 +87,12 @@ split_sum-returns t c =
     let outer = c.args.outer.now in
     IfOk-weaker c.merge_three.result _ _ (λ rows h.
     complete_sum-sides size i (difference (places inner) (places outer)) lt c.in_ok-both.both.items c.in_ok-low.low.items c.in_ok-high.high.items rows.items
-    (both_sum size i lt inner outer c.in_ok-both_inner.both_inner.items c.in_ok-both_outer.both_outer.items c.in_ok-both.both.items c.in_ok-both_inner.ensures c.in_ok-both_outer.ensures c.in_ok-both.ensures)
+    (both_sum size i lt inner outer c.in_ok-both_inner.field-0.both.items c.in_ok-both_outer.both_outer.items c.in_ok-both.both.items c.in_ok-both_inner.ensures.both c.in_ok-both_outer.ensures c.in_ok-both.ensures)
     c.in_ok-low.ensures c.in_ok-high.ensures h) c.merge_three.ensures
 
 pub side_sum-sum_between-requires : goal.side_sum-sum_between-requires
 side_sum-sum_between-requires t c =
-    let inner = c.in_ok-side_inner.ensures in
+    let inner = IsBranch-thinned c.args.shape c.args.i c.args.inner.now (at_input c.args.i c.args.value (places c.args.inner.now)) c.args.side.items c.in_ok-side_inner.side_inner.items c.requires.side c.in_ok-side_inner.ensures in
     let outer = c.in_ok-side_outer.ensures in
     let less : live c.args.shape.inputs c.in_ok-side_inner.side_inner.items c.in_ok-side_outer.side_outer.items < live c.args.shape.inputs c.args.inner.now c.args.outer.now =
     branch_falls c.args.shape c.args.i c.args.inner.now c.args.outer.now c.in_ok-side_inner.side_inner.items c.in_ok-side_outer.side_outer.items
@@ -111,7 +112,8 @@ side_sum-returns t c =
     IfOk-weaker c.sum_between.result _ _ (λ rows h.
     IsSide-sum c.args.shape c.args.i (difference (places c.args.inner.now) (places c.args.outer.now)) c.args.value rows.items
     (branch_sum c.args.shape c.args.i c.requires.input c.args.inner.now c.args.outer.now c.args.value c.in_ok-side_inner.side_inner.items c.in_ok-side_outer.side_outer.items rows.items
-    c.in_ok-side_inner.ensures c.in_ok-side_outer.ensures h)) c.sum_between.ensures
+    (IsBranch-thinned c.args.shape c.args.i c.args.inner.now (at_input c.args.i c.args.value (places c.args.inner.now)) c.args.side.items c.in_ok-side_inner.side_inner.items c.requires.side c.in_ok-side_inner.ensures)
+    c.in_ok-side_outer.ensures h)) c.sum_between.ensures
 
 pub left_sum-returns-then-len-eq1-3 : goal.left_sum-returns-then-len-eq1-3
 left_sum-returns-then-len-eq1-3 t c =

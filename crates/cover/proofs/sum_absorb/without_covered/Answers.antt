@@ -10,5 +10,5 @@ returns-then-not-has_covered_by c = IsUncovered-all c.args.rows.items c.args.oth
 pub returns : goal.returns
 returns c = IfOk-weaker c.uncovered.result _ _ (λ kept h. subst (λ l. IsUncovered l c.args.others.now kept.items) c.deref-2.ensures.value h) c.uncovered.ensures
 
-pub returns-then-pairs-gt-PAIRS : goal.returns-then-pairs-gt-PAIRS
-returns-then-pairs-gt-PAIRS c = IsUncovered-all c.args.rows.items c.args.others.now
+pub returns-then-pairs-eq0 : goal.returns-then-pairs-eq0
+returns-then-pairs-eq0 c = IsUncovered-all c.args.rows.items c.args.others.now
