@@ -31,86 +31,97 @@ def file_of(name, inputs, outputs, rows, head=()):
 
 # Covers of random cubes, and the same places in other cubes.
 
-def random_cover(inputs, cubes, literals, seed):
-    """Cubes of so many literals at random inputs."""
+def short_cubes(count, inputs, literals, seed):
+    """Random cubes of so many literals each."""
     chance = random.Random(seed)
-    for _ in range(cubes):
+    for _ in range(count):
         cube = ["-"] * inputs
         for i in chance.sample(range(inputs), literals):
             cube[i] = chance.choice("01")
         yield "".join(cube)
 
 
-def quartered(cubes, chance):
-    """Each cube cut in two at a random input, and each half again."""
-    for cube in cubes:
-        halves = [cube]
-        for _ in range(2):
-            cut = []
-            for half in halves:
-                i = chance.choice([i for i, symbol in enumerate(half) if symbol == "-"])
-                cut += [half[:i] + symbol + half[i + 1:] for symbol in "01"]
-            halves = cut
-        yield from halves
+def halves(cube, chance):
+    """The cube cut in two at a random input."""
+    i = chance.choice([i for i, symbol in enumerate(cube) if symbol == "-"])
+    return [cube[:i] + "0" + cube[i + 1:], cube[:i] + "1" + cube[i + 1:]]
 
 
-def consensus(a, b):
-    """The consensus of two cubes that differ in the sign of one literal alone, else None."""
-    signs = [i for i, pair in enumerate(zip(a, b)) if "-" not in pair and pair[0] != pair[1]]
-    if len(signs) != 1:
-        return None
-    return "".join("-" if i == signs[0] else y if x == "-" else x for i, (x, y) in enumerate(zip(a, b)))
+def split_twice(cubes, chance):
+    """Each cube cut into four."""
+    return [part for cube in cubes for half in halves(cube, chance) for part in halves(half, chance)]
+
+
+def consensus(one, other):
+    """The consensus of two cubes with opposite literals at one input alone, or nothing."""
+    if sum(a != b and "-" not in (a, b) for a, b in zip(one, other)) != 1:
+        return []
+    return ["".join(b if a == "-" else a if b in ("-", a) else "-" for a, b in zip(one, other))]
 
 
 def consensus_cubes(cubes, count, chance):
-    """Consensus cubes of random pairs, which add no place."""
+    """So many consensus cubes of random pairs."""
     found = []
     while len(found) < count:
-        cube = consensus(*chance.sample(cubes, 2))
-        if cube:
-            found.append(cube)
+        found += consensus(*chance.sample(cubes, 2))
     return found
 
 
-def rewritten(inputs, cubes, dropped=False):
-    """Files of these cubes and of the same places: each cube in four, and as many consensus cubes. Where a literal is
-    dropped, one cube of the second file lacks one, and the places may be others."""
-    first = list(random_cover(inputs, cubes, 3, inputs))
-    chance = random.Random(cubes)
-    second = list(quartered(first, chance)) + consensus_cubes(first, cubes, chance)
-    chance.shuffle(second)
-    if dropped:
-        i = chance.choice([i for i, symbol in enumerate(second[0]) if symbol != "-"])
-        second[0] = second[0][:i] + "-" + second[0][i + 1:]
-    name = f"peers-cover-{inputs}-{cubes}"
-    return (file_of(name, inputs, 1, (cube + " 1" for cube in first)),
-            file_of(f"{name}-{'dropped' if dropped else 'rewritten'}", inputs, 1, (cube + " 1" for cube in second)))
+def with_literal_dropped(cubes, chance):
+    """The cubes, one of them without one of its literals."""
+    at = chance.randrange(len(cubes))
+    i = chance.choice([i for i, symbol in enumerate(cubes[at]) if symbol != "-"])
+    return cubes[:at] + [cubes[at][:i] + "-" + cubes[at][i + 1:]] + cubes[at + 1:]
 
 
 def two_of(inputs):
-    """At least two ones: the products of two inputs, and each of them in four, shuffled."""
-    products = []
-    for i, j in itertools.combinations(range(inputs), 2):
-        products.append("".join("1" if k in (i, j) else "-" for k in range(inputs)))
-    chance = random.Random(inputs)
-    second = list(quartered(products, chance))
+    """At least two of the inputs are 1."""
+    for i in range(inputs):
+        for k in range(i):
+            yield "".join("1" if at in (i, k) else "-" for at in range(inputs))
+
+
+# Their files.
+
+def one_output(cubes):
+    return (cube + " 1" for cube in cubes)
+
+
+def rewritten(name, inputs, cubes, more=0, dropped=False):
+    """Files of these cubes and of the same places: each cube in four, and so many consensus cubes, shuffled. Where a
+    literal is dropped, one cube of the second file lacks one, and the places may be others."""
+    chance = random.Random(len(cubes))
+    second = split_twice(cubes, chance) + consensus_cubes(cubes, more, chance)
     chance.shuffle(second)
-    return (file_of(f"peers-two-of-{inputs}", inputs, 1, (cube + " 1" for cube in products)),
-            file_of(f"peers-two-of-{inputs}-rewritten", inputs, 1, (cube + " 1" for cube in second)))
+    if dropped:
+        second = with_literal_dropped(second, chance)
+    return (file_of(name, inputs, 1, one_output(cubes)),
+            file_of(f"{name}-{'dropped' if dropped else 'rewritten'}", inputs, 1, one_output(second)))
+
+
+def cover_rewritten(inputs, dropped=False):
+    """Four cubes of three literals an input, and the same in other cubes."""
+    cubes = list(short_cubes(4 * inputs, inputs, 3, inputs))
+    return rewritten(f"peers-cover-{inputs}-{4 * inputs}", inputs, cubes, len(cubes), dropped)
+
+
+def cover(inputs, tenths):
+    """So many tenths of cubes of three literals an input."""
+    count = inputs * tenths // 10
+    return file_of(f"peers-cover-{inputs}-{count}", inputs, 1, one_output(short_cubes(count, inputs, 3, inputs)))
 
 
 def leaves(inputs, count, missing=0):
     """The leaves of a random decision tree; without the first ones of them, where some are missing."""
     return file_of(f"peers-leaves-{inputs}-{count}-{missing}", inputs, 1,
-                   (cube + " 1" for cube in partition(count, inputs, count)[missing:]))
+                   one_output(partition(count, inputs, count)[missing:]))
 
 
 def leaves_cut(inputs, count):
     """Half of the leaves of a decision tree, and the same cut into twice as many cubes."""
     kept = partition(count, inputs, count)[:count // 2]
-    return (file_of(f"peers-half-{inputs}-{count}", inputs, 1, (cube + " 1" for cube in kept)),
-            file_of(f"peers-half-{inputs}-{count}-cut", inputs, 1,
-                    (cube + " 1" for cube in split_rows(kept, count, 7))))
+    return (file_of(f"peers-half-{inputs}-{count}", inputs, 1, one_output(kept)),
+            file_of(f"peers-half-{inputs}-{count}-cut", inputs, 1, one_output(split_rows(kept, count, 7))))
 
 
 def symmetric_halves(inputs):
@@ -253,12 +264,13 @@ def for_verify():
     return [
         family("random 3-literal covers",
                "four cubes an input; against each cube cut in four and as many consensus cubes, shuffled",
-               covers, inputs_label, lambda n: rewritten(n, 4 * n)),
+               covers, inputs_label, cover_rewritten),
         family("random covers, a literal dropped",
                "the same, where one cube of the second file lacks a literal: the answer may be no",
-               covers, inputs_label, lambda n: rewritten(n, 4 * n, dropped=True)),
+               covers, inputs_label, lambda n: cover_rewritten(n, dropped=True)),
         family("two ones of n", "the products of two inputs each; against each product cut in four, shuffled",
-               (6, 10, 20, 30, 40, 60, 80, 120), inputs_label, two_of),
+               (6, 10, 20, 30, 40, 60, 80, 120), inputs_label,
+               lambda n: rewritten(f"peers-two-of-{n}", n, list(two_of(n)))),
         family("partitions",
                "half of the leaves of a random decision tree of 64 inputs; against the same cut into twice as many",
                (250, 500, 1000, 2000, 4000, 8000, 16000, 32000), leaves_label, lambda n: leaves_cut(64, n)),
@@ -272,10 +284,6 @@ def for_verify():
 
 def for_tautology():
     """Each size is a file of one output."""
-    def cover(inputs, tenths):
-        cubes = inputs * tenths // 10
-        return file_of(f"peers-cover-{inputs}-{cubes}", inputs, 1,
-                       (cube + " 1" for cube in random_cover(inputs, cubes, 3, inputs)))
     counts = (250, 500, 1000, 2000, 4000, 8000, 16000, 32000)
     return [
         family("random covers, 5.2 cubes an input", "cubes of three literals; most covers are tautologies",

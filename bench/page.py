@@ -218,7 +218,7 @@ On a machine of {cores} cores ({processor}{speed}) and {memory} of memory, under
 of the files: the least of three runs, or that of one run where it takes more than {short:g} seconds. A tool leaves a
 family at the first size that it does not answer within {limit:g} seconds and {bytes:.0f} GiB.
 
-In the tables, times are seconds, *none* is no answer within the limit, and – a size that a tool was no longer run on. The
+In the tables, times are seconds, *none* is no answer within these limits, and – a size that a tool was no longer run on. The
 ratio says how many times as long the other tool takes as this one, in bold where the other is faster. Wherever two tools
 answered, their answers were compared: {agreed}
 """

@@ -46,7 +46,7 @@ class Outcome:
 
 @dataclass(frozen=True)
 class Tool:
-    """`run` gives the outcome on the files of a size within a limit, or None where the tool cannot be asked."""
+    """`run` gives the outcome, by a limit and the paths of a size's files, or None where the tool cannot be asked."""
     label: str
     run: Callable
     needs: str = ""                # what has to be installed
@@ -295,7 +295,8 @@ def sizes_shown(*labels):
 
 
 def comparisons(program):
-    run = functools.partial(functools.partial, own, program)
+    def run(command, read):
+        return functools.partial(own, program, command, read)
     return [
         Comparison(
             "verify", "verify beside berkeley-abc's cec",
