@@ -39,3 +39,32 @@ fn takes_up_to_its_room(rt: HostRuntime) -> Result<(), Fail> {
     assert_eq!(rt; taken.bytes(), b"abcef".as_slice());
     Ok(())
 }
+
+#[test]
+fn one_read_fails_alone(rt: HostRuntime) -> Result<(), Fail> {
+    let bytes = Vec::from_slice(rt.alloc(), b"abcde")?;
+    let mut given = Given::new(bytes, 2, Ending::End).failing_after(1);
+    let mut buffer = [0; 3];
+    assert_eq!(rt; given.read(&mut buffer)?, 2);
+    assert_eq!(rt; given.read(&mut buffer), Err(Broken));
+    assert_eq!(rt; given.delivered(), 2);
+    assert_eq!(rt; given.read(&mut buffer)?, 2);
+    assert_eq!(rt; given.read(&mut buffer)?, 1);
+    assert_eq!(rt; given.read(&mut buffer)?, 0);
+    Ok(())
+}
+
+#[test]
+fn one_write_fails_alone(rt: HostRuntime) -> Result<(), Fail> {
+    let mut taken = Taken::new(rt.alloc(), 5, 3, false)?.failing_after(1);
+    assert_eq!(rt; taken.write(b"ab")?, 2);
+    assert_eq!(rt; taken.write(b"cd"), Err(Broken));
+    assert!(rt; taken.calls().broken);
+    assert_eq!(rt; taken.write(b"cd")?, 2);
+    assert_eq!(rt; taken.calls().counts.failures, 1);
+    taken.flush()?;
+    assert!(rt; taken.calls().flushed);
+    assert_eq!(rt; taken.calls().counts.flushes, 1);
+    assert_eq!(rt; taken.bytes(), b"abcd".as_slice());
+    Ok(())
+}

@@ -92,3 +92,36 @@ fn a_scan_takes_pieces(rt: HostRuntime) -> Result<(), Fail> {
     assert!(rt; scan.is_ok_and(|scan| scan.done()));
     Ok(())
 }
+
+// A file whose read or write of each number fails alone, in pieces of one byte: nothing follows the failure.
+#[test]
+fn a_call_that_fails_alone_is_the_last(rt: HostRuntime) -> Result<(), Fail> {
+    let alloc = rt.alloc();
+    for reads in 0..10 {
+        let input = given(alloc, b"# a\n.i 1\n.o 1\n.e\n", 1, Ending::End)?;
+        let mut input = input.failing_after(reads);
+        let mut output = Taken::new(alloc, 100, 100, false)?;
+        let fault = read_pla(alloc, &mut input, &mut output, Echo::Keep).err();
+        let line = if reads < 4 {
+            1
+        } else if reads < 9 {
+            2
+        } else {
+            3
+        };
+        let kind = ReadKind::ReadFailed;
+        assert!(rt; fault == Some(ReadFault { line, kind }));
+        assert!(rt; u64::try_from(input.delivered()) == Ok(reads));
+    }
+    for writes in 0..4 {
+        let mut input = given(alloc, b"# a\n.i 1\n.o 1\n.e\n", 1, Ending::End)?;
+        let output = Taken::new(alloc, 100, 1, false)?;
+        let mut output = output.failing_after(writes);
+        let fault = read_pla(alloc, &mut input, &mut output, Echo::Keep).err();
+        let kind = ReadKind::WriteFailed;
+        assert!(rt; fault == Some(ReadFault { line: 0, kind }));
+        assert!(rt; u64::try_from(output.bytes().len()) == Ok(writes));
+        assert!(rt; input.delivered() == 4);
+    }
+    Ok(())
+}
