@@ -143,6 +143,9 @@ def ended(process):
     timer.start()
     try:
         yield process
+    except BaseException:
+        process.kill()
+        raise
     finally:
         timer.cancel()
 

@@ -7,8 +7,10 @@ import errno
 import re
 
 from faults import END, MESSAGE, READ, WRITE, Fault, alone, answer_under, for_good
-from support import Answer, Case, ProgramTest, WRITE_FAILED, fault, folder_of
-from worked import ROW, WIDE_CASES, WORKED, one, printed
+from support import Answer, Case, ProgramTest, WRITE_FAILED, fault, folder_of, printed
+from test_format import FAULTS, ORDERS, PASSED_ON, PRINTED
+from test_sets import COMPUTED, GIVEN
+from worked import ROW, WIDE_CASES, WORKED, one
 
 # A run opens and reads, then writes its output, then its message.
 IN_ORDER = re.compile(r"[orREwW]*[mM]*\Z")
@@ -39,7 +41,7 @@ class FailingCalls(ProgramTest):
         return what.call.upper() in log
 
     def test_bytes_that_come_and_go_one_by_one(self):
-        for case in WORKED + WIDE_CASES:
+        for case in WORKED + WIDE_CASES + PRINTED + PASSED_ON + FAULTS + ORDERS + GIVEN + COMPUTED:
             for piece in (1, 3):
                 with self.subTest(case.name, piece=piece), folder_of(case.files) as folder:
                     self.due_under(Fault(piece=piece), case, folder, case.due)
