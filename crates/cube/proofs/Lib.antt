@@ -15,3 +15,4 @@ pub mod RestLemmas
 pub mod LiteralLemmas
 pub mod UniversalLemmas
 pub mod BytesLemmas
+mod LaneLemmas
