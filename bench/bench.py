@@ -173,6 +173,7 @@ FUNCTIONS = {
     "adr5": adder(5),
     "adr6": adder(6),
     "mlp4": (8, 8, lambda bits: number(bits[:4]) * number(bits[4:])),
+    "mlp5": (10, 10, lambda bits: number(bits[:5]) * number(bits[5:])),
     "sqr6": (6, 12, lambda bits: number(bits) ** 2),
     "sqr7": (7, 14, lambda bits: number(bits) ** 2),
     "sqr8": (8, 16, lambda bits: number(bits) ** 2),
@@ -195,6 +196,23 @@ def rings(count):
     words = [f"{word:0{width}b}" for word in range(2 ** width) if bin(word).count("1") % 2 == 0]
     ring = ("000", "001", "010", "101", "110", "111")
     return width + 3, [f"{word}{point} 1" for word in words[:count] for point in ring]
+
+
+def rings_side_by_side(count):
+    """Rings of six points in one output, each over three inputs of its own, with six primes each."""
+    ring = ("000", "001", "010", "101", "110", "111")
+    for k in range(count):
+        for point in ring:
+            yield "-" * 3 * k + point + "-" * 3 * (count - 1 - k) + " 1"
+
+
+def random_points(inputs, on, free, seed):
+    """Each point, with this chance to be in the ON-set and this chance to be in the DC-set."""
+    chance = random.Random(seed)
+    for point in range(2 ** inputs):
+        drawn = chance.random()
+        if drawn < on + free:
+            yield f"{point:0{inputs}b} {'1' if drawn < on else '-'}"
 
 
 def sparse_rows(count, inputs, outputs, dashes, seed):
@@ -368,6 +386,18 @@ def prime_cases():
             lambda rows=rows: write(f"random-16-8-{rows}.pla", pla(16, 8, sparse_rows(rows, 16, 8, 0.45, rows))), None)
 
 
+def sum_cases():
+    """Complete sums of parts that share no input, and of many points."""
+    for count in (2, 8, 16, 100, 300):
+        yield f"primes-rings-{count}", file_case(
+            ["-Dprimes"],
+            lambda count=count: write(f"rings-apart-{count}.pla", pla(3 * count, 1, rings_side_by_side(count))),
+            0.2)
+    yield "primes-mlp5", file_case(["-Dprimes"], lambda: function("mlp5"), None)
+    yield "primes-random-points-12", file_case(
+        ["-Dprimes"], lambda: write("random-points-12.pla", pla(12, 1, random_points(12, 0.4, 0.3, 1))), None)
+
+
 def exact_cases():
     goals = {"rd53": 0.06, "rd73": 0.06, "rd84": 0.06, "adr4": 0.06, "life": 0.06, "xor5": 0.06, "maj9": 0.06,
              "sqr6": 0.12, "mlp4": 0.66, "adr6": 0.6}
@@ -435,6 +465,7 @@ def cases():
             9.9 if rows == 10 ** 5 else None)
     yield from wide_tautologies()
     yield from prime_cases()
+    yield from sum_cases()
     yield from exact_cases()
     yield from pair_cases()
     yield from wide_verifies()

@@ -16,3 +16,4 @@ pub mod LiteralLemmas
 pub mod UniversalLemmas
 pub mod BytesLemmas
 pub mod StackLemmas
+mod LaneLemmas

@@ -23,7 +23,7 @@ covers_from_bits a b fits_a fits_b h = same_from_bits (bit_and b (bit_not w64 a)
         ]
 
 -- the bits of `LOWER_BITS`
-lower_bit_even : (k : ℕ) → k < 32 → bit_at 6148914691236517205 (2 * k) ≡ 1
+pub lower_bit_even : (k : ℕ) → k < 32 → bit_at 6148914691236517205 (2 * k) ≡ 1
 lower_bit_even k lt =
     eqb-true (bit_at 6148914691236517205 (2 * k)) 1
     (agree_below_at (λ k. eqb (bit_at 6148914691236517205 (2 * k)) 1) (λ _. true) 32 k refl lt)
@@ -34,7 +34,7 @@ lower_bit_odd k lt =
     (agree_below_at (λ k. eqb (bit_at 6148914691236517205 (2 * k + 1)) 0) (λ _. true) 32 k refl lt)
 
 -- the test of the pairs of a word
-folded_bit : (w k : ℕ) → bit_at (bit_or w (w / 2)) k ≡ max (bit_at w k) (bit_at w (k + 1))
+pub folded_bit : (w k : ℕ) → bit_at (bit_or w (w / 2)) k ≡ max (bit_at w k) (bit_at w (k + 1))
 folded_bit w k = bit_at_or w (w / 2) k ∙ ap (λ x. max (bit_at w k) x) (sym (bit_at-suc w k) ∙ ap (λ x. bit_at w x) (omega arith))
 
 pub pairs_from_test : (w : ℕ) → bit_and (bit_or w (w / 2)) 6148914691236517205 ≡ 6148914691236517205 → HasNoEmptyPair w

@@ -2,7 +2,7 @@
 use Rattle.std.specs.Prelude.{◌≡◌, true, false, ◌||◌, [], ◌∷◌, refl}
 use Rattle.cube.specs.declared.symbol.Symbol.TheVariants.{Dash, One}
 use Rattle.cube.specs.Size.{Size}
-use Rattle.cube.specs.Cube.{Cube, Place, holds}
+use Rattle.cube.specs.Cube.{Cube, holds}
 use Rattle.cube.specs.Sum.{complete_sum, is_subset}
 
 -- two inputs and one output

@@ -15,13 +15,13 @@ ghost use Rattle.std.specs.Ordering.{bool_cmp};
 ghost use Rattle.std.specs.Cmp.Lexicographic.{slice_cmp};
 ghost use Rattle.cube.specs.Packing.{Packs, PacksInputs, PacksOutputs};
 
+use crate::lanes::{covers_by_lanes, pairs_meet_by_lanes};
 use crate::pack::{byte_by_bits, input_word, input_words, output_word, output_words};
 use crate::shape::Shape;
 use crate::symbol::Symbol;
 use crate::words::{
     clear_from, copied_words, count_clear, covers_words, first_clear, first_difference, freed_word,
-    has_all, minus_word, pairs_meet, set_word, share_bit, widened_word, with_bit, with_word,
-    zip_words,
+    has_all, minus_word, set_word, share_bit, widened_word, with_bit, with_word, zip_words,
 };
 use smallvec::SmallVec;
 use std::alloc::{AllocError, Global};
@@ -208,7 +208,7 @@ impl Cube {
         requires { SameSize self.now other.now }
         ensures { IsTrue result ↔ IsSubset (holds other.now) (holds self.now) }
     {
-        covers_words(self.words(), other.words())
+        covers_by_lanes(self.words(), other.words())
     }
 
     /// Whether no place is in both.
@@ -216,7 +216,7 @@ impl Cube {
         requires { SameSize self.now other.now }
         ensures { IsTrue result ↔ IsDisjoint (holds self.now) (holds other.now) }
     {
-        if !pairs_meet(self.input_part(), other.input_part()) {
+        if !pairs_meet_by_lanes(self.input_part(), other.input_part()) {
             return true;
         }
         !share_bit(self.output_part(), other.output_part())

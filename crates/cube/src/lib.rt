@@ -27,6 +27,7 @@
 #![tactic(auto)]
 
 mod cube;
+mod lanes;
 pub mod laws;
 pub mod limits;
 mod pack;

@@ -1,5 +1,4 @@
 use Rattle.std.proofs.Common.{◌≡◌, ◌≤◌, take, length}
-use Rattle.std.proofs.Common.{max}
 use Rattle.cube.proofs.words.copied_words.Given as goal
 
 abbrev pub invariant-loop-k : goal.invariant-loop-k

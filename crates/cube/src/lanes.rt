@@ -1,0 +1,70 @@
+//! Kernels over words, four at a time.
+//!
+//! Where there are few words, and for those behind the last four, the plain kernels serve.
+ghost use Rattle.std.specs.Prelude.{◌≡◌, ℕ, ◌↔◌, ◌<◌, ◌/◌, IsTrue, length, slice_index, bit_and, bit_or};
+ghost use Rattle.std.specs.Int.{bit_not, w64};
+ghost use Rattle.cube.specs.Words.{CoversWords, PairsMeet};
+
+use crate::words::{covers_words, pairs_meet};
+use std::simd::prelude::*;
+
+// The lower bit of each pair.
+const LOWER_BITS: u64 = 0x5555_5555_5555_5555;
+
+// From so many words on they are taken four at a time.
+const MANY: usize = 8;
+
+// Whether each bit of four words of `b` is in `a`.
+fn covers_four(a: &[u64; 4], b: &[u64; 4]) -> bool
+    ensures { IsTrue result ↔ ((k : ℕ) → k < 4 → bit_and (slice_index b.now k) (bit_not w64 (slice_index a.now k)) ≡ 0) }
+{
+    let mine = u64x4::from_array(*a);
+    let theirs = u64x4::from_array(*b);
+    (theirs & !mine).reduce_or() == 0
+}
+
+// Whether each pair of bits of four words has one that is in both.
+fn pairs_meet_four(a: &[u64; 4], b: &[u64; 4]) -> bool
+    ensures { IsTrue result ↔ ((k : ℕ) → k < 4 → let both = bit_and (slice_index a.now k) (slice_index b.now k) in
+        bit_and LOWER_BITS (bit_not w64 (bit_or both (both / 2))) ≡ 0) }
+{
+    let both = u64x4::from_array(*a) & u64x4::from_array(*b);
+    let either = both | (both >> u64x4::splat(1));
+    (u64x4::splat(LOWER_BITS) & !either).reduce_or() == 0
+}
+
+/// Whether each bit of `b` is in `a`.
+pub(crate) fn covers_by_lanes(a: &[u64], b: &[u64]) -> bool
+    requires { length a.now ≡ length b.now }
+    ensures { IsTrue result ↔ CoversWords a.now b.now }
+{
+    if a.len() < MANY {
+        return covers_words(a, b);
+    }
+    let (mine, my_rest) = a.as_chunks::<4>();
+    let (theirs, their_rest) = b.as_chunks::<4>();
+    for k in 0..mine.len() {
+        if !covers_four(&mine[k], &theirs[k]) {
+            return false;
+        }
+    }
+    covers_words(my_rest, their_rest)
+}
+
+/// Whether each pair of bits has one that is in both.
+pub(crate) fn pairs_meet_by_lanes(a: &[u64], b: &[u64]) -> bool
+    requires { length a.now ≡ length b.now }
+    ensures { IsTrue result ↔ PairsMeet a.now b.now }
+{
+    if a.len() < MANY {
+        return pairs_meet(a, b);
+    }
+    let (mine, my_rest) = a.as_chunks::<4>();
+    let (theirs, their_rest) = b.as_chunks::<4>();
+    for k in 0..mine.len() {
+        if !pairs_meet_four(&mine[k], &theirs[k]) {
+            return false;
+        }
+    }
+    pairs_meet(my_rest, their_rest)
+}
