@@ -413,6 +413,8 @@ def main():
     if len(sys.argv) < 2:
         sys.exit(__doc__)
     chosen = words()
+    if chosen.write and chosen.only:
+        sys.exit("bench/peers.py: --write is for a run of all families")
     limit = 2.0 if chosen.quick else chosen.limit
     resource.setrlimit(resource.RLIMIT_AS, (MEMORY, resource.getrlimit(resource.RLIMIT_AS)[1]))
     begin = time.monotonic()

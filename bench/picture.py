@@ -8,7 +8,7 @@ LEFT, TOP, RIGHT, BOTTOM = 46, 30, 14, 34
 HEAD = 62                          # title and legend
 COLUMNS = 3
 LOWEST, HIGHEST = 1e-3, 1e2        # the least range of seconds
-ABOVE = 3                          # times the limit that a panel reaches up to
+ABOVE = 8                          # times the limit that a panel reaches up to
 STEP = 9                           # between the marks of several series past the limit
 
 
