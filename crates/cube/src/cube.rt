@@ -312,7 +312,7 @@ impl Cube {
             && (slice_index_or self.now.outputs p.output false || slice_index_or other.now.outputs p.output false)))) }
         ensures inline { word_count self.now ≤ 4 → IsOk result }
     {
-        if !pairs_meet(self.input_part(), other.input_part()) {
+        if !pairs_meet_by_lanes(self.input_part(), other.input_part()) {
             return Ok(None);
         }
         let start = input_words(self.shape);

@@ -9,7 +9,7 @@ use Rattle.cube.proofs.cube.Cube.stack.Goals as goal
 
 meets : (c : goal.After-result-1) → InputsMeet c.args.self.now c.args.other.now c.requires
 meets c =
-    InputsMeet-from_words _ _ c.requires _ _ c.input_part.ensures.packs c.input_part-2.ensures.packs (c.pairs_meet.ensures.0 c.if-not-pairs_meet.false)
+    InputsMeet-from_words _ _ c.requires _ _ c.input_part.ensures.packs c.input_part-2.ensures.packs (c.pairs_meet_by_lanes.ensures.0 c.if-not-pairs_meet_by_lanes.false)
 
 packed : (c : goal.After-result-1)
     → IsPacked c.self.inside.shape.inputs c.self.inside.shape.outputs c.in_ok-words.words.items
@@ -36,7 +36,7 @@ invariant_of-result c = (packed c).0
 pub returns-clause-places : goal.returns-clause-places
 returns-clause-places c p = ap (λ v. holds v p) (packed c).1 ∙ holds-stacked_row _ _ c.requires (meets c) p
 
-pub returns-then-not-pairs_meet-clause-none : goal.returns-then-not-pairs_meet-clause-none
-returns-then-not-pairs_meet-clause-none c point in_a in_b =
+pub returns-then-not-pairs_meet_by_lanes-clause-none : goal.returns-then-not-pairs_meet_by_lanes-clause-none
+returns-then-not-pairs_meet_by_lanes-clause-none c point in_a in_b =
     no_common_point _ _ c.requires _ _ c.input_part.ensures.packs c.input_part-2.ensures.packs
-    (λ meet. false≢true (sym c.if-not-pairs_meet.true ∙ c.pairs_meet.ensures.1 meet)) point in_a in_b
+    (λ meet. false≢true (sym c.if-not-pairs_meet_by_lanes.true ∙ c.pairs_meet_by_lanes.ensures.1 meet)) point in_a in_b
