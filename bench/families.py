@@ -7,8 +7,8 @@ import random
 from dataclasses import dataclass
 from typing import Callable
 
-from bench import (adder, function_rows, number, ones_within, partition, pla, rings, shuffled, sparse_rows, split_rows,
-                   write)
+from bench import (adder, consensus_cubes, function_rows, number, ones_within, partition, pla, rings, short_cubes,
+                   shuffled, sparse_rows, split_rows, split_twice, two_of, with_literal_dropped, write)
 
 
 @dataclass(frozen=True)
@@ -27,58 +27,6 @@ class Family:
 
 def file_of(name, inputs, outputs, rows, head=()):
     return write(f"{name.replace(' ', '-')}.pla", pla(inputs, outputs, itertools.chain(head, rows)))
-
-
-# Covers of random cubes, and the same places in other cubes.
-
-def short_cubes(count, inputs, literals, seed):
-    """Random cubes of so many literals each."""
-    chance = random.Random(seed)
-    for _ in range(count):
-        cube = ["-"] * inputs
-        for i in chance.sample(range(inputs), literals):
-            cube[i] = chance.choice("01")
-        yield "".join(cube)
-
-
-def halves(cube, chance):
-    """The cube cut in two at a random input."""
-    i = chance.choice([i for i, symbol in enumerate(cube) if symbol == "-"])
-    return [cube[:i] + "0" + cube[i + 1:], cube[:i] + "1" + cube[i + 1:]]
-
-
-def split_twice(cubes, chance):
-    """Each cube cut into four."""
-    return [part for cube in cubes for half in halves(cube, chance) for part in halves(half, chance)]
-
-
-def consensus(one, other):
-    """The consensus of two cubes with opposite literals at one input alone, or nothing."""
-    if sum(a != b and "-" not in (a, b) for a, b in zip(one, other)) != 1:
-        return []
-    return ["".join(b if a == "-" else a if b in ("-", a) else "-" for a, b in zip(one, other))]
-
-
-def consensus_cubes(cubes, count, chance):
-    """So many consensus cubes of random pairs."""
-    found = []
-    while len(found) < count:
-        found += consensus(*chance.sample(cubes, 2))
-    return found
-
-
-def with_literal_dropped(cubes, chance):
-    """The cubes, one of them without one of its literals."""
-    at = chance.randrange(len(cubes))
-    i = chance.choice([i for i, symbol in enumerate(cubes[at]) if symbol != "-"])
-    return cubes[:at] + [cubes[at][:i] + "-" + cubes[at][i + 1:]] + cubes[at + 1:]
-
-
-def two_of(inputs):
-    """At least two of the inputs are 1."""
-    for i in range(inputs):
-        for k in range(i):
-            yield "".join("1" if at in (i, k) else "-" for at in range(inputs))
 
 
 # Their files.
