@@ -12,7 +12,9 @@
 //! cubes, whose sums are kept in a table to be found again. So no products of primes are formed, and
 //! no prime is compared with the others: each merge takes time in the lengths of its lists, which are
 //! in row order. The input with most literals is split at, and lists with one literal at each input
-//! are their own sum but for the cubes that lie in others (Brayton et al. 1984).
+//! are their own sum but for the cubes that lie in others (Brayton et al. 1984). The sum of rows in two
+//! parts that have no input in common is the sums of the parts side by side, so that they do not multiply
+//! each other's steps.
 ghost use Rattle.std.specs.Prelude.{◌≡◌, ◌<◌, ◌||◌, ◌++◌, IfOk, not, true};
 ghost use Rattle.cube.specs.Cube.{intersection, difference as difference_of};
 ghost use Rattle.cube.specs.Sum.{complete_sum as complete_sum_of};

@@ -13,6 +13,42 @@ fn primes(rt: HostRuntime) -> Result<(), Fail> {
 }
 
 #[test]
+fn primes_of_parts_apart(rt: HostRuntime) -> Result<(), Fail> {
+    let alloc = rt.alloc();
+    let list = cover(
+        alloc,
+        4,
+        1,
+        &[("01--", "1"), ("10--", "1"), ("--01", "1"), ("--10", "1")],
+    )?;
+    assert_eq!(rt;
+        text(alloc, &complete_sum(&list)?)?.as_str(),
+        "--01 1\n--10 1\n01-- 1\n10-- 1\n"
+    );
+    // A part that holds everything.
+    let list = cover(
+        alloc,
+        4,
+        2,
+        &[
+            ("01--", "11"),
+            ("10--", "11"),
+            ("--0-", "11"),
+            ("--11", "11"),
+            ("--10", "11"),
+        ],
+    )?;
+    assert_eq!(rt; text(alloc, &complete_sum(&list)?)?.as_str(), "---- 11\n");
+    // With other outputs the parts are not apart.
+    let list = cover(alloc, 2, 2, &[("0-", "10"), ("-1", "11")])?;
+    assert_eq!(rt;
+        text(alloc, &complete_sum(&list)?)?.as_str(),
+        "-1 11\n0- 10\n"
+    );
+    Ok(())
+}
+
+#[test]
 fn complements(rt: HostRuntime) -> Result<(), Fail> {
     let alloc = rt.alloc();
     let list = cover(alloc, 1, 2, &[("1", "10")])?;

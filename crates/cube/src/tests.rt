@@ -442,8 +442,8 @@ fn pairs_agree(alloc: Global, inputs: usize, outputs: usize) -> Result<bool, Fai
 
 #[test]
 fn wide_pairs(rt: HostRuntime) -> Result<(), Fail> {
-    for inputs in [0usize, 1, 31, 32, 33, 127, 128, 129, 1024] {
-        for outputs in [1usize, 63, 64, 65, 1024] {
+    for inputs in [0usize, 1, 31, 32, 33, 127, 128, 129, 256, 1024] {
+        for outputs in [1usize, 63, 64, 65, 256, 1024] {
             assert!(rt; pairs_agree(rt.alloc(), inputs, outputs)?);
         }
     }
@@ -491,7 +491,12 @@ fn replaced_agrees(cube: &Cube, mut row: Row, i: usize) -> Result<bool, Fail> {
     let symbol = turned(row.symbols[i]);
     row.symbols[i] = symbol;
     let replaced = cube.with_symbol(i, symbol)?;
-    Ok(is_row(&replaced, row.symbols.as_slice(), row.outputs.as_slice()))
+    let mut set = cube.try_clone()?;
+    set.set_symbol(i, symbol);
+    Ok(
+        is_row(&replaced, row.symbols.as_slice(), row.outputs.as_slice())
+            && is_row(&set, row.symbols.as_slice(), row.outputs.as_slice()),
+    )
 }
 
 fn single_agrees(alloc: Global, kind: Kind, inputs: usize, outputs: usize) -> Result<bool, Fail> {
