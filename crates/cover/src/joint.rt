@@ -58,17 +58,19 @@ fn are_apart(shape: Shape, rows: &[&Cube], others: &[&Cube]) -> bool
 // Of so few rows all are looked at.
 const FEW: usize = 64;
 
-// The rows that have a literal of the region, as it is meant: of each other row all literals are open.
+// The rows that have a literal of the region, as it is meant, where there are many: of each other row
+// all literals are open.
 fn touched<'a>(
     alloc: Global,
     shape: Shape,
+    many: bool,
     rows: &[&'a Cube],
     region: &Cube,
 ) -> Result<Vec<&'a Cube>, AllocError>
     ensures { IfOk result (λ some. AreAmong some.items rows.now) }
 {
     let mut some = Vec::new(alloc);
-    if rows.len() <= FEW {
+    if !many {
         return Ok(some);
     }
     let words = literal_words(alloc, shape, region)?;
@@ -80,8 +82,8 @@ fn touched<'a>(
     Ok(some)
 }
 
-// Whether the others hold each row, one by one. Those that have a literal of the row come first: each
-// of the rest has all of its literals open.
+// Whether the others hold each row, one by one. Where both are many, those that have a literal of the
+// row come first.
 fn are_held(
     alloc: Global,
     shape: Shape,
@@ -92,9 +94,14 @@ fn are_held(
     requires others { All (λ d. HasSize d.now shape) others.now }
     ensures { IfOk result (λ held. IsTrue held ↔ IsSubset (places (behind rows.now)) (places (behind others.now))) }
 {
-    let bound = fewest_literals(shape, others);
+    let many = rows.len().min(others.len()) > FEW;
+    let bound = if many {
+        fewest_literals(shape, others)
+    } else {
+        0
+    };
     for row in rows {
-        let near = touched(alloc, shape, others, row)?;
+        let near = touched(alloc, shape, many, others, row)?;
         if !is_held_near(alloc, others, &near, bound, row)? {
             return Ok(false);
         }

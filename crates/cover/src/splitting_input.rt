@@ -38,12 +38,15 @@ fn lacks_output(shape: Shape, row: &Cube, region: &Cube) -> bool {
     false
 }
 
-/// How many open literals a row that meets the region has, where a lack of outputs is one more; it
-/// isn't looked for where there are more than `enough`.
+/// How many open literals a row that meets the region has, where a lack of outputs is one more; no more
+/// are counted where there are more than `enough`.
 pub(crate) fn open_literals(shape: Shape, row: &Cube, region: &Cube, enough: u32) -> u32 {
-    let count = open_inputs(shape, row, region);
-    if count > enough {
-        return count;
+    let mut count = 0u32;
+    for w in 0..shape.inputs() / 32 + 1 {
+        count = count.saturating_add(open_bits(row, region, w).count_ones());
+        if count > enough {
+            return count;
+        }
     }
     count.saturating_add(lacks_output(shape, row, region) as u32)
 }

@@ -213,6 +213,26 @@ fn meet_is(alloc: Global, a: Text, b: Text, text: Option<Text>) -> Result<bool, 
     Ok(is_found(a.meet(&b)?, text))
 }
 
+fn stack_is(alloc: Global, a: Text, b: Text, text: Option<Text>) -> Result<bool, Fail> {
+    let (a, b) = (cube(alloc, a)?, cube(alloc, b)?);
+    if !has_shape_of(&a, &b) {
+        return Err("shape")?;
+    }
+    Ok(is_found(a.stack(&b)?, text))
+}
+
+// The first without the outputs of the second, if some are left.
+fn rest_is(alloc: Global, a: Text, b: Text, text: Option<Text>) -> Result<bool, Fail> {
+    let (a, b) = (cube(alloc, a)?, cube(alloc, b)?);
+    if !has_shape_of(&a, &b) {
+        return Err("shape")?;
+    }
+    if !a.has_more_outputs(&b) {
+        return Ok(is_found(None, text));
+    }
+    Ok(is_found(Some(a.without_outputs(&b)?), text))
+}
+
 fn join_is(alloc: Global, a: Text, b: Text, text: Text) -> Result<bool, Fail> {
     let (a, b) = (cube(alloc, a)?, cube(alloc, b)?);
     if !has_shape_of(&a, &b) {
@@ -235,6 +255,10 @@ fn pairs(rt: HostRuntime) -> Result<(), Fail> {
     assert!(rt; meet_is(alloc, ("1-", "10"), ("-1", "01"), None)?);
     assert!(rt; meet_is(alloc, ("1-", "11"), ("-1", "01"), Some(("11", "01")))?);
     assert!(rt; join_is(alloc, ("11", "10"), ("10", "01"), ("1-", "11"))?);
+    assert!(rt; stack_is(alloc, ("1-", "10"), ("-0", "01"), Some(("10", "11")))?);
+    assert!(rt; stack_is(alloc, ("1-", "10"), ("0-", "11"), None)?);
+    assert!(rt; rest_is(alloc, ("1-", "11"), ("-0", "01"), Some(("1-", "10")))?);
+    assert!(rt; rest_is(alloc, ("1-", "01"), ("-0", "11"), None)?);
     assert!(rt;
         cofactor_is(
             alloc,
