@@ -12,3 +12,4 @@ pub mod Both
 pub mod Printed
 pub mod Checking
 mod Executing
+mod Opening

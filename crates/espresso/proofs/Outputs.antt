@@ -1,7 +1,6 @@
 -- What an output took, from one step to the next.
-use Rattle.std.proofs.Common.{◌≡◌, ◌∙◌, ℕ, refl, sym, ap, List, [], ◌++◌, Option, Some, None, append_assoc, append-nil}
+use Rattle.std.proofs.Common.{◌∙◌, ℕ, refl, sym, ap, List, [], ◌++◌, Option, Some, None, append_assoc, append-nil}
 use Rattle.std.specs.Io.KnownBytes.{Appends, Keeps}
-use Rattle.pla.specs.declared.calls.Counts.{Counts}
 use Rattle.pla.specs.declared.calls.WriteCalls.{WriteCalls}
 use Rattle.pla.specs.Device.{AllWritten, AppendsFront, LastUnwritten, one_failed}
 

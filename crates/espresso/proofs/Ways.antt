@@ -1,5 +1,5 @@
 -- Where a run stands, from step to step.
-use Rattle.std.proofs.Common.{◌≡◌, ◌∙◌, ℕ, true, refl, sym, ap, subst, inl, inr, List, [], ◌++◌, Option, Result, Ok, Err, true≢false, append-nil}
+use Rattle.std.proofs.Common.{◌≡◌, ◌∙◌, ℕ, refl, sym, ap, subst, inl, inr, List, [], ◌++◌, Option, Result, Ok, Err, true≢false, append-nil}
 use Rattle.std.specs.Prelude.{◌⊎◌, IsTrue}
 use Rattle.std.specs.Io.KnownBytes.{Appends, Keeps}
 use Rattle.pla.specs.declared.device.Broken.{Broken}
@@ -13,7 +13,7 @@ use Rattle.espresso.specs.declared.stop.Operand.{Operand}
 use Rattle.espresso.specs.declared.stop.Stop.{Stop}
 use Rattle.espresso.specs.declared.stop.Stop.TheVariants as stop
 use Rattle.espresso.specs.Messages.{closed_message, fault_message, is_answer}
-use Rattle.espresso.specs.Run.{Ends, Finishes, FlushBroke, FlushWent, FlushedLast, Intake, Intakes, IsFileOf, LastWriteBroke, Says, Told, Took, TookBeginning, TookFront, TookWhole, WritesWent, echoes_due, second_due, told}
+use Rattle.espresso.specs.Run.{CouldNotWrite, Ends, Finishes, FlushBroke, FlushWent, FlushedLast, Intake, Intakes, IsFileOf, LastWriteBroke, RanOut, Says, Told, Took, TookBeginning, TookFront, TookWhole, WritesWent, echoes_due, second_due, told}
 use Rattle.espresso.specs.Steps.{Answers, Began, Closes, FilesOf, IsReadAs, Names, PassesOn, Prints, PutsOut, Reports, Stands, StandsAt, name_at}
 use Rattle.espresso.specs.Answer.{Answer}
 use Rattle.espresso.specs.Tool.{File, Outcome, answered, behind, outcome_of, reading_of, reading_then, unless_stopped}
@@ -210,11 +210,19 @@ module _ (line : Meaning) (taken : Intakes) (names : Names) (out err : Told) (st
   failing (inl h) = inl h
   failing (inr h) = inr (λ first second is_first is_second. h.0 (record { first = first; second = second; is_first = is_first; is_second = is_second }), h.1, h.2)
 
+  pub ran_out : Closes line taken names out (Err stop.OutOfMemory) → Reports names err (Err stop.OutOfMemory) status
+      → RanOut (outcome_of line) (echoes_due line taken.first ++ second_due line taken.second) taken out err status
+  ran_out h r = record { beginning = beginning h.0.0; written = h.0.1; flushed = h.1; message = r.1; same_status = r.0 }
+
+  pub could_not_write : Closes line taken names out (Err stop.WriteFailed) → Reports names err (Err stop.WriteFailed) status
+      → CouldNotWrite (outcome_of line) (echoes_due line taken.first ++ second_due line taken.second) taken out err status
+  could_not_write h r = record { beginning = beginning h.0.0; failed = failing h.0.1; flushed = h.1; message = r.1; same_status = r.0 }
+
   -- a run ends in one of the three ways
   pub ends : (done : Result Status Stop) → Closes line taken names out done → Reports names err done status → Ends line taken out err status
   ends (Ok x) h r = inl (finishes [] x h.0.0 r.1 r.0 h.0.1 h.1 (λ _. h.0.2))
   ends (Err (stop.NotOpened operand)) h r = inl (finishes _ Fault h.0.0 r.1 r.0 h.0.1 h.1 (λ e. absurd (true≢false (sym e))))
   ends (Err (stop.Faulty operand fault)) h r = inl (finishes _ Fault h.0.0 r.1 r.0 h.0.1 h.1 (λ e. absurd (true≢false (sym e))))
   ends (Err stop.SizesDiffer) h r = inl (finishes _ Fault h.0.0 r.1 r.0 h.0.1 h.1 (λ e. absurd (true≢false (sym e))))
-  ends (Err stop.WriteFailed) h r = inr (inr (record { beginning = beginning h.0.0; failed = failing h.0.1; flushed = h.1; message = r.1; same_status = r.0 }))
-  ends (Err stop.OutOfMemory) h r = inr (inl (record { beginning = beginning h.0.0; written = h.0.1; flushed = h.1; message = r.1; same_status = r.0 }))
+  ends (Err stop.WriteFailed) h r = inr (inr (could_not_write h r))
+  ends (Err stop.OutOfMemory) h r = inr (inl (ran_out h r))

@@ -1,15 +1,22 @@
 -- What a process does that was started with these words: which files it opens, and how it ends.
-use Rattle.std.specs.Prelude.{◌≡◌, ℕ, Bool, true, false, List, [], ◌∷◌, Option, Some, None, Result, Ok, Err, ⊤, ◌⊎◌, MatchOption, codes, drop, if◌then◌else◌}
+use Rattle.std.specs.Prelude.{◌≡◌, ℕ, true, false, List, [], ◌∷◌, Option, Some, None, Result, Ok, Err, ⊤, ◌⊎◌, codes, drop, if◌then◌else◌, is_some}
 use Rattle.std.specs.Str.{bytes_eq}
+use Rattle.cube.specs.Limits.{format_limits}
 use Rattle.pla.specs.declared.calls.ReadCalls.{ReadCalls}
+use Rattle.pla.specs.declared.ending.Ending.{Ending}
+use Rattle.pla.specs.Fault.{fault_of}
+use Rattle.pla.specs.Reads.{MayEnd}
 use Rattle.espresso.specs.declared.line.LineFault.{LineFault}
 use Rattle.espresso.specs.declared.source.Source.{Source}
 use Rattle.espresso.specs.declared.source.Source.TheVariants.{Open, Closed}
 use Rattle.espresso.specs.declared.status.Status.{Status}
 use Rattle.espresso.specs.declared.status.Status.TheVariants.{Memory}
+use Rattle.espresso.specs.declared.stop.Stop.{Stop}
+use Rattle.espresso.specs.declared.stop.Stop.TheVariants as stop
 use Rattle.espresso.specs.Messages.{memory_message}
-use Rattle.espresso.specs.Run.{EndsAs, HasOutcome, Intakes, Says, Takes, TakesSecond, Told, all_due}
-use Rattle.espresso.specs.Tool.{File, Outcome, refusal_of, tool}
+use Rattle.espresso.specs.Run.{Absent, Asked, Bytes, CouldNotWrite, EndsAs, HasOutcome, Intake, Intakes, Nothing, RanOut, Says, SecondIntake, Takes, TakesSecond, Told, Untouched, all_due}
+use Rattle.espresso.specs.Steps.{Names}
+use Rattle.espresso.specs.Tool.{File, Outcome, first_name, refusal_of, second_name, tool}
 use Rattle.espresso.specs.Words.{Meaning, Text, line_of, takes_two}
 
 -- ---- the words
@@ -43,11 +50,33 @@ IsOpenedAs file input None (Closed name) = ⊥
 IsOpenedAs file input (Some word) (Open name device) = file word (Some device)
 IsOpenedAs file input (Some word) (Closed name) = file word None
 
--- the second source, where the command takes two
-abbrev pub IsSecondOpened : {D : Type 0} → (Text → Option D → Type 0) → (D → Type 0) → Meaning → Option (Source D) → Type 0
-IsSecondOpened file input line None = takes_two line.command ≡ false
-IsSecondOpened file input line (Some source) =
-    (takes_two line.command ≡ true) × IsOpenedAs file input (named_file (drop 1 line.files)) source
+-- the names of the two sources in messages, opened or not
+abbrev pub names_said : Meaning → Names
+names_said line = record { first = first_name line.files; second = second_name line.files }
+
+-- what was taken of a first source that stops the run: it was closed, or has a fault
+abbrev pub Stops : Intake → Type 0
+Stops Nothing = ⊤
+Stops (Bytes bytes met) = (ending : Ending) → MayEnd met ending → is_some (fault_of format_limits ending bytes) ≡ true
+
+-- what stopped a run before its second source: the first, a write that failed, or want of memory
+abbrev pub StoppedBefore : Intake → Result Status Stop → Type 0
+StoppedBefore first (Ok status) = ⊥
+StoppedBefore first (Err (stop.NotOpened operand)) = Stops first
+StoppedBefore first (Err (stop.Faulty operand fault)) = Stops first
+StoppedBefore first (Err stop.SizesDiffer) = ⊥
+StoppedBefore first (Err stop.WriteFailed) = ⊤
+StoppedBefore first (Err stop.OutOfMemory) = ⊤
+
+-- the second source, as it was opened and as it was left, and what was taken of it: the command takes none; or none was opened,
+-- since the run was stopped before; or the first was read whole and has no fault, and then it was opened and read
+abbrev pub OpensSecond : {D : Type 0} → (Text → Option D → Type 0) → (D → Type 0) → (D → Option (List ℕ)) → (D → ReadCalls) → Meaning → Intake → Type 0 → Option (Source D) → Option (Source D) → SecondIntake → Type 0
+OpensSecond file input left calls line first Stopped None None Absent = takes_two line.command ≡ false
+OpensSecond file input left calls line first Stopped None None Untouched = (takes_two line.command ≡ true) × Stopped
+OpensSecond file input left calls line first Stopped (Some source) (Some after) (Asked intake) = (takes_two line.command ≡ true)
+    × IsOpenedAs file input (named_file (drop 1 line.files)) source
+    × TakesSecond left calls first (Some source) (Some after) (Asked intake)
+OpensSecond file input left calls line first Stopped _ _ _ = ⊥
 
 -- ---- how it ends
 
@@ -57,24 +86,28 @@ pub record Refuses (words : Result (List Text) LineFault) (out err : Told) (stat
   pub outcome : (first : File) (second : Option File) → HasOutcome (tool_on words first second) out err status
   pub untouched : out.calls_after ≡ out.calls
 
--- memory was refused before a run: the output was not called, and that is said
+-- memory was refused before the first source was read: the output was not called, and that is said
 pub record GivesUp (out err : Told) (status : Status) : Type 0 where
   pub nothing : out.taken_after ≡ out.taken
   pub untouched : out.calls_after ≡ out.calls
   pub message : Says err memory_message
   pub same_status : status ≡ Memory
 
--- the files of a line are opened, and it is run on them; this is the tool's answer on files
+-- memory was refused on the way, or the output failed
+abbrev pub IsCutShort : (File → Option File → Outcome) → List ℕ → Intakes → Told → Told → Status → Type 0
+IsCutShort answer echoes taken out err status = RanOut answer echoes taken out err status ⊎ CouldNotWrite answer echoes taken out err status
+
+-- a line is run on its files, the second of which is opened behind the first; this is the tool's answer on files
 pub record RunsOn {D : Type 0} (file : Text → Option D → Type 0) (input : D → Type 0) (left : D → Option (List ℕ)) (calls : D → ReadCalls) (line : Meaning) (answer : File → Option File → Outcome) (out err : Told) (status : Status) : Type 0 where
   pub first : Source D
   pub first_after : Source D
   pub second : Option (Source D)
   pub second_after : Option (Source D)
   pub first_opened : IsOpenedAs file input (named_file line.files) first
-  pub second_opened : IsSecondOpened file input line second
   pub taken : Intakes
   pub first_taken : Takes left calls first first_after taken.first
-  pub second_taken : TakesSecond left calls taken.first second second_after taken.second
+  pub second_opened : OpensSecond file input left calls line taken.first
+      (Stops taken.first ⊎ IsCutShort answer (all_due line taken) taken out err status) second second_after taken.second
   pub ends : EndsAs answer (all_due line taken) taken out err status
 
 -- a line is run, unless memory is refused before

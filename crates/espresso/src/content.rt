@@ -40,13 +40,20 @@ pub(crate) fn words_of<R: Env + AllocGlobal>(rt: &R) -> Result<Vec<String>, Line
 }
 
 // The name of a source in messages: that of the first of these file words, or `(stdin)`.
+pub(crate) fn name_in_messages(files: &[String]) -> &str
+    ensures { result.now ≡ first_name (map string_bytes files.now) }
+{
+    match files.first() {
+        Some(file) if file.as_str() != "-" => file.as_str(),
+        _ => "(stdin)",
+    }
+}
+
+// The same, as a text of its own.
 pub(crate) fn source_name(alloc: Global, files: &[String]) -> Result<String, AllocError>
     ensures { IfOk result (λ name. string_bytes name ≡ first_name (map string_bytes files.now)) }
 {
-    match files.first() {
-        Some(file) if file.as_str() != "-" => String::from_str(alloc, file),
-        _ => String::from_str(alloc, "(stdin)"),
-    }
+    String::from_str(alloc, name_in_messages(files))
 }
 
 // The file words behind the first.

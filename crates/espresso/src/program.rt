@@ -1,26 +1,29 @@
 //! What a process does, from its words to its status.
-ghost use Rattle.std.specs.Prelude.{◌≡◌, IfOk, IfSome, IsTrue, is_some, map, string_bytes};
+ghost use Rattle.std.specs.Prelude.{◌≡◌, IfOk, IsTrue, Option, map, string_bytes};
 ghost use Rattle.espresso.specs.Messages.{is_answer};
-ghost use Rattle.espresso.specs.Program.{Executes, IsOpenedAs, IsSecondOpened, RunsLine, named_file, words_behind};
-ghost use Rattle.espresso.specs.Run.{name_of, told};
-ghost use Rattle.espresso.specs.Tool.{first_name, outcome_of, second_name};
-ghost use Rattle.espresso.specs.Words.{takes_two};
+ghost use Rattle.espresso.specs.Program.{Executes, IsOpenedAs, OpensSecond, RunsLine, StoppedBefore, named_file, names_said, words_behind};
+ghost use Rattle.espresso.specs.Run.{Intakes, Takes, name_of, told};
+ghost use Rattle.espresso.specs.Steps.{Stands};
+ghost use Rattle.espresso.specs.Tool.{first_name, outcome_of};
 
-use crate::content::{after_first, source_name};
+use crate::answer::put_answer;
+use crate::content::{after_first, name_in_messages, source_name};
 use crate::line::{Line, LineFault};
 use crate::opener::Opener;
 use crate::source::Source;
 use crate::status::Status;
-use crate::tool::{refuse, run};
+use crate::stop::{Operand, Stop};
+use crate::tool::{flushed, go_on, read_source, refuse, report};
 use pla::Output;
 use std::alloc::{AllocError, Global};
 
 /// Answers the words that a process was started with, the program's name first, and answers how it ends:
-/// where they say a line, its files are opened and it is run on them, and otherwise it is said why not. So
-/// output, message and status are those of `tool`, but for want of memory and an output that fails.
+/// where they say a line, it is run on its files, and otherwise it is said why not. So output, message and
+/// status are those of `tool`, but for want of memory and an output that fails.
 ///
 /// No file word, or `-`, is standard input; any other word is the file of that name, or a closed source
-/// where it cannot be opened. A second source is opened where the command takes two files.
+/// where it cannot be opened. Where the command takes two files, the second source is opened once the first
+/// was read whole and without a fault; a process that was stopped before leaves it unopened.
 pub fn execute<O: Opener, W: Output, E: Output>(
     alloc: Global,
     words: Result<Vec<String>, LineFault>,
@@ -44,7 +47,7 @@ pub fn execute<O: Opener, W: Output, E: Output>(
     }
 }
 
-// Opens the files of the line, and runs it on them.
+// Opens the files of the line, the second behind the first, and runs it on them.
 fn run_line<O: Opener, W: Output, E: Output>(
     alloc: Global,
     line: &Line,
@@ -57,13 +60,46 @@ fn run_line<O: Opener, W: Output, E: Output>(
         (told (E.taken err.old) (E.taken err.new) (E.calls err.old) (E.calls err.new)) result }
     ensures silent { IsTrue (is_answer result) → err.new ≡ err.old }
 {
-    let Ok(mut first) = opened(alloc, opener, line.files()) else {
+    let files = line.files();
+    let Ok(mut first) = opened(alloc, opener, files) else {
         return refuse(&LineFault::Memory, err);
     };
-    let Ok(mut second) = opened_second(alloc, opener, line) else {
-        return refuse(&LineFault::Memory, err);
-    };
-    run(alloc, line, &mut first, &mut second, out, err)
+    let done = carry_out(alloc, line, &mut first, opener, out);
+    let done = flushed(out, done);
+    let second_name = name_in_messages(after_first(files));
+    report(
+        done,
+        name_in_messages(files).as_bytes(),
+        second_name.as_bytes(),
+        err,
+    )
+}
+
+// Reads the first source, and opens the second once that was read without a fault, where there is one;
+// then reads it too, and prints what the command answers.
+fn carry_out<O: Opener, W: Output>(
+    alloc: Global,
+    line: &Line,
+    first: &mut Source<O::Device>,
+    opener: &O,
+    out: &mut W,
+) -> Result<Status, Stop>
+    requires first_name { name_of first.old ≡ first_name line.now.files }
+    ensures { (taken : Intakes) × Takes O.Device.left O.Device.calls first.old first.new taken.first
+        × ((second : Option (Source O.Device)) × (second_after : Option (Source O.Device))
+        × OpensSecond (O.file opener.now) (O.input opener.now) O.Device.left O.Device.calls line.now taken.first
+        (StoppedBefore taken.first result) second second_after taken.second)
+        × Stands line.now taken (names_said line.now)
+        (told (W.taken out.old) (W.taken out.new) (W.calls out.old) (W.calls out.new)) result }
+{
+    let pla = read_source(alloc, line, Operand::First, first, out)?;
+    if !line.pair() {
+        return put_answer(alloc, line, &pla, &pla, out);
+    }
+    match opened(alloc, opener, after_first(line.files())) {
+        Ok(mut second) => go_on(alloc, line, &pla, &mut second, out),
+        Err(AllocError) => Err(Stop::OutOfMemory),
+    }
 }
 
 // The first of these files, opened, or standard input where there is none or it is `-`.
@@ -84,21 +120,4 @@ fn opened<O: Opener>(
         _ => opener.standard_input(),
     };
     Ok(Source::Open { name, input })
-}
-
-// The second file of the line, likewise, where its command takes two.
-fn opened_second<O: Opener>(
-    alloc: Global,
-    opener: &O,
-    line: &Line,
-) -> Result<Option<Source<O::Device>>, AllocError>
-    ensures pair { IfOk result (λ source. is_some source ≡ takes_two line.now.command) }
-    ensures name { IfOk result (λ source. IfSome source (λ s. name_of s ≡ second_name line.now.files)) }
-    ensures source { IfOk result (IsSecondOpened (O.file opener.now) (O.input opener.now) line.now) }
-{
-    if !line.pair() {
-        return Ok(None);
-    }
-    let source = opened(alloc, opener, after_first(line.files()))?;
-    Ok(Some(source))
 }

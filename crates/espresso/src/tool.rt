@@ -1,5 +1,5 @@
 //! A run: reading one source or two, the command, and the last word to standard error.
-ghost use Rattle.std.specs.Prelude.{◌≡◌, IfSome, IsTrue, is_some};
+ghost use Rattle.std.specs.Prelude.{◌≡◌, Err, IfErr, IfSome, IsTrue, is_some};
 ghost use Rattle.espresso.specs.Messages.{is_answer};
 ghost use Rattle.espresso.specs.Run.{Ends, Intake, Intakes, Says, Takes, TakesSecond, name_of, told};
 ghost use Rattle.espresso.specs.Steps.{Answers, IsReadAs, Names, Passes, Reports, Stands, StandsBehind, second_text};
@@ -104,7 +104,7 @@ fn carried_out<R: Input, W: Output>(
 }
 
 // Reads the second source, and answers on both.
-fn go_on<R: Input, W: Output>(
+pub(crate) fn go_on<R: Input, W: Output>(
     alloc: Global,
     line: &Line,
     pla: &Pla,
@@ -140,7 +140,7 @@ fn put_together<W: Output>(
 }
 
 // Reads a source, whose echoes go out as its lines end.
-fn read_source<R: Input, W: Output>(
+pub(crate) fn read_source<R: Input, W: Output>(
     alloc: Global,
     line: &Line,
     operand: Operand,
@@ -161,8 +161,9 @@ fn read_source<R: Input, W: Output>(
 }
 
 // Flushes the output, once and last. A failure stops a run that was not stopped yet.
-fn flushed<W: Output>(out: &mut W, done: Result<Status, Stop>) -> Result<Status, Stop>
-    ensures { Passes (W.taken out.old) (W.taken out.new) (W.calls out.old) (W.calls out.new) done result }
+pub(crate) fn flushed<W: Output>(out: &mut W, done: Result<Status, Stop>) -> Result<Status, Stop>
+    ensures stopped { IfErr done (λ stop. result ≡ Err stop) }
+    ensures passes { Passes (W.taken out.old) (W.taken out.new) (W.calls out.old) (W.calls out.new) done result }
 {
     match done {
         Ok(status) => match out.flush() {
@@ -177,7 +178,12 @@ fn flushed<W: Output>(out: &mut W, done: Result<Status, Stop>) -> Result<Status,
 }
 
 // Says what stopped the run, if anything did.
-fn report<E: Output>(done: Result<Status, Stop>, first: &[u8], second: &[u8], err: &mut E) -> Status
+pub(crate) fn report<E: Output>(
+    done: Result<Status, Stop>,
+    first: &[u8],
+    second: &[u8],
+    err: &mut E,
+) -> Status
     ensures said { Reports (record { first = first.now; second = second.now })
         (told (E.taken err.old) (E.taken err.new) (E.calls err.old) (E.calls err.new)) done result }
     ensures silent { IsTrue (is_answer result) → err.new ≡ err.old }

@@ -37,6 +37,7 @@ impl Opener for Shelf {
             "a" => self.given(self.a),
             "b" => self.given(self.b),
             "-" => self.given("a file that a hyphen names"),
+            "fault" => self.given(".i 1\n.o 1\n2 1\n"),
             _ => None,
         }
     }
@@ -180,20 +181,51 @@ fn words_that_are_none_are_told(rt: HostRuntime) -> Result<(), Fail> {
     Ok(())
 }
 
-// An output that marks its calls on a slate that others mark too: 1 for a write of the first output,
-// 2 for its flush, 3 for a write of the second.
+// A slate with a digit for each call, the last behind the others: 1 for a write of the first output, 2 for
+// its flush, 3 for a write of the second, and for what is opened 4 where it is `a`, 5 where it is `b`, 6
+// where it is another file, and 7 where it is standard input.
+fn put(slate: &Cell<u64>, mark: u64) {
+    slate.set(slate.get().wrapping_mul(10).wrapping_add(mark));
+}
+
+// The files, with a mark for each that is opened.
+#[derive(Drop)]
+struct Watched<'a> {
+    slate: &'a Cell<u64>,
+    shelf: Shelf,
+}
+
+impl Opener for Watched<'_> {
+    ghost use Rattle.std.specs.Prelude.{⊤};
+
+    type Device = Given;
+
+    ghost file = { λ _ _ _. ⊤ };
+
+    ghost input = { λ _ _. ⊤ };
+
+    fn open(&self, name: &str) -> Option<Given> {
+        let mark = match name {
+            "a" => 4,
+            "b" => 5,
+            _ => 6,
+        };
+        put(self.slate, mark);
+        self.shelf.open(name)
+    }
+
+    fn standard_input(&self) -> Given {
+        put(self.slate, 7);
+        self.shelf.standard_input()
+    }
+}
+
+// An output with a mark for each call.
 #[derive(Drop)]
 struct Marking<'a> {
     slate: &'a Cell<u64>,
     mark: u64,
     calls: WriteCalls,
-}
-
-impl Marking<'_> {
-    fn put(&self, mark: u64) {
-        self.slate
-            .set(self.slate.get().wrapping_mul(10).wrapping_add(mark));
-    }
 }
 
 impl Output for Marking<'_> {
@@ -204,13 +236,13 @@ impl Output for Marking<'_> {
     ghost calls = { λ s. s.calls };
 
     fn write(&mut self, bytes: &[u8]) -> Result<usize, Broken> {
-        self.put(self.mark);
+        put(self.slate, self.mark);
         self.calls = self.calls.after_write();
         Ok(bytes.len())
     }
 
     fn flush(&mut self) -> Result<(), Broken> {
-        self.put(2);
+        put(self.slate, 2);
         self.calls = self.calls.after_flush();
         Ok(())
     }
@@ -229,18 +261,52 @@ fn marks_of(alloc: Global, words: &[&str]) -> Result<u64, Fail> {
         mark: 3,
         calls: WriteCalls::new(),
     };
+    let files = Watched {
+        slate: &slate,
+        shelf: two_files(alloc),
+    };
     let words = words_of(alloc, words)?;
-    let _ = execute(alloc, Ok(words), &two_files(alloc), &mut out, &mut err);
+    let _ = execute(alloc, Ok(words), &files, &mut out, &mut err);
     Ok(slate.get())
 }
 
 #[test]
 fn a_message_comes_behind_the_flush(rt: HostRuntime) -> Result<(), Fail> {
     let alloc = rt.alloc();
-    assert_eq!(rt; marks_of(alloc, &["x", "-Decho", "a"])?, 12);
-    assert_eq!(rt; marks_of(alloc, &["x", "-Decho", "c"])?, 2333);
-    assert_eq!(rt; marks_of(alloc, &["x", "-Dsharp", "b", "c"])?, 12333);
+    assert_eq!(rt; marks_of(alloc, &["x", "-Decho", "a"])?, 412);
+    assert_eq!(rt; marks_of(alloc, &["x", "-Decho", "c"])?, 62333);
+    assert_eq!(rt; marks_of(alloc, &["x", "-Dsharp", "b", "c"])?, 5162333);
     assert_eq!(rt; marks_of(alloc, &["x", "-Dsharp"])?, 3);
+    Ok(())
+}
+
+#[test]
+fn a_second_file_is_opened_behind_a_first_without_a_fault(rt: HostRuntime) -> Result<(), Fail> {
+    let alloc = rt.alloc();
+    assert_eq!(rt; marks_of(alloc, &["x", "-Dverify", "b", "a"])?, 51412);
+    assert_eq!(rt; marks_of(alloc, &["x", "-Dverify", "a", "-"])?, 47112);
+    assert_eq!(rt; marks_of(alloc, &["x", "-Dverify", "c", "a"])?, 62333);
+    let at_fault = marks_of(alloc, &["x", "-Dverify", "fault", "a"])?;
+    assert_eq!(rt; at_fault, 623333333);
+    Ok(())
+}
+
+#[test]
+fn a_second_file_stays_closed_behind_a_failed_write(rt: HostRuntime) -> Result<(), Fail> {
+    let alloc = rt.alloc();
+    let slate = Cell::new(0);
+    let files = Watched {
+        slate: &slate,
+        shelf: two_files(alloc),
+    };
+    let output = Taken::new(alloc, 200, 200, false)?;
+    let mut output = output.failing_after(0);
+    let mut message = Taken::new(alloc, 200, 200, false)?;
+    let words = words_of(alloc, &["x", "-Dverify", "b", "a"])?;
+    let status = execute(alloc, Ok(words), &files, &mut output, &mut message);
+    assert_eq!(rt; status, Status::Fault);
+    assert_eq!(rt; message.bytes(), b"espresso: write failed\n".as_slice());
+    assert_eq!(rt; slate.get(), 5);
     Ok(())
 }
 
