@@ -67,7 +67,7 @@ loads_left share c left (d ∷ cs) rows ys h l f = elim (has_cases c d cs h) [
       omega arith)
 ]
 
-sum_scaled : (g : ℕ → ℕ) (cs : List ℕ) → sum_over (λ c. 65536 * g c) cs ≡ 65536 * sum_over g cs
+pub sum_scaled : (g : ℕ → ℕ) (cs : List ℕ) → sum_over (λ c. 65536 * g c) cs ≡ 65536 * sum_over g cs
 sum_scaled g [] = omega arith
 sum_scaled g (c ∷ cs) = let k = sum_scaled g cs in omega arith
 
@@ -140,13 +140,13 @@ module _ (choice : Choice) (m : Measure) (t : Grid) (k w n : ℕ) (shares left :
 
 -- ---- the weights of one row more
 
-load_push : (c : ℕ) (rows : List (List ℕ)) (ys : List ℕ) (row : List ℕ) (y : ℕ) → length ys ≡ length rows → load c (rows ++ row ∷ []) (ys ++ y ∷ []) ≡ load c rows ys + cond (has c row) y 0
+pub load_push : (c : ℕ) (rows : List (List ℕ)) (ys : List ℕ) (row : List ℕ) (y : ℕ) → length ys ≡ length rows → load c (rows ++ row ∷ []) (ys ++ y ∷ []) ≡ load c rows ys + cond (has c row) y 0
 load_push c [] [] row y e = omega arith
 load_push c [] (z ∷ ys) row y e = absurd (omega arith)
 load_push c (r ∷ rows) [] row y e = absurd (omega arith)
 load_push c (r ∷ rows) (z ∷ ys) row y e = let k = load_push c rows ys row y (omega arith) in omega arith
 
-total_push : (ys : List ℕ) (y : ℕ) → total (ys ++ y ∷ []) ≡ total ys + y
+pub total_push : (ys : List ℕ) (y : ℕ) → total (ys ++ y ∷ []) ≡ total ys + y
 total_push [] y = omega arith
 total_push (z ∷ ys) y = let k = total_push ys y in omega arith
 

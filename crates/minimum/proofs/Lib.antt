@@ -8,6 +8,8 @@ pub mod BestChoice
 pub mod Ways
 pub mod Rising
 pub mod Bounds
+pub mod Lagrange
+pub mod Laid
 pub mod Branches
 pub mod Rows
 pub mod Made

@@ -41,11 +41,13 @@ mod solution;
 mod table;
 #[cfg(test)]
 mod tests;
+mod weighing;
 mod wishes;
 
 pub use choice::Choice;
 pub use implicants::primes;
-pub use laws::least_is_unique;
+pub use laws::{least_is_unique, weights_bound_budgets, weights_bound_covers};
 pub use reduction::reduce;
 pub use solution::{essential, exact};
 pub use table::Table;
+pub use weighing::{Loads, lagrangian};
