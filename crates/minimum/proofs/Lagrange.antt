@@ -1,20 +1,21 @@
 -- What any weights of rows say of every cover.
-use Rattle.std.proofs.Common.{◌≡◌, ℕ, ◌+◌, ◌*◌, ◌-◌, ◌<◌, ◌≤◌, inl, inr, true, false, List, [], ◌∷◌, length, refl, sym, subst, arith}
+use Rattle.std.proofs.Common.{◌≡◌, ℕ, zero, suc, ◌+◌, ◌*◌, ◌-◌, ◌<◌, ◌≤◌, inl, inr, Bool, true, false, map, List, [], ◌∷◌, length, refl, sym, subst, arith}
 use Rattle.std.specs.List.{AllByRecursion, range_with_len}
-use Rattle.std.proofs.lemmas.Bool.{cases_Bool, or_cases, both_ways, true≢false}
+use Rattle.std.proofs.lemmas.Bool.{cases_lt, or_cases, both_ways, true≢false}
+use Rattle.std.proofs.Math.Nat.{mul-le-mul_left}
+use Rattle.std.proofs.lemmas.List.FromFn.{get_or-map-range_with_len}
 use Rattle.minimum.specs.declared.choice.Choice.{Choice}
-use Rattle.minimum.specs.declared.bound.Measure.{Measure}
 use Rattle.minimum.specs.Table.{Grid, has, RisesFrom, IsTable, IsWithin}
 use Rattle.minimum.specs.Cover.{meets, IsCover, counted, sum_over}
-use Rattle.minimum.specs.Search.{NoneWithin, IsOutside}
-use Rattle.minimum.specs.Weights.{load, total, measured, bound_of}
-use Rattle.minimum.specs.Lagrange.{overload, spare, overloads, Hits, LagrangianHolds, UniformHolds, IsInside, share_of, room, BudgetsHold}
+use Rattle.minimum.specs.Search.{IsBeyond, NoneWithin, IsOutside, marked}
+use Rattle.minimum.specs.Weights.{total, at}
+use Rattle.minimum.specs.Lagrange.{overload, spare, overloads, Hits, LagrangianHolds, BoundsCovers}
 use Rattle.minimum.specs.Steps.{without}
-use Rattle.minimum.proofs.Sets.{has_here, has_later, has_cases, without_keeps, without_rises, sum_without, meets_at}
-use Rattle.minimum.proofs.Subsets.{minus, minus_only, minus_lacks, minus_keeps, minus_sum, rows_met, rows_within}
+use Rattle.minimum.proofs.Sets.{has_here, has_later, has_cases, without_keeps, without_rises, sum_without, meets_at, meets_from}
+use Rattle.minimum.proofs.Subsets.{minus, minus_only, minus_keeps, minus_length, minus_sum, rows_met, rows_within}
 use Rattle.minimum.proofs.BestChoice.{minus_rises}
 use Rattle.minimum.proofs.Rising.{range_rises, range_has}
-use Rattle.minimum.proofs.Bounds.{loads, weights_met, sum_scaled, beyond_from}
+use Rattle.minimum.proofs.Bounds.{loads, weights_met}
 
 -- ---- what the columns of a list bear
 
@@ -79,52 +80,68 @@ lagrangian_holds share n rows ys x e h =
     let met = rows_at x rows h.each in
     (weights_bound share n rows ys x e h.rises h.below met, weights_in share n rows ys x e h.rises h.below met, weights_out share n rows ys x e h.rises h.below met)
 
-sum_same : (q : ℕ) (x : List ℕ) → sum_over (λ c. q) x ≡ q * length x
-sum_same q [] = omega arith
-sum_same q (c ∷ x) = let k = sum_same q x in omega arith
+-- ---- products
 
-pub uniform_holds : UniformHolds
-uniform_holds q n rows ys x e h = let k = (lagrangian_holds (λ c. q) n rows ys x e h).0 in let s = sum_same q x in omega arith
+scaled_sum : (a b c : ℕ) → a * (b + c) ≡ a * b + a * c
+scaled_sum zero b c = omega arith
+scaled_sum (suc a) b c = let k = scaled_sum a b c in omega arith
 
 -- ---- the covers of a table, within a budget
 
-module _ (choice : Choice) (m : Measure) (t : Grid) (k w : ℕ) (ys : List ℕ) (wt : IsTable t) (e : length ys ≡ length t.rows) where
-  module _ (x : List ℕ) (h : IsCover t x) where
-    rest_rises : RisesFrom 0 (minus x t.taken)
-    rest_rises = minus_rises x t.taken h.rises
+sum_shares : (one each : ℕ) (g share : ℕ → ℕ) (cs : List ℕ) → ((c : ℕ) → has c cs ≡ true → share c ≡ one + each * g c) → sum_over share cs ≡ one * length cs + each * sum_over g cs
+sum_shares one each g share [] f = omega arith
+sum_shares one each g share (c ∷ cs) f =
+    let here = f c (has_here c c cs refl) in
+    let k = sum_shares one each g share cs (λ d h. f d (has_later d c cs h)) in
+    let a = scaled_sum one 1 (length cs) in
+    let b = scaled_sum each (g c) (sum_over g cs) in
+    omega arith
 
+rows_hit : (x : List ℕ) (rows : List (List ℕ)) → AllByRecursion (λ row. (c : ℕ) × (has c x ≡ true) × (has c row ≡ true)) rows → AllByRecursion (λ row. meets x row ≡ true) rows
+rows_hit x [] h = tt
+rows_hit x (row ∷ rows) h = (meets_from h.0.0 x row h.0.1 h.0.2, rows_hit x rows h.1)
+
+module _ (choice : Choice) (t : Grid) (k w one each : ℕ) (shares loads : List ℕ) (n over : ℕ) (wt : IsTable t) (b : BoundsCovers t.rows shares loads n over) (long : length shares ≡ t.columns) (is : (c : ℕ) → c < t.columns → at shares c ≡ one + each * counted choice t.weights c) where
+  module _ (x : List ℕ) (h : IsCover t x) where
     rest_below : (c : ℕ) → has c (minus x t.taken) ≡ true → c < t.columns
     rest_below c a = elim (or_cases (has c t.taken) (has c t.live) (h.only c (minus_only c x t.taken a))) [
-      | inl b ↦ wt.taken_within c b
-      | inr b ↦ wt.within c b
+      | inl e ↦ wt.taken_within c e
+      | inr e ↦ wt.within c e
     ]
 
-    rest_met : AllByRecursion (λ row. (c : ℕ) × (has c (minus x t.taken) ≡ true) × (has c row ≡ true)) t.rows
-    rest_met = rows_met t x t.rows wt h (rows_within t t.rows wt.rows) h.rows
+    rest_hits : Hits (length shares) t.rows (minus x t.taken)
+    rest_hits = record {
+      rises = minus_rises x t.taken h.rises;
+      below = λ c a. let e = rest_below c a in omega arith;
+      each = rows_hit (minus x t.taken) t.rows (rows_met t x t.rows wt h (rows_within t t.rows wt.rows) h.rows);
+    }
 
-    rest_lacks : (c : ℕ) → has c x ≡ false → has c (minus x t.taken) ≡ false
-    rest_lacks c gone = elim (cases_Bool (has c (minus x t.taken))) [ inl a ↦ absurd (both_ways _ gone (minus_only c x t.taken a)) | inr a ↦ a ]
+    -- more shares than the budget leaves are past the budget
+    past : one * (k - length t.taken) + each * (w - sum_over (counted choice t.weights) t.taken) < sum_over (at shares) (minus x t.taken) → IsBeyond (counted choice t.weights) k w x
+    past over =
+        let a = minus_length 0 x t.taken h.rises wt.taken_rises h.taken in
+        let s = minus_sum (counted choice t.weights) 0 x t.taken h.rises wt.taken_rises h.taken in
+        let both = sum_shares one each (counted choice t.weights) (at shares) (minus x t.taken) (λ c e. is c (rest_below c e)) in
+        elim (cases_lt k (length x)) [
+          | inl l ↦ inl l
+          | inr l ↦ elim (cases_lt w (sum_over (counted choice t.weights) x)) [
+            | inl m ↦ inr m
+            | inr m ↦ absurd (
+                let p : one * length (minus x t.taken) ≤ one * (k - length t.taken) = mul-le-mul_left one (omega arith) in
+                let q : each * sum_over (counted choice t.weights) (minus x t.taken) ≤ each * (w - sum_over (counted choice t.weights) t.taken) = mul-le-mul_left each (omega arith) in
+                omega arith)
+          ]
+        ]
 
-  pub budgets_none : room choice m t ys k w < total ys → NoneWithin choice t k w
-  budgets_none over x h =
-      let a = weights_bound (share_of choice m t) t.columns t.rows ys (minus x t.taken) e (rest_rises x h) (rest_below x h) (rest_met x h) in
-      let s = minus_sum (measured m (counted choice t.weights)) 0 x t.taken h.rises wt.taken_rises h.taken in
-      let z = sum_scaled (measured m (counted choice t.weights)) (minus x t.taken) in
-      beyond_from m (counted choice t.weights) k w x (omega arith)
+  pub none_within : (limit : ℕ) → limit ≡ one * (k - length t.taken) + each * (w - sum_over (counted choice t.weights) t.taken) + over → limit < n → NoneWithin choice t k w
+  none_within limit e l x h = let a = b.all (minus x t.taken) (rest_hits x h) in past x h (omega arith)
 
-  pub budgets_outside : (c : ℕ) → has c t.live ≡ true → room choice m t ys k w < total ys + spare (share_of choice m t) t.rows ys c → IsOutside choice t k w c
-  budgets_outside c l over x h there =
-      let a = weights_in (share_of choice m t) t.columns t.rows ys (minus x t.taken) e (rest_rises x h) (rest_below x h) (rest_met x h) c (minus_keeps c x t.taken there (wt.apart c l)) in
-      let s = minus_sum (measured m (counted choice t.weights)) 0 x t.taken h.rises wt.taken_rises h.taken in
-      let z = sum_scaled (measured m (counted choice t.weights)) (minus x t.taken) in
-      beyond_from m (counted choice t.weights) k w x (omega arith)
+  pub outside : (limit : ℕ) → limit ≡ one * (k - length t.taken) + each * (w - sum_over (counted choice t.weights) t.taken) + over → (c : ℕ) → has c t.live ≡ true → limit < n + (at shares c - at loads c) → IsOutside choice t k w c
+  outside limit e c l m x h there = let a = b.having (minus x t.taken) (rest_hits x h) c (minus_keeps c x t.taken there (wt.apart c l)) in past x h (omega arith)
 
-  pub budgets_inside : (c : ℕ) → has c t.live ≡ true → room choice m t ys k w < total ys + overload (share_of choice m t) t.rows ys c → IsInside choice t k w c
-  budgets_inside c l over x h gone =
-      let a = weights_out (share_of choice m t) t.columns t.rows ys (minus x t.taken) e (rest_rises x h) (rest_below x h) (rest_met x h) c (wt.within c l) (rest_lacks x h c gone) in
-      let s = minus_sum (measured m (counted choice t.weights)) 0 x t.taken h.rises wt.taken_rises h.taken in
-      let z = sum_scaled (measured m (counted choice t.weights)) (minus x t.taken) in
-      beyond_from m (counted choice t.weights) k w x (omega arith)
+-- the shares as the code makes them, and the marks
+pub shares_at : (share : ℕ → ℕ) (n c : ℕ) → c < n → at (map share (range_with_len 0 n)) c ≡ share c
+shares_at share n c h = get_or-map-range_with_len share 0 n c c 0 (omega arith) (omega arith)
 
-pub budgets_hold : BudgetsHold
-budgets_hold choice m t k w ys wt e = (budgets_none choice m t k w ys wt e, budgets_outside choice m t k w ys wt e, budgets_inside choice m t k w ys wt e)
+pub marks_at : (test : ℕ → Bool) (n c : ℕ) → c < n → marked (map test (range_with_len 0 n)) c ≡ test c
+marks_at test n c h = get_or-map-range_with_len test 0 n c c false (omega arith) (omega arith)

@@ -1,13 +1,13 @@
 -- Weights of rows laid on the columns, one row after another.
-use Rattle.std.proofs.Common.{◌≡◌, ℕ, zero, suc, ◌+◌, ◌-◌, ◌*◌, ◌^◌, ◌<◌, ◌≤◌, ◌⊎◌, ◌||◌, inl, inr, Bool, true, false, cond, eqb, List, [], ◌∷◌, ◌++◌, length, take, set, slice_index_or, refl, sym, ap, subst, ◌∙◌, arith, Vec}
-use Rattle.std.specs.List.{AllByRecursion, list_any, range_with_len}
+use Rattle.std.proofs.Common.{◌≡◌, ℕ, zero, suc, ◌+◌, ◌-◌, ◌<◌, ◌≤◌, ◌||◌, inl, inr, Bool, true, false, cond, eqb, List, [], ◌∷◌, ◌++◌, length, take, set, slice_index_or, refl, sym, ap, subst, ◌∙◌, arith, Vec}
+use Rattle.std.specs.List.{AllByRecursion, range_with_len}
 use Rattle.std.proofs.lemmas.Bool.{cases_Bool, or_from, eqb-true, eqb-false, both_ways, false≢true}
 use Rattle.std.proofs.lemmas.List.{length-set, take_more, get_or-set_same, get_or-set_other}
 use Rattle.cover.proofs.Containment.{range-more}
 use Rattle.minimum.specs.Table.{has, RisesFrom, items_of}
 use Rattle.minimum.specs.Cover.{sum_over}
 use Rattle.minimum.specs.Weights.{at, total, load}
-use Rattle.minimum.specs.Lagrange.{beyond, overload, spare, overloads, Hits, IsLoaded, BoundsCovers}
+use Rattle.minimum.specs.Lagrange.{beyond, overload, overloads, IsLoaded, BoundsCovers}
 use Rattle.minimum.proofs.Bounds.{load_push, total_push}
 use Rattle.minimum.proofs.Rows.{take_items}
 use Rattle.minimum.proofs.Sets.{has_cases}

@@ -17,6 +17,9 @@ pub mod Budgets
 pub mod Crossing
 pub mod Passes
 pub mod Reduced
+pub mod Weaker
+pub mod Chosen
+pub mod Stages
 pub mod BothLists
 pub mod Near
 pub mod Numbers

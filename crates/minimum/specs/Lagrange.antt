@@ -1,12 +1,11 @@
 -- Any weights of rows, also those of which a column bears more than its share.
-use Rattle.std.specs.Prelude.{◌≡◌, ℕ, ◌+◌, ◌-◌, ◌*◌, ◌<◌, ◌≤◌, ◌⊎◌, true, false, List, length}
+use Rattle.std.specs.Prelude.{◌≡◌, ℕ, ◌+◌, ◌-◌, ◌<◌, ◌≤◌, ◌⊎◌, true, false, List, length}
 use Rattle.std.specs.List.{AllByRecursion, range_with_len}
 use Rattle.minimum.specs.declared.choice.Choice.{Choice}
-use Rattle.minimum.specs.declared.bound.Measure.{Measure}
-use Rattle.minimum.specs.Table.{Grid, has, RisesFrom, IsTable}
+use Rattle.minimum.specs.Table.{Grid, has, RisesFrom}
 use Rattle.minimum.specs.Cover.{IsCover, meets, counted, sum_over}
-use Rattle.minimum.specs.Search.{IsBeyond, NoneWithin, IsOutside}
-use Rattle.minimum.specs.Weights.{load, total, at, measured, bound_of}
+use Rattle.minimum.specs.Search.{IsBeyond}
+use Rattle.minimum.specs.Weights.{load, total, at}
 
 -- what the column bears beyond its share
 abbrev pub overload : (ℕ → ℕ) → List (List ℕ) → List ℕ → ℕ → ℕ
@@ -34,29 +33,9 @@ LagrangianHolds = (share : ℕ → ℕ) (n : ℕ) (rows : List (List ℕ)) (ys x
     × ((c : ℕ) → has c x ≡ true → total ys + spare share rows ys c ≤ sum_over share x + overloads n share rows ys)
     × ((c : ℕ) → c < n → has c x ≡ false → total ys + overload share rows ys c ≤ sum_over share x + overloads n share rows ys)
 
--- the same with one share for all columns
-abbrev pub UniformHolds : Type 0
-UniformHolds = (q n : ℕ) (rows : List (List ℕ)) (ys x : List ℕ) → length ys ≡ length rows → Hits n rows x → total ys ≤ q * length x + overloads n (λ c. q) rows ys
-
 -- every cover without the column is beyond the budget
 abbrev pub IsInside : Choice → Grid → ℕ → ℕ → ℕ → Type 0
 IsInside choice t k w c = (x : List ℕ) → IsCover t x → has c x ≡ false → IsBeyond (counted choice t.weights) k w x
-
--- the share of a column
-abbrev pub share_of : Choice → Measure → Grid → ℕ → ℕ
-share_of choice m t c = 65536 * measured m (counted choice t.weights) c
-
--- the shares that a budget leaves beside the taken columns, and all overloads
-abbrev pub room : Choice → Measure → Grid → List ℕ → ℕ → ℕ → ℕ
-room choice m t ys k w = 65536 * (bound_of m k w - sum_over (measured m (counted choice t.weights)) t.taken) + overloads t.columns (share_of choice m t) t.rows ys
-
--- what any weights of the rows say of the covers within a budget: where they are more than its room there is none, a
--- column with more to spare than the room has left is in none, and one with a larger overload is in each
-abbrev pub BudgetsHold : Type 0
-BudgetsHold = (choice : Choice) (m : Measure) (t : Grid) (k w : ℕ) (ys : List ℕ) → IsTable t → length ys ≡ length t.rows →
-    (room choice m t ys k w < total ys → NoneWithin choice t k w)
-    × ((c : ℕ) → has c t.live ≡ true → room choice m t ys k w < total ys + spare (share_of choice m t) t.rows ys c → IsOutside choice t k w c)
-    × ((c : ℕ) → has c t.live ≡ true → room choice m t ys k w < total ys + overload (share_of choice m t) t.rows ys c → IsInside choice t k w c)
 
 -- what the column bears beyond its share, by lists of both
 abbrev pub beyond : List ℕ → List ℕ → ℕ → ℕ

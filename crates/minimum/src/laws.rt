@@ -1,6 +1,6 @@
 //! Laws of the definitions, as contracts.
 
-ghost use Rattle.minimum.specs.Lagrange.{BudgetsHold, LagrangianHolds, UniformHolds};
+ghost use Rattle.minimum.specs.Lagrange.{LagrangianHolds};
 ghost use Rattle.minimum.specs.Laws.{LeastIsUnique};
 
 /// A table has one least cover at most, so that a contract that says `IsLeast` says which list is answered.
@@ -10,11 +10,5 @@ pub fn least_is_unique()
 
 /// What weights of rows, also more than the columns can bear, say of each list with a column of each row.
 pub fn weights_bound_covers()
-    ensures lagrangian { LagrangianHolds }
-    ensures uniform { UniformHolds }
-{}
-
-/// What they say of the covers within a budget.
-pub fn weights_bound_budgets()
-    ensures { BudgetsHold }
+    ensures { LagrangianHolds }
 {}

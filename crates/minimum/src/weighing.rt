@@ -17,10 +17,10 @@ use std::alloc::{AllocError, Global};
 
 /// What each column bears, the weight of all rows, and what the columns bear beyond their shares.
 #[derive(Drop)]
-pub struct Loads {
-    pub loads: Vec<u128>,
-    pub total: u128,
-    pub over: u128,
+pub(crate) struct Loads {
+    pub(crate) loads: Vec<u128>,
+    pub(crate) total: u128,
+    pub(crate) over: u128,
 }
 
 /// Lays the weight on each column of the row.
@@ -65,7 +65,7 @@ fn over(loads: &[u128], shares: &[u64]) -> u128
 }
 
 /// What the weights of the rows say of each list with a column of each row.
-pub fn lagrangian(
+pub(crate) fn lagrangian(
     alloc: Global,
     rows: &[Vec<usize>],
     weights: &[u64],

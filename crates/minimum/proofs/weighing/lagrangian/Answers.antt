@@ -1,9 +1,9 @@
-use Rattle.std.proofs.Common.{◌≡◌, ◌<◌, ◌+◌, ◌^◌, ◌∙◌, ℕ, sym, ap, subst, arith, inl, inr, cond, length, take, slice_index_or}
+use Rattle.std.proofs.Common.{◌≡◌, ◌<◌, ◌∙◌, ℕ, sym, ap, subst, arith, inl, inr, cond, length, take, slice_index_or}
 use Rattle.std.proofs.lemmas.Bool.{cases_lt}
 use Rattle.std.proofs.lemmas.List.{get_or_past, take_all}
 use Rattle.minimum.specs.Table.{RisesFrom, has, items_of}
 use Rattle.minimum.specs.Weights.{at, load}
-use Rattle.minimum.specs.Lagrange.{IsLoaded, beyond}
+use Rattle.minimum.specs.Lagrange.{beyond}
 use Rattle.std.specs.List.{range_with_len}
 use Rattle.minimum.specs.Cover.{sum_over}
 use Rattle.minimum.proofs.Laid.{rise_at, load_more, cond_top, covers_from, overs, items_count}

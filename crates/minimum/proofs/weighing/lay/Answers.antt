@@ -1,7 +1,6 @@
-use Rattle.std.proofs.Common.{rules, ◌≡◌, ◌≤◌, ◌∙◌, ◌+◌, ◌^◌, ◌<◌, ℕ, cond, ap, arith, length, set, take, slice_index_or}
+use Rattle.std.proofs.Common.{rules, ◌≡◌, ◌≤◌, ◌∙◌, ◌+◌, ◌^◌, ◌<◌, arith, length, slice_index_or}
 use Rattle.std.proofs.lemmas.List.{get_or_default, length-set}
 use Rattle.minimum.specs.Weights.{at}
-use Rattle.minimum.specs.Table.{has}
 use Rattle.minimum.proofs.Laid.{laid_put, laid_past, rising_new}
 use Rattle.minimum.proofs.weighing.lay.Goals.{then-column-len, else-column-len}
 use Rattle.minimum.proofs.weighing.lay.Goals as goal

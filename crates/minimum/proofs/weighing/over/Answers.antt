@@ -1,4 +1,4 @@
-use Rattle.std.proofs.Common.{◌∙◌, arith, refl}
+use Rattle.std.proofs.Common.{◌∙◌, arith}
 use Rattle.minimum.specs.Lagrange.{beyond}
 use Rattle.minimum.proofs.Laid.{range_sum}
 use Rattle.minimum.proofs.weighing.over.Goals as goal

@@ -1,6 +1,4 @@
-use Rattle.std.proofs.Common.{rules, ◌∙◌, ◌+◌, ◌^◌, ◌<◌, ap, arith}
-use Rattle.std.proofs.lemmas.List.{take_all}
-use Rattle.minimum.specs.Weights.{total}
+use Rattle.std.proofs.Common.{arith}
 use Rattle.minimum.proofs.Laid.{total_more}
 use Rattle.minimum.proofs.weighing.total.Goals as goal
 
