@@ -7,12 +7,12 @@ use Rattle.std.proofs.lemmas.Bool.{cases_eq, cases_lt, cases_Bool, or_cases, or_
 use Rattle.minimum.specs.declared.choice.Choice.{Choice}
 use Rattle.minimum.specs.Table.{Grid, has, RisesFrom, IsWithin, IsTable}
 use Rattle.minimum.specs.Cover.{meets, IsCover, counted, sum_over, Precedes, IsLeast}
-use Rattle.minimum.specs.Steps.{without, take_column, drop_column, with_rows, Step, row_leaves, only_column, column_leaves, Steps, done, more, SameLeast}
+use Rattle.minimum.specs.Steps.{without, take_column, drop_column, with_rows, Step, row_leaves, only_column, column_leaves, Steps, done, more}
 use Rattle.minimum.specs.Search.{IsBeyond, NoneWithin, NoneBelow, IsAnswer, Answers, Leads, IsOutside, IsForced, IsNarrowed, keep_columns, is_blank, marked}
-use Rattle.minimum.proofs.Sets.{has_here, has_later, has_cases, rises_above, without_keeps, without_length, filter_parts, filter_keeps, filter_rises, filter_length, meets_at, meets_from, first_by_sets}
+use Rattle.minimum.proofs.Sets.{has_here, has_later, has_cases, without_keeps, without_length, filter_parts, filter_keeps, filter_rises, filter_length, meets_at, meets_from, first_by_sets}
 use Rattle.minimum.proofs.Covers.{rows_at, rows_mapped, rows_unmapped, rows_weaker2, take_cover, take_back, drop_cover, drop_back}
-use Rattle.minimum.proofs.Subsets.{same_list, minus, minus_keeps, minus_length, minus_sum, rows_within, some_cover}
-use Rattle.minimum.proofs.Keeps.{exchange, step_keeps, steps_keep, row_live, only_has, row_cover, row_back}
+use Rattle.minimum.proofs.Subsets.{same_list, minus, minus_keeps, minus_length, minus_sum, rows_within}
+use Rattle.minimum.proofs.Keeps.{exchange, steps_keep, row_live, only_has, row_cover, row_back}
 
 blank_lacks : (r : List ℕ) (n : ℕ) → is_blank r ≡ true → has n r ≡ true → ⊥
 blank_lacks [] n f g = true≢false (sym g)
@@ -43,18 +43,15 @@ leaf choice t w e = record {
 
 -- ---- the branches, on the first live column
 
-below_first : (t : Grid) (c : ℕ) (cs : List ℕ) (s x : List ℕ) → IsTable t → t.live ≡ c ∷ cs → IsCover t s → IsCover t x → (m : ℕ) → m < c → has m s ≡ true → has m x ≡ true
-below_first t c cs s x w e h k m below a = elim (or_cases (has m t.taken) (has m t.live) (h.only m a)) [
+below_first : (t : Grid) (c : ℕ) (s x : List ℕ) → ((m : ℕ) → has m t.live ≡ true → c ≤ m) → IsCover t s → IsCover t x → (m : ℕ) → m < c → has m s ≡ true → has m x ≡ true
+below_first t c s x first h k m below a = elim (or_cases (has m t.taken) (has m t.live) (h.only m a)) [
   | inl b ↦ k.taken m b
-  | inr b ↦ absurd (
-      let r : RisesFrom 0 (c ∷ cs) = subst (RisesFrom 0) e w.live_rises in
-      let up = rises_above m c (c ∷ cs) (omega arith, r.1) (subst (λ l. has m l ≡ true) e b) in
-      omega arith)
+  | inr b ↦ absurd (let up = first m b in omega arith)
 ]
 
 module _ (choice : Choice) (t : Grid) (k w : ℕ) (s : List ℕ) (fits : length s ≤ k) (counts : sum_over (counted choice t.weights) s ≤ w) where
   -- beyond the budget is after what is within it
-  later : NoneBelow choice t k w → (x : List ℕ) → IsCover t x → IsBeyond (counted choice t.weights) k w x → Precedes (counted choice t.weights) s x
+  pub later : NoneBelow choice t k w → (x : List ℕ) → IsCover t x → IsBeyond (counted choice t.weights) k w x → Precedes (counted choice t.weights) s x
   later low x h (inl b) = inl (omega arith)
   later low x h (inr b) = elim (low x h) [
     | inl m ↦ inl (omega arith)
@@ -65,9 +62,8 @@ module _ (choice : Choice) (t : Grid) (k w : ℕ) (s : List ℕ) (fits : length 
   ]
 
   -- what is least with the first live column is least where no cover is below the budget
-  taken_least : (c : ℕ) (cs : List ℕ) → IsTable t → t.live ≡ c ∷ cs → NoneBelow choice t k w → IsLeast choice (take_column c t) s → IsLeast choice t s
-  taken_least c cs wt e low h =
-      let live : has c t.live ≡ true = subst (λ l. has c l ≡ true) (sym e) (has_here c c cs refl) in
+  pub taken_least : (c : ℕ) → has c t.live ≡ true → ((m : ℕ) → has m t.live ≡ true → c ≤ m) → NoneBelow choice t k w → IsLeast choice (take_column c t) s → IsLeast choice t s
+  taken_least c live front low h =
       let back = take_back t c s live h.cover in
       record {
         cover = back.0;
@@ -86,7 +82,7 @@ module _ (choice : Choice) (t : Grid) (k w : ℕ) (s : List ℕ) (fits : length 
                       | inr n ↦ inr (
                         (omega (arith, m.1)),
                         first_by_sets c 0 s x back.0.rises a.rises long back.1 b
-                            (λ m below. same_bool (has m s) (has m x) (below_first t c cs s x wt e back.0 a m below) (below_first t c cs x s wt e a back.0 m below)),
+                            (λ m below. same_bool (has m s) (has m x) (below_first t c s x front back.0 a m below) (below_first t c x s front a back.0 m below)),
                       )
                     ],
                   ))
@@ -95,40 +91,21 @@ module _ (choice : Choice) (t : Grid) (k w : ℕ) (s : List ℕ) (fits : length 
         ];
       }
 
-  dropped_least : (c : ℕ) → IsTable t → has c t.live ≡ true → NoneWithin choice (take_column c t) k w → NoneBelow choice t k w → IsLeast choice (drop_column c t) s → IsLeast choice t s
-  dropped_least c wt live none low h = record {
-    cover = (drop_back t c s wt.live_rises (wt.apart c live) h.cover).0;
-    first = λ x a. elim (cases_Bool (has c x)) [
-      | inl b ↦ inr (later low x a (none x (take_cover t c x a b)))
-      | inr b ↦ h.first x (drop_cover t c x a b)
-    ];
-  }
-
 -- ---- answers
 
 pub answer_leaf : (choice : Choice) (t : Grid) (k w : ℕ) (s : List ℕ) → IsTable t → t.rows ≡ [] → s ≡ t.taken → length t.taken ≤ k → sum_over (counted choice t.weights) t.taken ≤ w → IsAnswer choice t k w s
-answer_leaf choice t k w s wt e f l m =
-    let h : IsLeast choice t s = subst (IsLeast choice t) (sym f) (leaf choice t wt e) in
-    record { cover = h.cover; fits = (let g = ap length f in omega arith); counts = (let g = ap (sum_over (counted choice t.weights)) f in omega arith); least = λ _. h }
+answer_leaf choice t k w s wt e f l m = record {
+  cover = subst (IsCover t) (sym f) (leaf choice t wt e).cover;
+  fits = (let g = ap length f in omega arith);
+  counts = (let g = ap (sum_over (counted choice t.weights)) f in omega arith);
+}
 
-pub answer_taken : (choice : Choice) (t : Grid) (c : ℕ) (cs : List ℕ) (k w : ℕ) (s : List ℕ) → IsTable t → t.live ≡ c ∷ cs → IsAnswer choice (take_column c t) k w s → IsAnswer choice t k w s
-answer_taken choice t c cs k w s wt e a =
-    let live : has c t.live ≡ true = subst (λ l. has c l ≡ true) (sym e) (has_here c c cs refl) in
-    record {
-      cover = (take_back t c s live a.cover).0;
-      fits = a.fits;
-      counts = a.counts;
-      least = λ low. taken_least choice t k w s a.fits a.counts c cs wt e low (a.least (λ x h. low x (take_back t c x live h).0));
-    }
+pub answer_taken : (choice : Choice) (t : Grid) (c k w : ℕ) (s : List ℕ) → has c t.live ≡ true → IsAnswer choice (take_column c t) k w s → IsAnswer choice t k w s
+answer_taken choice t c k w s live a = record { cover = (take_back t c s live a.cover).0; fits = a.fits; counts = a.counts }
 
 pub answers_dropped : (choice : Choice) (t : Grid) (c k w : ℕ) (o : Option (List ℕ)) → IsTable t → has c t.live ≡ true → NoneWithin choice (take_column c t) k w → Answers choice (drop_column c t) k w o → Answers choice t k w o
 answers_dropped choice t c k w None wt live none a = λ x h. elim (cases_Bool (has c x)) [ inl b ↦ none x (take_cover t c x h b) | inr b ↦ a x (drop_cover t c x h b) ]
-answers_dropped choice t c k w (Some s) wt live none a = record {
-  cover = (drop_back t c s wt.live_rises (wt.apart c live) a.cover).0;
-  fits = a.fits;
-  counts = a.counts;
-  least = λ low. dropped_least choice t k w s a.fits a.counts c wt live none low (a.least (λ x h. low x (drop_back t c x wt.live_rises (wt.apart c live) h).0));
-}
+answers_dropped choice t c k w (Some s) wt live none a = record { cover = (drop_back t c s wt.live_rises (wt.apart c live) a.cover).0; fits = a.fits; counts = a.counts }
 
 pub over_taken : (choice : Choice) (t : Grid) (k w : ℕ) → IsTable t → (k < length t.taken) ⊎ (w < sum_over (counted choice t.weights) t.taken) → NoneWithin choice t k w
 over_taken choice t k w wt (inl l) x h = let e = minus_length 0 x t.taken h.rises wt.taken_rises h.taken in inl (omega arith)
@@ -136,27 +113,18 @@ over_taken choice t k w wt (inr l) x h = let e = minus_sum (counted choice t.wei
 
 -- ---- steps
 
-lead_by : (choice : Choice) (t u : Grid) (k w : ℕ) → counted choice u.weights ≡ counted choice t.weights → ((x : List ℕ) → IsCover u x → IsCover t x) → SameLeast choice t u → (NoneWithin choice u k w → NoneWithin choice t k w) → Leads choice k w t u
-lead_by choice t u k w e back same beyond None a = beyond a
-lead_by choice t u k w e back same beyond (Some s) a = record {
-  cover = back s a.cover;
-  fits = a.fits;
-  counts = subst (λ f. sum_over f s ≤ w) e a.counts;
-  least = λ low. (same s).1 (a.least (λ x h. subst (λ f. (k < length x) ⊎ ((length x ≡ k) × (w ≤ sum_over f x))) (sym e) (low x (back x h))));
-}
+lead_by : (choice : Choice) (t u : Grid) (k w : ℕ) → counted choice u.weights ≡ counted choice t.weights → ((x : List ℕ) → IsCover u x → IsCover t x) → (NoneWithin choice u k w → NoneWithin choice t k w) → Leads choice k w t u
+lead_by choice t u k w e back beyond None a = beyond a
+lead_by choice t u k w e back beyond (Some s) a = record { cover = back s a.cover; fits = a.fits; counts = subst (λ f. sum_over f s ≤ w) e a.counts }
 
 lead_step : (choice : Choice) (t u : Grid) (k w : ℕ) → IsTable t → Step choice t u → Leads choice k w t u
 lead_step choice t _ k w wt (row_leaves _ front back row other e i h) =
-    let step : Step choice t (with_rows t (front ++ back)) = row_leaves t front back row other e i h in
-    lead_by choice t (with_rows t (front ++ back)) k w refl (λ x g. row_back t front back row other e i h x g) (step_keeps choice t (with_rows t (front ++ back)) wt step)
-    (λ none x g. none x (row_cover t front back row e x g))
+    lead_by choice t (with_rows t (front ++ back)) k w refl (λ x g. row_back t front back row other e i h x g) (λ none x g. none x (row_cover t front back row e x g))
 lead_step choice t _ k w wt (only_column _ c h) =
-    let step : Step choice t (take_column c t) = only_column t c h in
-    lead_by choice t (take_column c t) k w refl (λ x g. (take_back t c x (row_live t c wt h) g).0) (step_keeps choice t (take_column c t) wt step)
+    lead_by choice t (take_column c t) k w refl (λ x g. (take_back t c x (row_live t c wt h) g).0)
     (λ none x g. none x (take_cover t c x g (only_has c x (rows_at (λ row. meets x row ≡ true) (c ∷ []) t.rows h g.rows))))
 lead_step choice t _ k w wt (column_leaves _ a b p la lb d) =
-    let step : Step choice t (drop_column a t) = column_leaves t a b p la lb d in
-    lead_by choice t (drop_column a t) k w refl (λ x g. (drop_back t a x wt.live_rises (wt.apart a la) g).0) (step_keeps choice t (drop_column a t) wt step)
+    lead_by choice t (drop_column a t) k w refl (λ x g. (drop_back t a x wt.live_rises (wt.apart a la) g).0)
     (λ none x g. elim (cases_Bool (has a x)) [
       | inl e ↦ (let y = exchange (counted choice t.weights) t a b x wt p la lb d g e in elim (none y.0 y.1) [
         | inl m ↦ inl (elim y.2 [ inl l ↦ omega arith | inr l ↦ omega (arith, l.0) ])
@@ -172,7 +140,7 @@ lead_steps choice t _ k w wt (more _ u v h s) o a = lead_steps choice t u k w wt
 -- ---- columns outside the budget
 
 module _ (test : ℕ → Bool) (t : Grid) where
-  kept_back : (x : List ℕ) → IsCover (keep_columns test t) x → IsCover t x
+  pub kept_back : (x : List ℕ) → IsCover (keep_columns test t) x → IsCover t x
   kept_back x h = record {
     rises = h.rises;
     taken = h.taken;
@@ -184,7 +152,7 @@ module _ (test : ℕ → Bool) (t : Grid) where
   }
 
   -- whether all live columns of a list are kept
-  split : (xs : List ℕ) → ((c : ℕ) → has c xs ≡ true → has c t.live ≡ true → test c ≡ true) ⊎ ((c : ℕ) × (has c xs ≡ true) × (has c t.live ≡ true) × (test c ≡ false))
+  pub split : (xs : List ℕ) → ((c : ℕ) → has c xs ≡ true → has c t.live ≡ true → test c ≡ true) ⊎ ((c : ℕ) × (has c xs ≡ true) × (has c t.live ≡ true) × (test c ≡ false))
   split [] = inl (λ c h. absurd (true≢false (sym h)))
   split (x ∷ xs) = elim (split xs) [
     | inr f ↦ inr (f.0, has_later f.0 x xs f.1, f.2, f.3)
@@ -197,7 +165,7 @@ module _ (test : ℕ → Bool) (t : Grid) where
     ]
   ]
 
-  kept_cover : IsTable t → (x : List ℕ) → IsCover t x → ((c : ℕ) → has c x ≡ true → has c t.live ≡ true → test c ≡ true) → IsCover (keep_columns test t) x
+  pub kept_cover : IsTable t → (x : List ℕ) → IsCover t x → ((c : ℕ) → has c x ≡ true → has c t.live ≡ true → test c ≡ true) → IsCover (keep_columns test t) x
   kept_cover w x h k = record {
     rises = h.rises;
     taken = h.taken;
@@ -216,18 +184,7 @@ module _ (choice : Choice) (test : ℕ → Bool) (t : Grid) (k w : ℕ) (wt : Is
     | inl f ↦ a x (kept_cover test t wt x h f)
     | inr f ↦ out f.0 f.2 f.3 x h f.1
   ]
-  lead_kept (Some s) a = record {
-    cover = kept_back test t s a.cover;
-    fits = a.fits;
-    counts = a.counts;
-    least = λ low. let h = a.least (λ x g. low x (kept_back test t x g)) in record {
-      cover = kept_back test t s a.cover;
-      first = λ x g. elim (split test t x) [
-        | inl f ↦ h.first x (kept_cover test t wt x g f)
-        | inr f ↦ inr (later choice t k w s a.fits a.counts low x g (out f.0 f.2 f.3 x g f.1))
-      ];
-    };
-  }
+  lead_kept (Some s) a = record { cover = kept_back test t s a.cover; fits = a.fits; counts = a.counts }
 
   blank_beyond : (x : List ℕ) → IsCover t x → (rows : List (List ℕ)) → AllByRecursion (λ row. meets x row ≡ true) rows → AllByRecursion (λ row. IsWithin row t.live) rows → list_any is_blank (map (filter test) rows) ≡ true → IsBeyond (counted choice t.weights) k w x
   blank_beyond x h [] m i e = absurd (true≢false (sym e))
@@ -269,11 +226,8 @@ kept_table test t w e = record {
 
 -- ---- what the code asks
 
-pub first_has : (t : Grid) (c : ℕ) (cs : List ℕ) → t.live ≡ c ∷ cs → has c t.live ≡ true
-first_has t c cs e = subst (λ l. has c l ≡ true) (sym e) (has_here c c cs refl)
-
-pub live_falls : (t : Grid) (c : ℕ) (cs : List ℕ) → IsTable t → t.live ≡ c ∷ cs → length (without c t.live) < length t.live
-live_falls t c cs w e = let k = without_length c 0 t.live w.live_rises (first_has t c cs e) in omega arith
+pub live_falls : (t : Grid) (c : ℕ) → IsTable t → has c t.live ≡ true → length (without c t.live) < length t.live
+live_falls t c w h = let k = without_length c 0 t.live w.live_rises h in omega arith
 
 pub no_live : (t : Grid) → IsTable t → t.live ≡ [] → t.rows ≡ []
 no_live t w e = go t.rows w.rows
@@ -285,10 +239,6 @@ no_live t w e = go t.rows w.rows
     go : (rows : List (List ℕ)) → AllByRecursion (λ row. (row ≢ []) × RisesFrom 0 row × IsWithin row t.live) rows → rows ≡ []
     go [] h = refl
     go (row ∷ rows) h = absurd (none row h.0.0 h.0.2)
-
--- a budget of all columns is enough
-pub within_columns : (choice : Choice) (t : Grid) (k w : ℕ) → IsTable t → ((x : List ℕ) → sum_over (counted choice t.weights) x ≤ w) → NoneWithin choice t k w → k < t.columns
-within_columns choice t k w wt free h = let x = some_cover t wt in elim (h x.0 x.1) [ inl l ↦ omega (arith, x.2) | inr l ↦ absurd (let f = free x.0 in omega arith) ]
 
 -- ---- a column that cannot go
 

@@ -1,51 +1,45 @@
--- The least cover from searches within budgets.
-use Rattle.std.proofs.Common.{◌≡◌, ℕ, ◌+◌, ◌-◌, ◌<◌, ◌≤◌, ◌⊎◌, inl, inr, List, [], ◌∷◌, length, refl, ap, arith}
-use Rattle.std.specs.Prelude.{Option, Some, None, MatchOption}
+-- The best covers from searches within budgets.
+use Rattle.std.proofs.Common.{◌≡◌, ℕ, ◌-◌, ◌<◌, ◌≤◌, ◌⊎◌, inl, inr, List, [], ◌∷◌, length, refl, arith, Vec}
+use Rattle.std.specs.Prelude.{Option, Some, None, MatchOption, option_map}
 use Rattle.std.proofs.lemmas.Bool.{cases_lt}
 use Rattle.minimum.specs.declared.choice.Choice.TheVariants.{First, Literals}
-use Rattle.minimum.specs.Table.{Grid, IsTable}
-use Rattle.minimum.specs.Cover.{IsCover, counted, sum_over, IsLeast}
-use Rattle.minimum.specs.Search.{NoneWithin, NoneBelow, IsAnswer, Answers, IsFewest, HasFewer, IsReached}
-use Rattle.minimum.proofs.Branches.{within_columns}
+use Rattle.minimum.specs.Table.{Grid}
+use Rattle.minimum.specs.Cover.{IsCover, counted, sum_over}
+use Rattle.minimum.specs.Search.{Answers, IsShortest, HasShorter, IsFewest, HasFewer, IsBest}
 
 pub sum_nothing : (weights x : List ℕ) → sum_over (counted First weights) x ≡ 0
 sum_nothing weights [] = refl
 sum_nothing weights (c ∷ x) = let e = sum_nothing weights x in omega arith
 
--- where nothing is counted, a length that every cover has is a lower budget
-pub low_length : (t : Grid) (k : ℕ) → ((x : List ℕ) → IsCover t x → k ≤ length x) → NoneBelow First t k 0
-low_length t k low x h = let l = low x h in let e = sum_nothing t.weights x in lt_or_same (length x) k l (omega arith)
-  where
-    lt_or_same : (n k : ℕ) → k ≤ n → 0 ≤ sum_over (counted First t.weights) x → (k < n) ⊎ ((n ≡ k) × (0 ≤ sum_over (counted First t.weights) x))
-    lt_or_same n k l z = elim (cases_lt k n) [ inl m ↦ inl m | inr m ↦ inr (omega arith, z) ]
+pub shorter_from : {Z : Type 0} (t : Grid) (k : ℕ) (o : Option (Vec ℕ Z)) → 0 < k → Answers First t (k - 1) 0 (option_map (λ v. v.items) o) → MatchOption o (IsShortest t k) (λ v. HasShorter t k v.items)
+shorter_from t k None l a = λ x h. elim (a x h) [ inl m ↦ omega arith | inr m ↦ absurd (let e = sum_nothing t.weights x in omega arith) ]
+shorter_from t k (Some v) l a = record { cover = a.cover; shorter = (let f = a.fits in omega arith) }
 
--- and none within a budget raises it
-pub low_next : (t : Grid) (k : ℕ) → NoneWithin First t k 0 → (x : List ℕ) → IsCover t x → k + 1 ≤ length x
-low_next t k none x h = elim (none x h) [ inl l ↦ omega arith | inr l ↦ absurd (let e = sum_nothing t.weights x in omega arith) ]
+-- as long or longer
+at_least : (n k a b : ℕ) → k ≤ n → a ≤ b → (k < n) ⊎ ((n ≡ k) × (a ≤ b))
+at_least n k a b l m = elim (cases_lt k n) [ inl h ↦ inl h | inr h ↦ inr (omega arith, m) ]
 
-pub below_columns : (t : Grid) (k : ℕ) → IsTable t → NoneWithin First t k 0 → k < t.columns
-below_columns t k w none = within_columns First t k 0 w (λ x. let e = sum_nothing t.weights x in omega arith) none
-
-pub fewer_from : (t : Grid) (k w : ℕ) (o : Option (List ℕ)) → 0 < w → Answers Literals t k (w - 1) o → MatchOption o (IsFewest t k w) (λ s. HasFewer t k w s)
-fewer_from t k w None l a = λ x h. elim (a x h) [ inl m ↦ inl m | inr m ↦ inr (omega arith) ]
-fewer_from t k w (Some s) l a = record { cover = a.cover; fits = a.fits; fewer = (let c = a.counts in omega arith) }
-
-pub reached_first : (t : Grid) (s : List ℕ) → IsLeast First t s → IsReached t (length s) (sum_over (counted Literals t.weights) s)
-reached_first t s h = record {
-  low = λ x g. elim (h.first x g) [ inl e ↦ (let l = ap length e in omega arith) | inr p ↦ elim p [ inl l ↦ omega arith | inr l ↦ omega (arith, l.0) ] ];
-  some = (s, h.cover, omega arith, omega arith);
+pub shortest_best : (t : Grid) (s : List ℕ) → IsCover t s → IsShortest t (length s) → IsBest First t s
+shortest_best t s h low = record {
+  cover = h;
+  none = λ x g. let e = sum_nothing t.weights s in at_least (length x) (length s) (sum_over (counted First t.weights) s) (sum_over (counted First t.weights) x) (low x g) (omega arith);
 }
 
-pub reached_next : (t : Grid) (k w v : ℕ) (s : List ℕ) → IsReached t k w → HasFewer t k w s → v ≡ sum_over (counted Literals t.weights) s → IsReached t k v
-reached_next t k w v s h f e = record { low = h.low; some = (s, f.cover, f.fits, omega arith) }
+pub best_shortest : (t : Grid) (s : List ℕ) → IsBest First t s → IsShortest t (length s)
+best_shortest t s h x g = elim (h.none x g) [ inl m ↦ omega arith | inr m ↦ omega (arith, m.0) ]
 
--- the answer at the budget that is reached, and below which there is none
-pub fewest_least : (t : Grid) (k w : ℕ) (s : List ℕ) → IsReached t k w → IsFewest t k w → IsAnswer Literals t k w s → IsLeast Literals t s
-fewest_least t k w s h few a = a.least (λ x g. low x (h.low x g) (few x g))
-  where
-    low : (x : List ℕ) → k ≤ length x → (k < length x) ⊎ (w ≤ sum_over (counted Literals t.weights) x) → (k < length x) ⊎ ((length x ≡ k) × (w ≤ sum_over (counted Literals t.weights) x))
-    low x l (inl m) = inl m
-    low x l (inr m) = elim (cases_lt k (length x)) [ inl n ↦ inl n | inr n ↦ inr (omega arith, m) ]
+pub fewer_from : {Z : Type 0} (t : Grid) (k w : ℕ) (o : Option (Vec ℕ Z)) → 0 < w → Answers Literals t k (w - 1) (option_map (λ v. v.items) o) → MatchOption o (IsFewest t k w) (λ v. HasFewer t k w v.items)
+fewer_from t k w None l a = λ x h. elim (a x h) [ inl m ↦ inl m | inr m ↦ inr (omega arith) ]
+fewer_from t k w (Some v) l a = record { cover = a.cover; fits = a.fits; fewer = (let c = a.counts in omega arith) }
 
-pub reached_answered : (t : Grid) (k w : ℕ) → IsReached t k w → NoneWithin Literals t k w → ⊥
-reached_answered t k w h none = let s = h.some in elim (none s.0 s.1) [ inl l ↦ omega (arith, s.2) | inr l ↦ omega (arith, s.3) ]
+pub fewest_best : (t : Grid) (k : ℕ) (s : List ℕ) → IsShortest t k → IsCover t s → length s ≤ k → IsFewest t k (sum_over (counted Literals t.weights) s) → IsBest Literals t s
+fewest_best t k s low h fits few = record {
+  cover = h;
+  none = λ x g.
+      let own = low s h in
+      let l = low x g in
+      elim (few x g) [
+        | inl m ↦ inl (omega arith)
+        | inr m ↦ at_least (length x) (length s) (sum_over (counted Literals t.weights) s) (sum_over (counted Literals t.weights) x) (omega arith) m
+      ];
+}

@@ -15,7 +15,7 @@ use Rattle.minimum.proofs.Covers.{rows_weaker2, rows_mapped, rows_at, rows_less,
 -- ---- the third step
 
 -- what has b in place of a covers what is left without a
-exchanged : (t : Grid) (a b : ℕ) (x y : List ℕ) → IsTable t → b ≢ a → has a t.live ≡ true → has b t.live ≡ true → StandsWith t a b → IsCover t x
+pub exchanged : (t : Grid) (a b : ℕ) (x y : List ℕ) → IsTable t → b ≢ a → has a t.live ≡ true → has b t.live ≡ true → StandsWith t a b → IsCover t x
     → RisesFrom 0 y → has b y ≡ true → ((n : ℕ) → n ≢ a → has n x ≡ true → has n y ≡ true) → ((n : ℕ) → has n y ≡ true → (n ≡ b) ⊎ ((n ≢ a) × (has n x ≡ true)))
     → IsCover (drop_column a t) y
 exchanged t a b x y w apart la lb d h r hb keeps only =

@@ -8,6 +8,8 @@ pub mod BestChoice
 pub mod Ways
 pub mod Rising
 pub mod Bounds
+pub mod Lagrange
+pub mod Laid
 pub mod Branches
 pub mod Rows
 pub mod Made
@@ -15,6 +17,9 @@ pub mod Budgets
 pub mod Crossing
 pub mod Passes
 pub mod Reduced
+pub mod Weaker
+pub mod Chosen
+pub mod Stages
 pub mod BothLists
 pub mod Near
 pub mod Numbers

@@ -8,8 +8,7 @@ use Rattle.minimum.specs.Table.{Grid, has, RisesFrom, IsWithin, IsTable, grid}
 use Rattle.minimum.specs.Cover.{meets, counted}
 use Rattle.minimum.specs.Steps.{without, take_column, drop_column, with_rows, HasRow, StandsWith, IsPreferred, Step, row_leaves, only_column, column_leaves, Steps, done, more, IsReduced}
 use Rattle.minimum.specs.Choices.{join}
-use Rattle.minimum.specs.Search.{marked, keep_columns, NoneWithin, IsNarrowed}
-use Rattle.minimum.proofs.Branches.{lead_steps}
+use Rattle.minimum.specs.Search.{IsLightened, marked, keep_columns, IsNarrowed}
 use Rattle.minimum.specs.Reduce.{row_at, IsCrossed, MarksOthers, is_single, rows_from, LeavesNoWider, HasNoWider, LeavesNoUnder, HasNoSingle, HasNoUnder, Shrinks, take_unmarked}
 use Rattle.minimum.proofs.Sets.{has_here, has_later, has_cases, lacks_below, filter_parts, filter_keeps, filter_rises, filter_length}
 use Rattle.minimum.proofs.Subsets.{same_list, join_rises, join_left, join_right, join_only}
@@ -136,7 +135,7 @@ at_all P [] i h k = absurd (omega arith)
 at_all P (row ∷ rows) zero h k = k.0
 at_all P (row ∷ rows) (suc i) h k = at_all P rows i (omega arith) k.1
 
-stands_from : (columns : ℕ) (rows crossed : List (List ℕ)) (a b : ℕ) → IsCrossed columns rows crossed → a < columns → b < columns → IsWithin (row_at crossed a) (row_at crossed b) → AllByRecursion (λ row. has a row ≡ true → has b row ≡ true) rows
+pub stands_from : (columns : ℕ) (rows crossed : List (List ℕ)) (a b : ℕ) → IsCrossed columns rows crossed → a < columns → b < columns → IsWithin (row_at crossed a) (row_at crossed b) → AllByRecursion (λ row. has a row ≡ true → has b row ≡ true) rows
 stands_from columns rows crossed a b x la lb w = all_at (λ row. has a row ≡ true → has b row ≡ true) rows (λ i h e. sym (x.same b i lb) ∙ w i (x.same a i la ∙ e))
 
 within_stands : (columns : ℕ) (rows crossed : List (List ℕ)) (a b : ℕ) → IsCrossed columns rows crossed → a < columns → b < columns → AllByRecursion (λ row. has a row ≡ true → has b row ≡ true) rows → IsWithin (row_at crossed a) (row_at crossed b)
@@ -501,12 +500,8 @@ steps_live choice t _ w (more _ u v h s) =
     step_live u _ (only_column _ c h) = filter_length (λ x. not (eqb c x)) u.live
     step_live u _ (column_leaves _ a b p la lb d) = filter_length (λ x. not (eqb a x)) u.live
 
-pub narrowed_steps : (choice : Choice) (k w : ℕ) (t u : Grid) → IsTable t → Steps choice t u → IsNarrowed choice k w t u
-narrowed_steps choice k w t u wt s = record { leads = lead_steps choice t u k w wt s; live = steps_live choice t u wt s }
+pub lightened_narrowed : (choice : Choice) (k w : ℕ) (t u : Grid) → IsLightened choice t u → IsNarrowed choice k w t u
+lightened_narrowed choice k w t u h = record { leads = h.leads k w; live = h.live }
 
 pub narrowed_join : (choice : Choice) (k w : ℕ) (t u v : Grid) → IsNarrowed choice k w t u → IsNarrowed choice k w u v → IsNarrowed choice k w t v
 narrowed_join choice k w t u v h g = record { leads = λ o a. h.leads o (g.leads o a); live = (let a = h.live in let b = g.live in omega arith) }
-
-pub narrowed_option : (choice : Choice) (k w : ℕ) (t u : Grid) → IsNarrowed choice k w t u → (o : Option Grid) → MatchOption o (NoneWithin choice u k w) (IsNarrowed choice k w u) → MatchOption o (NoneWithin choice t k w) (IsNarrowed choice k w t)
-narrowed_option choice k w t u h None a = h.leads None a
-narrowed_option choice k w t u h (Some v) a = narrowed_join choice k w t u v h a

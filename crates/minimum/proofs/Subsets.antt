@@ -103,17 +103,18 @@ rows_all ts live (row ∷ rows) h = (go row h.0.0 h.0.2, rows_all ts live rows h
     go [] e k = absurd (e refl)
     go (c ∷ cs) e k = meets_from c (join ts live) (c ∷ cs) (join_right c ts live (k c (has_here c c cs refl))) (has_here c c cs refl)
 
+pub all_cover : (t : Grid) → IsTable t → IsCover t (join t.taken t.live)
+all_cover t w = record {
+  rises = join_rises t.taken t.live w.taken_rises;
+  taken = λ n h. join_left n t.taken t.live h;
+  only = λ n h. elim (join_only n t.taken t.live h) [ inl f ↦ or_left _ _ f | inr f ↦ or_right (has n t.taken) _ f ];
+  rows = rows_all t.taken t.live t.rows w.rows;
+}
+
 pub some_cover : (t : Grid) → IsTable t → (x : List ℕ) × IsCover t x × (length x ≤ t.columns)
 some_cover t w =
-    let x = join t.taken t.live in
-    let rises = join_rises t.taken t.live w.taken_rises in
-    let k = rises_length 0 t.columns x (omega arith) rises (λ m e. elim (join_only m t.taken t.live e) [ inl f ↦ w.taken_within m f | inr f ↦ w.within m f ]) in (
-      x,
-      record {
-        rises = rises;
-        taken = λ n h. join_left n t.taken t.live h;
-        only = λ n h. elim (join_only n t.taken t.live h) [ inl f ↦ or_left _ _ f | inr f ↦ or_right (has n t.taken) _ f ];
-        rows = rows_all t.taken t.live t.rows w.rows;
-      },
+    let k = rises_length 0 t.columns (join t.taken t.live) (omega arith) (all_cover t w).rises (λ m e. elim (join_only m t.taken t.live e) [ inl f ↦ w.taken_within m f | inr f ↦ w.within m f ]) in (
+      join t.taken t.live,
+      all_cover t w,
       omega arith,
     )

@@ -6,6 +6,7 @@ pub mod Search
 pub mod Choices
 pub mod Laws
 pub mod Weights
+pub mod Lagrange
 pub mod Reduce
 pub mod Primes
 pub mod PrimeTable

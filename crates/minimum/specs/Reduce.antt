@@ -1,5 +1,5 @@
 -- What the passes of a reduction work with.
-use Rattle.std.specs.Prelude.{◌≡◌, ◌≢◌, ℕ, ◌<◌, ◌+◌, Bool, true, false, cond, not, ◌==◌, ◌&&◌, ◌||◌, nat_lt, eqb, List, [], ◌∷◌, ◌++◌, length, filter, slice_index_or}
+use Rattle.std.specs.Prelude.{◌≡◌, ◌≢◌, ℕ, ◌<◌, ◌+◌, Bool, true, false, cond, not, ◌==◌, ◌&&◌, ◌||◌, nat_le, nat_lt, eqb, List, [], ◌∷◌, ◌++◌, length, filter, slice_index_or}
 use Rattle.std.specs.List.{AllByRecursion, list_all, list_any, range_with_len}
 use Rattle.minimum.specs.declared.choice.Choice.{Choice}
 use Rattle.minimum.specs.Table.{Grid, has, RisesFrom, IsWithin, grid}
@@ -66,6 +66,10 @@ prefers count b a = nat_lt (count b) (count a) || (eqb (count b) (count a) && na
 -- whether b is kept, preferred to a, and stands in all rows of a
 abbrev pub is_over : (ℕ → ℕ) → List (List ℕ) → List Bool → ℕ → ℕ → Bool
 is_over count crossed keep a b = marked keep b && (prefers count b a && holds_all (row_at crossed b) (row_at crossed a))
+
+-- whether another column b is kept, counts no more than a and stands in all its rows
+abbrev pub is_above : (ℕ → ℕ) → List (List ℕ) → List Bool → ℕ → ℕ → Bool
+is_above count crossed keep a b = not (a == b) && (marked keep b && (nat_le (count b) (count a) && holds_all (row_at crossed b) (row_at crossed a)))
 
 -- the rows whose numbers, from i on, pass the test
 abbrev pub rows_from : (ℕ → Bool) → ℕ → List (List ℕ) → List (List ℕ)

@@ -1,5 +1,5 @@
 -- What a search within a budget answers.
-use Rattle.std.specs.Prelude.{◌≡◌, ℕ, ◌<◌, ◌≤◌, ◌⊎◌, Bool, true, false, ◌==◌, List, ◌∷◌, length, map, filter, slice_index_or, Option, Some, None}
+use Rattle.std.specs.Prelude.{◌≡◌, ℕ, ◌<◌, ◌≤◌, ◌+◌, ◌⊎◌, Bool, true, false, ◌==◌, List, length, map, filter, slice_index_or, Option, Some, None}
 use Rattle.minimum.specs.declared.choice.Choice.{Choice}
 use Rattle.minimum.specs.declared.choice.Choice.TheVariants.{Literals}
 use Rattle.minimum.specs.Table.{Grid, has}
@@ -17,12 +17,11 @@ NoneWithin choice t k w = (x : List ℕ) → IsCover t x → IsBeyond (counted c
 abbrev pub NoneBelow : Choice → Grid → ℕ → ℕ → Type 0
 NoneBelow choice t k w = (x : List ℕ) → IsCover t x → (k < length x) ⊎ ((length x ≡ k) × (w ≤ sum_over (counted choice t.weights) x))
 
--- a cover within the budget, the least where none is below it
+-- a cover within the budget
 pub record IsAnswer (choice : Choice) (t : Grid) (k w : ℕ) (s : List ℕ) : Type 0 where
   pub cover : IsCover t s
   pub fits : length s ≤ k
   pub counts : sum_over (counted choice t.weights) s ≤ w
-  pub least : NoneBelow choice t k w → IsLeast choice t s
 
 -- a cover within the budget, or none because there is none
 abbrev pub Answers : Choice → Grid → ℕ → ℕ → Option (List ℕ) → Type 0
@@ -58,9 +57,14 @@ pub record IsNarrowed (choice : Choice) (k w : ℕ) (t u : Grid) : Type 0 where
 abbrev pub IsForced : Grid → ℕ → Type 0
 IsForced t c = (x : List ℕ) → IsCover t x → has c x ≡ true
 
--- the list's first is x
-abbrev pub BeginsWith : List ℕ → ℕ → Type 0
-BeginsWith xs x = (rest : List ℕ) × (xs ≡ x ∷ rest)
+-- every cover has so many columns at least
+abbrev pub IsShortest : Grid → ℕ → Type 0
+IsShortest t k = (x : List ℕ) → IsCover t x → k ≤ length x
+
+-- a cover of fewer columns
+pub record HasShorter (t : Grid) (k : ℕ) (s : List ℕ) : Type 0 where
+  pub cover : IsCover t s
+  pub shorter : length s < k
 
 -- every cover has more columns, or as many literals
 abbrev pub IsFewest : Grid → ℕ → ℕ → Type 0
@@ -72,7 +76,31 @@ pub record HasFewer (t : Grid) (k w : ℕ) (s : List ℕ) : Type 0 where
   pub fits : length s ≤ k
   pub fewer : sum_over (counted Literals t.weights) s < w
 
--- every cover has k columns at least, and some cover has them and counts w
-pub record IsReached (t : Grid) (k w : ℕ) : Type 0 where
-  pub low : (x : List ℕ) → IsCover t x → k ≤ length x
-  pub some : (s : List ℕ) × IsCover t s × (length s ≤ k) × (sum_over (counted Literals t.weights) s ≤ w)
+-- a cover of the least length that counts the least among those
+pub record IsBest (choice : Choice) (t : Grid) (s : List ℕ) : Type 0 where
+  pub cover : IsCover t s
+  pub none : NoneBelow choice t (length s) (sum_over (counted choice t.weights) s)
+
+-- for each cover there is one without unmarked live columns which is no longer and counts no more
+abbrev pub IsServed : Choice → Grid → List Bool → Type 0
+IsServed choice t keep = (x : List ℕ) → IsCover t x → (y : List ℕ) × IsCover t y × ((c : ℕ) → has c y ≡ true → has c t.live ≡ true → marked keep c ≡ true) × (length y ≤ length x) × (sum_over (counted choice t.weights) y ≤ sum_over (counted choice t.weights) x)
+
+-- a table in which to search instead, whatever the budget, with no more live columns
+pub record IsLightened (choice : Choice) (t u : Grid) : Type 0 where
+  pub leads : (k w : ℕ) → Leads choice k w t u
+  pub live : length u.live ≤ length t.live
+
+-- the same with fewer rows or live columns
+pub record IsLighter (choice : Choice) (t u : Grid) : Type 0 where
+  pub is : IsLightened choice t u
+  pub smaller : length u.live + length u.rows < length t.live + length t.rows
+
+-- a cover within a budget below which there is none
+pub record IsStage (choice : Choice) (k w : ℕ) (t : Grid) (s : List ℕ) : Type 0 where
+  pub none : NoneBelow choice t k w
+  pub witness : IsAnswer choice t k w s
+
+-- what is least in the second table is least in the first, which has all its live columns
+pub record Continues (choice : Choice) (t u : Grid) : Type 0 where
+  pub least : (x : List ℕ) → IsLeast choice u x → IsLeast choice t x
+  pub live : (c : ℕ) → has c u.live ≡ true → has c t.live ≡ true

@@ -1,30 +1,13 @@
-//! Weights of rows: a bound on what covers have, which is checked, whoever wished for the weights.
-//!
-//! Each column has a share. A row's weight is taken from the shares of all its columns, so that no column bears more
-//! than its share; then the columns of a cover, which together stand in every row, have shares of at least the weight
-//! of all rows. Where a budget's shares are less than that, no cover is within the budget; where they would be less
-//! if a column kept what is left of its share, no cover within the budget has that column. Rows of which no two have a
-//! column in common are the case of weights that are nothing or a whole share.
+//! Budgets, and the shares that a bound gives to columns.
 
-ghost use Rattle.std.specs.Prelude.{◌≡◌, ◌≤◌, ◌<◌, ◌*◌, ◌+◌, ◌-◌, ℕ, IfOk, IfSome, length, map, cond, true, nat_le};
+ghost use Rattle.std.specs.Prelude.{◌≡◌, ◌≤◌, ◌<◌, ◌*◌, ◌+◌, ◌-◌, ℕ, IfOk, IfSome, length, map, true, nat_le};
 ghost use Rattle.std.specs.List.{range_with_len};
-ghost use Rattle.minimum.specs.Table.{has, items_of};
 ghost use Rattle.minimum.specs.Cover.{counted};
-ghost use Rattle.minimum.specs.Weights.{at, Bears, measured};
-ghost use Rattle.minimum.specs.Search.{marked};
+ghost use Rattle.minimum.specs.Weights.{at};
 
 use crate::choice::Choice;
 use crate::lists::count;
 use std::alloc::{AllocError, Global};
-
-/// Which of its two bounds a budget is held to.
-#[derive(Clone, Copy, Debug, PartialEq, Eq)]
-pub(crate) enum Measure {
-    /// The number of columns.
-    Length,
-    /// What the columns count.
-    Weight,
-}
 
 /// What a search may spend: so many columns, which count so much.
 #[derive(Clone, Copy)]
@@ -44,85 +27,70 @@ pub(crate) fn at(numbers: &[u64], column: usize) -> u64
     }
 }
 
-/// The share of a column: 65,536 for each column, or for each thing that it counts.
-fn share(measure: Measure, choice: Choice, weights: &[u32], column: usize) -> u64
-    ensures { result ≡ 65536 * measured measure (counted choice weights.now) column }
+/// The share of a column: one for itself, and one for each thing that it counts.
+fn share(choice: Choice, weights: &[u32], one: u32, each: u32, column: usize) -> u64
+    ensures { result ≡ one + each * counted choice weights.now column }
 {
-    match measure {
-        Measure::Length => 65536,
-        Measure::Weight => 65536 * u64::from(count(choice, weights, column)),
-    }
+    u64::from(one) + u64::from(each) * u64::from(count(choice, weights, column))
 }
 
 pub(crate) fn shares(
     alloc: Global,
-    measure: Measure,
     choice: Choice,
     weights: &[u32],
+    one: u32,
+    each: u32,
 ) -> Result<Vec<u64>, AllocError>
-    ensures { IfOk result (λ v. v.items ≡ map (λ c. 65536 * measured measure (counted choice weights.now) c) (range_with_len 0 (length weights.now))) }
+    ensures { IfOk result (λ v. v.items ≡ map (λ c. one + each * counted choice weights.now c) (range_with_len 0 (length weights.now))) }
 {
     (0..weights.len())
-        .map(|column| share(measure, choice, weights, column))
+        .map(|column| share(choice, weights, one, each, column))
         .collect(alloc)
 }
 
-/// The wish, or what the columns of the row can bear at most.
-pub(crate) fn least(left: &[u64], row: &[usize], wanted: u64) -> u64
-    ensures { (c : ℕ) → has c row.now ≡ true → result ≤ at left.now c }
+/// The shares of so many columns that count so much, with what columns bear beyond theirs; `None` where that is past
+/// all numbers.
+pub(crate) fn limit_of(
+    one: u32,
+    columns: usize,
+    each: u32,
+    counts: u128,
+    over: u128,
+) -> Option<u128>
+    ensures { IfSome result (λ limit. limit ≡ one * columns + each * counts + over) }
 {
-    let mut least = wanted;
-    for column in row {
-        least = least.min(at(left, *column));
-    }
-    least
+    let first = u128::from(one) * (columns as u128);
+    let Some(second) = u128::from(each).checked_mul(counts) else {
+        return None;
+    };
+    let Some(both) = first.checked_add(second) else {
+        return None;
+    };
+    both.checked_add(over)
 }
 
-/// Takes the weight from the share of each column of the row.
-pub(crate) fn spend(left: &mut Vec<u64>, row: &[usize], weight: u64)
-    requires { (c : ℕ) → has c row.now ≡ true → weight ≤ at left.old.items c }
-    ensures spent { (c : ℕ) → cond (has c row.now) weight 0 + at left.new.items c ≤ at left.old.items c }
-    ensures length { length left.new.items ≡ length left.old.items }
+/// Marks the columns that have no more to spare than the slack.
+pub(crate) fn within(
+    alloc: Global,
+    shares: &[u64],
+    loads: &[u128],
+    slack: u128,
+) -> Result<Vec<bool>, AllocError>
+    ensures { IfOk result (λ v. v.items ≡ map (λ c. nat_le (at shares.now c - at loads.now c) slack) (range_with_len 0 (length shares.now))) }
 {
-    for column in row {
-        if *column < left.len() {
-            left[*column] = left[*column].saturating_sub(weight);
-        }
-    }
-}
-
-/// What is left of the shares, and the weight of all rows.
-#[derive(Drop)]
-pub(crate) struct Packing {
-    pub(crate) left: Vec<u64>,
-    pub(crate) total: u128,
-}
-
-/// Gives each row in turn the weight that is wanted for it, or what its columns can still bear.
-pub(crate) fn packed(shares: Vec<u64>, rows: &[Vec<usize>], wanted: &[u64]) -> Packing
-    ensures bears { Bears (items_of rows.now) shares.items result.left.items result.total }
-    ensures length { length result.left.items ≡ length shares.items }
-{
-    let mut left = shares;
-    let mut total: u128 = 0;
-    for (i, row) in rows.iter().enumerate() {
-        let wish = if i < wanted.len() {
-            wanted[i]
-        } else {
-            u64::MAX
-        };
-        let weight = least(&left, row, wish);
-        spend(&mut left, row, weight);
-        total += u128::from(weight);
-    }
-    Packing { left, total }
-}
-
-/// Marks the columns that have no more left than is spare.
-pub(crate) fn within(alloc: Global, left: &[u64], spare: u128) -> Result<Vec<bool>, AllocError>
-    ensures { IfOk result (λ v. v.items ≡ map (λ l. nat_le l spare) left.now) }
-{
-    left.iter()
-        .map(|share| u128::from(*share) <= spare)
+    (0..shares.len())
+        .map(|column| is_within(shares, loads, slack, column))
         .collect(alloc)
+}
+
+/// Whether the column has no more to spare than the slack.
+fn is_within(shares: &[u64], loads: &[u128], slack: u128, column: usize) -> bool
+    ensures { result ≡ nat_le (at shares.now column - at loads.now column) slack }
+{
+    let load = if column < loads.len() {
+        loads[column]
+    } else {
+        0
+    };
+    u128::from(at(shares, column)).saturating_sub(load) <= slack
 }

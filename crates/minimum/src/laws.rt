@@ -1,8 +1,14 @@
 //! Laws of the definitions, as contracts.
 
+ghost use Rattle.minimum.specs.Lagrange.{LagrangianHolds};
 ghost use Rattle.minimum.specs.Laws.{LeastIsUnique};
 
 /// A table has one least cover at most, so that a contract that says `IsLeast` says which list is answered.
 pub fn least_is_unique()
     ensures { LeastIsUnique }
+{}
+
+/// What weights of rows, also more than the columns can bear, say of each list with a column of each row.
+pub fn weights_bound_covers()
+    ensures { LagrangianHolds }
 {}

@@ -29,6 +29,7 @@
 mod bound;
 mod build;
 mod choice;
+mod first;
 mod holders;
 mod implicants;
 mod laws;
@@ -38,14 +39,16 @@ mod reduction;
 mod regions;
 mod search;
 mod solution;
+mod subgradient;
 mod table;
 #[cfg(test)]
 mod tests;
-mod wishes;
+mod weighing;
+mod witness;
 
 pub use choice::Choice;
 pub use implicants::primes;
-pub use laws::least_is_unique;
+pub use laws::{least_is_unique, weights_bound_covers};
 pub use reduction::reduce;
 pub use solution::{essential, exact};
 pub use table::Table;

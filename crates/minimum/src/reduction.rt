@@ -6,13 +6,13 @@
 //! in one go: each of it has a witness that stays, so that it could leave step by step. Where a pass marks nothing, no
 //! step of its kind applies.
 
-ghost use Rattle.std.specs.Prelude.{◌≡◌, ◌≢◌, ◌≤◌, ◌<◌, ◌+◌, ◌==◌, ◌&&◌, ◌||◌, ◌⊎◌, ℕ, List, [], ◌∷◌, ◌++◌, IfOk, MatchOption, MatchBool, cond, not, filter, length, true, false, eqb, nat_lt};
+ghost use Rattle.std.specs.Prelude.{◌≡◌, ◌≢◌, ◌≤◌, ◌<◌, ◌+◌, ◌==◌, ◌&&◌, ◌||◌, ◌⊎◌, ℕ, List, [], ◌∷◌, ◌++◌, IfOk, IfSome, MatchOption, MatchBool, cond, not, filter, length, true, false, eqb, nat_lt};
 ghost use Rattle.std.specs.List.{list_all, list_any, range_with_len};
-ghost use Rattle.minimum.specs.Table.{IsTable, IsWithin, RisesFrom, items_of, has};
+ghost use Rattle.minimum.specs.Table.{Grid, IsTable, IsWithin, RisesFrom, items_of, has};
 ghost use Rattle.minimum.specs.Cover.{counted};
 ghost use Rattle.minimum.specs.Steps.{Steps, IsReduced, SameLeast};
-ghost use Rattle.minimum.specs.Search.{marked};
-ghost use Rattle.minimum.specs.Reduce.{row_at, AreRising, Appends, Enters, IsCrossed, Unmarks, UnmarksSingle, MarksOthers, UnmarksWider, LeavesNoWider, LeavesNoUnder, is_wider, holds_all, prefers, is_over, rows_from, HasNoSingle, HasNoWider, HasNoUnder, Shrinks};
+ghost use Rattle.minimum.specs.Search.{IsLighter, IsLightened, IsServed, marked};
+ghost use Rattle.minimum.specs.Reduce.{is_above, row_at, AreRising, Appends, Enters, IsCrossed, Unmarks, UnmarksSingle, MarksOthers, UnmarksWider, LeavesNoWider, LeavesNoUnder, is_wider, holds_all, prefers, is_over, rows_from, HasNoSingle, HasNoWider, HasNoUnder, Shrinks};
 
 use crate::choice::Choice;
 use crate::lists::{copied, count, holds, is_within};
@@ -262,6 +262,82 @@ fn columns_that_stay(
     Ok(keep)
 }
 
+/// Whether another column `b` is kept, counts no more than `a` and stands in all its rows.
+fn is_above(
+    choice: Choice,
+    weights: &[u32],
+    crossed: &[Vec<usize>],
+    keep: &[bool],
+    a: usize,
+    b: usize,
+) -> bool
+    requires { (c : ℕ) → RisesFrom 0 (row_at (items_of crossed.now) c) }
+    ensures { result ≡ is_above (counted choice weights.now) (items_of crossed.now) keep.now a b }
+{
+    a != b
+        && is_marked(keep, b)
+        && count(choice, weights, b) <= count(choice, weights, a)
+        && is_within(entry(crossed, a), entry(crossed, b))
+}
+
+fn any_above(
+    choice: Choice,
+    weights: &[u32],
+    crossed: &[Vec<usize>],
+    keep: &[bool],
+    a: usize,
+    among: &[usize],
+) -> bool
+    requires { (c : ℕ) → RisesFrom 0 (row_at (items_of crossed.now) c) }
+    ensures { result ≡ list_any (is_above (counted choice weights.now) (items_of crossed.now) keep.now a) among.now }
+{
+    among
+        .iter()
+        .any(|b| is_above(choice, weights, crossed, keep, a, *b))
+}
+
+/// Whether another live column stands above `a`, as far as a shortest row of `a` tells.
+fn is_weaker(
+    choice: Choice,
+    weights: &[u32],
+    live: &[usize],
+    rows: &[Vec<usize>],
+    crossed: &[Vec<usize>],
+    keep: &[bool],
+    a: usize,
+) -> bool
+    requires crossed { IsCrossed (length crossed.now) (items_of rows.now) (items_of crossed.now) }
+    requires within { (i : ℕ) → IsWithin (row_at (items_of rows.now) i) live.now }
+    ensures { result ≡ true → list_any (is_above (counted choice weights.now) (items_of crossed.now) keep.now a) live.now ≡ true }
+{
+    match shortest(rows, entry(crossed, a)) {
+        None => any_above(choice, weights, crossed, keep, a, live),
+        Some(number) => any_above(choice, weights, crossed, keep, a, entry(rows, number)),
+    }
+}
+
+/// Marks columns so that for each cover there is one of marked live columns which is no longer and counts no more.
+fn columns_that_serve(
+    alloc: Global,
+    choice: Choice,
+    weights: &[u32],
+    live: &[usize],
+    rows: &[Vec<usize>],
+    crossed: &[Vec<usize>],
+) -> Result<Vec<bool>, AllocError>
+    requires crossed { IsCrossed (length crossed.now) (items_of rows.now) (items_of crossed.now) }
+    requires within { (i : ℕ) → IsWithin (row_at (items_of rows.now) i) live.now }
+    ensures { IfOk result (λ v. (t : Grid) → IsTable t → t.live ≡ live.now → t.rows ≡ items_of rows.now → t.weights ≡ weights.now → t.columns ≡ length crossed.now → IsServed choice t v.items) }
+{
+    let mut keep = all_marked(alloc, crossed.len())?;
+    for column in live {
+        if is_weaker(choice, weights, live, rows, crossed, &keep, *column) {
+            unmark(&mut keep, *column);
+        }
+    }
+    Ok(keep)
+}
+
 /// The rising list of the taken columns and the unmarked ones.
 fn taken_with(
     alloc: Global,
@@ -387,15 +463,71 @@ impl Table {
         Ok(Some(self.with(alloc, taken, live, rows)?))
     }
 
+    /// Lets each column leave that stands under any other which counts no more, in a search for some cover within a
+    /// budget; `None` where none leaves.
+    fn without_weaker(&self, alloc: Global, choice: Choice) -> Result<Option<Table>, AllocError>
+        ensures { IfOk result (λ o. IfSome o (IsLighter choice self.now)) }
+    {
+        let crossed = self.crossed(alloc)?;
+        let keep = columns_that_serve(
+            alloc,
+            choice,
+            self.literals(),
+            self.live_columns(),
+            self.row_lists(),
+            &crossed,
+        )?;
+        let Some(table) = self.keep_marked(alloc, &keep)? else {
+            return Ok(None);
+        };
+        if table.live_columns().len() >= self.live_columns().len() {
+            return Ok(None);
+        }
+        Ok(Some(table))
+    }
+
+    /// The table after one pass that changes it, in a search for some cover within a budget; `None` where none does.
+    fn lighter(&self, alloc: Global, choice: Choice) -> Result<Option<Table>, AllocError>
+        ensures { IfOk result (λ o. IfSome o (IsLighter choice self.now)) }
+    {
+        let _live = self.live_columns();
+        if let Some(table) = self.without_singles(alloc, choice)? {
+            return Ok(Some(table));
+        }
+        if let Some(table) = self.without_wider(alloc, choice)? {
+            return Ok(Some(table));
+        }
+        self.without_weaker(alloc, choice)
+    }
+
+    /// The same table.
+    pub(crate) fn copied(&self, alloc: Global) -> Result<Table, AllocError>
+        ensures { IfOk result (λ t. t ≡ self.now) }
+    {
+        let taken = copied(alloc, self.taken_columns())?;
+        let live = copied(alloc, self.live_columns())?;
+        let rows = copied_rows(alloc, self.row_lists())?;
+        self.with(alloc, taken, live, rows)
+    }
+
+    /// The table after all passes, in a search for some cover within a budget.
+    pub(crate) fn lightened(&self, alloc: Global, choice: Choice) -> Result<Table, AllocError>
+        ensures { IfOk result (λ u. IsLightened choice self.now u) }
+    {
+        let mut table = self.copied(alloc)?;
+        while let Some(lighter) = table.lighter(alloc, choice)? {
+            table = lighter;
+        }
+        Ok(table)
+    }
+
     /// The table after all passes.
     pub(crate) fn settled(&self, alloc: Global, choice: Choice) -> Result<Table, AllocError>
         ensures steps { IfOk result (Steps choice self.now) }
         ensures table { IsTable self.now }
     {
-        let taken = copied(alloc, self.taken_columns())?;
-        let live = copied(alloc, self.live_columns())?;
-        let rows = copied_rows(alloc, self.row_lists())?;
-        let mut table = self.with(alloc, taken, live, rows)?;
+        let _live = self.live_columns();
+        let mut table = self.copied(alloc)?;
         while let Some(smaller) = table.smaller(alloc, choice)? {
             table = smaller;
         }

@@ -1,24 +1,25 @@
-//! The search for the least cover.
+//! Whether there is a cover within a budget.
 //!
-//! A search has a budget, of columns and of what they count, and answers a cover within it or that there is none. It
-//! reduces the table and drops the columns that no cover within the budget has, until nothing changes; takes the first
-//! live column and searches on, and where that leads to no cover drops it and searches on. Where no cover is below the
-//! budget, what it finds first is the least. So budgets of columns rise until there is a cover; with literals covers
-//! with fewer are asked for until there is none, and then the first with as many.
+//! A budget is a number of columns and of what they count. A search answers a cover within it, or that there is none: it
+//! narrows the table, branches on a column, taken and then dropped, and searches on. A table is narrowed by the steps of
+//! a reduction, by columns that stand under any other that counts no more, and by weights of its rows (the dual bound):
+//! where the weights are more than the budget can bear there is no cover within it, and a column that has more to spare
+//! than the slack that is left is in none. Which cover is answered is left open, so that any order of branches serves.
 
-ghost use Rattle.std.specs.Prelude.{◌≡◌, ◌≤◌, ◌<◌, ◌*◌, ◌+◌, ◌-◌, ℕ, List, Vec, IfOk, IfSome, MatchOption, MatchBool, IsTrue, ◌↔◌, [], ◌==◌, option_map, map, filter, not, length, replicate, true, false};
-ghost use Rattle.std.specs.List.{list_any};
+ghost use Rattle.std.specs.Prelude.{◌≡◌, ◌≤◌, ◌<◌, ◌*◌, ◌+◌, ◌-◌, ℕ, List, Vec, IfOk, IfSome, MatchOption, MatchBool, IsTrue, ◌↔◌, [], ◌==◌, ◌&&◌, ◌||◌, option_map, map, filter, not, length, replicate, true, false};
+ghost use Rattle.std.specs.List.{list_all, list_any, range_with_len};
 ghost use Rattle.minimum.specs.Table.{IsTable, items_of, has, RisesFrom};
-ghost use Rattle.minimum.specs.Cover.{IsCover, IsLeast, counted, sum_over};
+ghost use Rattle.minimum.specs.Cover.{IsCover, IsLeast, counted, meets, sum_over};
 ghost use Rattle.minimum.specs.Steps.{without, take_column, drop_column};
-ghost use Rattle.minimum.specs.Weights.{measured, bound_of};
-ghost use Rattle.minimum.specs.Search.{NoneWithin, Answers, IsNarrowed, IsForced, IsOutside, BeginsWith, IsFewest, HasFewer, keep_columns, marked, is_blank};
+ghost use Rattle.minimum.specs.Search.{NoneWithin, Answers, IsAnswer, IsNarrowed, IsForced, IsOutside, keep_columns, marked, is_blank};
 
-use crate::bound::{Budget, Measure, packed, shares, within};
+use crate::bound::{Budget, limit_of, shares, within};
 use crate::choice::Choice;
-use crate::lists::{contains, copied, sum, with_column};
+use crate::lists::{contains, copied, holds, sum, with_column};
+use crate::subgradient::{Claim, Compact, Goal, Guide, at, put};
 use crate::table::Table;
-use crate::wishes::{Guide, even_wish};
+use crate::weighing::lagrangian;
+use crate::witness::local;
 use std::alloc::{AllocError, Global};
 
 fn without_column(alloc: Global, xs: &[usize], column: usize) -> Result<Vec<usize>, AllocError>
@@ -117,15 +118,119 @@ pub(crate) fn rows_of_marked(
     Ok(kept)
 }
 
+/// The marked numbers of the second list and all of the first, below the end.
+fn chosen_of(
+    alloc: Global,
+    taken: &[usize],
+    live: &[usize],
+    marks: &[bool],
+    end: usize,
+) -> Result<Vec<usize>, AllocError>
+    requires taken { RisesFrom 0 taken.now }
+    requires live { RisesFrom 0 live.now }
+    ensures { IfOk result (λ v. v.items ≡ filter (λ n. has n taken.now || (marked marks.now n && has n live.now)) (range_with_len 0 end)) }
+{
+    (0..end)
+        .filter(|n| holds(taken, *n) || (is_marked(marks, *n) && holds(live, *n)))
+        .collect(alloc)
+}
+
+/// Whether the row has a number of the list, which rises.
+fn is_held(columns: &[usize], row: &[usize]) -> bool
+    requires { RisesFrom 0 columns.now }
+    ensures { result ≡ meets columns.now row.now }
+{
+    row.iter().any(|c| holds(columns, *c))
+}
+
+/// Whether each row has a number of the list, which rises.
+fn all_held(columns: &[usize], rows: &[Vec<usize>]) -> bool
+    requires { RisesFrom 0 columns.now }
+    ensures { result ≡ list_all (λ row. meets columns.now row.items) rows.now }
+{
+    rows.iter().all(|row| is_held(columns, row))
+}
+
+/// Marks the live columns with these places among them.
+fn marks_of(
+    alloc: Global,
+    live: &[usize],
+    places: &[usize],
+    end: usize,
+) -> Result<Vec<bool>, AllocError> {
+    let mut marks = vec![in alloc; false; end]?;
+    for place in places {
+        if *place < live.len() && live[*place] < marks.len() {
+            marks[live[*place]] = true;
+        }
+    }
+    Ok(marks)
+}
+
+/// In how many rows each column stands.
+fn entanglement(
+    alloc: Global,
+    rows: &[Vec<usize>],
+    columns: usize,
+) -> Result<Vec<i64>, AllocError> {
+    let mut numbers: Vec<i64> = vec![in alloc; 0; columns]?;
+    for row in rows {
+        for column in row {
+            let number = at(&numbers, *column).wrapping_add(1);
+            put(&mut numbers, *column, number);
+        }
+    }
+    Ok(numbers)
+}
+
+/// The sum of the numbers of the row's columns.
+fn entangled(row: &[usize], numbers: &[i64]) -> i64 {
+    let mut sum: i64 = 0;
+    for column in row {
+        sum = sum.wrapping_add(at(numbers, *column));
+    }
+    sum
+}
+
+/// The likeliest column of the row, the one of more rows among equals.
+fn likeliest_of(row: &[usize], likely: &[i64], numbers: &[i64]) -> usize {
+    let mut best = 0;
+    let mut most = (i64::MIN, i64::MIN);
+    for column in row {
+        let here = (at(likely, *column), at(numbers, *column));
+        if here > most {
+            most = here;
+            best = *column;
+        }
+    }
+    best
+}
+
+/// The likeliest column of a shortest row, the most entangled among those.
+fn likeliest(rows: &[Vec<usize>], likely: &[i64], numbers: &[i64]) -> usize {
+    let mut shortest = usize::MAX;
+    let mut most = i64::MIN;
+    let mut best = 0;
+    for row in rows {
+        let here = entangled(row, numbers);
+        if row.len() < shortest || (row.len() == shortest && here > most) {
+            shortest = row.len();
+            most = here;
+            best = likeliest_of(row, likely, numbers);
+        }
+    }
+    best
+}
+
 impl Table {
-    fn is_solved(&self) -> bool
+    pub(crate) fn is_solved(&self) -> bool
         ensures solved { IsTrue result ↔ (self.now.rows ≡ []) }
         ensures table { IsTable self.now }
     {
         self.rows.is_empty()
     }
 
-    fn take(&self, alloc: Global, column: usize) -> Result<Table, AllocError>
+    pub(crate) fn take(&self, alloc: Global, column: usize) -> Result<Table, AllocError>
         requires { has column self.now.live ≡ true }
         ensures { IfOk result (λ t. t ≡ take_column column self.now) }
     {
@@ -133,13 +238,6 @@ impl Table {
         let live = without_column(alloc, self.live_columns(), column)?;
         let rows = rows_lacking(alloc, self.row_lists(), column)?;
         self.with(alloc, taken, live, rows)
-    }
-
-    fn first_live(&self) -> Option<usize>
-        ensures first { MatchOption result (self.now.live ≡ []) (BeginsWith self.now.live) }
-        ensures table { IsTable self.now }
-    {
-        self.live.first().copied()
     }
 
     /// The table without a live column, where each row keeps one.
@@ -156,7 +254,11 @@ impl Table {
     }
 
     /// The table with no columns but the marked ones, where each row keeps one.
-    fn keep_marked(&self, alloc: Global, keep: &[bool]) -> Result<Option<Table>, AllocError>
+    pub(crate) fn keep_marked(
+        &self,
+        alloc: Global,
+        keep: &[bool],
+    ) -> Result<Option<Table>, AllocError>
         ensures kept { IfOk result (λ o. MatchOption o (list_any is_blank (map (filter (marked keep.now)) self.now.rows) ≡ true) (λ t. t ≡ keep_columns (marked keep.now) self.now)) }
         ensures table { IsTable self.now }
     {
@@ -179,78 +281,104 @@ impl Table {
         sum(choice, self.literals(), self.taken_columns()) > budget.counts
     }
 
-    /// What a cover within the budget may have beside the taken columns.
-    fn room(&self, measure: Measure, choice: Choice, budget: Budget) -> u128
-        ensures { result ≡ bound_of measure budget.columns budget.counts - sum_over (measured measure (counted choice self.now.weights)) self.now.taken }
-    {
-        match measure {
-            Measure::Length => budget.columns.saturating_sub(self.taken_columns().len()) as u128,
-            Measure::Weight => {
-                let taken = sum(choice, self.literals(), self.taken_columns());
-                budget.counts.saturating_sub(taken)
-            }
+    /// What a cover within the budget may have beside the taken columns, for those who wish.
+    fn goal(&self, choice: Choice, budget: Budget) -> Goal {
+        let columns = budget.columns.saturating_sub(self.taken_columns().len());
+        let counts = budget
+            .counts
+            .saturating_sub(sum(choice, self.literals(), self.taken_columns()));
+        Goal {
+            columns: i64::try_from(columns).unwrap_or(i64::MAX),
+            counts: i64::try_from(counts).unwrap_or(i64::MAX),
         }
     }
 
-    /// Marks the columns that a cover within the budget may have, as far as row weights tell; `None` where they tell
-    /// that there is no such cover.
-    fn kept_within(
+    /// The live columns and the rows, for those who wish.
+    fn compact(&self, alloc: Global, choice: Choice) -> Result<Compact, AllocError> {
+        Compact::of(
+            alloc,
+            choice,
+            self.literals(),
+            self.live_columns(),
+            self.row_lists(),
+        )
+    }
+
+    /// All columns marked.
+    fn any_marked(&self, alloc: Global) -> Result<Vec<bool>, AllocError>
+        ensures { IfOk result (λ v. (c : ℕ) → has c self.now.live ≡ true → marked v.items c ≡ true) }
+    {
+        let _live = self.live_columns();
+        all_marked(alloc, self.columns())
+    }
+
+    /// Marks the columns that a cover within the budget may have, as far as these row weights and shares tell; `None`
+    /// where they tell that there is no such cover.
+    fn kept_by(
         &self,
         alloc: Global,
-        measure: Measure,
+        choice: Choice,
+        budget: Budget,
+        claim: &Claim,
+    ) -> Result<Option<Vec<bool>>, AllocError>
+        ensures { IfOk result (λ o. MatchOption o (NoneWithin choice self.now budget.columns budget.counts) (λ v. (c : ℕ) → has c self.now.live ≡ true → marked v.items c ≡ false → IsOutside choice self.now budget.columns budget.counts c)) }
+    {
+        let rows = self.row_lists();
+        if claim.weights.len() != rows.len() || rows.len() >= 4611686018427387904 {
+            return Ok(Some(self.any_marked(alloc)?));
+        }
+        let shares = shares(alloc, choice, self.literals(), claim.column, claim.count)?;
+        let loads = lagrangian(alloc, rows, &claim.weights, &shares)?;
+        let columns = budget.columns.saturating_sub(self.taken_columns().len());
+        let counts = budget
+            .counts
+            .saturating_sub(sum(choice, self.literals(), self.taken_columns()));
+        let Some(limit) = limit_of(claim.column, columns, claim.count, counts, loads.over) else {
+            return Ok(Some(self.any_marked(alloc)?));
+        };
+        if loads.total > limit {
+            return Ok(None);
+        }
+        Ok(Some(within(alloc, &shares, &loads.loads, limit - loads.total)?))
+    }
+
+    /// The same for weights that are wished for.
+    pub(crate) fn kept_within(
+        &self,
+        alloc: Global,
         choice: Choice,
         budget: Budget,
         guide: &mut Guide,
     ) -> Result<Option<Vec<bool>>, AllocError>
         ensures { IfOk result (λ o. MatchOption o (NoneWithin choice self.now budget.columns budget.counts) (λ v. (c : ℕ) → has c self.now.live ≡ true → marked v.items c ≡ false → IsOutside choice self.now budget.columns budget.counts c)) }
     {
-        let shares = shares(alloc, measure, choice, self.literals())?;
-        let Some(limit) = self.room(measure, choice, budget).checked_mul(65536) else {
-            return Ok(Some(all_marked(alloc, self.columns())?));
-        };
-        let goal = u64::try_from(limit).unwrap_or(u64::MAX);
-        let wanted = guide.wish(alloc, measure, self.row_lists(), &shares, goal)?;
-        let packing = packed(shares, self.row_lists(), &wanted);
-        if packing.total > limit {
-            return Ok(None);
-        }
-        Ok(Some(within(alloc, &packing.left, limit - packing.total)?))
+        let compact = self.compact(alloc, choice)?;
+        let goal = self.goal(choice, budget);
+        let claim = guide.wish(
+            alloc,
+            &compact,
+            self.live_columns(),
+            self.row_lists(),
+            self.columns(),
+            goal,
+        )?;
+        self.kept_by(alloc, choice, budget, &claim)
     }
 
     /// The table without the columns that no cover within the budget has, as far as row weights tell.
     fn bounded(
         &self,
         alloc: Global,
-        measure: Measure,
         choice: Choice,
         budget: Budget,
         guide: &mut Guide,
     ) -> Result<Option<Table>, AllocError>
         ensures { IfOk result (λ o. MatchOption o (NoneWithin choice self.now budget.columns budget.counts) (IsNarrowed choice budget.columns budget.counts self.now)) }
     {
-        let Some(keep) = self.kept_within(alloc, measure, choice, budget, guide)? else {
+        let Some(keep) = self.kept_within(alloc, choice, budget, guide)? else {
             return Ok(None);
         };
         self.keep_marked(alloc, &keep)
-    }
-
-    /// The same by both measures, where something is counted.
-    fn bounded_by_all(
-        &self,
-        alloc: Global,
-        choice: Choice,
-        budget: Budget,
-        guide: &mut Guide,
-    ) -> Result<Option<Table>, AllocError>
-        ensures { IfOk result (λ o. MatchOption o (NoneWithin choice self.now budget.columns budget.counts) (IsNarrowed choice budget.columns budget.counts self.now)) }
-    {
-        let Some(table) = self.bounded(alloc, Measure::Length, choice, budget, guide)? else {
-            return Ok(None);
-        };
-        match choice {
-            Choice::First => Ok(Some(table)),
-            Choice::Literals => table.bounded(alloc, Measure::Weight, choice, budget, guide),
-        }
     }
 
     /// The table as far as a search within the budget has to look at it; `None` where there is no cover.
@@ -263,19 +391,32 @@ impl Table {
     ) -> Result<Option<Table>, AllocError>
         ensures { IfOk result (λ o. MatchOption o (NoneWithin choice self.now budget.columns budget.counts) (IsNarrowed choice budget.columns budget.counts self.now)) }
     {
-        let mut table = self.settled(alloc, choice)?;
+        let mut table = self.lightened(alloc, choice)?;
         loop {
-            let Some(next) = table.bounded_by_all(alloc, choice, budget, guide)? else {
+            let Some(next) = table.bounded(alloc, choice, budget, guide)? else {
                 return Ok(None);
             };
             if table.live_columns().len() <= next.live_columns().len() {
                 return Ok(Some(next));
             }
-            table = next.settled(alloc, choice)?;
+            table = next.lightened(alloc, choice)?;
         }
     }
 
-    /// A cover within the budget, the least where no cover is below it.
+    /// A live column to branch on: the likeliest one of a shortest row.
+    fn likeliest(&self, alloc: Global, guide: &Guide) -> Result<Option<usize>, AllocError>
+        ensures live { IfOk result (λ o. MatchOption o (self.now.live ≡ []) (λ c. has c self.now.live ≡ true)) }
+        ensures table { IsTable self.now }
+    {
+        let numbers = entanglement(alloc, self.row_lists(), self.columns())?;
+        let wished = likeliest(self.row_lists(), &guide.likely, &numbers);
+        if contains(self.live_columns(), wished) {
+            return Ok(Some(wished));
+        }
+        Ok(self.live.first().copied())
+    }
+
+    /// A cover within the budget, or none where there is none.
     #[cycle(search)]
     fn search(
         &self,
@@ -293,7 +434,7 @@ impl Table {
         }
     }
 
-    /// The same, by taking the first live column, and if that leads to no cover by dropping it.
+    /// The same, by taking a live column, and if that leads to no cover by dropping it.
     #[cycle(search)]
     fn branch(
         &self,
@@ -310,7 +451,7 @@ impl Table {
         if self.is_solved() {
             return Ok(Some(copied(alloc, self.taken_columns())?));
         }
-        let Some(column) = self.first_live() else {
+        let Some(column) = self.likeliest(alloc, guide)? else {
             return Ok(None);
         };
         let with = self.take(alloc, column)?;
@@ -323,82 +464,70 @@ impl Table {
         }
     }
 
-    /// A length that no cover is below, as far as even row weights tell.
-    fn floor(&self, alloc: Global) -> Result<usize, AllocError>
-        ensures { IfOk result (λ n. (x : List ℕ) → IsCover self.now x → n ≤ length x) }
-    {
-        let taken = self.taken_columns().len();
-        let shares = shares(alloc, Measure::Length, Choice::First, self.literals())?;
-        let wanted = even_wish(alloc, self.row_lists(), &shares)?;
-        let packing = packed(shares, self.row_lists(), &wanted);
-        match usize::try_from(packing.total / 65536) {
-            Ok(more) => Ok(taken.saturating_add(more)),
-            Err(_) => Ok(taken),
-        }
-    }
-
-    /// The first of the shortest covers where nothing is counted: the least length allowed rises until there is one.
-    fn shortest(&self, alloc: Global) -> Result<Vec<usize>, AllocError>
-        ensures { IfOk result (λ v. IsLeast Choice.First self.now v.items) }
-    {
-        let _columns = self.columns;
-        let mut budget = Budget {
-            columns: self.floor(alloc)?,
-            counts: 0,
-        };
-        loop {
-            if let Some(cover) = self.search(alloc, Choice::First, budget, &Guide::new(alloc))? {
-                return Ok(cover);
-            }
-            budget.columns += 1;
-        }
-    }
-
-    /// A cover of so many columns with fewer literals; `None` where every cover is longer or has as many.
-    fn with_fewer(
+    /// The cover of the taken columns and the marked live ones, if it is one and within the budget.
+    fn completed(
         &self,
         alloc: Global,
-        columns: usize,
-        literals: u128,
+        choice: Choice,
+        budget: Budget,
+        marks: &[bool],
     ) -> Result<Option<Vec<usize>>, AllocError>
-        ensures { IfOk result (λ o. MatchOption o (IsFewest self.now columns literals) (λ v. HasFewer self.now columns literals v.items)) }
+        ensures { IfOk result (λ o. IfSome o (λ v. IsAnswer choice self.now budget.columns budget.counts v.items)) }
     {
-        let Some(counts) = literals.checked_sub(1) else {
+        let cover = chosen_of(
+            alloc,
+            self.taken_columns(),
+            self.live_columns(),
+            marks,
+            self.columns(),
+        )?;
+        if budget.columns < cover.len() {
+            return Ok(None);
+        }
+        if budget.counts < sum(choice, self.literals(), &cover) {
+            return Ok(None);
+        }
+        if !all_held(&cover, self.row_lists()) {
+            return Ok(None);
+        }
+        Ok(Some(cover))
+    }
+
+    /// A cover within the budget that a local search comes upon.
+    pub(crate) fn witness(
+        &self,
+        alloc: Global,
+        choice: Choice,
+        budget: Budget,
+        goal: Goal,
+        steps: usize,
+    ) -> Result<Option<Vec<usize>>, AllocError>
+        ensures { IfOk result (λ o. IfSome o (λ v. IsAnswer choice self.now budget.columns budget.counts v.items)) }
+    {
+        let compact = self.compact(alloc, choice)?;
+        let steps = steps.saturating_mul(self.row_lists().len()).min(100000);
+        let wished = local(alloc, &compact, goal, steps)?;
+        let marks = marks_of(alloc, self.live_columns(), &wished, self.columns())?;
+        self.completed(alloc, choice, budget, &marks)
+    }
+
+    /// A cover within the budget, or none where there is none: a local search looks for one before the branches.
+    pub(crate) fn decide(
+        &self,
+        alloc: Global,
+        choice: Choice,
+        budget: Budget,
+        guide: &mut Guide,
+    ) -> Result<Option<Vec<usize>>, AllocError>
+        ensures { IfOk result (λ o. Answers choice self.now budget.columns budget.counts (option_map (λ v. v.items) o)) }
+    {
+        let Some(table) = self.narrowed(alloc, choice, budget, guide)? else {
             return Ok(None);
         };
-        let budget = Budget { columns, counts };
-        self.search(alloc, Choice::Literals, budget, &Guide::new(alloc))
-    }
-
-    /// The least cover where literals are counted, from a cover of the least length: covers with fewer literals are
-    /// asked for until there is none, and then the first with as many.
-    fn fewest(&self, alloc: Global, cover: Vec<usize>) -> Result<Vec<usize>, AllocError>
-        requires { IsLeast Choice.First self.now cover.items }
-        ensures { IfOk result (λ v. IsLeast Choice.Literals self.now v.items) }
-    {
-        let columns = cover.len();
-        let mut counts = sum(Choice::Literals, self.literals(), &cover);
-        while let Some(cover) = self.with_fewer(alloc, columns, counts)? {
-            counts = sum(Choice::Literals, self.literals(), &cover);
+        let goal = table.goal(choice, budget);
+        if let Some(cover) = table.witness(alloc, choice, budget, goal, 30)? {
+            return Ok(Some(cover));
         }
-        let budget = Budget { columns, counts };
-        match self.search(alloc, Choice::Literals, budget, &Guide::new(alloc))? {
-            Some(cover) => Ok(cover),
-            None => unreachable!(),
-        }
-    }
-
-    /// The least cover: the first of the shortest; with `Choice::Literals`, of those with the fewest literals.
-    ///
-    /// It takes the time of one search for each length from a lower bound on, mostly a node each, and then of the search
-    /// at the least length; in the worst case that grows with the number of covers.
-    pub fn least_cover(&self, alloc: Global, choice: Choice) -> Result<Vec<usize>, AllocError>
-        ensures { IfOk result (λ v. IsLeast choice self.now v.items) }
-    {
-        let cover = self.shortest(alloc)?;
-        match choice {
-            Choice::First => Ok(cover),
-            Choice::Literals => self.fewest(alloc, cover),
-        }
+        table.branch(alloc, choice, budget, guide)
     }
 }

@@ -130,15 +130,16 @@ fn shuffled(seed: u64) -> u64 {
     x ^ (x >> 29)
 }
 
-/// A table of seven columns whose rows and weights go by the seed.
+/// A table of four to twelve columns whose rows and weights go by the seed.
 fn drawn(alloc: Global, seed: u64) -> Result<Option<Table>, AllocError> {
     let mut state = shuffled(seed);
+    let columns = 4 + usize::try_from(state % 9).unwrap_or(0);
     let mut rows: Vec<Vec<usize>> = Vec::new(alloc);
-    for _ in 0..6 {
+    for _ in 0..9 {
         state = shuffled(state);
         let mut row: Vec<usize> = Vec::new(alloc);
-        for column in 0..7usize {
-            if (state >> (8 * column)) % 3 == 0 {
+        for column in 0..12usize {
+            if column < columns && (state >> (5 * column)) % 3 == 0 {
                 row.push(column)?;
             }
         }
@@ -148,8 +149,9 @@ fn drawn(alloc: Global, seed: u64) -> Result<Option<Table>, AllocError> {
         rows.push(row)?;
     }
     let mut weights: Vec<u32> = Vec::new(alloc);
-    for column in 0..7u64 {
-        weights.push(if (state >> column) % 2 == 0 { 2 } else { 1 })?;
+    for _ in 0..columns {
+        state = shuffled(state);
+        weights.push(if state % 2 == 0 { 2 } else { 1 })?;
     }
     Table::new(alloc, rows, weights)
 }
@@ -174,7 +176,7 @@ pub(crate) fn searches_agree(
 
 #[test]
 fn searches_agree_on_drawn_tables(rt: HostRuntime) -> Result<(), Fail> {
-    for seed in 0..300u64 {
+    for seed in 0..2000u64 {
         for choice in [Choice::First, Choice::Literals] {
             let made = drawn(rt.alloc(), seed)?.ok_or("rows")?;
             assert!(rt; searches_agree(rt.alloc(), made, choice)?);

@@ -1,9 +1,9 @@
 use Rattle.std.proofs.Common.{None, length, ap, arith}
-use Rattle.minimum.proofs.Reduced.{narrowed_steps, narrowed_join, steps_live}
+use Rattle.minimum.proofs.Reduced.{narrowed_join, lightened_narrowed}
 use Rattle.minimum.proofs.table.Table.narrowed.Goals as goal
 
 pub loop-table-init : goal.loop-table-init
-loop-table-init c = narrowed_steps c.args.choice c.args.budget.columns c.args.budget.counts c.args.self.now c.in_ok-table.table c.in_ok-table.ensures.table c.in_ok-table.ensures.steps
+loop-table-init c = lightened_narrowed c.args.choice c.args.budget.columns c.args.budget.counts c.args.self.now c.in_ok-table.table c.in_ok-table.ensures
 
 pub loop-table-preserved : goal.loop-table-preserved
 loop-table-preserved c =
@@ -12,11 +12,11 @@ loop-table-preserved c =
     let w = c.args.budget.counts in
     narrowed_join c.args.choice k w c.args.self.now c.in-Some.next c.in_ok-table-2.table
     (narrowed_join c.args.choice k w c.args.self.now c.loop-table.table c.in-Some.next c.loop-table.invariant bounded)
-    (narrowed_steps c.args.choice k w c.in-Some.next c.in_ok-table-2.table c.in_ok-table-2.ensures.table c.in_ok-table-2.ensures.steps)
+    (lightened_narrowed c.args.choice k w c.in-Some.next c.in_ok-table-2.table c.in_ok-table-2.ensures)
 
 pub loop-table-smaller : goal.loop-table-smaller
 loop-table-smaller c =
-    let falls = steps_live c.args.choice c.in-Some.next c.in_ok-table-2.table c.in_ok-table-2.ensures.table c.in_ok-table-2.ensures.steps in
+    let falls = c.in_ok-table-2.ensures.live in
     let before = ap length c.live_columns.ensures.value in
     let after = ap length c.live_columns-in-loop-table.ensures.value in
     omega (arith, c.if-live_columns.false)
