@@ -37,7 +37,7 @@ impl Opener for Shelf {
             "a" => self.given(self.a),
             "b" => self.given(self.b),
             "-" => self.given("a file that a hyphen names"),
-            "fault" => self.given(".i 1\n.o 1\n2 1\n"),
+            "fault" => self.given(".i 1\n.o 1\nx 1\n"),
             _ => None,
         }
     }
