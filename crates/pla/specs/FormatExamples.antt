@@ -1,5 +1,5 @@
 -- What each byte, keyword and limit of the format means, and which of two faults on a line is told.
-use Rattle.std.specs.Prelude.{◌≡◌, ℕ, true, false, List, [], ◌∷◌, ◌++◌, replicate, Option, Some, None, codes, refl}
+use Rattle.std.specs.Prelude.{◌≡◌, ℕ, true, false, List, [], ◌∷◌, ◌++◌, Option, Some, None, codes, refl}
 use Rattle.cube.specs.Limits.{Limits, format_limits}
 use Rattle.cube.specs.declared.symbol.Symbol.TheVariants.{Dash, Zero, One}
 use Rattle.cube.specs.Cube.{Cube}
@@ -143,6 +143,9 @@ pub record Keywords : Type 0 where
   pub known_end : PassesOn Eat (codes ".end" ∷ codes ".foo" ∷ []) []
   -- the number of rows that is said means nothing
   pub rows_said : Describes (one_by_one ++ codes ".p x y" ∷ codes "1 1" ∷ []) (small Fd (at_one ∷ []) [] [])
+  -- no inputs are a number of inputs
+  pub constant : Describes (codes ".i 0" ∷ codes ".o 1" ∷ codes "1" ∷ [])
+      (record (small Fd (record { symbols = []; outputs = true ∷ [] } ∷ []) [] []) { size = record { inputs = 0; outputs = 1 } })
 
 first_of_two : FirstOfTwo
 unfolding fault_in is_past_limit is_too_long is_refused is_inside_row is_repeated is_bad_number is_name_too_early is_wrong_count is_type_too_late is_bad_type is_row_too_early is_bad_symbol
@@ -241,4 +244,5 @@ keywords = record {
   known = refl;
   known_end = refl;
   rows_said = (refl, refl);
+  constant = (refl, refl);
 }
