@@ -410,6 +410,31 @@ def exact_cases():
         ["-Dessen"], lambda: write("random-16-8-240.pla", pla(16, 8, sparse_rows(240, 16, 8, 0.45, 240))), None)
 
 
+def random_points(inputs, outputs, on, dc, seed):
+    """A file of type fd: each place of each output is in the ON-set or the DC-set by these chances in a hundred."""
+    draw = random.Random(seed)
+    rows = []
+    for place in range(2 ** inputs):
+        drawn = [draw.random() * 100 for _ in range(outputs)]
+        symbols = "".join("1" if d < on else "-" if d < on + dc else "0" for d in drawn)
+        if symbols.strip("0"):
+            rows.append(f"{place:0{inputs}b} {symbols}")
+    name = f"points-{inputs}-{outputs}-{on}-{dc}-{seed}.pla"
+    return write(name, [f".i {inputs}", f".o {outputs}", ".type fd", *rows, ".e"])
+
+
+def large_exact_cases():
+    """Least covers whose first one is hard to come by, and those of random points, over five seeds."""
+    for name, goal in (("9sym", 5), ("sqr6", 0.06), ("mlp4", 0.33), ("adr5", None), ("adr6", 0.3), ("sqr7", 2), ("sym10", 60)):
+        yield f"least-{name}", file_case(["-Dexact"], lambda name=name: function(name), goal)
+    for name, goal in (("mlp4", 2), ("sqr7", 5)):
+        yield f"least-literals-{name}", file_case(["-Dexact", "--literals"], lambda name=name: function(name), goal)
+    for shape, goal in (((9, 3, 30, 20), 2), ((10, 1, 40, 20), 2), ((10, 2, 30, 30), 10), ((12, 1, 30, 10), 3)):
+        for seed in range(1, 6):
+            yield "least-points-" + "-".join(map(str, (*shape, seed))), file_case(
+                ["-Dexact"], lambda shape=shape, seed=seed: random_points(*shape, seed), goal)
+
+
 def same_function(inputs, kept, count):
     """Two files of one function: the first leaves of a partition, and the same places cut into more cubes."""
     leaves = partition(5000, inputs, inputs)[:kept]
@@ -467,6 +492,7 @@ def cases():
     yield from prime_cases()
     yield from sum_cases()
     yield from exact_cases()
+    yield from large_exact_cases()
     yield from pair_cases()
     yield from wide_verifies()
 

@@ -17,13 +17,14 @@
 //! other cover of three columns, 1, 3, 4, comes later.
 //!
 //! A reduction costs some passes over all rows, in each of which a row or a column is compared with those that share
-//! its rarest column or its shortest row (Rudell, Logic synthesis for VLSI design, 1989). The search branches on the
-//! first live column, taken and then dropped, within budgets that rise from a length that no cover is below, so that the
-//! first cover that it finds is the least and no two covers are ever compared. Each table of the search is reduced, and
-//! bounded by weights of its rows in whole numbers (Coudert, On solving covering problems, 1996): the weights are wished
-//! for by a heuristic, which begins with those of the table before, and checked as they are given. Unlike there, ties are
-//! kept in list order: a column leaves only under an earlier one, or one with fewer literals. The number of branches is
-//! not bounded by less than the number of covers.
+//! its rarest column or its shortest row (Rudell, Logic synthesis for VLSI design, 1989). The least cover is found by its
+//! length first: shorter covers are asked for until there is none, and with literals covers with fewer. Then its columns
+//! are settled in list order, by a witness, a cover within the budget, or by the question whether some cover within it
+//! has the column. A question is answered by a search that branches on any column; each of its tables is reduced, also
+//! by columns that stand under any other, and bounded by weights of its rows in whole numbers (Coudert, On solving
+//! covering problems, 1996). Weights, witnesses and branches are wished for by heuristics, and looked at before they are
+//! used. A search holds a copy of the table for each branch that is open, as many as columns are decided on one path. The
+//! number of branches is not bounded by less than the number of covers.
 #![tactic(auto)]
 
 mod bound;
