@@ -410,7 +410,7 @@ def exact_cases():
         ["-Dessen"], lambda: write("random-16-8-240.pla", pla(16, 8, sparse_rows(240, 16, 8, 0.45, 240))), None)
 
 
-def random_points(inputs, outputs, on, dc, seed):
+def points_file(inputs, outputs, on, dc, seed):
     """A file of type fd: each place of each output is in the ON-set or the DC-set by these chances in a hundred."""
     draw = random.Random(seed)
     rows = []
@@ -432,7 +432,7 @@ def large_exact_cases():
     for shape, goal in (((9, 3, 30, 20), 2), ((10, 1, 40, 20), 2), ((10, 2, 30, 30), 10), ((12, 1, 30, 10), 3)):
         for seed in range(1, 6):
             yield "least-points-" + "-".join(map(str, (*shape, seed))), file_case(
-                ["-Dexact"], lambda shape=shape, seed=seed: random_points(*shape, seed), goal)
+                ["-Dexact"], lambda shape=shape, seed=seed: points_file(*shape, seed), goal)
 
 
 def same_function(inputs, kept, count):

@@ -98,7 +98,7 @@ fn a_scan_takes_pieces(rt: HostRuntime) -> Result<(), Fail> {
 fn a_call_that_fails_alone_is_the_last(rt: HostRuntime) -> Result<(), Fail> {
     let alloc = rt.alloc();
     for reads in 0..10 {
-        let input = given(alloc, b"# a\n.i 1\n.o 1\n.e\n", 1, Ending::End)?;
+        let input = Given::new(b"# a\n.i 1\n.o 1\n.e\n".to_vec(alloc)?, 1, Ending::End);
         let mut input = input.failing_after(reads);
         let mut output = Taken::new(alloc, 100, 100, false)?;
         let fault = read_pla(alloc, &mut input, &mut output, Echo::Keep).err();
@@ -114,7 +114,7 @@ fn a_call_that_fails_alone_is_the_last(rt: HostRuntime) -> Result<(), Fail> {
         assert!(rt; u64::try_from(input.delivered()) == Ok(reads));
     }
     for writes in 0..4 {
-        let mut input = given(alloc, b"# a\n.i 1\n.o 1\n.e\n", 1, Ending::End)?;
+        let mut input = Given::new(b"# a\n.i 1\n.o 1\n.e\n".to_vec(alloc)?, 1, Ending::End);
         let output = Taken::new(alloc, 100, 1, false)?;
         let mut output = output.failing_after(writes);
         let fault = read_pla(alloc, &mut input, &mut output, Echo::Keep).err();
