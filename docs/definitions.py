@@ -172,9 +172,7 @@ class Source:
     def item(self, name):
         """The entry of an item, by its name, or of a method as `Type::method`."""
         inside, _, method = name.rpartition("::")
-        begin = 0
-        if inside:
-            begin = self.line_of(rf"impl {inside} \{{")
+        begin = self.line_of(rf"impl(?:<.*>)? {inside}(?:<.*>)? \{{") if inside else 0
         what = PUBLIC + (rf"fn {method}\b" if method[0].islower() else rf"(?:enum|struct|trait) {method}\b")
         begin = self.line_of(rf"\s*{what}", begin)
         text, indent = [], re.match(" *", self.lines[begin]).group()
@@ -182,7 +180,7 @@ class Source:
             if method[0].islower() and line.startswith((indent + "{", indent + "}")):
                 break
             text.append(line)
-            if line in ("}", ) or line.endswith(";") and len(text) == 1:
+            if line == "}" or line.endswith(";") and len(text) == 1:
                 break
         comment = []
         while re.match(r"\s*(///|#\[)", self.lines[begin - 1]):
@@ -195,7 +193,10 @@ class Source:
         return entry
 
     def line_of(self, pattern, begin=0):
-        return next(at for at in range(begin, len(self.lines)) if re.match(pattern, self.lines[at]))
+        for at in range(begin, len(self.lines)):
+            if re.match(pattern, self.lines[at]):
+                return at
+        sys.exit(f"statement: no line of a file of {self.crate} is like {pattern}")
 
     @staticmethod
     def text_of(lines, indent):

@@ -40,7 +40,8 @@ SUBJECTS = (
     ("Lists of cubes", "", ("cover.Cubes", "cover.Places", "cover.Contained")),
     ("Primes and covers by primes", "", ("minimum.Primes", "minimum.Cover", "minimum.Table")),
     ("The printed text", "", ("pla.Text",)),
-    ("Devices", "What a contract sees of files, of outputs, and of the calls to them.",
+    ("Devices", "What a contract sees of files, of outputs, and of the calls to them. `main` gives `execute` the files and streams of\n"
+     "the system, of which no contract tells what they hold.",
      ("espresso::Opener", "pla::Input", "pla::Output", "pla::Broken", "pla::ReadCalls", "pla::WriteCalls", "pla::Counts",
       "pla.Device", "pla.Reads")),
 )
@@ -49,8 +50,8 @@ INTRODUCTION = """# The statement
 
 What has to be believed of this program, and nothing else: the contracts of its calls, every definition that they reach, and the
 enums, structs and traits that these name: {definitions} in all, on {lines:,} lines and {comments} of comments. A checker has
-proved that the code keeps the contracts; no proof has to be read. Who believes `execute` of the whole process, needs nothing of
-its parts.
+proved that the code keeps the contracts; no proof has to be read. The contract of `execute` is that of the whole process and needs
+no other; its parts have theirs.
 
 The page is written by `docs/statement.py` from `crates/*/specs` and `crates/*/src`, and `tests/run` checks that it is fresh.
 
@@ -79,7 +80,7 @@ def is_item(entry):
 
 def reached(book):
     """Every entry that the contracts reach."""
-    todo = [book.item_of(*name.split("::", 1)) for name in CONTRACTS]
+    todo = [book.item_of(*name.split("::", 1)) or sys.exit(f"statement: {name} is found nowhere") for name in CONTRACTS]
     seen = {}
     while todo:
         entry = todo.pop()
@@ -138,7 +139,7 @@ class Page:
         if "::" in place:
             found = [entry for entry in self.seen if entry.place + entry.name == place]
             return [([f"### `{place}`", ""] if place.split("::")[-1][0].islower() else [], found)] if found else []
-        module = self.book.modules[place]
+        module = self.book.modules.get(place) or sys.exit(f"statement: there is no module {place}")
         entries = [entry for entry in module.entries if entry in self.seen]
         items = list(items_of(entries, self.done))
         notes = self.notes(entries)
