@@ -31,6 +31,11 @@ class Entry:
     cited: dict = field(default_factory=dict)       # a name as it is written: the entry, or a name of std
 
 
+def declaration(name):
+    """A line that begins an enum, a struct or a trait."""
+    return PUBLIC + rf"(?:enum|struct|trait) {name}\b"
+
+
 def tokens(text):
     return [token for token in TOKEN.findall(text) if not token.startswith(("--", '"'))]
 
@@ -159,9 +164,9 @@ class Module:
 class Source:
     """A file of src: contracts, enums, structs, traits and models, as far as they are asked for."""
 
-    def __init__(self, book, crate, path):
-        self.book, self.crate = book, crate
-        text = open(path, encoding="utf-8").read()
+    def __init__(self, book, crate, dotted, path):
+        self.book, self.crate, self.dotted = book, crate, dotted
+        self.text = text = open(path, encoding="utf-8").read()
         self.lines = text.split("\n")
         self.names, _ = imports("\n".join(re.findall(r"^\s*ghost use [^;]*;", text, re.M)))
         self.types = {}
@@ -173,7 +178,7 @@ class Source:
         """The entry of an item, by its name, or of a method as `Type::method`."""
         inside, _, method = name.rpartition("::")
         begin = self.line_of(rf"impl(?:<.*>)? {inside}(?:<.*>)? \{{") if inside else 0
-        what = PUBLIC + (rf"fn {method}\b" if method[0].islower() else rf"(?:enum|struct|trait) {method}\b")
+        what = PUBLIC + rf"fn {method}\b" if method[0].islower() else declaration(method)
         begin = self.line_of(rf"\s*{what}", begin)
         text, indent = [], re.match(" *", self.lines[begin]).group()
         for line in self.lines[begin:]:
@@ -237,7 +242,8 @@ class Book:
             for path, dotted in files(f"crates/{crate}/specs", ".antt"):
                 self.modules[f"{crate}.{dotted}"] = Module(self, f"{crate}.{dotted}", path)
             for path, dotted in files(f"crates/{crate}/src", ".rt"):
-                self.sources[crate, re.sub(r"\.mod$|^lib$", "", dotted)] = Source(self, crate, path)
+                dotted = re.sub(r"\.mod$|^lib$", "", dotted)
+                self.sources[crate, dotted] = Source(self, crate, dotted, path)
 
     def cite(self, entry):
         """Notes what an entry cites."""
@@ -254,23 +260,30 @@ class Book:
         return self.modules[f"{crate}.{'.'.join(path)}"].find(name)
 
     def item(self, crate, dotted, name):
-        if (crate, name) not in self.items:
-            self.items[crate, name] = self.sources[crate, dotted].item(name)
-            self.items[crate, name].source = self.sources[crate, dotted]
-        return self.items[crate, name]
+        if (crate, dotted, name) not in self.items:
+            source = self.sources[crate, dotted]
+            self.items[crate, dotted, name] = source.item(name)
+            self.items[crate, dotted, name].source = source
+        return self.items[crate, dotted, name]
 
     def item_of(self, crate, name):
-        """The item of a crate by its name alone: a type has one place, and a call that is public one file."""
+        """The item of a crate by its name alone, which has one file."""
         inside, _, last = name.rpartition("::")
-        pattern = PUBLIC + (rf"(?:enum|struct|trait) {inside or last}\b" if (inside or last)[0].isupper() else rf"fn {last}\b")
+        pattern = declaration(inside or last) if (inside or last)[0].isupper() else PUBLIC + rf"fn {last}\b"
         found = [dotted for (of, dotted), source in self.sources.items()
-                 if of == crate and any(re.match(pattern, line) for line in source.lines)]
-        return self.item(crate, found[0], name) if len(found) == 1 else None
+                 if of == crate and re.search("^" + pattern, source.text, re.M)]
+        if len(found) != 1:
+            sys.exit(f"statement: {crate}::{name} is found in {len(found)} files")
+        return self.item(crate, found[0], name)
 
     def type_in(self, source, name):
-        own = any(re.match(PUBLIC + rf"(?:enum|struct|trait) {name}\b", line) for line in source.lines)
-        crate = source.crate if own else source.types.get(name)
-        return self.item_of(crate, name) if crate in CRATES and name[:1].isupper() else None
+        """The item that a name of a type means in a file; None where it is one of std's."""
+        if not name[:1].isupper():
+            return None
+        if re.search("^" + declaration(name), source.text, re.M):
+            return self.item(source.crate, source.dotted, name)
+        crate = source.types.get(name)
+        return self.item_of(crate, name) if crate in CRATES else None
 
 
 def files(folder, ending):
