@@ -267,11 +267,14 @@ class Book:
         return self.items[crate, dotted, name]
 
     def item_of(self, crate, name):
-        """The item of a crate by its name alone, which has one file."""
+        """The item of a crate by its name alone, which has one file, or the item of another crate that it passes on."""
         inside, _, last = name.rpartition("::")
         pattern = declaration(inside or last) if (inside or last)[0].isupper() else PUBLIC + rf"fn {last}\b"
         found = [dotted for (of, dotted), source in self.sources.items()
                  if of == crate and re.search("^" + pattern, source.text, re.M)]
+        passed_on = self.sources[crate, ""].types.get(name) if (crate, "") in self.sources else None
+        if not found and passed_on in CRATES and passed_on != crate:
+            return self.item_of(passed_on, name)
         if len(found) != 1:
             sys.exit(f"statement: {crate}::{name} is found in {len(found)} files")
         return self.item(crate, found[0], name)

@@ -4,6 +4,7 @@
 usage: docs/statement.py [--print]      (--print: to standard output, and no file is written)
 """
 import os
+import re
 import sys
 from collections import defaultdict
 
@@ -155,7 +156,7 @@ class Page:
                 if not isinstance(meant, Entry):
                     owner = "std" if self.owners[name] else ""
                 elif "." in name or self.owners[name] - {meant} and meant.place != entry.place:
-                    owner = meant.name if last in meant.members else meant.place.rstrip(":")
+                    owner = meant.name if last in meant.members else re.sub(r"(.*)::", r"crates/\1/src", meant.place)
                 else:
                     owner = ""
                 if owner:
