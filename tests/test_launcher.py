@@ -36,6 +36,7 @@ low: smallvec
 left: low
 right: low itoa
 espresso: left right clap
+not_of_the_program: low
 """
 ORDER = ["low", "left", "right", "espresso"]
 

@@ -4,7 +4,7 @@
 //! `1` there the rows of the second list with the other literal don't count. So each pair of rows
 //! comes together once at most, and both lists get shorter. The input is taken at which most pairs
 //! have opposite literals. Where few rows are left, each is asked by itself.
-ghost use Rattle.std.specs.Prelude.{◌≡◌, ◌↔◌, ◌<◌, ◌∷◌, [], IsTrue, IfOk, IfSome, All, filter, length, slice_index_or};
+ghost use Rattle.std.specs.Prelude.{◌≡◌, ◌↔◌, ◌<◌, ◌≤◌, ◌∷◌, [], IsTrue, IfOk, IfSome, All, filter, length, slice_index_or};
 ghost use Rattle.cube.specs.Cube.{HasSize, SameSize, IsSubset, IsDisjoint, holds};
 ghost use Rattle.cover.specs.Places.{places, behind};
 ghost use Rattle.cover.specs.Marks.{is_symbol};
@@ -166,6 +166,23 @@ fn least_weight(relation: Relation, some: &[&Cube], others: &[&Cube], rows: usiz
     }
 }
 
+// The input at which most pairs of counted rows have opposite literals, if these are more than so many.
+fn most_opposite(mine: &Tally, theirs: &Tally, inputs: usize, least: u64) -> Option<usize>
+    requires { All (λ n. inputs ≤ n) (length mine.now.zeros.items ∷ length mine.now.ones.items ∷ length theirs.now.zeros.items ∷ length theirs.now.ones.items ∷ []) }
+    ensures { IfSome result (λ i. i < inputs) }
+{
+    let mut best = None;
+    let mut most = least;
+    for i in 0..inputs {
+        let weight = opposites(mine, theirs, i);
+        if weight > most {
+            best = Some(i);
+            most = weight;
+        }
+    }
+    best
+}
+
 // The input at which most pairs of a row of each list have opposite literals, as far as some of the
 // rows tell, if enough have.
 fn parting_input(
@@ -180,18 +197,10 @@ fn parting_input(
     ensures { IfOk result (λ found. IfSome found (λ i. i < shape.inputs)) }
 {
     let (some, others) = (sample(alloc, shape, rows)?, sample(alloc, shape, others)?);
-    let mine = Tally::of(alloc, &some, shape.inputs())?;
-    let theirs = Tally::of(alloc, &others, shape.inputs())?;
-    let mut best = None;
-    let mut most = least_weight(relation, &some, &others, rows.len());
-    for i in 0..shape.inputs() {
-        let weight = opposites(&mine, &theirs, i);
-        if weight > most {
-            best = Some(i);
-            most = weight;
-        }
-    }
-    Ok(best)
+    let inputs = shape.inputs();
+    let (mine, theirs) = (Tally::of(alloc, &some, inputs)?, Tally::of(alloc, &others, inputs)?);
+    let least = least_weight(relation, &some, &others, rows.len());
+    Ok(most_opposite(&mine, &theirs, inputs, least))
 }
 
 /// Whether the lists are related. On the way down at most `depth` inputs are split at.

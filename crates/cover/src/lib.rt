@@ -27,14 +27,10 @@
 mod agree;
 mod apart;
 mod cofactor;
-#[cfg(test)]
-mod compare_tests;
 mod joint;
 mod list;
 mod marking;
 mod reason;
-#[cfg(test)]
-mod reason_tests;
 mod region;
 mod splitting_input;
 mod sum;
@@ -48,12 +44,8 @@ mod sum_parts;
 mod sum_rows;
 mod sum_sides;
 mod sum_table;
-#[cfg(test)]
-mod sum_tests;
 mod symbols;
 mod tautology;
-#[cfg(test)]
-mod tests;
 
 pub use agree::agree_outside;
 pub use list::Cover;

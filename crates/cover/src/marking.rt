@@ -195,24 +195,29 @@ fn mark_part(
     mark(alloc, list, order, &near, &far, marks)
 }
 
-// The inputs that divide the cubes, those that divide them best first.
-fn inputs_in_order(alloc: Global, list: &Cover) -> Result<Vec<usize>, AllocError>
-    ensures { IfOk result (λ order. All (λ i. i < list.now.size.inputs) order.items) }
+// The inputs that divide the cubes, each behind a number that is lower the better it divides them.
+fn weighed_inputs(alloc: Global, list: &Cover) -> Result<Vec<(u64, usize)>, AllocError>
+    ensures { IfOk result (λ weighed. All (λ p. p.1 < list.now.size.inputs) weighed.items) }
 {
     let inputs = list.shape().inputs();
     let rows = references(alloc, list.as_slice())?;
     let tally = Tally::of(alloc, &rows, inputs)?;
+    let all = list.len() as u64;
     let mut weighed: Vec<(u64, usize)> = Vec::new(alloc);
     for i in 0..inputs {
-        let weight = weight(
-            tally.zeros[i] as u64,
-            tally.ones[i] as u64,
-            list.len() as u64,
-        );
+        let weight = weight(tally.zeros[i] as u64, tally.ones[i] as u64, all);
         if weight > 0 {
             weighed.push((u64::MAX - weight, i))?;
         }
     }
+    Ok(weighed)
+}
+
+// The inputs that divide the cubes, those that divide them best first.
+fn inputs_in_order(alloc: Global, list: &Cover) -> Result<Vec<usize>, AllocError>
+    ensures { IfOk result (λ order. All (λ i. i < list.now.size.inputs) order.items) }
+{
+    let mut weighed = weighed_inputs(alloc, list)?;
     weighed.sort()?;
     let mut order = Vec::with_capacity(alloc, weighed.len())?;
     for (_, i) in &weighed {

@@ -213,7 +213,6 @@ pub(crate) fn reason(
     requires near { AreAmong near.now rows.now }
     ensures { IfOk result (λ found. Explains region.now (behind rows.now) found) }
 {
-    let _shape = region.shape();
     let Survey {
         found,
         meeting,
@@ -227,6 +226,16 @@ pub(crate) fn reason(
         let rest = fewest.min(bound.saturating_sub(1));
         return by_step(alloc, rows, &nearest, fewest, rest, region);
     }
+    by_all_rows(alloc, rows, region)
+}
+
+// The same, where each row is looked at.
+#[cycle(reason)]
+fn by_all_rows(alloc: Global, rows: &[&Cube], region: &Cube) -> Result<Option<Cube>, AllocError>
+    requires { All (λ d. SameSize d.now region.now) rows.now }
+    ensures { IfOk result (λ found. Explains region.now (behind rows.now) found) }
+{
+    let _shape = region.shape();
     let Survey {
         found,
         meeting,

@@ -33,8 +33,6 @@ pub mod limits;
 mod pack;
 mod shape;
 mod symbol;
-#[cfg(test)]
-mod tests;
 mod words;
 
 pub use cube::Cube;

@@ -2,9 +2,6 @@
 ghost use Rattle.std.specs.Prelude.{◌≡◌, IfOk};
 ghost use Rattle.minimum.specs.Primes.{primes_of};
 
-#[cfg(test)]
-mod tests;
-
 use cover::{Cover, complete_sum};
 use pla::Sets;
 use std::alloc::AllocError;

@@ -42,8 +42,6 @@ mod search;
 mod solution;
 mod subgradient;
 mod table;
-#[cfg(test)]
-mod tests;
 mod weighing;
 mod witness;
 

@@ -7,9 +7,6 @@ ghost use Rattle.cover.specs.Marks.{cube_at};
 ghost use Rattle.minimum.specs.Primes.{primes_of, chosen, exact_of, essential_of, is_essential};
 ghost use Rattle.minimum.specs.Rivals.{touches_cube, is_rival, AreShared};
 
-#[cfg(test)]
-mod tests;
-
 use crate::choice::Choice;
 use crate::holders::shared;
 use crate::implicants::primes;

@@ -257,6 +257,3 @@ impl Output for Taken {
         Ok(())
     }
 }
-
-#[cfg(test)]
-mod tests;

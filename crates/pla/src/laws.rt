@@ -22,6 +22,3 @@ pub fn wider_limits()
 pub fn read_back()
     ensures { TextsAreReadBack }
 {}
-
-#[cfg(test)]
-mod tests;

@@ -106,6 +106,3 @@ impl<W: Write> Output for Writing<W> {
         }
     }
 }
-
-#[cfg(test)]
-mod tests;

@@ -124,6 +124,3 @@ fn held_kind(kind: ReadKind) -> ReadKind
         kind => kind,
     }
 }
-
-#[cfg(test)]
-mod tests;

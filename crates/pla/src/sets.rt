@@ -161,6 +161,3 @@ fn outside_both(list: &Cover, other: &Cover) -> Result<Cover, AllocError>
     }
     both.complement()
 }
-
-#[cfg(test)]
-mod tests;

@@ -197,6 +197,3 @@ fn write_rows<W: Output>(
     }
     done
 }
-
-#[cfg(test)]
-mod tests;

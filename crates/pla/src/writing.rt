@@ -51,6 +51,3 @@ pub fn then<W: Output>(
         Err(fault) => Err(fault),
     }
 }
-
-#[cfg(test)]
-mod tests;

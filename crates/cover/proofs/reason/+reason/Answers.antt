@@ -168,47 +168,47 @@ reason-by_step-requires t c =
       ),
     )
 
-pub reason-returns-then-is_empty : goal.reason-returns-then-is_empty
-reason-returns-then-is_empty t c =
+pub by_all_rows-returns-then-is_empty : goal.by_all_rows-returns-then-is_empty
+by_all_rows-returns-then-is_empty t c =
     let region = c.args.region.now in
     let rows = c.args.rows.now in
-    let met = c.in_ok-found-2.field-0.meeting.items in
+    let met = c.in_ok-found.field-0.meeting.items in
     let inside : behind met ≡ meeting (size_of region) region (behind rows) =
-    subst (λ o. IfNone o (behind met ≡ meeting (size_of region) region (behind rows))) c.in_default-found.is
-    c.in_ok-found-2.ensures.meeting in
-    unexplained_none rows met region c.requires.sizes inside c.shape-shape.ensures.is_cube.some_output
-    (ap behind (none_left met (vec_len c.in_ok-found-2.field-0.meeting) c.is_empty-2.result c.in_ok-found-2.field-0.meeting.ok.0 c.is_empty-2.ensures c.if-is_empty.true))
+    subst (λ o. IfNone o (behind met ≡ meeting (size_of region) region (behind rows))) c.in_default.is
+    c.in_ok-found.ensures.meeting in
+    unexplained_none rows met region c.requires inside c.shape-shape.ensures.is_cube.some_output
+    (ap behind (none_left met (vec_len c.in_ok-found.field-0.meeting) c.is_empty.result c.in_ok-found.field-0.meeting.ok.0 c.is_empty.ensures c.if-is_empty.true))
 
-pub reason-by_step-requires-2 : goal.reason-by_step-requires-2
-reason-by_step-requires-2 t c =
+pub by_all_rows-by_step-requires : goal.by_all_rows-by_step-requires
+by_all_rows-by_step-requires t c =
     let region = c.args.region.now in
     let rows = c.args.rows.now in
-    let met = c.in_ok-found-2.field-0.meeting.items in
-    let near = c.in_ok-found-2.field-0.nearest.items in
+    let met = c.in_ok-found.field-0.meeting.items in
+    let near = c.in_ok-found.field-0.nearest.items in
     let inside : behind met ≡ meeting (size_of region) region (behind rows) =
-    subst (λ o. IfNone o (behind met ≡ meeting (size_of region) region (behind rows))) c.in_default-found.is
-    c.in_ok-found-2.ensures.meeting in
-    let among : AreAmong near met = c.in_ok-found-2.ensures.nearest in
-    let there = c.in_ok-found-2.ensures.some (some_left met (vec_len c.in_ok-found-2.field-0.meeting) c.is_empty-2.result c.in_ok-found-2.field-0.meeting.ok.0 c.is_empty-2.ensures c.if-is_empty.false) in
-    let sizes = sizes_among met rows region c.requires.sizes (among_lent rows met region inside) in
+    subst (λ o. IfNone o (behind met ≡ meeting (size_of region) region (behind rows))) c.in_default.is
+    c.in_ok-found.ensures.meeting in
+    let among : AreAmong near met = c.in_ok-found.ensures.nearest in
+    let there = c.in_ok-found.ensures.some (some_left met (vec_len c.in_ok-found.field-0.meeting) c.is_empty.result c.in_ok-found.field-0.meeting.ok.0 c.is_empty.ensures c.if-is_empty.false) in
+    let sizes = sizes_among met rows region c.requires (among_lent rows met region inside) in
     let known : AreAmong near met × (All (λ d. IsDisjoint (holds d.now) (holds region) → ⊥) near × (1 ≤ length near)) =
-    (among, (meets_among near rows met region c.requires.sizes inside among, there)) in (
+    (among, (meets_among near rows met region c.requires inside among, there)) in (
       omega arith,
       (
-        subst (λ l. All (λ d. SameSize d.now region) l) (sym c.deref-2.ensures.value) sizes,
-        subst (λ l. AreAmong l c.deref-2.result.now × (All (λ d. IsDisjoint (holds d.now) (holds region) → ⊥) l × (1 ≤ length l))) (sym c.deref-3.ensures.value)
-            (subst (λ l. AreAmong near l × (All (λ d. IsDisjoint (holds d.now) (holds region) → ⊥) near × (1 ≤ length near))) (sym c.deref-2.ensures.value) known),
+        subst (λ l. All (λ d. SameSize d.now region) l) (sym c.deref.ensures.value) sizes,
+        subst (λ l. AreAmong l c.deref.result.now × (All (λ d. IsDisjoint (holds d.now) (holds region) → ⊥) l × (1 ≤ length l))) (sym c.deref-2.ensures.value)
+            (subst (λ l. AreAmong near l × (All (λ d. IsDisjoint (holds d.now) (holds region) → ⊥) near × (1 ≤ length near))) (sym c.deref.ensures.value) known),
       ),
     )
 
-pub reason-returns : goal.reason-returns
-reason-returns t c =
+pub by_all_rows-returns : goal.by_all_rows-returns
+by_all_rows-returns t c =
     let region = c.args.region.now in
     let rows = c.args.rows.now in
-    let met = c.in_ok-found-2.field-0.meeting.items in
+    let met = c.in_ok-found.field-0.meeting.items in
     let inside : behind met ≡ meeting (size_of region) region (behind rows) =
-    subst (λ o. IfNone o (behind met ≡ meeting (size_of region) region (behind rows))) c.in_default-found.is
-    c.in_ok-found-2.ensures.meeting in
-    IfOk-weaker c.by_step-2.result _ _
-    (explains_lent rows c.deref-2.result.now region c.requires.sizes (ap behind c.deref-2.ensures.value ∙ inside))
-    c.by_step-2.ensures
+    subst (λ o. IfNone o (behind met ≡ meeting (size_of region) region (behind rows))) c.in_default.is
+    c.in_ok-found.ensures.meeting in
+    IfOk-weaker c.by_step.result _ _
+    (explains_lent rows c.deref.result.now region c.requires (ap behind c.deref.ensures.value ∙ inside))
+    c.by_step.ensures

@@ -1,22 +1,22 @@
 //! Lists beside one another, by hand.
-use crate::agree_outside;
-use crate::tests::{Rows, cover, same_shape, text};
+use crate::covers::{Rows, cover_of, same_shape, text};
+use cover::agree_outside;
 use std::alloc::Global;
 use std::test::Fail;
 
 // Whether the lists of these rows have a place in common.
 fn intersecting(alloc: Global, rows: Rows, others: Rows) -> Result<bool, Fail> {
-    let list = cover(alloc, 2, 2, rows)?;
-    let other = cover(alloc, 2, 2, others)?;
+    let list = cover_of(alloc, 2, 2, rows)?;
+    let other = cover_of(alloc, 2, 2, others)?;
     same_shape(list.shape(), other.shape())?;
     Ok(list.intersects(&other)?)
 }
 
 // Whether the lists of these rows agree outside the third.
 fn agreeing(alloc: Global, rows: Rows, others: Rows, free: Rows) -> Result<bool, Fail> {
-    let list = cover(alloc, 2, 1, rows)?;
-    let other = cover(alloc, 2, 1, others)?;
-    let free = cover(alloc, 2, 1, free)?;
+    let list = cover_of(alloc, 2, 1, rows)?;
+    let other = cover_of(alloc, 2, 1, others)?;
+    let free = cover_of(alloc, 2, 1, free)?;
     same_shape(list.shape(), other.shape())?;
     same_shape(list.shape(), free.shape())?;
     Ok(agree_outside(&list, &other, &free)?)
@@ -25,8 +25,8 @@ fn agreeing(alloc: Global, rows: Rows, others: Rows, free: Rows) -> Result<bool,
 #[test]
 fn appends(rt: HostRuntime) -> Result<(), Fail> {
     let alloc = rt.alloc();
-    let mut list = cover(alloc, 2, 1, &[("11", "1")])?;
-    let other = cover(alloc, 2, 1, &[("0-", "1"), ("11", "1")])?;
+    let mut list = cover_of(alloc, 2, 1, &[("11", "1")])?;
+    let other = cover_of(alloc, 2, 1, &[("0-", "1"), ("11", "1")])?;
     same_shape(list.shape(), other.shape())?;
     list.append(&other)?;
     assert_eq!(rt; text(alloc, &list)?.as_str(), "11 1\n0- 1\n11 1\n");

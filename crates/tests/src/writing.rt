@@ -1,7 +1,6 @@
 //! Texts on an output that takes them and on one that fails.
 
-use crate::fakes::Taken;
-use crate::{WriteFault, then, write_bytes};
+use pla::{Taken, WriteFault, then, write_bytes};
 use std::test::Fail;
 
 #[test]

@@ -2,7 +2,7 @@ use Rattle.std.proofs.Common.{◌∙◌, ap, sym, subst}
 use Rattle.cover.specs.Cubes.{AreCubes}
 use Rattle.cover.specs.Places.{behind}
 use Rattle.cover.proofs.Lists.{lengths_of_cubes}
-use Rattle.cover.proofs.marking.inputs_in_order.Goals as goal
+use Rattle.cover.proofs.marking.weighed_inputs.Goals as goal
 
 pub of-requires : goal.of-requires
 of-requires c =

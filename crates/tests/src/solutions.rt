@@ -1,12 +1,9 @@
 //! Functions written as files, solved and printed.
 ghost use Rattle.std.specs.Prelude.{◌≡◌};
 
-use crate::choice::Choice;
-use crate::implicants::primes;
-use crate::solution::{essential, exact};
-use crate::table::Table;
-use crate::tests::{read, searches_agree};
+use crate::tables::{read, searches_agree};
 use cover::Cover;
+use minimum::{Choice, Table, essential, exact, primes};
 use pla::{OutType, Pla, Sets, Taken, write_covers};
 use std::alloc::{AllocError, Global};
 use std::test::Fail;

@@ -1,7 +1,5 @@
 //! Tables of worked functions, written as rows.
-use crate::choice::Choice;
-use crate::reduction::reduce;
-use crate::table::Table;
+use minimum::{Choice, Table, reduce};
 use pla::{Echo, Ending, Given, Pla, Taken, read_pla};
 use std::alloc::{AllocError, Global};
 use std::test::Fail;

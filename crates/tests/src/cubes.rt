@@ -2,7 +2,7 @@
 ghost use Rattle.std.specs.Prelude.{IsTrue};
 ghost use Rattle.cube.specs.Cube.{SameSize};
 
-use crate::{Cube, Shape, Symbol, laws, limits};
+use cube::{Cube, Shape, Symbol, laws, limits};
 use std::alloc::Global;
 use std::cmp::Ordering;
 use std::test::Fail;
@@ -27,7 +27,7 @@ fn packed(alloc: Global, symbols: &[Symbol], outputs: &[bool]) -> Result<Option<
     Ok(Cube::from_symbols(alloc, shape, symbols, outputs)?)
 }
 
-fn cube(alloc: Global, text: Text) -> Result<Cube, Fail> {
+fn cube_of(alloc: Global, text: Text) -> Result<Cube, Fail> {
     let (symbols, outputs) = text;
     let symbols: Vec<Symbol> = symbols
         .as_bytes()
@@ -123,7 +123,7 @@ fn puts_outputs(cube: &Cube, outputs: &[bool]) -> bool {
 
 #[test]
 fn reads_back(rt: HostRuntime) -> Result<(), Fail> {
-    let c = cube(rt.alloc(), ("-01-0", "101"))?;
+    let c = cube_of(rt.alloc(), ("-01-0", "101"))?;
     assert_eq!(rt; c.shape().inputs(), 5);
     assert_eq!(rt; c.shape().outputs(), 3);
     assert!(rt; is_text(&c, ("-01-0", "101")));
@@ -163,7 +163,7 @@ fn keeps_the_limits(rt: HostRuntime) -> Result<(), Fail> {
 // ---- small cubes
 
 fn sharp_is(alloc: Global, a: Text, b: Text, rows: &[Text]) -> Result<bool, Fail> {
-    let (a, b) = (cube(alloc, a)?, cube(alloc, b)?);
+    let (a, b) = (cube_of(alloc, a)?, cube_of(alloc, b)?);
     if !has_shape_of(&a, &b) {
         return Err("shapes")?;
     }
@@ -206,7 +206,7 @@ fn is_found(found: Option<Cube>, text: Option<Text>) -> bool {
 }
 
 fn meet_is(alloc: Global, a: Text, b: Text, text: Option<Text>) -> Result<bool, Fail> {
-    let (a, b) = (cube(alloc, a)?, cube(alloc, b)?);
+    let (a, b) = (cube_of(alloc, a)?, cube_of(alloc, b)?);
     if !has_shape_of(&a, &b) {
         return Err("shapes")?;
     }
@@ -214,7 +214,7 @@ fn meet_is(alloc: Global, a: Text, b: Text, text: Option<Text>) -> Result<bool, 
 }
 
 fn stack_is(alloc: Global, a: Text, b: Text, text: Option<Text>) -> Result<bool, Fail> {
-    let (a, b) = (cube(alloc, a)?, cube(alloc, b)?);
+    let (a, b) = (cube_of(alloc, a)?, cube_of(alloc, b)?);
     if !has_shape_of(&a, &b) {
         return Err("shape")?;
     }
@@ -223,7 +223,7 @@ fn stack_is(alloc: Global, a: Text, b: Text, text: Option<Text>) -> Result<bool,
 
 // The first without the outputs of the second, if some are left.
 fn rest_is(alloc: Global, a: Text, b: Text, text: Option<Text>) -> Result<bool, Fail> {
-    let (a, b) = (cube(alloc, a)?, cube(alloc, b)?);
+    let (a, b) = (cube_of(alloc, a)?, cube_of(alloc, b)?);
     if !has_shape_of(&a, &b) {
         return Err("shape")?;
     }
@@ -234,7 +234,7 @@ fn rest_is(alloc: Global, a: Text, b: Text, text: Option<Text>) -> Result<bool, 
 }
 
 fn join_is(alloc: Global, a: Text, b: Text, text: Text) -> Result<bool, Fail> {
-    let (a, b) = (cube(alloc, a)?, cube(alloc, b)?);
+    let (a, b) = (cube_of(alloc, a)?, cube_of(alloc, b)?);
     if !has_shape_of(&a, &b) {
         return Err("shapes")?;
     }
@@ -242,7 +242,7 @@ fn join_is(alloc: Global, a: Text, b: Text, text: Text) -> Result<bool, Fail> {
 }
 
 fn cofactor_is(alloc: Global, a: Text, b: Text, text: Option<Text>) -> Result<bool, Fail> {
-    let (a, b) = (cube(alloc, a)?, cube(alloc, b)?);
+    let (a, b) = (cube_of(alloc, a)?, cube_of(alloc, b)?);
     if !has_shape_of(&a, &b) {
         return Err("shapes")?;
     }
@@ -546,8 +546,8 @@ fn wide_cubes(rt: HostRuntime) -> Result<(), Fail> {
 #[test]
 fn equal_cubes(rt: HostRuntime) -> Result<(), Fail> {
     let alloc = rt.alloc();
-    let row = cube(alloc, ("01-", "10"))?;
-    let same = cube(alloc, ("01-", "10"))?;
+    let row = cube_of(alloc, ("01-", "10"))?;
+    let same = cube_of(alloc, ("01-", "10"))?;
     assert!(rt; row.is_equal(&same));
     for text in [
         ("01-", "11"),
@@ -556,7 +556,7 @@ fn equal_cubes(rt: HostRuntime) -> Result<(), Fail> {
         ("01", "10"),
         ("01-", "1"),
     ] {
-        let other = cube(alloc, text)?;
+        let other = cube_of(alloc, text)?;
         assert!(rt; !row.is_equal(&other) && !other.is_equal(&row));
     }
     Ok(())
@@ -564,7 +564,7 @@ fn equal_cubes(rt: HostRuntime) -> Result<(), Fail> {
 
 #[test]
 fn literals_as_bits(rt: HostRuntime) -> Result<(), Fail> {
-    let row = cube(rt.alloc(), ("01-1", "1"))?;
+    let row = cube_of(rt.alloc(), ("01-1", "1"))?;
     assert_eq!(rt; row.literal_bits(0), 0b01_00_01_10);
     assert_eq!(rt; row.literal_bits(1), 0);
     Ok(())
@@ -572,7 +572,7 @@ fn literals_as_bits(rt: HostRuntime) -> Result<(), Fail> {
 
 #[test]
 fn outputs_as_bits(rt: HostRuntime) -> Result<(), Fail> {
-    let row = cube(rt.alloc(), ("01", "1011"))?;
+    let row = cube_of(rt.alloc(), ("01", "1011"))?;
     assert_eq!(rt; row.output_bits(0), 0b1101);
     assert_eq!(rt; row.output_bits(1), 0);
     Ok(())

@@ -1,11 +1,7 @@
 //! Reading on devices that tell their bytes. What is read of whole texts is tested on the built program.
 ghost use Rattle.std.specs.Prelude.{◌<◌};
 
-use crate::ending::Ending;
-use crate::fakes::{Given, Taken};
-use crate::fault::{Echo, FileType, ReadFault, ReadKind};
-use crate::reading::read_pla;
-use crate::scan::Scan;
+use pla::{Echo, Ending, FileType, Given, ReadFault, ReadKind, Scan, Taken, read_pla};
 use std::test::Fail;
 
 /// A small file: comments, an unknown keyword, names, and rows that go over lines.

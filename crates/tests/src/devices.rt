@@ -1,5 +1,5 @@
 //! Reads and writes of the devices for tests.
-use crate::{Broken, Ending, Given, Input, Output, Taken};
+use pla::{Broken, Ending, Given, Input, Output, Taken};
 use std::test::Fail;
 
 #[test]

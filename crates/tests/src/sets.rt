@@ -1,6 +1,5 @@
 //! The lists of the four types, asked for and not.
-use crate::fakes::{Given, Taken};
-use crate::{Echo, Ending, OutType, Pla, Sets, open_dc, open_off, read_pla, write_pla};
+use pla::{Echo, Ending, Given, OutType, Pla, Sets, Taken, open_dc, open_off, read_pla, write_pla};
 use std::alloc::Global;
 use std::test::Fail;
 

@@ -1,6 +1,6 @@
 //! Primes by hand.
-use crate::primes;
-use crate::tests::read;
+use crate::tables::read;
+use minimum::primes;
 use cube::Symbol;
 use pla::Sets;
 use std::test::Fail;

@@ -1,7 +1,7 @@
 //! Small lists by hand. What the program prints of longer ones is tested on the built program.
 ghost use Rattle.std.specs.Prelude.{◌≡◌, OnOk};
 
-use crate::{Cover, contain};
+use cover::{Cover, contain};
 use cube::{Cube, Shape, Symbol};
 use std::alloc::Global;
 use std::test::Fail;
@@ -17,7 +17,7 @@ fn symbol_from(c: u8) -> Symbol {
     }
 }
 
-fn cube(alloc: Global, symbols: &str, outputs: &str) -> Result<Cube, Fail> {
+fn cube_of(alloc: Global, symbols: &str, outputs: &str) -> Result<Cube, Fail> {
     let symbols: Vec<Symbol> = symbols
         .as_bytes()
         .iter()
@@ -52,7 +52,7 @@ pub(crate) fn push(list: &mut Cover, row: Cube) -> Result<(), Fail> {
 }
 
 // The list of these rows.
-pub(crate) fn cover(
+pub(crate) fn cover_of(
     alloc: Global,
     inputs: usize,
     outputs: usize,
@@ -61,7 +61,7 @@ pub(crate) fn cover(
     let shape = Shape::new(inputs, outputs).ok_or("limits")?;
     let mut list = Cover::new(alloc, shape);
     for (symbols, outputs) in rows {
-        let row = cube(alloc, symbols, outputs)?;
+        let row = cube_of(alloc, symbols, outputs)?;
         push(&mut list, row)?;
     }
     Ok(list)
@@ -97,8 +97,8 @@ pub(crate) fn text(alloc: Global, list: &Cover) -> Result<String, Fail> {
 #[test]
 fn lists(rt: HostRuntime) -> Result<(), Fail> {
     let alloc = rt.alloc();
-    assert!(rt; cover(alloc, 2, 1, &[])?.is_empty());
-    let list = cover(alloc, 2, 1, &[("1-", "1"), ("01", "1")])?;
+    assert!(rt; cover_of(alloc, 2, 1, &[])?.is_empty());
+    let list = cover_of(alloc, 2, 1, &[("1-", "1"), ("01", "1")])?;
     assert_eq!(rt; list.len(), 2);
     assert_eq!(rt; list.shape().inputs(), 2);
     assert!(rt; list.get(2).is_none());
@@ -115,13 +115,13 @@ fn lists(rt: HostRuntime) -> Result<(), Fail> {
 #[test]
 fn cofactors(rt: HostRuntime) -> Result<(), Fail> {
     let alloc = rt.alloc();
-    let list = cover(alloc, 2, 2, &[("1-", "10"), ("0-", "11"), ("-1", "01")])?;
-    let by = cube(alloc, "1-", "01")?;
+    let list = cover_of(alloc, 2, 2, &[("1-", "10"), ("0-", "11"), ("-1", "01")])?;
+    let by = cube_of(alloc, "1-", "01")?;
     same_shape(list.shape(), by.shape())?;
     let left = list.cofactor(&by)?;
     assert_eq!(rt; text(alloc, &left)?.as_str(), "-1 11\n");
     assert!(rt; !list.holds_cube(&by)?);
-    let low = cube(alloc, "11", "01")?;
+    let low = cube_of(alloc, "11", "01")?;
     same_shape(list.shape(), low.shape())?;
     assert!(rt; list.holds_cube(&low)?);
     Ok(())
@@ -130,8 +130,8 @@ fn cofactors(rt: HostRuntime) -> Result<(), Fail> {
 #[test]
 fn tautologies(rt: HostRuntime) -> Result<(), Fail> {
     let alloc = rt.alloc();
-    assert!(rt; !cover(alloc, 1, 2, &[("-", "10")])?.tautology()?);
-    assert!(rt; cover(alloc, 1, 2, &[("-", "10"), ("-", "01")])?.tautology()?);
+    assert!(rt; !cover_of(alloc, 1, 2, &[("-", "10")])?.tautology()?);
+    assert!(rt; cover_of(alloc, 1, 2, &[("-", "10"), ("-", "01")])?.tautology()?);
     Ok(())
 }
 
@@ -139,7 +139,7 @@ fn tautologies(rt: HostRuntime) -> Result<(), Fail> {
 fn contains(rt: HostRuntime) -> Result<(), Fail> {
     let alloc = rt.alloc();
     let rows = [("11", "1"), ("1-", "1"), ("1-", "1"), ("0-", "1")];
-    let list = cover(alloc, 2, 1, &rows)?;
+    let list = cover_of(alloc, 2, 1, &rows)?;
     assert_eq!(rt; text(alloc, &contain(&list)?)?.as_str(), "1- 1\n0- 1\n");
     Ok(())
 }

@@ -1,6 +1,6 @@
 //! Tautology and containment against the plain definition, and on wide lists.
-use crate::Cover;
-use crate::tests::push;
+use crate::covers::push;
+use cover::Cover;
 use cube::{Cube, Shape, Symbol};
 use std::alloc::Global;
 use std::test::Fail;

@@ -1,5 +1,5 @@
 //! Lists printed on an output that takes them and on one that fails.
-use crate::{Echo, Ending, Given, OutType, Taken, WriteFault, read_pla, write_covers};
+use pla::{Echo, Ending, Given, OutType, Taken, WriteFault, read_pla, write_covers};
 use std::test::Fail;
 
 const TEXT: &[u8] = b".i 2\n.o 2\n.ilb a bb\n.ob f g#1\n.type fdr\n11 1-\n0- 00\n.e\n";

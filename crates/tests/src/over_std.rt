@@ -1,5 +1,5 @@
 //! Devices over readers and writers of std.
-use crate::{Broken, Input, Output, Reading, Writing};
+use pla::{Broken, Input, Output, Reading, Writing};
 use std::io;
 use std::io::{Cursor, ErrorKind, Read, Write};
 use std::test::Fail;
