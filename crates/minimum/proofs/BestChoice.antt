@@ -260,7 +260,7 @@ join_length l ts (x ∷ xs) r f =
     let k = join_length (suc x) ts xs r.1 (λ n h. f n (has_later n x xs h)) in
     omega arith
 
-join_sum : (count : ℕ → ℕ) (l : ℕ) (ts xs : List ℕ) → RisesFrom l xs → ((n : ℕ) → has n xs ≡ true → has n ts ≡ false) → sum_over count (join ts xs) ≡ sum_over count ts + sum_over count xs
+pub join_sum : (count : ℕ → ℕ) (l : ℕ) (ts xs : List ℕ) → RisesFrom l xs → ((n : ℕ) → has n xs ≡ true → has n ts ≡ false) → sum_over count (join ts xs) ≡ sum_over count ts + sum_over count xs
 join_sum count l ts [] r f = omega arith
 join_sum count l ts (x ∷ xs) r f =
     let lacks : has x (join ts xs) ≡ false = elim (cases_Bool (has x (join ts xs))) [

@@ -5,6 +5,8 @@ pub mod Keeps
 pub mod Subsets
 pub mod Putting
 pub mod BestChoice
+pub mod Sides
+pub mod Renumbered
 pub mod Ways
 pub mod Rising
 pub mod Bounds

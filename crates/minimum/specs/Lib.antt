@@ -3,6 +3,7 @@ pub mod Cover
 pub mod Examples
 pub mod Steps
 pub mod Search
+pub mod Parts
 pub mod Choices
 pub mod Laws
 pub mod Weights

@@ -62,7 +62,7 @@ fn batch(
 }
 
 /// Marks what the marks leave.
-fn others(alloc: Global, marks: &[bool], end: usize) -> Result<Vec<bool>, AllocError>
+pub(crate) fn others(alloc: Global, marks: &[bool], end: usize) -> Result<Vec<bool>, AllocError>
     ensures { IfOk result (λ v. v.items ≡ map (λ c. not (marked marks.now c)) (range_with_len 0 end)) }
 {
     (0..end).map(|c| !is_marked(marks, c)).collect(alloc)
@@ -425,12 +425,23 @@ impl Table {
         }
     }
 
+    /// The least cover, of all rows at once.
+    pub(crate) fn least_of_whole(
+        &self,
+        alloc: Global,
+        choice: Choice,
+    ) -> Result<Vec<usize>, AllocError>
+        ensures { IfOk result (λ v. IsLeast choice self.now v.items) }
+    {
+        let best = self.best(alloc, choice)?;
+        self.first_of(alloc, choice, best)
+    }
+
     /// The least cover: the first of the shortest; with `Choice::Literals`, of those with the fewest literals.
     pub fn least_cover(&self, alloc: Global, choice: Choice) -> Result<Vec<usize>, AllocError>
         ensures { IfOk result (λ v. IsLeast choice self.now v.items) }
     {
         let table = self.settled(alloc, choice)?;
-        let best = table.best(alloc, choice)?;
-        table.first_of(alloc, choice, best)
+        table.least_by_parts(alloc, choice)
     }
 }

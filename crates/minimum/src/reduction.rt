@@ -353,14 +353,14 @@ fn taken_with(
         .collect(alloc)
 }
 
-fn all_kept(row: &[usize], keep: &[bool]) -> bool
+pub(crate) fn all_kept(row: &[usize], keep: &[bool]) -> bool
     ensures { result ≡ list_all (marked keep.now) row.now }
 {
     row.iter().all(|column| is_marked(keep, *column))
 }
 
 /// The rows of which all columns are marked.
-fn untouched_rows(
+pub(crate) fn untouched_rows(
     alloc: Global,
     rows: &[Vec<usize>],
     keep: &[bool],

@@ -7,7 +7,7 @@
 use crate::subgradient::{Compact, Goal, SEED, at, drawn, put};
 use std::alloc::{AllocError, Global};
 
-fn number(numbers: &[usize], place: usize) -> usize {
+pub(crate) fn number(numbers: &[usize], place: usize) -> usize {
     if place < numbers.len() {
         numbers[place]
     } else {
@@ -15,7 +15,7 @@ fn number(numbers: &[usize], place: usize) -> usize {
     }
 }
 
-fn set(numbers: &mut Vec<usize>, place: usize, number: usize) {
+pub(crate) fn set(numbers: &mut Vec<usize>, place: usize, number: usize) {
     if place < numbers.len() {
         numbers[place] = number;
     }
