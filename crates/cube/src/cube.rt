@@ -1,5 +1,5 @@
 //! A cube, kept in words.
-ghost use Rattle.std.specs.Prelude.{◌≡◌, ℕ, ◌+◌, ◌*◌, ◌<◌, ◌≤◌, ◌↔◌, IsTrue, IsOk, IsSome, IsNone, IfOk, IfSome, IfNone, OnOk, MatchOption, if◌then◌else◌, ◌++◌, length, map, drop, slice_get, slice_index_or, Some, Contains, not, true, false, List, Bool, ◌&&◌, ◌||◌};
+ghost use Rattle.std.specs.Prelude.{◌≡◌, ℕ, ◌+◌, ◌*◌, ◌<◌, ◌≤◌, ◌↔◌, IsTrue, IsOk, IsSome, IsNone, IfOk, IfSome, IfNone, OnOk, MatchOption, if◌then◌else◌, ◌++◌, length, map, take, drop, slice_get, slice_index_or, Some, Contains, not, true, false, List, Bool, ◌&&◌, ◌||◌};
 ghost use Rattle.cube.specs.Cube.{HasSize, IsCube, SameSize, IsSubset, IsDisjoint, Place, holds, intersection, difference, word_count, size_of, with_symbol as cube_with_symbol, literals as literals_of, IsUniversal, IsNextLiteral, IsPlace};
 ghost use Rattle.cube.specs.Pattern.{agrees, matches};
 ghost use Rattle.cube.specs.Size.{words_of_size};
@@ -15,6 +15,7 @@ ghost use Rattle.std.specs.Ordering.{bool_cmp};
 ghost use Rattle.std.specs.Cmp.Lexicographic.{slice_cmp};
 ghost use Rattle.cube.specs.Packing.{Packs, PacksInputs, PacksOutputs};
 
+use crate::groups::group_by_bits;
 use crate::lanes::{covers_by_lanes, pairs_meet_by_lanes};
 use crate::pack::{byte_by_bits, input_word, input_words, output_word, output_words};
 use crate::shape::Shape;
@@ -118,17 +119,35 @@ impl Cube {
     }
 
     /// Puts a byte for each symbol at the front of a row, one of the three by the symbol, and leaves
-    /// what follows. Looks at each symbol once, and takes no memory.
+    /// what follows. Looks at each symbol once, at four together where the bytes are `-`, `0` and `1`,
+    /// and takes no memory.
     pub fn put_symbols(&self, row: &mut [u8], dash: u8, zero: u8, one: u8)
         requires { length self.now.symbols ≤ length row.old }
         ensures { row.new ≡ map (symbol_byte dash zero one) self.now.symbols ++ drop (length self.now.symbols) row.old }
     {
+        let plain = dash == b'-' && zero == b'0' && one == b'1';
+        let start = if plain { self.put_groups(row) } else { 0 };
         let words = self.input_part();
-        for i in 0..self.shape().inputs() {
+        for i in start..self.shape().inputs() {
             let word = words[i / 32];
             let at = 2 * (i % 32);
             row[i] = byte_by_bits((word >> at) & 1, (word >> (at + 1)) & 1, dash, zero, one);
         }
+    }
+
+    // Puts `-`, `0` and `1` for the symbols of whole groups of four, and answers for how many.
+    fn put_groups(&self, row: &mut [u8]) -> usize
+        requires { length self.now.symbols ≤ length row.old }
+        ensures within { result ≤ length self.now.symbols }
+        ensures row { row.new ≡ map (symbol_byte 45 48 49) (take result self.now.symbols) ++ drop result row.old }
+    {
+        let words = self.input_part();
+        let count = self.shape().inputs() / 4;
+        for g in 0..count {
+            let group = group_by_bits((words[g / 8] >> (8 * (g % 8))) & 255);
+            row[4 * g..4 * g + 4].copy_from_slice(group);
+        }
+        4 * count
     }
 
     /// Puts a byte for each output at the front of a row, by whether the cube has it, and leaves what

@@ -27,6 +27,7 @@
 #![tactic(auto)]
 
 mod cube;
+mod groups;
 mod lanes;
 pub mod laws;
 pub mod limits;
