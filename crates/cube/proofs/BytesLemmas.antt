@@ -6,6 +6,8 @@ use Rattle.std.proofs.Math.Seq.{take-append_seam, drop-append-add, take-add}
 use borrow.Rule.Slice.PartMut.{put_mid}
 use Rattle.std.proofs.lemmas.Nat.Bits.{shr_and_one, bit_at_and, bit_at_ones, bit_at-lt}
 use Rattle.std.proofs.Math.Pow.{shr-shr}
+use Rattle.std.specs.Prelude.{◌||◌}
+use Rattle.std.specs.List.{list_any}
 use Rattle.std.specs.Int.{bit_at}
 use Rattle.cube.specs.declared.symbol.Symbol.{Symbol}
 use Rattle.cube.specs.declared.symbol.Symbol.TheVariants.{Dash}
@@ -91,3 +93,8 @@ group_read ss ws g k p lt within =
     ∙ ap (λ x. symbol_of (bit_of (agrees (get_or ss (4 * g + k) Dash) false)) x) (byte_bit word (8 * (g % 8)) (2 * k + 1) (omega arith)
     ∙ ap (bit_at word) (sym high) ∙ ap (λ v. bit_at (get_or ws v 0) (2 * ((4 * g + k) % 32) + 1)) (sym here) ∙ high_of_inputs ss ws p (4 * g + k) within)
     ∙ symbol_of-agrees (get_or ss (4 * g + k) Dash)
+
+-- whether one passes, and whether one of the answers is true
+pub any_map : {X : Type 0} (p : X → Bool) (xs : List X) → list_any p xs ≡ list_any (λ b. b) (map p xs)
+any_map p [] = refl
+any_map p (x ∷ xs) = ap (λ r. p x || r) (any_map p xs)

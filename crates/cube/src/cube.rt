@@ -7,7 +7,7 @@ ghost use Rattle.std.specs.Int.{bit_at};
 ghost use Rattle.cube.specs.Join.{supercube};
 ghost use Rattle.cube.specs.Cofactor.{cofactor as cofactor_of};
 ghost use Rattle.cube.specs.Sharp.{minus, rest_row, rest_rows, pieces_below, splits, piece as piece_row};
-ghost use Rattle.cube.specs.Bytes.{symbol_byte};
+ghost use Rattle.cube.specs.Bytes.{byte_symbol, has_mark, symbol_byte};
 ghost use Rattle.cube.specs.Sum.{complete_sum};
 ghost use Rattle.std.specs.List.{list_any};
 ghost use Rattle.cube.specs.Order.{row_cmp as row_order, symbol_cmp};
@@ -15,6 +15,7 @@ ghost use Rattle.std.specs.Ordering.{bool_cmp};
 ghost use Rattle.std.specs.Cmp.Lexicographic.{slice_cmp};
 ghost use Rattle.cube.specs.Packing.{Packs, PacksInputs, PacksOutputs};
 
+use crate::bytes::{has_any_mark, input_word_of, output_word_of};
 use crate::groups::group_by_bits;
 use crate::lanes::{covers_by_lanes, pairs_meet_by_lanes};
 use crate::pack::{byte_by_bits, input_word, input_words, output_word, output_words};
@@ -78,6 +79,41 @@ impl Cube {
                 input_word(symbols, w)
             } else {
                 output_word(outputs, w - inputs_end)
+            });
+        }
+        Ok(Some(Cube { shape, words }))
+    }
+
+    /// The cube of a row's bytes, as many as the shape has inputs and outputs, or `None` where no output
+    /// is set. A byte `0` or `1` is that literal, and any other byte of an input is `-`; an output is set
+    /// where the mark of its byte, by a table of all bytes, shares a bit with the mask.
+    ///
+    /// The bytes go straight into words, and each costs a look at a table.
+    pub fn from_bytes(
+        alloc: Global,
+        shape: Shape,
+        inputs: &[u8],
+        outputs: &[u8],
+        marks: &[u8; 256],
+        mask: u8,
+    ) -> Result<Option<Cube>, AllocError>
+        requires inputs { length inputs.now ≡ shape.inputs }
+        requires outputs { length outputs.now ≡ shape.outputs }
+        ensures found { IfOk result (λ found. IsSome found ↔ IsTrue (list_any (has_mark marks.now mask) outputs.now)) }
+        ensures value { IfOk result (λ found. IfSome found (λ c. c ≡ record { symbols = map byte_symbol inputs.now; outputs = map (has_mark marks.now mask) outputs.now })) }
+        ensures inline { words_of_size shape ≤ 4 → IsOk result }
+    {
+        if !has_any_mark(outputs, marks, mask) {
+            return Ok(None);
+        }
+        let inputs_end = input_words(shape);
+        let outputs_end = output_words(shape);
+        let mut words = SmallVec::with_capacity(alloc, inputs_end + outputs_end)?;
+        for w in 0..inputs_end + outputs_end {
+            words.push_reserved(if w < inputs_end {
+                input_word_of(inputs, w)
+            } else {
+                output_word_of(outputs, w - inputs_end, marks, mask)
             });
         }
         Ok(Some(Cube { shape, words }))

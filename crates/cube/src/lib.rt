@@ -26,6 +26,7 @@
 //! some nanoseconds at 40 inputs; `sharp` makes at most one cube more than there are inputs.
 #![tactic(auto)]
 
+mod bytes;
 mod cube;
 mod groups;
 mod lanes;
