@@ -17,3 +17,4 @@ pub mod UniversalLemmas
 pub mod BytesLemmas
 pub mod StackLemmas
 mod LaneLemmas
+pub mod ShiftLemmas

@@ -1,5 +1,5 @@
 //! A cube, kept in words.
-ghost use Rattle.std.specs.Prelude.{◌≡◌, ℕ, ◌+◌, ◌*◌, ◌<◌, ◌≤◌, ◌↔◌, IsTrue, IsOk, IsSome, IsNone, IfOk, IfSome, IfNone, OnOk, MatchOption, if◌then◌else◌, ◌++◌, length, map, drop, slice_get, slice_index_or, Some, Contains, not, true, false, List, Bool, ◌&&◌, ◌||◌};
+ghost use Rattle.std.specs.Prelude.{◌≡◌, ℕ, ◌+◌, ◌*◌, ◌<◌, ◌≤◌, ◌↔◌, IsTrue, IsOk, IsSome, IsNone, IfOk, IfSome, IfNone, OnOk, MatchOption, if◌then◌else◌, ◌++◌, length, map, take, drop, slice_get, slice_index_or, Some, Contains, not, true, false, List, Bool, ◌&&◌, ◌||◌};
 ghost use Rattle.cube.specs.Cube.{HasSize, IsCube, SameSize, IsSubset, IsDisjoint, Place, holds, intersection, difference, word_count, size_of, with_symbol as cube_with_symbol, literals as literals_of, IsUniversal, IsNextLiteral, IsPlace};
 ghost use Rattle.cube.specs.Pattern.{agrees, matches};
 ghost use Rattle.cube.specs.Size.{words_of_size};
@@ -7,7 +7,7 @@ ghost use Rattle.std.specs.Int.{bit_at};
 ghost use Rattle.cube.specs.Join.{supercube};
 ghost use Rattle.cube.specs.Cofactor.{cofactor as cofactor_of};
 ghost use Rattle.cube.specs.Sharp.{minus, rest_row, rest_rows, pieces_below, splits, piece as piece_row};
-ghost use Rattle.cube.specs.Bytes.{symbol_byte};
+ghost use Rattle.cube.specs.Bytes.{byte_symbol, has_mark, symbol_byte};
 ghost use Rattle.cube.specs.Sum.{complete_sum};
 ghost use Rattle.std.specs.List.{list_any};
 ghost use Rattle.cube.specs.Order.{row_cmp as row_order, symbol_cmp};
@@ -15,6 +15,8 @@ ghost use Rattle.std.specs.Ordering.{bool_cmp};
 ghost use Rattle.std.specs.Cmp.Lexicographic.{slice_cmp};
 ghost use Rattle.cube.specs.Packing.{Packs, PacksInputs, PacksOutputs};
 
+use crate::bytes::{has_any_mark, input_word_of, output_word_of};
+use crate::groups::group_by_bits;
 use crate::lanes::{covers_by_lanes, pairs_meet_by_lanes};
 use crate::pack::{byte_by_bits, input_word, input_words, output_word, output_words};
 use crate::shape::Shape;
@@ -82,6 +84,41 @@ impl Cube {
         Ok(Some(Cube { shape, words }))
     }
 
+    /// The cube of a row's bytes, as many as the shape has inputs and outputs, or `None` where no output
+    /// is set. A byte `0` or `1` is that literal, and any other byte of an input is `-`; an output is set
+    /// where the mark of its byte, by a table of all bytes, shares a bit with the mask.
+    ///
+    /// The bytes go straight into words, and each costs a look at a table.
+    pub fn from_bytes(
+        alloc: Global,
+        shape: Shape,
+        inputs: &[u8],
+        outputs: &[u8],
+        marks: &[u8; 256],
+        mask: u8,
+    ) -> Result<Option<Cube>, AllocError>
+        requires inputs { length inputs.now ≡ shape.inputs }
+        requires outputs { length outputs.now ≡ shape.outputs }
+        ensures found { IfOk result (λ found. IsSome found ↔ IsTrue (list_any (has_mark marks.now mask) outputs.now)) }
+        ensures value { IfOk result (λ found. IfSome found (λ c. c ≡ record { symbols = map byte_symbol inputs.now; outputs = map (has_mark marks.now mask) outputs.now })) }
+        ensures inline { words_of_size shape ≤ 4 → IsOk result }
+    {
+        if !has_any_mark(outputs, marks, mask) {
+            return Ok(None);
+        }
+        let inputs_end = input_words(shape);
+        let outputs_end = output_words(shape);
+        let mut words = SmallVec::with_capacity(alloc, inputs_end + outputs_end)?;
+        for w in 0..inputs_end + outputs_end {
+            words.push_reserved(if w < inputs_end {
+                input_word_of(inputs, w)
+            } else {
+                output_word_of(outputs, w - inputs_end, marks, mask)
+            });
+        }
+        Ok(Some(Cube { shape, words }))
+    }
+
     /// How many inputs and outputs the cube has.
     pub fn shape(&self) -> Shape
         ensures size { HasSize self.now result }
@@ -118,17 +155,35 @@ impl Cube {
     }
 
     /// Puts a byte for each symbol at the front of a row, one of the three by the symbol, and leaves
-    /// what follows. Looks at each symbol once, and takes no memory.
+    /// what follows. Looks at each symbol once, at four together where the bytes are `-`, `0` and `1`,
+    /// and takes no memory.
     pub fn put_symbols(&self, row: &mut [u8], dash: u8, zero: u8, one: u8)
         requires { length self.now.symbols ≤ length row.old }
         ensures { row.new ≡ map (symbol_byte dash zero one) self.now.symbols ++ drop (length self.now.symbols) row.old }
     {
+        let plain = dash == b'-' && zero == b'0' && one == b'1';
+        let start = if plain { self.put_groups(row) } else { 0 };
         let words = self.input_part();
-        for i in 0..self.shape().inputs() {
+        for i in start..self.shape().inputs() {
             let word = words[i / 32];
             let at = 2 * (i % 32);
             row[i] = byte_by_bits((word >> at) & 1, (word >> (at + 1)) & 1, dash, zero, one);
         }
+    }
+
+    // Puts `-`, `0` and `1` for the symbols of whole groups of four, and answers for how many.
+    fn put_groups(&self, row: &mut [u8]) -> usize
+        requires { length self.now.symbols ≤ length row.old }
+        ensures within { result ≤ length self.now.symbols }
+        ensures row { row.new ≡ map (symbol_byte 45 48 49) (take result self.now.symbols) ++ drop result row.old }
+    {
+        let words = self.input_part();
+        let count = self.shape().inputs() / 4;
+        for g in 0..count {
+            let group = group_by_bits((words[g / 8] >> (8 * (g % 8))) & 255);
+            row[4 * g..4 * g + 4].copy_from_slice(group);
+        }
+        4 * count
     }
 
     /// Puts a byte for each output at the front of a row, by whether the cube has it, and leaves what

@@ -3,7 +3,7 @@
 //! Where there are few words, and for those behind the last four, the plain kernels serve.
 ghost use Rattle.std.specs.Prelude.{◌≡◌, ℕ, ◌↔◌, ◌<◌, ◌/◌, IsTrue, length, slice_index, bit_and, bit_or};
 ghost use Rattle.std.specs.Int.{bit_not, w64};
-ghost use Rattle.cube.specs.Words.{CoversWords, PairsMeet};
+ghost use Rattle.cube.specs.Words.{CoversWords, HasNoEmptyPair, PairsMeet};
 
 use crate::words::{covers_words, pairs_meet};
 use std::simd::prelude::*;
@@ -33,11 +33,21 @@ fn pairs_meet_four(a: &[u64; 4], b: &[u64; 4]) -> bool
     (u64x4::splat(LOWER_BITS) & !either).reduce_or() == 0
 }
 
-/// Whether each bit of `b` is in `a`.
+// Whether each pair of bits of a word has one that is set.
+fn has_no_empty_pair(word: u64) -> bool
+    ensures { IsTrue result ↔ HasNoEmptyPair word }
+{
+    (word | (word >> 1)) & LOWER_BITS == LOWER_BITS
+}
+
+/// Whether each bit of `b` is in `a`. The first word decides for most cubes, before the length is asked for.
 pub(crate) fn covers_by_lanes(a: &[u64], b: &[u64]) -> bool
     requires { length a.now ≡ length b.now }
     ensures { IsTrue result ↔ CoversWords a.now b.now }
 {
+    if !a.is_empty() && b[0] & !a[0] != 0 {
+        return false;
+    }
     if a.len() < MANY {
         return covers_words(a, b);
     }
@@ -51,11 +61,14 @@ pub(crate) fn covers_by_lanes(a: &[u64], b: &[u64]) -> bool
     covers_words(my_rest, their_rest)
 }
 
-/// Whether each pair of bits has one that is in both.
+/// Whether each pair of bits has one that is in both. The first word decides for most cubes.
 pub(crate) fn pairs_meet_by_lanes(a: &[u64], b: &[u64]) -> bool
     requires { length a.now ≡ length b.now }
     ensures { IsTrue result ↔ PairsMeet a.now b.now }
 {
+    if !a.is_empty() && !has_no_empty_pair(a[0] & b[0]) {
+        return false;
+    }
     if a.len() < MANY {
         return pairs_meet(a, b);
     }

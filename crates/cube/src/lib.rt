@@ -26,7 +26,9 @@
 //! some nanoseconds at 40 inputs; `sharp` makes at most one cube more than there are inputs.
 #![tactic(auto)]
 
+mod bytes;
 mod cube;
+mod groups;
 mod lanes;
 pub mod laws;
 pub mod limits;

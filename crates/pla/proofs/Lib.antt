@@ -32,3 +32,4 @@ mod HandedOn
 mod Putting
 mod Runs
 mod Finds
+pub mod Marks

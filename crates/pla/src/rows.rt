@@ -1,5 +1,6 @@
 //! The symbols of row lines, cut into rows, and the cubes of the rows.
-ghost use Rattle.std.specs.Prelude.{◌≡◌, ◌++◌, ◌+◌, ◌<◌, ◌≤◌, ◌^◌, [], IfErr, OnOk, Some, false, length, map, take, slice_index, nat_lt, option_to_list};
+ghost use Rattle.std.specs.Prelude.{◌≡◌, ℕ, ◌++◌, ◌+◌, ◌<◌, ◌≤◌, ◌^◌, [], IfErr, OnOk, Some, false, length, map, take, slice_index, nat_lt, option_to_list};
+ghost use Rattle.cube.specs.Bytes.{has_mark};
 ghost use Rattle.pla.specs.Symbols.{is_byte_of, is_symbol_at, width};
 ghost use Rattle.pla.specs.Lists.{part_symbols, input_symbol as symbol_of, cube_by};
 ghost use Rattle.pla.specs.Names.{owned_names};
@@ -12,7 +13,7 @@ use crate::fault::{FileType, LineError, ReadKind};
 use crate::header::Head;
 use crate::line::row_blank;
 use cover::Cover;
-use cube::{Cube, Shape, Symbol};
+use cube::{Cube, Shape};
 use std::alloc::{AllocError, Global};
 use std::marker::Model;
 
@@ -25,16 +26,41 @@ pub enum Part {
     Off,
 }
 
-/// Whether a byte puts an output into a list, under the type of the rows.
-fn is_in_part(file_type: FileType, part: Part, b: u8) -> bool
-    ensures { result ≡ is_byte_of (part_symbols file_type part) b }
+// What each byte is in a row: bit 4 where it is a symbol of an input, and else the list that it puts an output
+// into: bit 0 the OFF list, bit 1 the ON list, bit 2 the DC list, bit 3 none.
+static MARKS: [u8; 256] = [
+    0, 0, 0, 0, 0, 0, 0, 0, 0, 0, 0, 0, 0, 0, 0, 0, 0, 0, 0, 0, 0, 0, 0, 0, 0, 0, 0, 0, 0, 0, 0, 0,
+    0, 0, 0, 0, 0, 0, 0, 0, 0, 0, 0, 0, 0, 20, 0, 0, 17, 18, 20, 8, 2, 0, 0, 0, 0, 0, 0, 0, 0, 0, 0, 0,
+    0, 0, 0, 0, 0, 0, 0, 0, 0, 0, 0, 0, 0, 0, 0, 0, 0, 0, 0, 0, 0, 0, 0, 0, 0, 0, 0, 0, 0, 0, 0, 0,
+    0, 0, 0, 0, 0, 0, 0, 0, 0, 0, 0, 0, 0, 0, 0, 0, 0, 0, 0, 0, 0, 0, 0, 0, 0, 0, 0, 0, 0, 0, 8, 0,
+    0, 0, 0, 0, 0, 0, 0, 0, 0, 0, 0, 0, 0, 0, 0, 0, 0, 0, 0, 0, 0, 0, 0, 0, 0, 0, 0, 0, 0, 0, 0, 0,
+    0, 0, 0, 0, 0, 0, 0, 0, 0, 0, 0, 0, 0, 0, 0, 0, 0, 0, 0, 0, 0, 0, 0, 0, 0, 0, 0, 0, 0, 0, 0, 0,
+    0, 0, 0, 0, 0, 0, 0, 0, 0, 0, 0, 0, 0, 0, 0, 0, 0, 0, 0, 0, 0, 0, 0, 0, 0, 0, 0, 0, 0, 0, 0, 0,
+    0, 0, 0, 0, 0, 0, 0, 0, 0, 0, 0, 0, 0, 0, 0, 0, 0, 0, 0, 0, 0, 0, 0, 0, 0, 0, 0, 0, 0, 0, 0, 0,
+];
+
+const INPUT_MARK: u8 = 16;
+const OUTPUT_MARKS: u8 = 15;
+
+/// The marks of the bytes that put an output into a list, under the type of the rows.
+fn marks_of(file_type: FileType, part: Part) -> u8
+    ensures { (b : ℕ) → b < 256 → has_mark MARKS result b ≡ is_byte_of (part_symbols file_type part) b }
 {
-    match part {
-        Part::On => matches!(b, b'1' | b'4'),
-        Part::DontCare => matches!(file_type, FileType::Fd | FileType::Fdr)
-            && matches!(b, b'-' | b'2'),
-        Part::Off => matches!(file_type, FileType::Fr | FileType::Fdr) && b == b'0',
+    match (part, file_type) {
+        (Part::On, _) => 2,
+        (Part::DontCare, FileType::Fd) => 4,
+        (Part::DontCare, FileType::Fdr) => 4,
+        (Part::Off, FileType::Fr) => 1,
+        (Part::Off, FileType::Fdr) => 1,
+        _ => 0,
     }
+}
+
+/// Whether a byte has one of the marks.
+fn is_marked(mask: u8, b: u8) -> bool
+    ensures { result ≡ has_mark MARKS mask b }
+{
+    MARKS[b as usize] & mask != 0
 }
 
 /// Whether a byte is a symbol of this place of a row, whose first `n` places are inputs.
@@ -42,9 +68,9 @@ fn symbol_at(n: usize, place: usize, b: u8) -> bool
     ensures { result ≡ is_symbol_at n place b }
 {
     if place < n {
-        (b'0' <= b && b <= b'2') | (b == b'-')
+        is_marked(INPUT_MARK, b)
     } else {
-        (b'0' <= b && b <= b'4') | (b == b'-') | (b == b'~')
+        is_marked(OUTPUT_MARKS, b)
     }
 }
 
@@ -62,17 +88,6 @@ fn run_end(shape: Shape, place: usize) -> usize
     }
 }
 
-/// What a byte asks of an input.
-fn input_symbol(b: u8) -> Symbol
-    ensures { result ≡ symbol_of b }
-{
-    match b {
-        b'0' => Symbol::Zero,
-        b'1' => Symbol::One,
-        _ => Symbol::Dash,
-    }
-}
-
 /// The rows read so far: the symbols since the last whole row, and the cubes of the whole rows.
 #[derive(Drop)]
 pub struct Rows {
@@ -81,8 +96,6 @@ pub struct Rows {
     on: Cover,
     dc: Cover,
     off: Cover,
-    symbols: Vec<Symbol>,
-    outputs: Vec<bool>,
 }
 
 impl Model for Rows {
@@ -96,49 +109,24 @@ impl Model for Rows {
     ghost invariant = { λ r. (r.on.size ≡ r.shape) × (r.dc.size ≡ r.shape) × (r.off.size ≡ r.shape) };
 }
 
-/// Puts what the bytes ask of inputs into a list that is used again and again.
-fn set_symbols(symbols: &mut Vec<Symbol>, bytes: &[u8]) -> Result<(), AllocError>
-    ensures { OnOk result (symbols.new.items ≡ map symbol_of bytes.now) }
-{
-    symbols.resize(bytes.len(), Symbol::Dash)?;
-    let slots = symbols.as_mut_slice();
-    for i in 0..bytes.len() {
-        slots[i] = input_symbol(bytes[i]);
-    }
-    Ok(())
-}
-
-/// Puts which of the bytes put an output into a list into one that is used again and again.
-fn set_outputs(
-    outputs: &mut Vec<bool>,
-    file_type: FileType,
-    part: Part,
-    bytes: &[u8],
-) -> Result<(), AllocError>
-    ensures { OnOk result (outputs.new.items ≡ map (is_byte_of (part_symbols file_type part)) bytes.now) }
-{
-    outputs.resize(bytes.len(), false)?;
-    let slots = outputs.as_mut_slice();
-    for j in 0..bytes.len() {
-        slots[j] = is_in_part(file_type, part, bytes[j]);
-    }
-    Ok(())
-}
-
-/// Adds the cube of these symbols and outputs, where it has an output.
+/// Adds the cube that a row's bytes put into a list, where it has an output.
 fn push_cube(
     list: &mut Cover,
     alloc: Global,
-    symbols: &[Symbol],
-    outputs: &[bool],
+    file_type: FileType,
+    part: Part,
+    inputs: &[u8],
+    outputs: &[u8],
 ) -> Result<(), AllocError>
-    requires inputs { length symbols.now ≡ list.old.size.inputs }
+    requires inputs { length inputs.now ≡ list.old.size.inputs }
     requires outputs { length outputs.now ≡ list.old.size.outputs }
     ensures size { list.new.size ≡ list.old.size }
-    ensures cubes { OnOk result (list.new.cubes ≡ list.old.cubes ++ option_to_list (cube_by symbols.now outputs.now)) }
+    ensures cubes { OnOk result (list.new.cubes ≡ list.old.cubes
+        ++ option_to_list (cube_by (map symbol_of inputs.now) (map (is_byte_of (part_symbols file_type part)) outputs.now))) }
 {
     let shape = list.shape();
-    let Some(cube) = Cube::from_symbols(alloc, shape, symbols, outputs)? else {
+    let mask = marks_of(file_type, part);
+    let Some(cube) = Cube::from_bytes(alloc, shape, inputs, outputs, &MARKS, mask)? else {
         return Ok(());
     };
     match list.push(cube) {
@@ -158,8 +146,6 @@ impl Rows {
             on: Cover::new(alloc, shape),
             dc: Cover::new(alloc, shape),
             off: Cover::new(alloc, shape),
-            symbols: Vec::new(alloc),
-            outputs: Vec::new(alloc),
         }
     }
 
@@ -171,13 +157,9 @@ impl Rows {
     {
         let alloc = *self.pending.allocator();
         let (inputs, outputs) = self.pending.split_at(self.shape.inputs());
-        set_symbols(&mut self.symbols, inputs)?;
-        set_outputs(&mut self.outputs, file_type, Part::On, outputs)?;
-        push_cube(&mut self.on, alloc, &self.symbols, &self.outputs)?;
-        set_outputs(&mut self.outputs, file_type, Part::DontCare, outputs)?;
-        push_cube(&mut self.dc, alloc, &self.symbols, &self.outputs)?;
-        set_outputs(&mut self.outputs, file_type, Part::Off, outputs)?;
-        push_cube(&mut self.off, alloc, &self.symbols, &self.outputs)?;
+        push_cube(&mut self.on, alloc, file_type, Part::On, inputs, outputs)?;
+        push_cube(&mut self.dc, alloc, file_type, Part::DontCare, inputs, outputs)?;
+        push_cube(&mut self.off, alloc, file_type, Part::Off, inputs, outputs)?;
         self.pending.clear();
         Ok(())
     }

@@ -1,11 +1,19 @@
-use Rattle.std.proofs.Common.{ℕ, ◌∙◌, ◌<◌, ◌*◌, ◌+◌, ◌/◌, length, sym, arith}
+use Rattle.std.proofs.Common.{ℕ, ◌∙◌, ◌<◌, ◌*◌, ◌+◌, ◌/◌, length, sym, arith, rules}
 use Rattle.std.proofs.lemmas.Bool.{false≢true}
 use Rattle.cube.specs.Words.{IsBitSubset}
+use Rattle.cube.proofs.WordLemmas.{covers_from_bits}
 use Rattle.cube.proofs.LaneLemmas.{beyond, subset-iff, block-iff, block_more, rest-iff}
 use Rattle.cube.proofs.lanes.covers_by_lanes.Goals as goal
 
 abbrev Holds : ℕ → ℕ → Type 0
 Holds a b = IsBitSubset b a
+
+pub returns-then-b-a-ne0 : goal.returns-then-b-a-ne0
+returns-then-b-a-ne0 c =
+    let some : 0 < length c.args.a.now = search rules in (
+      λ t. absurd (false≢true t),
+      λ h. absurd (c.if-b-a-ne0.true (covers_from_bits _ _ (c.type_inv.a 0).fits (c.type_inv.b 0).fits (h 0 some))),
+    )
 
 pub returns-then-not-covers_four : goal.returns-then-not-covers_four
 returns-then-not-covers_four c =

@@ -1,0 +1,36 @@
+use Rattle.std.proofs.Common.{◌≡◌, ◌+◌, ◌-◌, refl, subst, ℕ, map, get_or, sym, ◌∙◌, arith}
+use Rattle.std.proofs.lemmas.List.{length-map}
+use Rattle.cube.specs.Cube.{Cube}
+use Rattle.cube.specs.Bytes.{byte_symbol, has_mark}
+use Rattle.cube.specs.Packing.{Packs, IsOutputWord}
+use Rattle.cube.proofs.PackingLemmas.{unpacked-Packs_at, IsPacked-from_Packs, Packs-from_words}
+use Rattle.cube.proofs.BytesLemmas.{any_map}
+use Rattle.cube.proofs.SharpLemmas.{some_true}
+use Rattle.cube.proofs.cube.Cube.from_bytes.Goals as goal
+
+abbrev row_of : goal.After-loop-w → Cube
+row_of c = record { symbols = map byte_symbol c.args.inputs.now; outputs = map (has_mark c.args.marks.now c.args.mask) c.args.outputs.now }
+
+packs : (c : goal.After-loop-w) → Packs (row_of c) c.loop-w.words.items
+packs c =
+    let start = c.input_words-inputs_end.result in
+    let outputs = map (has_mark c.args.marks.now c.args.mask) c.args.outputs.now in
+    Packs-from_words (row_of c) _ _ _ _ _ c.output_words-outputs_end.result (length-map c.args.inputs.now byte_symbol ∙ c.requires.inputs)
+    (length-map c.args.outputs.now (has_mark c.args.marks.now c.args.mask) ∙ c.requires.outputs) c.input_words-inputs_end.ensures.value
+    c.output_words-outputs_end.ensures.value refl (c.loop-w.invariant.len ∙ omega arith)
+    (λ v lt. c.loop-w.invariant.inputs v (omega arith) lt)
+    (λ v lt.
+    let at : start + v - start ≡ v = omega arith in
+    let P : ℕ → Type 0 = λ x. IsOutputWord outputs x (get_or c.loop-w.words.items (start + v) 0) in
+    subst P at (c.loop-w.invariant.outputs (start + v) (omega arith) (omega arith)))
+
+pub invariant_of-result : goal.invariant_of-result
+invariant_of-result c =
+    let has = some_true (map (has_mark c.args.marks.now c.args.mask) c.args.outputs.now) (sym (any_map (has_mark c.args.marks.now c.args.mask) c.args.outputs.now) ∙ sym c.has_any_mark.ensures ∙ c.if-not-has_any_mark.false) in
+    IsPacked-from_Packs (row_of c) _ _ _ (length-map c.args.inputs.now byte_symbol ∙ c.requires.inputs)
+    (length-map c.args.outputs.now (has_mark c.args.marks.now c.args.mask) ∙ c.requires.outputs) (packs c) has.0 has.1
+
+pub returns-clause-value : goal.returns-clause-value
+returns-clause-value c =
+    unpacked-Packs_at (row_of c) _ _ _ (length-map c.args.inputs.now byte_symbol ∙ c.requires.inputs)
+    (length-map c.args.outputs.now (has_mark c.args.marks.now c.args.mask) ∙ c.requires.outputs) (packs c)

@@ -1,0 +1,82 @@
+//! Words from the bytes of a row.
+//!
+//! A word is shifted in from its last symbol or output on, so that each byte costs a look at a table and
+//! no branch.
+ghost use Rattle.std.specs.Prelude.{◌≡◌, ℕ, ◌+◌, ◌<◌, ◌^◌, true, false, map};
+ghost use Rattle.std.specs.Int.{bit_at};
+ghost use Rattle.std.specs.List.{list_any};
+ghost use Rattle.cube.specs.Bytes.{byte_symbol, has_mark};
+ghost use Rattle.cube.specs.Packing.{IsInputWord, IsOutputWord, bit_of};
+ghost use Rattle.cube.specs.Pattern.{agrees};
+
+// The two bits of the symbol that a byte asks for.
+static PAIRS: [u8; 256] = [
+    3, 3, 3, 3, 3, 3, 3, 3, 3, 3, 3, 3, 3, 3, 3, 3, 3, 3, 3, 3, 3, 3, 3, 3, 3, 3, 3, 3, 3, 3, 3, 3,
+    3, 3, 3, 3, 3, 3, 3, 3, 3, 3, 3, 3, 3, 3, 3, 3, 1, 2, 3, 3, 3, 3, 3, 3, 3, 3, 3, 3, 3, 3, 3, 3,
+    3, 3, 3, 3, 3, 3, 3, 3, 3, 3, 3, 3, 3, 3, 3, 3, 3, 3, 3, 3, 3, 3, 3, 3, 3, 3, 3, 3, 3, 3, 3, 3,
+    3, 3, 3, 3, 3, 3, 3, 3, 3, 3, 3, 3, 3, 3, 3, 3, 3, 3, 3, 3, 3, 3, 3, 3, 3, 3, 3, 3, 3, 3, 3, 3,
+    3, 3, 3, 3, 3, 3, 3, 3, 3, 3, 3, 3, 3, 3, 3, 3, 3, 3, 3, 3, 3, 3, 3, 3, 3, 3, 3, 3, 3, 3, 3, 3,
+    3, 3, 3, 3, 3, 3, 3, 3, 3, 3, 3, 3, 3, 3, 3, 3, 3, 3, 3, 3, 3, 3, 3, 3, 3, 3, 3, 3, 3, 3, 3, 3,
+    3, 3, 3, 3, 3, 3, 3, 3, 3, 3, 3, 3, 3, 3, 3, 3, 3, 3, 3, 3, 3, 3, 3, 3, 3, 3, 3, 3, 3, 3, 3, 3,
+    3, 3, 3, 3, 3, 3, 3, 3, 3, 3, 3, 3, 3, 3, 3, 3, 3, 3, 3, 3, 3, 3, 3, 3, 3, 3, 3, 3, 3, 3, 3, 3,
+];
+
+// The two bits of the symbol that a byte asks for: whether it agrees with 0, and with 1.
+fn pair_of(b: u8) -> u64
+    ensures fits { result < 4 }
+    ensures low { bit_at result 0 ≡ bit_of (agrees (byte_symbol b) false) }
+    ensures high { bit_at result 1 ≡ bit_of (agrees (byte_symbol b) true) }
+{
+    PAIRS[b as usize] as u64
+}
+
+// The word with two bits shifted in.
+fn with_pair(word: u64, pair: u64) -> u64
+    requires { pair < 4 }
+    ensures low { bit_at result 0 ≡ bit_at pair 0 }
+    ensures high { bit_at result 1 ≡ bit_at pair 1 }
+    ensures others { (k : ℕ) → k < 62 → bit_at result (k + 2) ≡ bit_at word k }
+{
+    (word << 2) | pair
+}
+
+// The word with a bit shifted in.
+fn with_next(word: u64, bit: bool) -> u64
+    ensures first { bit_at result 0 ≡ bit_of bit }
+    ensures others { (k : ℕ) → k < 63 → bit_at result (k + 1) ≡ bit_at word k }
+{
+    (word << 1) | bit as u64
+}
+
+/// Word `w` of the inputs, whose bytes these are.
+pub(crate) fn input_word_of(bytes: &[u8], w: usize) -> u64
+    requires { w < 2 ^ 32 }
+    ensures { IsInputWord (map byte_symbol bytes.now) w result }
+{
+    let mut word = u64::MAX;
+    let count = bytes.len().saturating_sub(32 * w).min(32);
+    for k in (0..count).rev() {
+        word = with_pair(word, pair_of(bytes[32 * w + k]));
+    }
+    word
+}
+
+/// Word `w` of the outputs, whose bytes these are: those whose mark has a bit of the mask.
+pub(crate) fn output_word_of(bytes: &[u8], w: usize, marks: &[u8; 256], mask: u8) -> u64
+    requires { w < 2 ^ 32 }
+    ensures { IsOutputWord (map (has_mark marks.now mask) bytes.now) w result }
+{
+    let mut word = 0u64;
+    let count = bytes.len().saturating_sub(64 * w).min(64);
+    for k in (0..count).rev() {
+        word = with_next(word, marks[bytes[64 * w + k] as usize] & mask != 0);
+    }
+    word
+}
+
+/// Whether the mark of one of the bytes has a bit of the mask.
+pub(crate) fn has_any_mark(bytes: &[u8], marks: &[u8; 256], mask: u8) -> bool
+    ensures { result ≡ list_any (has_mark marks.now mask) bytes.now }
+{
+    bytes.iter().any(|b| marks[*b as usize] & mask != 0)
+}
