@@ -28,6 +28,8 @@ mod PrintedRows
 mod PrintedLists
 mod PrintedSteps
 mod ReadBack
+mod GivenNames
+mod Readable
 mod HandedOn
 mod Putting
 mod Runs

@@ -1,5 +1,5 @@
 -- What the laws of the format say of small files, computed.
-use Rattle.std.specs.Prelude.{◌≡◌, ℕ, true, List, [], ◌∷◌, ◌++◌, None, Some, codes, refl}
+use Rattle.std.specs.Prelude.{◌≡◌, ℕ, true, List, [], ◌∷◌, None, Some, codes, refl}
 use Rattle.std.specs.Fmt.{digits}
 use Rattle.cube.specs.Limits.{format_limits}
 use Rattle.cube.specs.declared.symbol.Symbol.{Symbol}

@@ -1,5 +1,5 @@
 -- Printed texts that are read again.
-use Rattle.std.specs.Prelude.{◌≡◌, ℕ, ◌+◌, ◌<◌, ◌≤◌, Bool, false, List, [], ◌∷◌, ◌++◌, length, All, ◌==◌, Some, None, codes}
+use Rattle.std.specs.Prelude.{◌≡◌, ℕ, ◌+◌, ◌<◌, ◌≤◌, Bool, true, false, List, [], ◌∷◌, ◌++◌, length, All, ◌==◌, Some, None, codes}
 use Rattle.std.specs.Option.{ForSome}
 use Rattle.cube.specs.Limits.{format_limits, IsWithinLimits}
 use Rattle.cube.specs.Cube.{IsCube}
@@ -11,6 +11,7 @@ use Rattle.pla.specs.Steps.{NoFeed}
 use Rattle.pla.specs.Fault.{fault_of}
 use Rattle.pla.specs.Description.{Description, described}
 use Rattle.pla.specs.Sets.{SetLists}
+use Rattle.pla.specs.Completed.{sets_of}
 use Rattle.pla.specs.Text.{names_text, text_of}
 
 -- whether a comment would begin with these bytes, behind a blank
@@ -57,3 +58,15 @@ pub record IsReadBack (d : Description) (lists : SetLists) (ending : Ending) (mo
 -- for all texts of type fdr
 abbrev pub TextsAreReadBack : Type 0
 TextsAreReadBack = (d : Description) (lists : SetLists) → IsReadable d lists → (ending : Ending) (more : List ℕ) → IsReadBack d lists ending more
+
+-- what a text without a fault describes is readable, with the lists of its three sets, as given or computed, where their text has no more lines than are looked at
+abbrev pub FaultlessAreReadable : Type 0
+FaultlessAreReadable = (ending : Ending) (bytes : List ℕ) → fault_of format_limits ending bytes ≡ None → (dc off : Bool)
+    → length (ended_lines (text_of (described format_limits ending bytes) Fdr (sets_of (described format_limits ending bytes) dc off))) ≤ format_limits.lines
+    → IsReadable (described format_limits ending bytes) (sets_of (described format_limits ending bytes) dc off)
+
+-- so what is printed of it with all three sets is read back
+abbrev pub EchoesAreReadBack : Type 0
+EchoesAreReadBack = (ending : Ending) (bytes : List ℕ) → fault_of format_limits ending bytes ≡ None
+    → length (ended_lines (text_of (described format_limits ending bytes) Fdr (sets_of (described format_limits ending bytes) true true))) ≤ format_limits.lines
+    → (next : Ending) (more : List ℕ) → IsReadBack (described format_limits ending bytes) (sets_of (described format_limits ending bytes) true true) next more

@@ -1,6 +1,6 @@
 //! Laws of the definitions, each as the contract of a function that does nothing.
 ghost use Rattle.pla.specs.WiderLimits.{WiderLimitsReadAlike, OlderLimitsReadAlike};
-ghost use Rattle.pla.specs.ReadBack.{TextsAreReadBack};
+ghost use Rattle.pla.specs.ReadBack.{TextsAreReadBack, FaultlessAreReadable, EchoesAreReadBack};
 
 /// Limits may be widened: a file that has no fault under limits has none under limits of which none is
 /// smaller, and describes the same there: the same shape, names, type of rows and lists. A fault stays,
@@ -21,4 +21,14 @@ pub fn wider_limits()
 /// ([`cube::limits::LINES`]).
 pub fn read_back()
     ensures { TextsAreReadBack }
+{}
+
+/// What echo prints of a file with all three sets is read again as the same. A file without a fault
+/// describes something that [`read_back`] speaks of: a shape within the limits, names such as a file can
+/// give, and lists of cubes of the shape, those that are computed too. So the text with type fdr has no
+/// fault, and describes the file's shape and names and the three lists as they were printed. The text has
+/// at most as many lines as are looked at: a file may give more rows than that in fewer lines.
+pub fn echo_read_back()
+    ensures readable { FaultlessAreReadable }
+    ensures again { EchoesAreReadBack }
 {}

@@ -4,6 +4,7 @@ use std::test::Fail;
 
 #[test]
 fn laws_can_be_called(_rt: HostRuntime) -> Result<(), Fail> {
+    laws::echo_read_back();
     laws::read_back();
     laws::wider_limits();
     Ok(())
