@@ -403,7 +403,10 @@ def exact_cases():
              "sqr6": 0.12, "mlp4": 0.66, "adr6": 0.6}
     for name in (*goals, "sqr7"):
         yield f"exact-{name}", file_case(["-Dexact"], lambda name=name: function(name), goals.get(name))
-    yield "exact-rings-8", file_case(["-Dexact"], lambda: write("rings-8.pla", pla(rings(8)[0], 1, rings(8)[1])), None)
+    for count, goal in ((8, None), (300, 0.1)):
+        yield f"exact-rings-{count}", file_case(
+            ["-Dexact"],
+            lambda count=count: write(f"rings-{count}.pla", pla(rings(count)[0], 1, rings(count)[1])), goal)
     for name in ("adr4", "rd84", "adr6", "sym12"):
         yield f"essen-{name}", file_case(["-Dessen"], lambda name=name: function(name), None)
     yield "essen-random-240", file_case(

@@ -28,7 +28,9 @@ class Statement(unittest.TestCase):
                 shutil.copy(os.path.join(TOP, "docs", script), os.path.join(copy, "docs"))
             for crate in os.listdir(os.path.join(TOP, "crates")):
                 for part in ("specs", "src"):
-                    shutil.copytree(os.path.join(TOP, "crates", crate, part), os.path.join(copy, "crates", crate, part))
+                    folder = os.path.join("crates", crate, part)
+                    if os.path.isdir(os.path.join(TOP, folder)):
+                        shutil.copytree(os.path.join(TOP, folder), os.path.join(copy, folder))
             path = os.path.join(copy, "crates", "espresso", "specs", "Tool.antt")
             with open(path, encoding="utf-8") as file:
                 text = file.read()

@@ -7,6 +7,7 @@ pub mod Putting
 pub mod BestChoice
 pub mod Sides
 pub mod Renumbered
+pub mod Even
 pub mod Ways
 pub mod Rising
 pub mod Bounds

@@ -64,6 +64,13 @@ sum_map : (count own : ℕ → ℕ) (f : ℕ → ℕ) (xs : List ℕ) → ((i : 
 sum_map count own f [] e = refl
 sum_map count own f (x ∷ xs) e = let k = sum_map count own f xs (λ i h. e i (has_later i x xs h)) in let one = e x (has_here x x xs refl) in omega arith
 
+-- a cover has live columns beside the taken ones
+pub rest_live : (t : Grid) (x : List ℕ) → IsCover t x → (n : ℕ) → has n (minus x t.taken) ≡ true → has n t.live ≡ true
+rest_live t x h n e = elim (or_cases (has n t.taken) (has n t.live) (h.only n (minus_only n x t.taken e))) [
+  | inl f ↦ absurd (both_ways _ (minus_lacks n x t.taken h.rises e) f)
+  | inr f ↦ f
+]
+
 -- ---- the tables
 
 module _ (t : Grid) (w : IsTable t) (rows : List (List ℕ)) (weights : List ℕ) (same_rows : map (map (pick t.live)) rows ≡ t.rows) (are : AreRows (length weights) rows) (same_weights : weights ≡ map (λ c. slice_index_or t.weights c 0) t.live) where
@@ -125,16 +132,10 @@ module _ (t : Grid) (w : IsTable t) (rows : List (List ℕ)) (weights : List ℕ
     rows = forth_rows x rows (all_below rows are) (subst (AllByRecursion (λ row. meets x row ≡ true)) (sym same_rows) h.rows);
   }
 
-  rest_live : (x : List ℕ) → IsCover t x → (n : ℕ) → has n (minus x t.taken) ≡ true → has n t.live ≡ true
-  rest_live x h n e = elim (or_cases (has n t.taken) (has n t.live) (h.only n (minus_only n x t.taken e))) [
-    | inl f ↦ absurd (both_ways _ (minus_lacks n x t.taken h.rises e) f)
-    | inr f ↦ f
-  ]
-
   -- the columns of a cover beside the taken ones
   rest_same : (x : List ℕ) → IsCover t x → minus x t.taken ≡ back (forth x)
   rest_same x h = same_list 0 (minus x t.taken) (back (forth x)) (minus_rises x t.taken h.rises) (back_rises (forth x) (forth_cover x h))
-      (λ n e. let p = place_of n t.live (rest_live x h n e) in
+      (λ n e. let p = place_of n t.live (rest_live t x h n e) in
       subst (λ m. has m (back (forth x)) ≡ true) p.2 (map_keeps (pick t.live) p.0 (forth x) (forth_has x p.0 p.1 (subst (λ m. has m x ≡ true) (sym p.2) (minus_only n x t.taken e)))))
       (λ n e.
       let p = map_only (pick t.live) n (forth x) e in

@@ -141,7 +141,7 @@ rows_of_both P a b (row ∷ rows) e h k =
       rows_of_both P a b rows p.1 f.1 g.1,
     )
 
-all_has : (test : ℕ → Bool) (c : ℕ) (row : List ℕ) → list_all test row ≡ true → has c row ≡ true → test c ≡ true
+pub all_has : (test : ℕ → Bool) (c : ℕ) (row : List ℕ) → list_all test row ≡ true → has c row ≡ true → test c ≡ true
 all_has test c [] h k = absurd (true≢false (sym k))
 all_has test c (d ∷ row) h k = let p = and_parts (test d) (list_all test row) h in elim (has_cases c d row k) [ inl e ↦ ap test e ∙ p.0 | inr e ↦ all_has test c row p.1 e ]
 

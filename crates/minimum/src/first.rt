@@ -7,7 +7,7 @@
 //! them: where no cover has one of them all are dropped.
 
 ghost use Rattle.std.specs.Prelude.{◌≡◌, ◌≢◌, ◌≤◌, ◌<◌, ◌+◌, ◌++◌, ◌∷◌, [], ℕ, List, IfOk, MatchOption, length, filter, map, not, ◌==◌, true, false};
-ghost use Rattle.std.specs.List.{range_with_len};
+ghost use Rattle.std.specs.List.{list_all, range_with_len};
 ghost use Rattle.minimum.specs.Table.{has, IsTable, IsWithin, RisesFrom};
 ghost use Rattle.minimum.specs.Cover.{IsCover, IsLeast, counted, sum_over};
 ghost use Rattle.minimum.specs.Search.{Continues, HasFewer, HasShorter, IsBest, IsFewest, IsOutside, IsShortest, IsStage, marked};
@@ -15,12 +15,15 @@ ghost use Rattle.minimum.specs.Steps.{with_rows};
 
 use crate::bound::Budget;
 use crate::choice::Choice;
-use crate::lists::{contains, copied, joined, sum};
+use crate::lists::{contains, copied, count, joined, sum};
 use crate::reduction::copied_rows;
 use crate::search::{is_marked, marked_columns};
 use crate::subgradient::{Goal, Guide};
 use crate::table::Table;
 use std::alloc::{AllocError, Global};
+
+/// A table with so few live columns is solved by trying all choices.
+const FEW: usize = 8;
 
 /// What is left to settle: a table, and a cover of it within the budget.
 #[derive(Drop)]
@@ -73,6 +76,15 @@ fn all_but(alloc: Global, column: usize, end: usize) -> Result<Vec<bool>, AllocE
     ensures { IfOk result (λ v. v.items ≡ map (λ c. not (c == column)) (range_with_len 0 end)) }
 {
     (0..end).map(|c| !(c == column)).collect(alloc)
+}
+
+/// Whether each of the columns counts so much.
+fn all_count(choice: Choice, weights: &[u32], columns: &[usize], number: u32) -> bool
+    ensures { result ≡ list_all (λ c. counted choice weights.now c == number) columns.now }
+{
+    columns
+        .iter()
+        .all(|column| count(choice, weights, *column) == number)
 }
 
 impl Stage {
@@ -425,12 +437,31 @@ impl Table {
         }
     }
 
-    /// The least cover, of all rows at once.
+    /// The least cover, of all rows at once. Where all live columns count alike, size decides before what they count.
     pub(crate) fn least_of_whole(
         &self,
         alloc: Global,
         choice: Choice,
     ) -> Result<Vec<usize>, AllocError>
+        ensures { IfOk result (λ v. IsLeast choice self.now v.items) }
+    {
+        let live = self.live_columns();
+        if live.len() <= FEW {
+            return self.least_cover_plain(alloc, choice);
+        }
+        if all_count(
+            choice,
+            self.literals(),
+            live,
+            count(choice, self.literals(), live[0]),
+        ) {
+            return self.first_of_best(alloc, Choice::First);
+        }
+        self.first_of_best(alloc, choice)
+    }
+
+    /// The first of the best covers.
+    fn first_of_best(&self, alloc: Global, choice: Choice) -> Result<Vec<usize>, AllocError>
         ensures { IfOk result (λ v. IsLeast choice self.now v.items) }
     {
         let best = self.best(alloc, choice)?;

@@ -1,7 +1,7 @@
 //! Laws of the definitions, as contracts.
 
 ghost use Rattle.minimum.specs.Lagrange.{LagrangianHolds};
-ghost use Rattle.minimum.specs.Laws.{LeastIsUnique};
+ghost use Rattle.minimum.specs.Laws.{LeastDifferenceDecides, LeastIsUnique};
 
 /// A table has one least cover at most, so that a contract that says `IsLeast` says which list is answered.
 pub fn least_is_unique()
@@ -11,4 +11,9 @@ pub fn least_is_unique()
 /// What weights of rows, also more than the columns can bear, say of each list with a column of each row.
 pub fn weights_bound_covers()
     ensures { LagrangianHolds }
+{}
+
+/// Of two rising lists of one length the one comes first that has the least number in which they differ.
+pub fn least_difference_decides()
+    ensures { LeastDifferenceDecides }
 {}

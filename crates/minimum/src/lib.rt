@@ -23,7 +23,9 @@
 //! has the column. A question is answered by a search that branches on any column; each of its tables is reduced, also
 //! by columns that stand under any other, and bounded by weights of its rows in whole numbers (Coudert, On solving
 //! covering problems, 1996). Weights, witnesses and branches are wished for by heuristics, and looked at before they are
-//! used. A search holds a copy of the table for each branch that is open, as many as columns are decided on one path. The
+//! used. Rows that fall into parts which share no column are solved part by part, each in numbers of its own (the first
+//! of two lists of one length has the least number in which they differ, so that the parts' least covers make the least
+//! cover); where all columns of a part count alike its size decides. A search holds a copy of the table for each branch that is open, as many as columns are decided on one path. The
 //! number of branches is not bounded by less than the number of covers.
 #![tactic(auto)]
 
@@ -50,7 +52,7 @@ mod witness;
 
 pub use choice::Choice;
 pub use implicants::primes;
-pub use laws::{least_is_unique, weights_bound_covers};
+pub use laws::{least_difference_decides, least_is_unique, weights_bound_covers};
 pub use reduction::reduce;
 pub use solution::{essential, exact};
 pub use table::Table;
