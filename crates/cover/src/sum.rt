@@ -203,7 +203,7 @@ fn sum_in_order(
 ///
 /// There may be exponentially many in the inputs, and time goes at least with their number. Lists on
 /// the way whose sum was found before cost a copy of it; the sums and lists that are kept for this
-/// take memory for 262,144 rows at most. Lists are joined for their meets, and looked at pair by pair
+/// are forgotten where they become many. Lists are joined for their meets, and looked at pair by pair
 /// for cubes that lie in others where they are short or have one literal at each input.
 ///
 /// # Errors

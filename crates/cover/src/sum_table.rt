@@ -14,10 +14,10 @@ use cube::{Cube, Shape};
 use std::alloc::{AllocError, Global};
 use std::mem;
 
-// How many sums are kept at most.
+// How many slots there are.
 const SLOTS: usize = 16384;
 
-// How many rows are kept at most. Where one more sum would pass this, all are forgotten.
+// Where the rows that are kept would come to more than this with one more sum, all are forgotten.
 const ROWS: usize = 1 << 18;
 
 // Two lists, and the complete sum of the places of the first that are not in the second.
@@ -52,7 +52,7 @@ impl Known {
     }
 }
 
-/// Sums that were found: at most [`SLOTS`], of [`ROWS`] rows with those of their lists.
+/// Sums that were found. No answer depends on how many are kept, and no contract speaks of it.
 #[derive(Drop)]
 pub(crate) struct Sums {
     slots: Vec<Option<Known>>,

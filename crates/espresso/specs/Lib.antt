@@ -13,3 +13,4 @@ pub mod Steps
 pub mod ToolExamples
 pub mod CommandExamples
 pub mod MessageExamples
+pub mod RunExamples

@@ -1,10 +1,10 @@
 -- What each message says, to the byte, and the number of each status.
-use Rattle.std.specs.Prelude.{◌≡◌, ℕ, List, codes, refl}
+use Rattle.std.specs.Prelude.{◌≡◌, ℕ, true, false, List, codes, refl}
 use Rattle.std.specs.Fmt.{digits}
 use Rattle.pla.specs.declared.fault.ReadKind.{ReadKind}
 use Rattle.pla.specs.declared.fault.ReadKind.TheVariants.{TooManyLines, LineTooLong, RefusedKeyword, KeywordInsideRow, KeywordRepeated, BadNumber, NamesBeforeShape, WrongNumberOfNames, TypeAfterRow, BadType, RowBeforeShape, BadSymbol, ShapeMissing, UnfinishedRow, ReadFailed, WriteFailed, OutOfMemory}
 use Rattle.espresso.specs.declared.status.Status.TheVariants.{Done, No, Fault, Memory}
-use Rattle.espresso.specs.Messages.{closed_message, fault_message, memory_message, sizes_message, status_code, usage_message, write_failed_message}
+use Rattle.espresso.specs.Messages.{closed_message, fault_message, is_answer, memory_message, sizes_message, status_code, usage_message, write_failed_message}
 
 -- what is said of this fault on line 12 of the file f
 abbrev said : ReadKind → List ℕ
@@ -66,6 +66,19 @@ pub record Statuses : Type 0 where
   pub no : status_code No ≡ 1
   pub fault : status_code Fault ≡ 2
   pub memory : status_code Memory ≡ 3
+  pub done_is_answer : is_answer Done ≡ true
+  pub no_is_answer : is_answer No ≡ true
+  pub fault_is_none : is_answer Fault ≡ false
+  pub memory_is_none : is_answer Memory ≡ false
 
 statuses : Statuses
-statuses = record { done = refl; no = refl; fault = refl; memory = refl }
+statuses = record {
+  done = refl;
+  no = refl;
+  fault = refl;
+  memory = refl;
+  done_is_answer = refl;
+  no_is_answer = refl;
+  fault_is_none = refl;
+  memory_is_none = refl;
+}

@@ -24,6 +24,11 @@ nothing_to_read : tool (codes "-Decho" ∷ []) (Delivered [] End) None
 unfolding digits
 nothing_to_read = refl
 
+nothing_to_read_by_name : tool (codes "-Decho" ∷ codes "-" ∷ []) (Delivered [] End) None
+    ≡ faulty [] (codes "espresso: (stdin):0: .i or .o missing\n")
+unfolding digits
+nothing_to_read_by_name = refl
+
 -- a comment, an unknown keyword, and a symbol that is none on line 6
 abbrev commented : File
 commented = Delivered (codes "# a\n.i 1\n.o 1\n.foo x\n# b\nz 1\n") End

@@ -1,5 +1,6 @@
 -- What each byte, keyword and limit of the format means, and which of two faults on a line is told.
-use Rattle.std.specs.Prelude.{◌≡◌, ℕ, true, List, [], ◌∷◌, ◌++◌, Option, Some, None, codes, refl}
+use Rattle.std.specs.Prelude.{◌≡◌, ℕ, true, List, [], ◌∷◌, ◌++◌, filter, Option, Some, None, codes, refl}
+use Rattle.std.specs.List.{range_with_len}
 use Rattle.cube.specs.Limits.{Limits, format_limits}
 use Rattle.cube.specs.declared.symbol.Symbol.TheVariants.{Dash, Zero, One}
 use Rattle.cube.specs.Cube.{Cube}
@@ -10,6 +11,8 @@ use Rattle.pla.specs.declared.fault.ReadKind.TheVariants.{TooManyLines, LineTooL
 use Rattle.pla.specs.declared.fault.Echo.TheVariants.{Keep, Eat}
 use Rattle.pla.specs.declared.fault.FileType.{FileType}
 use Rattle.pla.specs.declared.fault.FileType.TheVariants.{F, Fd, Fr, Fdr}
+use Rattle.pla.specs.Lines.{is_blank, is_row_blank}
+use Rattle.pla.specs.Symbols.{is_symbol_at}
 use Rattle.pla.specs.Description.{Description}
 use Rattle.pla.specs.Fault.{fault_of, at_line, fault_in, is_past_limit, is_too_long, is_refused, is_inside_row, is_repeated, is_bad_number, is_name_too_early, is_wrong_count, is_type_too_late, is_bad_type, is_row_too_early, is_bad_symbol}
 use Rattle.pla.specs.Vectors.{Describes, HasFault, PassesOn, text}
@@ -114,6 +117,16 @@ pub record Bytes : Type 0 where
   pub outputs_fr : Describes (codes ".type fr" ∷ one_by_one ++ codes "00 11 02 03 -4 1- 0~" ∷ []) (small Fr (at_one ∷ at_both ∷ []) [] (at_zero ∷ []))
   pub outputs_fdr : Describes (codes ".type fdr" ∷ one_by_one ++ codes "00 11 02 03 -4 1- 0~" ∷ []) (small Fdr (at_one ∷ at_both ∷ []) (at_zero ∷ at_one ∷ []) (at_zero ∷ []))
   pub five_as_output : HasFault (one_by_one ++ codes "1 5" ∷ []) 3 BadSymbol
+
+-- of all bytes
+pub record AllBytes : Type 0 where
+  pub blanks : filter is_blank (range_with_len 0 256) ≡ 9 ∷ 11 ∷ 12 ∷ 13 ∷ 32 ∷ []
+  pub row_blanks : filter is_row_blank (range_with_len 0 256) ≡ 9 ∷ 11 ∷ 12 ∷ 13 ∷ 32 ∷ 124 ∷ []
+  pub inputs : filter (is_symbol_at 1 0) (range_with_len 0 256) ≡ codes "-012"
+  pub outputs : filter (is_symbol_at 1 1) (range_with_len 0 256) ≡ codes "-01234~"
+
+all_bytes : AllBytes
+all_bytes = record { blanks = refl; row_blanks = refl; inputs = refl; outputs = refl }
 
 -- ---- keywords
 
