@@ -5,8 +5,8 @@
 //! of an output. (R. Brayton, G. Hachtel, C. McMullen and A. Sangiovanni-Vincentelli, "Logic
 //! Minimization Algorithms for VLSI Synthesis", 1984.)
 //!
-//! Make a cube by [`Shape::new`] and [`Cube::from_symbols`], and read it by [`Cube::symbol`] and
-//! [`Cube::output`]. [`Cube::contains`], [`Cube::disjoint`] and [`Cube::meet`] compare sets of
+//! Make a cube by [`Shape::new`] and [`Cube::from_symbols`], or by [`Cube::from_bytes`] of a row of a
+//! file, and read it by [`Cube::symbol`] and [`Cube::output`]. [`Cube::contains`], [`Cube::disjoint`] and [`Cube::meet`] compare sets of
 //! places, [`Cube::sharp`] takes one from another, [`Cube::cofactor`] and [`Cube::with_symbol`]
 //! serve recursions over inputs, and [`Cube::row_cmp`] is the order in which lists are kept.
 //!

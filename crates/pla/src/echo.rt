@@ -1,32 +1,34 @@
 //! The echo of a line: what of it is passed on.
 ghost use Rattle.std.specs.Prelude.{◌≡◌, ◌++◌, ◌∷◌, [], if◌then◌else◌, codes};
 ghost use Rattle.pla.specs.Device.{TellsFailure, Writes};
-ghost use Rattle.pla.specs.Lines.{code, comment};
+ghost use Rattle.pla.specs.Lines.{code as code_on, comment, row_code};
 ghost use Rattle.pla.specs.Keywords.{is_unknown as is_unknown_line, is_one_of, settings, endings, refused_keywords};
 ghost use Rattle.pla.specs.Echoes.{echo_of, kept_comment};
 
 use crate::device::Output;
 use crate::fault::Echo;
 use crate::header::{is_end, is_outside_profile};
-use crate::line::{LineKind, keyword_code_of, keyword_of, kind_of, row_code_of};
+use crate::line::{LineKind, keyword_code_of, keyword_of, kind_of};
 use crate::writing::{WriteFault, then, write_bytes};
 
-/// What stands before the comment.
-fn code_of(line: &[u8]) -> &[u8]
-    ensures { result.now ≡ code line.now }
+/// What stands before the comment: the code, if it is a row line.
+fn code_of<'a>(line: &'a [u8], code: &'a [u8]) -> &'a [u8]
+    requires { code.now ≡ row_code line.now }
+    ensures { result.now ≡ code_on line.now }
 {
     match kind_of(line) {
         LineKind::Empty => line,
         LineKind::Keyword => keyword_code_of(line),
-        LineKind::Row => row_code_of(line),
+        LineKind::Row => code,
     }
 }
 
 /// The comment, from its `#` to the line's end: empty where the line has none.
-fn comment_of(line: &[u8]) -> &[u8]
+fn comment_of<'a>(line: &'a [u8], code: &'a [u8]) -> &'a [u8]
+    requires { code.now ≡ row_code line.now }
     ensures { result.now ≡ comment line.now }
 {
-    let end = code_of(line).len();
+    let end = code_of(line, code).len();
     &line[end.min(line.len())..]
 }
 
@@ -53,25 +55,32 @@ fn is_known(keyword: &[u8]) -> bool
 }
 
 /// What is passed on of a line, without a line feed.
-fn echo_text(echo: Echo, line: &[u8]) -> &[u8]
+fn echo_text<'a>(echo: Echo, line: &'a [u8], code: &'a [u8]) -> &'a [u8]
+    requires { code.now ≡ row_code line.now }
     ensures { result.now ≡ (if is_unknown_line line.now then line.now else kept_comment echo line.now) }
 {
     if is_unknown(line) {
         return line;
     }
     match echo {
-        Echo::Keep => comment_of(line),
+        Echo::Keep => comment_of(line, code),
         Echo::Eat => &[],
     }
 }
 
 /// Writes the echo of a line: the whole line where its keyword is unknown, otherwise its comment
-/// where it has one and comments are kept, with a line feed. Takes no memory.
-pub fn write_echo<W: Output>(echo: Echo, line: &[u8], output: &mut W) -> Result<(), WriteFault>
+/// where it has one and comments are kept, with a line feed. The code is that of a row line. Takes no memory.
+pub fn write_echo<W: Output>(
+    echo: Echo,
+    line: &[u8],
+    code: &[u8],
+    output: &mut W,
+) -> Result<(), WriteFault>
+    requires { code.now ≡ row_code line.now }
     ensures bytes { Writes (W.taken output.old) (W.taken output.new) result (echo_of echo line.now) }
     ensures count { TellsFailure (W.calls output.old) (W.calls output.new) result }
 {
-    let text = echo_text(echo, line);
+    let text = echo_text(echo, line, code);
     if text.is_empty() {
         return Ok(());
     }

@@ -15,7 +15,7 @@ ghost use Rattle.pla.specs.Description.{description_of};
 use crate::description::Pla;
 use crate::fault::{FileType, LineError, ReadKind};
 use crate::header::Head;
-use crate::line::{LineKind, has_symbol, keyword_code_of, kind_of, row_code_of, words_of};
+use crate::line::{LineKind, has_symbol, keyword_code_of, kind_of, words_of};
 use crate::rows::Rows;
 use cube::Shape;
 use std::alloc::Global;
@@ -86,15 +86,14 @@ fn open_rows(rows: &mut Option<Rows>, alloc: Global, shape: Option<Shape>)
     }
 }
 
-/// Takes a row line.
-fn take_row(head: &mut Head, rows: &mut Option<Rows>, line: &[u8]) -> Result<(), LineError>
+/// Takes a row line of this code.
+fn take_row(head: &mut Head, rows: &mut Option<Rows>, code: &[u8]) -> Result<(), LineError>
     ensures lines { head.new.lines ≡ head.old.lines }
     ensures tied { IsTied (seen head.old 0) rows.old → IsTied (seen head.new 0) rows.new }
-    ensures head { OnOk result ((unfinished : ℕ) → seen head.new unfinished ≡ with_row_code (seen head.old unfinished) (row_code line.now)) }
-    ensures rows { OnOk result (read_row (type_in (seen head.old 0)) rows.old (row_code line.now) ≡ Some rows.new) }
-    ensures fault { IfErr result (IsBadRow (type_in (seen head.old 0)) rows.old (row_code line.now)) }
+    ensures head { OnOk result ((unfinished : ℕ) → seen head.new unfinished ≡ with_row_code (seen head.old unfinished) code.now) }
+    ensures rows { OnOk result (read_row (type_in (seen head.old 0)) rows.old code.now ≡ Some rows.new) }
+    ensures fault { IfErr result (IsBadRow (type_in (seen head.old 0)) rows.old code.now) }
 {
-    let code = row_code_of(line);
     let has_symbols = has_symbol(code);
     match rows {
         Some(rows) => rows.take(head.rows_type(), code)?,
@@ -132,9 +131,10 @@ impl Parser {
         self.head.lines
     }
 
-    /// Takes the next line.
-    pub fn take(&mut self, line: &[u8]) -> Result<(), LineError>
-        requires { self.old.header.ended ≡ false }
+    /// Takes the next line, whose code this is if it is a row line.
+    pub fn take(&mut self, line: &[u8], code: &[u8]) -> Result<(), LineError>
+        requires open { self.old.header.ended ≡ false }
+        requires code { code.now ≡ row_code line.now }
         ensures stands { (before : List (List ℕ)) → StandsForLines format_limits self.old before →
             MatchResult result (λ _. StandsForLines format_limits self.new (before ++ line.now ∷ [])) (Refuses format_limits before line.now) }
         ensures onward { OnOk result ((self.new.header.lines ≡ self.old.header.lines + 1) × (self.old.header.lines < 16777216)) }
@@ -148,7 +148,7 @@ impl Parser {
         match kind_of(line) {
             LineKind::Empty => {}
             LineKind::Keyword => take_keyword(&mut self.head, &mut self.rows, self.alloc, line)?,
-            LineKind::Row => take_row(&mut self.head, &mut self.rows, line)?,
+            LineKind::Row => take_row(&mut self.head, &mut self.rows, code)?,
         }
         self.head.lines += 1;
         Ok(())

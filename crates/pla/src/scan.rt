@@ -18,6 +18,7 @@ use crate::device::Output;
 use crate::echo::write_echo;
 use crate::ending::Ending;
 use crate::fault::{Echo, LineError, ReadFault, ReadKind};
+use crate::line::row_code_of;
 use crate::parser::Parser;
 use crate::writing::WriteFault;
 use cube::limits::{LINE_BYTES, LINES};
@@ -61,8 +62,9 @@ fn take_line<W: Output>(
         CountsWrites (W.calls output.old) (W.calls output.new) result }
 {
     let number = parser.lines() + 1;
-    match parser.take(line) {
-        Ok(()) => match write_echo(echo, line, output) {
+    let code = row_code_of(line);
+    match parser.take(line, code) {
+        Ok(()) => match write_echo(echo, line, code, output) {
             Ok(()) => Ok(()),
             Err(WriteFault) => Err(ReadFault {
                 line: 0,

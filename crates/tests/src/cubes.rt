@@ -138,6 +138,32 @@ fn reads_back(rt: HostRuntime) -> Result<(), Fail> {
     Ok(())
 }
 
+// The cube of a row's bytes, where a mark is 1 for `1` and `4`, and 2 for `-`.
+fn from_row(alloc: Global, inputs: &[u8], outputs: &[u8], mask: u8) -> Result<Option<Cube>, Fail> {
+    let shape = Shape::new(inputs.len(), outputs.len()).ok_or("limits")?;
+    if shape.inputs() != inputs.len() || shape.outputs() != outputs.len() {
+        return Err("lengths")?;
+    }
+    let mut marks = [0u8; 256];
+    marks[49] = 1;
+    marks[52] = 1;
+    marks[45] = 2;
+    Ok(Cube::from_bytes(alloc, shape, inputs, outputs, &marks, mask)?)
+}
+
+#[test]
+fn reads_bytes(rt: HostRuntime) -> Result<(), Fail> {
+    let c = from_row(rt.alloc(), b"-012x", b"1-4", 1)?.ok_or("no output")?;
+    assert!(rt; is_text(&c, ("-01--", "101")));
+    let c = from_row(rt.alloc(), b"-012x", b"1-4", 2)?.ok_or("no output")?;
+    assert!(rt; is_text(&c, ("-01--", "010")));
+    assert!(rt; from_row(rt.alloc(), b"-012x", b"1-4", 4)?.is_none());
+    let wide = "0110-01-0110-01-0110-01-0110-01-1-00-111-00-11-100";
+    let c = from_row(rt.alloc(), wide.as_bytes(), wide.as_bytes(), 1)?.ok_or("no output")?;
+    assert!(rt; is_text(&c, (wide, wide)));
+    Ok(())
+}
+
 #[test]
 fn wants_an_output(rt: HostRuntime) -> Result<(), Fail> {
     let none = packed(rt.alloc(), &[Symbol::Zero], &[false, false])?;

@@ -41,7 +41,7 @@ loop-k-preserved c =
             ∙ ap (asks true) (omega arith)
       ];
       set = λ p lt le.
-      ap (bit_at word) (omega (arith, before.within)) ∙ next.others (p - 2) (omega arith) ∙ before.set (p - 2) (omega arith) (omega (arith, before.within));
+          ap (bit_at word) (omega (arith, before.within)) ∙ next.others (p - 2) (omega arith) ∙ before.set (p - 2) (omega arith) (omega (arith, before.within));
     }
 
 pub returns : goal.returns

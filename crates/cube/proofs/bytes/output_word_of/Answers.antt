@@ -24,7 +24,7 @@ loop-k-preserved c =
             ∙ ap has (omega arith)
       ];
       clear = λ p lt le.
-      ap (bit_at word) (omega (arith, before.within)) ∙ next.others (p - 1) (omega arith) ∙ before.clear (p - 1) (omega arith) (omega (arith, before.within));
+          ap (bit_at word) (omega (arith, before.within)) ∙ next.others (p - 1) (omega arith) ∙ before.clear (p - 1) (omega arith) (omega (arith, before.within));
     }
 
 pub returns : goal.returns

@@ -3,7 +3,6 @@ use Rattle.std.proofs.lemmas.Result.{err_from_is_err_and}
 use Rattle.pla.specs.declared.fault.FileType.{FileType}
 use Rattle.pla.specs.declared.fault.LineError.{LineError}
 use Rattle.pla.specs.declared.fault.LineError.TheVariants.{Memory, Fault}
-use Rattle.pla.specs.Lines.{row_code}
 use Rattle.pla.specs.Header.{type_in}
 use Rattle.pla.specs.HeadView.{seen}
 use Rattle.pla.specs.Reading.{RowsRead, IsBadCode, read_code}
@@ -21,10 +20,9 @@ returns-in_err-take-in-Some-clause-fault c =
     let r = c.in-Some.rows in
     let p = err_from_is_err_and c.from_residual.result c.from_residual.ensures.1 in
     rw (p.1, p.2)
-    (subst (λ (rows : Option RowsRead). IsBadRow (type_in (seen c.args.head.now 0)) rows (row_code c.args.line.now) e) (sym c.in-Some.is)
-    (bad_row (type_in (seen c.args.head.now 0)) r (row_code c.args.line.now) e
-    (subst (λ (code : List ℕ). IsBadCode (type_in (seen c.args.head.now 0)) r code e) c.row_code_of-code.ensures
-    (subst (λ (type : FileType). IsBadCode type r c.row_code_of-code.result.now e) (c.rows_type.ensures 0) c.in_err-take-in-Some.ensures.err))))
+    (subst (λ (rows : Option RowsRead). IsBadRow (type_in (seen c.args.head.now 0)) rows c.args.code.now e) (sym c.in-Some.is)
+    (bad_row (type_in (seen c.args.head.now 0)) r c.args.code.now e
+    (subst (λ (type : FileType). IsBadCode type r c.args.code.now e) (c.rows_type.ensures 0) c.in_err-take-in-Some.ensures.err)))
 
 no_rows : (type : FileType) (code : List ℕ) → has_symbol code ≡ false → read_row type None code ≡ Some None
 no_rows type code e = ap (λ b. cond b None (Some None)) e
@@ -32,14 +30,14 @@ no_rows type code e = ap (λ b. cond b None (Some None)) e
 pub returns-clause-rows : goal.returns-clause-rows
 returns-clause-rows c =
     let type = type_in (seen c.args.head.now 0) in
-    let code = row_code c.args.line.now in
+    let code = c.args.code.now in
     elim c.match-rows.branch [
       | in-Some+in_ok-take-in-Some w ↦
           let r = w.in-Some.rows in
           let read : read_code type r code ≡ Some w.take.new.self =
-          sym (ap (λ (t : FileType). read_code t r c.row_code_of-code.result.now) (w.rows_type.ensures 0) ∙ ap (λ (z : List ℕ). read_code type r z) c.row_code_of-code.ensures) ∙ w.in_ok-take-in-Some.ensures.ok in
+          sym (ap (λ (t : FileType). read_code t r code) (w.rows_type.ensures 0)) ∙ w.in_ok-take-in-Some.ensures.ok in
           ap (λ (o : Option RowsRead). read_row type o code) w.in-Some.is ∙ ap (option_map (λ (x : RowsRead). Some x)) read ∙ ap (λ (o : Option RowsRead). Some o) (sym w.rows-is)
       | in-None+else-has_symbols w ↦
-          let none : has_symbol code ≡ false = sym (ap has_symbol c.row_code_of-code.ensures) ∙ sym c.has_symbol-has_symbols.ensures ∙ w.if-has_symbols.false in
+          let none : has_symbol code ≡ false = sym c.has_symbol-has_symbols.ensures ∙ w.if-has_symbols.false in
           ap (λ (o : Option RowsRead). read_row type o code) w.in-None.is ∙ no_rows type code none ∙ ap (λ (o : Option RowsRead). Some o) (sym (w.rows-is ∙ w.in-None.is))
     ]

@@ -1,13 +1,13 @@
-use Rattle.std.proofs.Common.{◌≡◌, ℕ, ◌+◌, List, [], ◌∷◌, ◌++◌, false, refl, ap, sym, ◌∙◌, subst}
+use Rattle.std.proofs.Common.{◌≡◌, ℕ, ◌+◌, List, [], ◌∷◌, ◌++◌, false, Some, refl, ap, sym, ◌∙◌, subst}
 use Rattle.std.proofs.lemmas.Result.{err_from_is_err_and}
 use Rattle.cube.specs.Limits.{format_limits}
 use Rattle.pla.specs.declared.parser.Parser.TheInside.{Inside}
 use Rattle.pla.specs.Lines.{row_code}
-use Rattle.pla.specs.Header.{Header}
+use Rattle.pla.specs.Header.{Header, type_in}
 use Rattle.pla.specs.Fault.{is_past_limit, is_too_long}
 use Rattle.pla.specs.State.{Parsed, StandsForLines}
 use Rattle.pla.specs.HeadView.{seen, with_keyword}
-use Rattle.pla.specs.Parsing.{IsTied, parsed_by, unfinished_of, with_row_code}
+use Rattle.pla.specs.Parsing.{IsBadRow, IsTied, parsed_by, read_row, unfinished_of, with_row_code}
 use Rattle.pla.proofs.KeywordTaken.{Before, keyword_taken}
 use Rattle.pla.proofs.RowTaken.{row_taken, empty_taken}
 use Rattle.pla.proofs.Refusals.{many_refused, long_refused, keyword_refuses, row_refuses}
@@ -21,19 +21,19 @@ known parser value before view tied going st = record { stands = subst (λ p. St
 
 pub returns-then-past_limit-clause-stands : goal.returns-then-past_limit-clause-stands
 returns-then-past_limit-clause-stands c = λ before st.
-    many_refused format_limits before c.args.line.now c.self.inside.head c.self.inside.rows (known c.self.inside c.args.self.now before c.self.view_is c.self.invariant c.requires st)
+    many_refused format_limits before c.args.line.now c.self.inside.head c.self.inside.rows (known c.self.inside c.args.self.now before c.self.view_is c.self.invariant c.requires.open st)
     (sym (c.past_limit.ensures.value (unfinished_of c.self.inside.rows)) ∙ c.if-past_limit.true)
 
 pub returns-then-too_long-clause-stands : goal.returns-then-too_long-clause-stands
 returns-then-too_long-clause-stands c = λ before st.
-    long_refused format_limits before c.args.line.now c.self.inside.head c.self.inside.rows (known c.self.inside c.args.self.now before c.self.view_is c.self.invariant c.requires st)
+    long_refused format_limits before c.args.line.now c.self.inside.head c.self.inside.rows (known c.self.inside c.args.self.now before c.self.view_is c.self.invariant c.requires.open st)
     (sym (c.past_limit.ensures.value (unfinished_of c.self.inside.rows)) ∙ c.if-past_limit.false) (sym (c.too_long.ensures (unfinished_of c.self.inside.rows)) ∙ c.if-too_long.true)
 
 pub returns-in_err-take_keyword-in-Keyword-clause-stands : goal.returns-in_err-take_keyword-in-Keyword-clause-stands
 returns-in_err-take_keyword-in-Keyword-clause-stands c =
     let p = err_from_is_err_and c.from_residual.result c.from_residual.ensures.1 in
     rw (p.1, p.2) (λ before st.
-    keyword_refuses format_limits before c.args.line.now c.self.inside.head c.self.inside.rows _ (known c.self.inside c.args.self.now before c.self.view_is c.self.invariant c.requires st) (sym c.kind_of.ensures ∙ c.in-Keyword.is)
+    keyword_refuses format_limits before c.args.line.now c.self.inside.head c.self.inside.rows _ (known c.self.inside c.args.self.now before c.self.view_is c.self.invariant c.requires.open st) (sym c.kind_of.ensures ∙ c.in-Keyword.is)
     (sym (c.past_limit.ensures.value (unfinished_of c.self.inside.rows)) ∙ c.if-past_limit.false) (sym (c.too_long.ensures (unfinished_of c.self.inside.rows)) ∙ c.if-too_long.false)
     c.in_err-take_keyword-in-Keyword.ensures.fault)
 
@@ -41,9 +41,9 @@ pub returns-in_err-take_row-in-Row-clause-stands : goal.returns-in_err-take_row-
 returns-in_err-take_row-in-Row-clause-stands c =
     let p = err_from_is_err_and c.from_residual-in_err-take_row-in-Row.result c.from_residual-in_err-take_row-in-Row.ensures.1 in
     rw (p.1, p.2) (λ before st.
-    row_refuses format_limits before c.args.line.now c.self.inside.head c.self.inside.rows _ (known c.self.inside c.args.self.now before c.self.view_is c.self.invariant c.requires st) (sym c.kind_of.ensures ∙ c.in-Row.is)
+    row_refuses format_limits before c.args.line.now c.self.inside.head c.self.inside.rows _ (known c.self.inside c.args.self.now before c.self.view_is c.self.invariant c.requires.open st) (sym c.kind_of.ensures ∙ c.in-Row.is)
     (sym (c.past_limit.ensures.value (unfinished_of c.self.inside.rows)) ∙ c.if-past_limit.false) (sym (c.too_long.ensures (unfinished_of c.self.inside.rows)) ∙ c.if-too_long.false)
-    c.in_err-take_row-in-Row.ensures.fault)
+    (subst (λ (code : List ℕ). IsBadRow (type_in (seen c.self.inside.head 0)) c.self.inside.rows code c.in_err-take_row-in-Row.field-0.0) c.requires.code c.in_err-take_row-in-Row.ensures.fault))
 
 -- what is to be shown of the fields after the line
 Taken : List (List ℕ) → List ℕ → Inside → Type 0
@@ -56,7 +56,7 @@ returns-clause-stands c = λ before st.
     let head = c.self.inside.head in
     let rows = c.self.inside.rows in
     let u = unfinished_of rows in
-    let b = known c.self.inside c.args.self.now before c.self.view_is c.self.invariant c.requires st in
+    let b = known c.self.inside c.args.self.now before c.self.view_is c.self.invariant c.requires.open st in
     let few : is_past_limit format_limits (seen head u) line ≡ false = sym (c.past_limit.ensures.value u) ∙ c.if-past_limit.false in
     let short : is_too_long format_limits (seen head u) line ≡ false = sym (c.too_long.ensures u) ∙ c.if-too_long.false in
     elim c.match-kind_of.branch [
@@ -71,6 +71,8 @@ returns-clause-stands c = λ before st.
       | in-Row+in_ok-take_row-in-Row w ↦ subst (Taken before line) (sym w.self-inside-is)
           (let new = w.take_row.new.head in
           let given = w.in_ok-take_row-in-Row.ensures in
-          row_taken format_limits before line head (λ v. record (seen new v) { lines = new.lines + 1 }) rows w.take_row.new.rows b (sym c.kind_of.ensures ∙ w.in-Row.is) few short given.rows
-          (λ v. ap (λ (x : Header). record x { lines = new.lines + 1; unfinished = v }) (given.head u) ∙ ap (λ (n : ℕ). record (with_row_code (seen head u) (row_code line)) { lines = n + 1; unfinished = v }) given.lines))
+          let read = subst (λ (code : List ℕ). read_row (type_in (seen head 0)) rows code ≡ Some w.take_row.new.rows) c.requires.code given.rows in
+          let kept = λ (v : ℕ). given.head v ∙ ap (with_row_code (seen head v)) c.requires.code in
+          row_taken format_limits before line head (λ v. record (seen new v) { lines = new.lines + 1 }) rows w.take_row.new.rows b (sym c.kind_of.ensures ∙ w.in-Row.is) few short read
+          (λ v. ap (λ (x : Header). record x { lines = new.lines + 1; unfinished = v }) (kept u) ∙ ap (λ (n : ℕ). record (with_row_code (seen head u) (row_code line)) { lines = n + 1; unfinished = v }) given.lines))
     ]
