@@ -1,6 +1,8 @@
 -- The table of marks is held against the definitions by computing.
-use Rattle.std.proofs.Common.{◌≡◌, ℕ, ◌<◌, false, List, map, get_or, refl, ap, sym, ◌∙◌, codes, arith}
-use Rattle.std.specs.List.{range_with_len}
+use Rattle.std.proofs.Common.{◌≡◌, ℕ, ◌<◌, false, not, bit_and, eq-eqb, List, [], ◌∷◌, map, get_or, refl, ap, sym, ◌∙◌, codes, arith}
+use Rattle.std.specs.Prelude.{◌||◌}
+use Rattle.std.specs.List.{list_any, range_with_len}
+use Rattle.std.proofs.lemmas.Nat.{and_le_r}
 use Rattle.std.proofs.lemmas.List.{same_lists, get_or-map, length-map}
 use Rattle.std.proofs.lemmas.List.FromFn.{get_or-map-range_with_len}
 use Rattle.cube.specs.Bytes.{has_mark}
@@ -37,3 +39,10 @@ same_marks mask letters bytes says fits =
     (λ k d lt.
     get_or-map (has_mark MARKS mask) bytes k 0 d (omega (arith, length-map bytes (has_mark MARKS mask))) ∙ says (get_or bytes k 0) (fits k)
     ∙ sym (get_or-map (is_byte_of letters) bytes k 0 d (omega (arith, length-map bytes (has_mark MARKS mask)))))
+
+-- the mask 0 has no marks
+pub no_marks : (bytes : List ℕ) → list_any (λ b. b) (map (has_mark MARKS 0) bytes) ≡ false
+no_marks [] = refl
+no_marks (b ∷ bytes) =
+    ap (λ t. not t || list_any (λ x. x) (map (has_mark MARKS 0) bytes)) (eq-eqb (bit_and (get_or MARKS b 0) 0) 0 (omega (arith, and_le_r (get_or MARKS b 0) 0)))
+    ∙ no_marks bytes

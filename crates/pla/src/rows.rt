@@ -128,6 +128,9 @@ fn push_cube(
 {
     let shape = list.shape();
     let mask = marks_of(file_type, part);
+    if mask == 0 {
+        return Ok(());
+    }
     let Some(cube) = Cube::from_bytes(alloc, shape, inputs, outputs, &MARKS, mask)? else {
         return Ok(());
     };

@@ -9,7 +9,7 @@ use Rattle.cube.proofs.BytesLemmas.{any_map}
 use Rattle.pla.specs.declared.rows.TheConstants.{MARKS}
 use Rattle.pla.specs.Symbols.{is_byte_of}
 use Rattle.pla.specs.Lists.{part_symbols, cube_by}
-use Rattle.pla.proofs.Marks.{same_marks}
+use Rattle.pla.proofs.Marks.{no_marks, same_marks}
 use Rattle.pla.proofs.rows.push_cube.Goals as goal
 
 -- no cube is told where no output is set
@@ -25,6 +25,17 @@ one_cube : (symbols : List Symbol) (outputs : List Bool) (any : Bool) (found : O
 one_cube symbols outputs any None c a e f is = cc
 one_cube symbols outputs any (Some d) c a e f is =
     cond-true (list_any (λ out. out) outputs) (Some (record { symbols = symbols; outputs = outputs })) None (sym a ∙ f refl) ∙ ap (λ x. Some x) (sym is)
+
+pub returns-then-mask-eq0-clause-cubes : goal.returns-then-mask-eq0-clause-cubes
+returns-then-mask-eq0-clause-cubes c =
+    let letters = part_symbols c.args.file_type c.args.part in
+    let outputs = map (is_byte_of letters) c.args.outputs.now in
+    let same = same_marks c.marks_of-mask.result letters c.args.outputs.now c.marks_of-mask.ensures (λ i. (c.type_inv.outputs i).fits) in
+    let unset : list_any (λ out. out) outputs ≡ false =
+    sym (ap (list_any (λ out. out)) same) ∙ ap (λ m. list_any (λ out. out) (map (has_mark MARKS m) c.args.outputs.now)) c.if-mask-eq0.true ∙ no_marks c.args.outputs.now in
+    let none : cube_by (map byte_symbol c.args.inputs.now) outputs ≡ None =
+    ap (λ b. cond b (Some (record { symbols = map byte_symbol c.args.inputs.now; outputs = outputs })) None) unset in
+    sym (ap (λ o. c.args.list.now.cubes ++ option_to_list o) none ∙ append-nil c.args.list.now.cubes)
 
 pub returns-in_default-clause-cubes : goal.returns-in_default-clause-cubes
 returns-in_default-clause-cubes c =
