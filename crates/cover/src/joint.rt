@@ -198,7 +198,10 @@ fn parting_input(
 {
     let (some, others) = (sample(alloc, shape, rows)?, sample(alloc, shape, others)?);
     let inputs = shape.inputs();
-    let (mine, theirs) = (Tally::of(alloc, &some, inputs)?, Tally::of(alloc, &others, inputs)?);
+    let (mine, theirs) = (
+        Tally::of(alloc, &some, inputs)?,
+        Tally::of(alloc, &others, inputs)?,
+    );
     let least = least_weight(relation, &some, &others, rows.len());
     Ok(most_opposite(&mine, &theirs, inputs, least))
 }

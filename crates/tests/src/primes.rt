@@ -1,7 +1,7 @@
 //! Primes by hand.
 use crate::tables::read;
-use minimum::primes;
 use cube::Symbol;
+use minimum::primes;
 use pla::Sets;
 use std::test::Fail;
 
