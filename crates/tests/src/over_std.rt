@@ -1,63 +1,73 @@
 //! Devices over readers and writers of std.
 use pla::{Broken, Input, Output, Reading, Writing};
+use std::cell::Cell;
 use std::io;
 use std::io::{Cursor, ErrorKind, Read, Write};
 use std::test::Fail;
 
-// A reader and writer whose call of this number fails alone, for reads, writes and flushes each.
+// How often a device was called.
 #[derive(Drop)]
-struct Once {
-    failing: u64,
-    reads: u64,
-    writes: u64,
-    flushes: u64,
+struct Tries {
+    reads: Cell<u64>,
+    writes: Cell<u64>,
+    flushes: Cell<u64>,
 }
 
-impl Once {
-    fn new(failing: u64) -> Once {
-        Once {
-            failing,
-            reads: 0,
-            writes: 0,
-            flushes: 0,
+impl Tries {
+    fn new() -> Tries {
+        Tries {
+            reads: Cell::new(0),
+            writes: Cell::new(0),
+            flushes: Cell::new(0),
         }
+    }
+
+    // Whether these are the reads, the writes and the flushes so far.
+    fn are(&self, reads: u64, writes: u64, flushes: u64) -> bool {
+        self.reads.get() == reads && self.writes.get() == writes && self.flushes.get() == flushes
     }
 }
 
-impl Read for Once {
+// A reader and writer whose call of this number fails alone, for reads, writes and flushes each.
+#[derive(Drop)]
+struct Once<'a> {
+    failing: u64,
+    tries: &'a Tries,
+}
+
+// Counts one more call, which fails where it has this number.
+fn called(count: &Cell<u64>, failing: u64) -> io::Result<()> {
+    count.set(count.get().saturating_add(1));
+    if count.get() == failing {
+        return Err(io::Error::from(ErrorKind::Interrupted));
+    }
+    Ok(())
+}
+
+impl Read for Once<'_> {
     ghost use Rattle.std.specs.Prelude.{None};
 
     ghost remaining = { λ _. None };
 
     fn read(&mut self, buffer: &mut [u8]) -> io::Result<usize> {
-        self.reads = self.reads.saturating_add(1);
-        if self.reads == self.failing {
-            return Err(io::Error::from(ErrorKind::Interrupted));
-        }
+        called(&self.tries.reads, self.failing)?;
         buffer.fill(b'a');
         Ok(buffer.len())
     }
 }
 
-impl Write for Once {
+impl Write for Once<'_> {
     ghost use Rattle.std.specs.Prelude.{None};
 
     ghost contents = { λ _. None };
 
     fn write(&mut self, bytes: &[u8]) -> io::Result<usize> {
-        self.writes = self.writes.saturating_add(1);
-        if self.writes == self.failing {
-            return Err(io::Error::from(ErrorKind::Interrupted));
-        }
+        called(&self.tries.writes, self.failing)?;
         Ok(bytes.len())
     }
 
     fn flush(&mut self) -> io::Result<()> {
-        self.flushes = self.flushes.saturating_add(1);
-        if self.flushes == self.failing {
-            return Err(io::Error::from(ErrorKind::Interrupted));
-        }
-        Ok(())
+        called(&self.tries.flushes, self.failing)
     }
 }
 
@@ -95,43 +105,48 @@ fn reads_into_buffers_of_each_size(rt: HostRuntime) -> Result<(), Fail> {
 
 #[test]
 fn a_failed_read_is_told_and_not_tried_again(rt: HostRuntime) -> Result<(), Fail> {
-    let mut reading = Reading::new(Once::new(2));
+    let tries = Tries::new();
+    let mut reading = Reading::new(Once {
+        failing: 2,
+        tries: &tries,
+    });
     let mut buffer = [0; 3];
     assert_eq!(rt; reading.read(&mut buffer)?, 3);
     assert_eq!(rt; reading.read(&mut buffer), Err(Broken));
-    assert_eq!(rt; reading.inner.reads, 2);
-    assert_eq!(rt; reading.calls.failures, 1);
-    assert!(rt; reading.calls.broken);
+    assert!(rt; tries.are(2, 0, 0));
     assert_eq!(rt; reading.read(&mut buffer)?, 3);
-    assert_eq!(rt; reading.inner.reads, 3);
-    assert!(rt; !reading.calls.broken);
+    assert!(rt; tries.are(3, 0, 0));
     Ok(())
 }
 
 #[test]
 fn a_failed_write_is_told_and_not_tried_again(rt: HostRuntime) -> Result<(), Fail> {
-    let mut writing = Writing::new(Once::new(2));
+    let tries = Tries::new();
+    let mut writing = Writing::new(Once {
+        failing: 2,
+        tries: &tries,
+    });
     assert_eq!(rt; writing.write(b"abc")?, 3);
     assert_eq!(rt; writing.write(b"abc"), Err(Broken));
-    assert_eq!(rt; writing.inner.writes, 2);
-    assert_eq!(rt; writing.calls.counts.failures, 1);
+    assert!(rt; tries.are(0, 2, 0));
     assert_eq!(rt; writing.write(b"ab")?, 2);
-    assert_eq!(rt; writing.inner.writes, 3);
-    assert_eq!(rt; writing.inner.flushes, 0);
+    assert!(rt; tries.are(0, 3, 0));
     Ok(())
 }
 
 #[test]
 fn a_flush_is_passed_on_once_and_its_failure_told(rt: HostRuntime) -> Result<(), Fail> {
-    let mut writing = Writing::new(Once::new(2));
+    let tries = Tries::new();
+    let mut writing = Writing::new(Once {
+        failing: 2,
+        tries: &tries,
+    });
     writing.flush()?;
-    assert_eq!(rt; writing.inner.flushes, 1);
+    assert!(rt; tries.are(0, 0, 1));
     assert_eq!(rt; writing.flush(), Err(Broken));
-    assert_eq!(rt; writing.inner.flushes, 2);
-    assert_eq!(rt; writing.calls.counts.failed_flushes, 1);
+    assert!(rt; tries.are(0, 0, 2));
     writing.flush()?;
-    assert_eq!(rt; writing.inner.flushes, 3);
-    assert_eq!(rt; writing.inner.writes, 0);
+    assert!(rt; tries.are(0, 0, 3));
     Ok(())
 }
 
