@@ -1,6 +1,6 @@
 -- The symbols of two rows with the outputs of either, in words.
-use Rattle.std.proofs.Common.{◌≡◌, ℕ, ◌+◌, ◌<◌, ◌≤◌, Bool, true, false, ◌&&◌, ◌||◌, List, length, get_or, refl, ap, subst, ◌∙◌, arith, inl, inr, IsTrue, bit_and, bit_or}
-use Rattle.std.proofs.lemmas.Bool.{cases_lt, false≢true}
+use Rattle.std.proofs.Common.{◌≡◌, ℕ, ◌+◌, ◌<◌, ◌≤◌, Bool, true, false, ◌&&◌, ◌||◌, List, length, get_or, refl, ap, subst, ◌∙◌, arith, inl, inr, bit_and, bit_or}
+use Rattle.std.proofs.lemmas.Bool.{cases_lt}
 use Rattle.std.proofs.lemmas.List.{get_or_past}
 use Rattle.std.specs.Simd.Lanes.{zip2}
 use Rattle.cube.specs.declared.symbol.Symbol.TheVariants.{Dash}

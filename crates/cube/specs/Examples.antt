@@ -20,7 +20,8 @@ abbrev both : Cube
 both = record { symbols = One ∷ One ∷ []; outputs = true ∷ [] }
 
 -- a list with one maximal cube alone, or with a cube within another, is not the complete sum
-only_maximal_cubes : complete_sum two_inputs (λ p. holds first p || holds second p || holds both p) ≡ second ∷ first ∷ []
+only_maximal_cubes : complete_sum two_inputs (λ p. holds first p || holds second p || holds both p)
+    ≡ second ∷ first ∷ []
 only_maximal_cubes = refl
 
 -- a cube within another is not equal to it: it has to hold the other too

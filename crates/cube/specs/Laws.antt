@@ -6,11 +6,13 @@ use Rattle.cube.specs.Sum.{complete_sum, IsCompleteSum}
 
 -- the complete sum rises strictly, and its members are the maximal cubes
 abbrev pub CompleteSumIsMaximalCubes : Type 0
-CompleteSumIsMaximalCubes = (size : Size) (s : Place → Bool) → IsCompleteSum size s (complete_sum size s)
+CompleteSumIsMaximalCubes = (size : Size) (s : Place → Bool)
+    → IsCompleteSum size s (complete_sum size s)
 
 -- each such list is the complete sum
 abbrev pub MaximalCubesAreCompleteSum : Type 0
-MaximalCubesAreCompleteSum = (size : Size) (s : Place → Bool) (cs : List Cube) → IsCompleteSum size s cs → cs ≡ complete_sum size s
+MaximalCubesAreCompleteSum = (size : Size) (s : Place → Bool) (cs : List Cube)
+    → IsCompleteSum size s cs → cs ≡ complete_sum size s
 
 -- cubes of a size that hold the same places are equal
 abbrev pub CubesDifferInPlaces : Type 0

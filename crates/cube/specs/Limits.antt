@@ -15,4 +15,5 @@ format_limits = record { inputs = 1024; outputs = 1024; line_bytes = 131072; lin
 
 -- no more inputs and outputs than the limits allow, and at least one output
 abbrev pub IsWithinLimits : Limits → Size → Type 0
-IsWithinLimits limits size = (size.inputs ≤ limits.inputs) × (1 ≤ size.outputs) × (size.outputs ≤ limits.outputs)
+IsWithinLimits limits size = (size.inputs ≤ limits.inputs) × (1 ≤ size.outputs)
+    × (size.outputs ≤ limits.outputs)

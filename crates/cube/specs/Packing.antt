@@ -41,7 +41,8 @@ outputs_of start m words = map (λ j. output_bit start words j == 1) (range_with
 
 -- the cube that words stand for
 abbrev pub unpacked : ℕ → ℕ → List ℕ → Cube
-unpacked n m words = record { symbols = symbols_of n words; outputs = outputs_of (input_words n) m words }
+unpacked n m words =
+    record { symbols = symbols_of n words; outputs = outputs_of (input_words n) m words }
 
 -- a test as a bit
 abbrev pub bit_of : Bool → ℕ
@@ -49,8 +50,10 @@ bit_of b = cond b 1 0
 
 -- word v of the inputs, whose spare inputs are `-`
 pub record IsInputWord (symbols : List Symbol) (v word : ℕ) : Type 0 where
-  pub low : (k : ℕ) → k < 32 → bit_at word (2 * k) ≡ bit_of (agrees (slice_index_or symbols (32 * v + k) Dash) false)
-  pub high : (k : ℕ) → k < 32 → bit_at word (2 * k + 1) ≡ bit_of (agrees (slice_index_or symbols (32 * v + k) Dash) true)
+  pub low : (k : ℕ) → k < 32 → bit_at word (2 * k)
+      ≡ bit_of (agrees (slice_index_or symbols (32 * v + k) Dash) false)
+  pub high : (k : ℕ) → k < 32 → bit_at word (2 * k + 1)
+      ≡ bit_of (agrees (slice_index_or symbols (32 * v + k) Dash) true)
 
 -- word v of the outputs, whose spare bits are clear
 pub record IsOutputWord (outputs : List Bool) (v word : ℕ) : Type 0 where
@@ -59,12 +62,14 @@ pub record IsOutputWord (outputs : List Bool) (v word : ℕ) : Type 0 where
 -- the words of the inputs
 pub record PacksInputs (symbols : List Symbol) (words : List ℕ) : Type 0 where
   pub words_len : length words ≡ input_words (length symbols)
-  pub each : (v : ℕ) → v < input_words (length symbols) → IsInputWord symbols v (slice_index words v)
+  pub each : (v : ℕ) → v < input_words (length symbols)
+      → IsInputWord symbols v (slice_index words v)
 
 -- the words of the outputs
 pub record PacksOutputs (outputs : List Bool) (words : List ℕ) : Type 0 where
   pub words_len : length words ≡ output_words (length outputs)
-  pub each : (v : ℕ) → v < output_words (length outputs) → IsOutputWord outputs v (slice_index words v)
+  pub each : (v : ℕ) → v < output_words (length outputs)
+      → IsOutputWord outputs v (slice_index words v)
 
 -- the words of a cube: those of its inputs, and then those of its outputs
 pub record Packs (c : Cube) (words : List ℕ) : Type 0 where

@@ -1,4 +1,4 @@
--- The rows that are left of one without another, where they meet.
+-- The rows that are left of one without another, if they meet.
 use Rattle.std.specs.Prelude.{ℕ, zero, suc, Bool, true, false, not, ◌&&◌, cond, List, [], ◌∷◌, slice_index_or}
 use Rattle.std.specs.List.{list_any}
 use Rattle.cube.specs.declared.symbol.Symbol.{Symbol}
@@ -26,7 +26,7 @@ minus bs os = zip2 (λ b o. b && not o) bs os
 abbrev pub rest_row : Cube → Cube → Cube
 rest_row a b = record { symbols = a.symbols; outputs = minus a.outputs b.outputs }
 
--- that row, where an output is left
+-- that row, if an output is left
 abbrev pub rest_rows : Cube → Cube → List Cube
 rest_rows a b = cond (list_any (λ x. x) (minus a.outputs b.outputs)) (rest_row a b ∷ []) []
 
@@ -41,4 +41,5 @@ splits a b i = is_split (slice_index_or a.symbols i Dash) (slice_index_or b.symb
 -- the pieces at the inputs below k, the last first
 abbrev pub pieces_below : Cube → Cube → ℕ → List Cube
 pieces_below a b zero = []
-pieces_below a b (suc k) = cond (splits a b k) (piece a b k ∷ pieces_below a b k) (pieces_below a b k)
+pieces_below a b (suc k) = cond (splits a b k) (piece a b k ∷ pieces_below a b k)
+    (pieces_below a b k)

@@ -15,7 +15,8 @@ lists_of choices (suc n) = flat_map (λ x. map (λ rest. x ∷ rest) (lists_of c
 -- the places of a size
 abbrev pub all_places : Size → List Place
 all_places size =
-    flat_map (λ point. map (λ j. record { point = point; output = j }) (range_with_len 0 size.outputs))
+    flat_map (λ point. map (λ j. record { point = point; output = j })
+    (range_with_len 0 size.outputs))
     (lists_of (false ∷ true ∷ []) size.inputs)
 
 -- the cubes of a size, which have at least one output, in row order
@@ -43,7 +44,8 @@ complete_sum size s = filter (is_maximal size s) (all_cubes size)
 pub record IsMaximal (size : Size) (s : Place → Bool) (c : Cube) : Type 0 where
   pub is_cube : IsCube size c
   pub within : IsSubset (holds c) s
-  pub largest : (d : Cube) → IsCube size d → IsSubset (holds d) s → IsSubset (holds c) (holds d) → IsSubset (holds d) (holds c)
+  pub largest : (d : Cube) → IsCube size d → IsSubset (holds d) s → IsSubset (holds c) (holds d)
+      → IsSubset (holds d) (holds c)
 
 -- a list that rises strictly in row order and whose members are the maximal cubes
 pub record IsCompleteSum (size : Size) (s : Place → Bool) (cs : List Cube) : Type 0 where

@@ -6,7 +6,7 @@ use Rattle.std.specs.Int.{bit_at}
 abbrev pub IsBitSubset : ℕ → ℕ → Type 0
 IsBitSubset b a = (k : ℕ) → k < 64 → bit_at b k ≤ bit_at a k
 
--- the same word by word
+-- each bit of b is in a, word by word
 abbrev pub CoversWords : List ℕ → List ℕ → Type 0
 CoversWords a b = (v : ℕ) → v < length a → IsBitSubset (slice_index b v) (slice_index a v)
 
@@ -16,7 +16,8 @@ HasNoEmptyPair word = (k : ℕ) → k < 32 → 1 ≤ bit_at word (2 * k) + bit_a
 
 -- each pair of places has a bit that is in both rows
 abbrev pub PairsMeet : List ℕ → List ℕ → Type 0
-PairsMeet a b = (v : ℕ) → v < length a → HasNoEmptyPair (bit_and (slice_index a v) (slice_index b v))
+PairsMeet a b = (v : ℕ) → v < length a
+    → HasNoEmptyPair (bit_and (slice_index a v) (slice_index b v))
 
 -- some bit is in both rows
 abbrev pub ShareBit : List ℕ → List ℕ → Type 0
@@ -33,7 +34,8 @@ freed_bit bit b k = max bit (1 - min (bit_at b (2 * k)) (bit_at b (2 * k + 1)))
 
 -- the lowest bits, as many as given, are set, as far as the words go
 abbrev pub HasAll : ℕ → List ℕ → Type 0
-HasAll count words = (v k : ℕ) → v < length words → k < 64 → 64 * v + k < count → bit_at (slice_index words v) k ≡ 1
+HasAll count words = (v k : ℕ) → v < length words → k < 64 → 64 * v + k < count
+    → bit_at (slice_index words v) k ≡ 1
 
 -- a bit by its number among those of all words
 abbrev pub bit_of_words : List ℕ → ℕ → ℕ

@@ -1,7 +1,7 @@
 //! Words from the bytes of a row.
 //!
-//! A word is shifted in from its last symbol or output on, so that each byte costs a look at a table and
-//! no branch.
+//! A word is shifted in from its last symbol or output on, so that each byte costs a look at a
+//! table and no branch.
 ghost use Rattle.std.specs.Prelude.{◌≡◌, ℕ, ◌+◌, ◌<◌, ◌^◌, true, false, map};
 ghost use Rattle.std.specs.Int.{bit_at};
 ghost use Rattle.std.specs.List.{list_any};

@@ -32,8 +32,8 @@ use std::marker::Model;
 
 /// A symbol for each input, and a set of outputs that is not empty.
 ///
-/// The cube holds a place where each symbol agrees with the point's bit and the cube has the
-/// output. Methods that make a cube use the allocator of this one. Where [`Shape`]'s inputs and
+/// The cube holds a place if each symbol agrees with the point's bit and the cube has the
+/// output. Methods that make a cube use the allocator of this one. If [`Shape`]'s inputs and
 /// outputs make at most four words (say 96 inputs and 64 outputs, or 64 and 128) only
 /// [`Cube::sharp`] takes memory, for its list.
 #[derive(Drop)]
@@ -54,7 +54,7 @@ impl Model for Cube {
 }
 
 impl Cube {
-    /// The cube of these symbols and outputs, as many as the shape has, or `None` where no output
+    /// The cube of these symbols and outputs, as many as the shape has, or `None` if no output
     /// is set.
     pub fn from_symbols(
         alloc: Global,
@@ -65,7 +65,9 @@ impl Cube {
         requires inputs { length symbols.now ≡ shape.inputs }
         requires outputs { length outputs.now ≡ shape.outputs }
         ensures found { IfOk result (λ found. IsSome found ↔ Contains outputs.now true) }
-        ensures value { IfOk result (λ found. IfSome found (λ c. c ≡ record { symbols = symbols.now; outputs = outputs.now })) }
+        ensures value { IfOk result
+            (λ found. IfSome found
+            (λ c. c ≡ record { symbols = symbols.now; outputs = outputs.now })) }
         ensures inline { words_of_size shape ≤ 4 → IsOk result }
     {
         if !outputs.contains(&true) {
@@ -84,9 +86,9 @@ impl Cube {
         Ok(Some(Cube { shape, words }))
     }
 
-    /// The cube of a row's bytes, as many as the shape has inputs and outputs, or `None` where no output
-    /// is set. A byte `0` or `1` is that literal, and any other byte of an input is `-`; an output is set
-    /// where the mark of its byte, by a table of all bytes, shares a bit with the mask.
+    /// The cube of a row's bytes, as many as the shape has inputs and outputs, or `None` if no
+    /// output is set. A byte `0` or `1` is that literal, and any other byte of an input is `-`; an
+    /// output is set if the mark of its byte, by a table of all bytes, shares a bit with the mask.
     ///
     /// The bytes go straight into words, and each costs a look at a table.
     pub fn from_bytes(
@@ -99,8 +101,14 @@ impl Cube {
     ) -> Result<Option<Cube>, AllocError>
         requires inputs { length inputs.now ≡ shape.inputs }
         requires outputs { length outputs.now ≡ shape.outputs }
-        ensures found { IfOk result (λ found. IsSome found ↔ IsTrue (list_any (has_mark marks.now mask) outputs.now)) }
-        ensures value { IfOk result (λ found. IfSome found (λ c. c ≡ record { symbols = map byte_symbol inputs.now; outputs = map (has_mark marks.now mask) outputs.now })) }
+        ensures found { IfOk result
+            (λ found. IsSome found ↔ IsTrue (list_any (has_mark marks.now mask) outputs.now)) }
+        ensures value { IfOk result
+            (λ found. IfSome found
+            (λ c. c ≡ record {
+              symbols = map byte_symbol inputs.now;
+              outputs = map (has_mark marks.now mask) outputs.now;
+            })) }
         ensures inline { words_of_size shape ≤ 4 → IsOk result }
     {
         if !has_any_mark(outputs, marks, mask) {
@@ -154,12 +162,13 @@ impl Cube {
         (word >> (j % 64)) & 1 == 1
     }
 
-    /// Puts a byte for each symbol at the front of a row, one of the three by the symbol, and leaves
-    /// what follows. Looks at each symbol once, at four together where the bytes are `-`, `0` and `1`,
-    /// and takes no memory.
+    /// Puts a byte for each symbol at the front of a row, one of the three by the symbol, and
+    /// leaves what follows. Looks at each symbol once, at four together if the bytes are `-`, `0`
+    /// and `1`, and takes no memory.
     pub fn put_symbols(&self, row: &mut [u8], dash: u8, zero: u8, one: u8)
         requires { length self.now.symbols ≤ length row.old }
-        ensures { row.new ≡ map (symbol_byte dash zero one) self.now.symbols ++ drop (length self.now.symbols) row.old }
+        ensures { row.new ≡ map (symbol_byte dash zero one) self.now.symbols
+            ++ drop (length self.now.symbols) row.old }
     {
         let plain = dash == b'-' && zero == b'0' && one == b'1';
         let start = if plain { self.put_groups(row) } else { 0 };
@@ -175,7 +184,8 @@ impl Cube {
     fn put_groups(&self, row: &mut [u8]) -> usize
         requires { length self.now.symbols ≤ length row.old }
         ensures within { result ≤ length self.now.symbols }
-        ensures row { row.new ≡ map (symbol_byte 45 48 49) (take result self.now.symbols) ++ drop result row.old }
+        ensures row { row.new ≡ map (symbol_byte 45 48 49) (take result self.now.symbols)
+            ++ drop result row.old }
     {
         let words = self.input_part();
         let count = self.shape().inputs() / 4;
@@ -186,11 +196,12 @@ impl Cube {
         4 * count
     }
 
-    /// Puts a byte for each output at the front of a row, by whether the cube has it, and leaves what
-    /// follows. Looks at each output once, and takes no memory.
+    /// Puts a byte for each output at the front of a row, by whether the cube has it, and leaves
+    /// what follows. Looks at each output once, and takes no memory.
     pub fn put_outputs(&self, row: &mut [u8], present: u8, absent: u8)
         requires { length self.now.outputs ≤ length row.old }
-        ensures { row.new ≡ map (λ b. if b then present else absent) self.now.outputs ++ drop (length self.now.outputs) row.old }
+        ensures { row.new ≡ map (λ b. if b then present else absent) self.now.outputs
+            ++ drop (length self.now.outputs) row.old }
     {
         let words = self.output_part();
         for j in 0..self.shape().outputs() {
@@ -208,13 +219,14 @@ impl Cube {
         count_clear(words)
     }
 
-    /// The first input from `from` on that has a literal, or `None` where each of them has `-`.
+    /// The first input from `from` on that has a literal, or `None` if each of them has `-`.
     ///
     /// It costs a look at each word on the way, not at each symbol.
     pub fn next_literal(&self, from: usize) -> Option<usize>
         requires { from ≤ length self.now.symbols }
         ensures found { IfSome result (λ i. IsNextLiteral self.now from i) }
-        ensures none { IfNone result ((k : ℕ) → from ≤ k → slice_index_or self.now.symbols k Symbol.Dash ≡ Symbol.Dash) }
+        ensures none { IfNone result
+            ((k : ℕ) → from ≤ k → slice_index_or self.now.symbols k Symbol.Dash ≡ Symbol.Dash) }
     {
         let words = self.input_part();
         match first_clear(words, 2 * from) {
@@ -223,13 +235,15 @@ impl Cube {
         }
     }
 
-    /// The literals at the 32 inputs from `32 w` on, as bits: `0` at input `32 w + k` is bit `2 k + 1`,
-    /// and `1` bit `2 k`. So lists can count their literals word by word.
+    /// The literals at the 32 inputs from `32 w` on, as bits: `0` at input `32 w + k` is bit
+    /// `2 k + 1`, and `1` bit `2 k`. So lists can count their literals word by word.
     pub fn literal_bits(&self, w: usize) -> u64
         ensures zeros { (k : ℕ) → k < 32 → bit_at result (2 * k + 1)
-            ≡ (if not (agrees (slice_index_or self.now.symbols (32 * w + k) Symbol.Dash) true) then 1 else 0) }
+            ≡ (if not (agrees (slice_index_or self.now.symbols (32 * w + k) Symbol.Dash) true)
+            then 1 else 0) }
         ensures ones { (k : ℕ) → k < 32 → bit_at result (2 * k)
-            ≡ (if not (agrees (slice_index_or self.now.symbols (32 * w + k) Symbol.Dash) false) then 1 else 0) }
+            ≡ (if not (agrees (slice_index_or self.now.symbols (32 * w + k) Symbol.Dash) false)
+            then 1 else 0) }
     {
         match self.input_part().get(w) {
             Some(word) => clear_from(*word, 0),
@@ -240,7 +254,8 @@ impl Cube {
     /// The outputs from `64 w` on, as bits: output `64 w + k` is bit `k`. So lists can count and
     /// compare their outputs word by word.
     pub fn output_bits(&self, w: usize) -> u64
-        ensures { (k : ℕ) → k < 64 → bit_at result k ≡ (if slice_index_or self.now.outputs (64 * w + k) false then 1 else 0) }
+        ensures { (k : ℕ) → k < 64 → bit_at result k
+            ≡ (if slice_index_or self.now.outputs (64 * w + k) false then 1 else 0) }
     {
         match self.output_part().get(w) {
             Some(word) => *word,
@@ -251,7 +266,8 @@ impl Cube {
     /// Whether the cube holds each place of its shape: it has no literal, and all outputs.
     pub fn is_universal(&self) -> bool
         ensures row { IsTrue result ↔ IsUniversal self.now }
-        ensures places { IsTrue result ↔ ((p : Place) → IsPlace (size_of self.now) p → IsTrue (holds self.now p)) }
+        ensures places { IsTrue result
+            ↔ ((p : Place) → IsPlace (size_of self.now) p → IsTrue (holds self.now p)) }
     {
         let shape = self.shape();
         has_all(2 * shape.inputs(), self.input_part())
@@ -277,10 +293,11 @@ impl Cube {
         !share_bit(self.output_part(), other.output_part())
     }
 
-    /// The cube of the places that are in both, or `None` where there is none.
+    /// The cube of the places that are in both, or `None` if there is none.
     pub fn meet(&self, other: &Cube) -> Result<Option<Cube>, AllocError>
         requires { SameSize self.now other.now }
-        ensures none { IfOk result (λ found. IsNone found ↔ IsDisjoint (holds self.now) (holds other.now)) }
+        ensures none { IfOk result
+            (λ found. IsNone found ↔ IsDisjoint (holds self.now) (holds other.now)) }
         ensures size { IfOk result (λ found. IfSome found (λ c. SameSize c self.now)) }
         ensures places { IfOk result (λ found. IfSome found (λ c. (p : Place)
             → holds c p ≡ intersection (holds self.now) (holds other.now) p)) }
@@ -302,13 +319,15 @@ impl Cube {
     }
 
     /// The cofactor by `other`: this cube with `-` at the inputs where `other` has a literal, and
-    /// with the outputs that `other` lacks besides its own; `None` where the two are disjoint.
+    /// with the outputs that `other` lacks besides its own; `None` if the two are disjoint.
     ///
-    /// A list of cubes holds all of `other` exactly where their cofactors by it hold every place.
+    /// A list of cubes holds all of `other` exactly if their cofactors by it hold every place.
     pub fn cofactor(&self, other: &Cube) -> Result<Option<Cube>, AllocError>
         requires { SameSize self.now other.now }
-        ensures none { IfOk result (λ found. IsNone found ↔ IsDisjoint (holds self.now) (holds other.now)) }
-        ensures value { IfOk result (λ found. IfSome found (λ c. c ≡ cofactor_of self.now other.now)) }
+        ensures none { IfOk result
+            (λ found. IsNone found ↔ IsDisjoint (holds self.now) (holds other.now)) }
+        ensures value { IfOk result
+            (λ found. IfSome found (λ c. c ≡ cofactor_of self.now other.now)) }
         ensures size { IfOk result (λ found. IfSome found (λ c. SameSize c self.now)) }
         ensures inline { word_count self.now ≤ 4 → IsOk result }
     {
@@ -355,16 +374,18 @@ impl Cube {
         })
     }
 
-    /// The cube with the symbols of both and the outputs of either, or `None` where no point matches
+    /// The cube with the symbols of both and the outputs of either, or `None` if no point matches
     /// the symbols of both.
     pub fn stack(&self, other: &Cube) -> Result<Option<Cube>, AllocError>
         requires { SameSize self.now other.now }
         ensures none { IfOk result (λ found. IfNone found ((point : List Bool)
-            → IsTrue (matches self.now.symbols point) → IsTrue (matches other.now.symbols point) → ⊥)) }
+            → IsTrue (matches self.now.symbols point)
+            → IsTrue (matches other.now.symbols point) → ⊥)) }
         ensures size { IfOk result (λ found. IfSome found (λ c. SameSize c self.now)) }
         ensures places { IfOk result (λ found. IfSome found (λ c. (p : Place)
             → holds c p ≡ ((matches self.now.symbols p.point && matches other.now.symbols p.point)
-            && (slice_index_or self.now.outputs p.output false || slice_index_or other.now.outputs p.output false)))) }
+            && (slice_index_or self.now.outputs p.output false
+            || slice_index_or other.now.outputs p.output false)))) }
         ensures inline { word_count self.now ≤ 4 → IsOk result }
     {
         if !pairs_meet_by_lanes(self.input_part(), other.input_part()) {
@@ -486,13 +507,15 @@ impl Cube {
     /// The complete sum of the places that are in this cube and not in the other: all cubes that
     /// hold only such places and lie within no other such cube, in row order.
     ///
-    /// Where the two meet, these are this cube with the outputs that the other lacks, if any, and
+    /// If the two meet, these are this cube with the outputs that the other lacks, if any, and
     /// for each input where the other has a literal and this cube `-`, this cube with the opposite
     /// literal; such a cube comes before those at inputs to its left. So the list has at most one
     /// cube more than there are inputs.
     pub fn sharp(&self, other: &Cube) -> Result<Vec<Cube>, AllocError>
         requires { SameSize self.now other.now }
-        ensures { IfOk result (λ rows. rows.items ≡ complete_sum (size_of self.now) (difference (holds self.now) (holds other.now))) }
+        ensures { IfOk result
+            (λ rows. rows.items
+            ≡ complete_sum (size_of self.now) (difference (holds self.now) (holds other.now))) }
     {
         let mut rows = Vec::new(*self.words.allocator());
         if self.disjoint(other) {
@@ -518,7 +541,8 @@ impl Cube {
     // Adds the pieces, the last input first.
     fn push_pieces(&self, other: &Cube, rows: &mut Vec<Cube>) -> Result<(), AllocError>
         requires { SameSize self.now other.now }
-        ensures { OnOk result (rows.new.items ≡ rows.old.items ++ pieces_below self.now other.now (length self.now.symbols)) }
+        ensures { OnOk result (rows.new.items ≡ rows.old.items
+            ++ pieces_below self.now other.now (length self.now.symbols)) }
     {
         let shape = self.shape();
         for i in (0..shape.inputs()).rev() {
@@ -546,7 +570,8 @@ impl Cube {
     /// Whether this cube has an output that the other lacks.
     pub fn has_more_outputs(&self, other: &Cube) -> bool
         requires { SameSize self.now other.now }
-        ensures { IsTrue result ↔ IsTrue (list_any (λ b. b) (minus self.now.outputs other.now.outputs)) }
+        ensures { IsTrue result
+            ↔ IsTrue (list_any (λ b. b) (minus self.now.outputs other.now.outputs)) }
     {
         !covers_words(other.output_part(), self.output_part())
     }

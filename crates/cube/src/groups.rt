@@ -40,7 +40,8 @@ static GROUPS: [[u8; 4]; 256] = [
 /// The bytes `-`, `0` and `1` of the four symbols that eight bits of a word say.
 pub(crate) fn group_by_bits(bits: u64) -> &'static [u8; 4]
     requires { bits < 256 }
-    ensures { (k : ℕ) → k < 4 → slice_index result.now k ≡ symbol_byte 45 48 49 (symbol_of (bit_at bits (2 * k)) (bit_at bits (2 * k + 1))) }
+    ensures { (k : ℕ) → k < 4 → slice_index result.now k
+        ≡ symbol_byte 45 48 49 (symbol_of (bit_at bits (2 * k)) (bit_at bits (2 * k + 1))) }
 {
     &GROUPS[bits as usize]
 }

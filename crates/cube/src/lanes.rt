@@ -1,6 +1,6 @@
 //! Kernels over words, four at a time.
 //!
-//! Where there are few words, and for those behind the last four, the plain kernels serve.
+//! If there are few words, and for those after the last four, the plain kernels serve.
 ghost use Rattle.std.specs.Prelude.{◌≡◌, ℕ, ◌↔◌, ◌<◌, ◌/◌, IsTrue, length, slice_index, bit_and, bit_or};
 ghost use Rattle.std.specs.Int.{bit_not, w64};
 ghost use Rattle.cube.specs.Words.{CoversWords, HasNoEmptyPair, PairsMeet};
@@ -16,7 +16,9 @@ const MANY: usize = 8;
 
 // Whether each bit of four words of `b` is in `a`.
 fn covers_four(a: &[u64; 4], b: &[u64; 4]) -> bool
-    ensures { IsTrue result ↔ ((k : ℕ) → k < 4 → bit_and (slice_index b.now k) (bit_not w64 (slice_index a.now k)) ≡ 0) }
+    ensures { IsTrue result
+        ↔ ((k : ℕ) → k < 4 → bit_and (slice_index b.now k) (bit_not w64 (slice_index a.now k))
+        ≡ 0) }
 {
     let mine = u64x4::from_array(*a);
     let theirs = u64x4::from_array(*b);
@@ -25,7 +27,8 @@ fn covers_four(a: &[u64; 4], b: &[u64; 4]) -> bool
 
 // Whether each pair of bits of four words has one that is in both.
 fn pairs_meet_four(a: &[u64; 4], b: &[u64; 4]) -> bool
-    ensures { IsTrue result ↔ ((k : ℕ) → k < 4 → let both = bit_and (slice_index a.now k) (slice_index b.now k) in
+    ensures { IsTrue result
+        ↔ ((k : ℕ) → k < 4 → let both = bit_and (slice_index a.now k) (slice_index b.now k) in
         bit_and LOWER_BITS (bit_not w64 (bit_or both (both / 2))) ≡ 0) }
 {
     let both = u64x4::from_array(*a) & u64x4::from_array(*b);
@@ -40,7 +43,8 @@ fn has_no_empty_pair(word: u64) -> bool
     (word | (word >> 1)) & LOWER_BITS == LOWER_BITS
 }
 
-/// Whether each bit of `b` is in `a`. The first word decides for most cubes, before the length is asked for.
+/// Whether each bit of `b` is in `a`. The first word decides for most cubes, before the length is
+/// asked for.
 pub(crate) fn covers_by_lanes(a: &[u64], b: &[u64]) -> bool
     requires { length a.now ≡ length b.now }
     ensures { IsTrue result ↔ CoversWords a.now b.now }

@@ -19,5 +19,6 @@ pub fn same_places()
 
 /// The constants of [`crate::limits`] are the limits that contracts speak of.
 pub fn limits()
-    ensures { format_limits ≡ record { inputs = INPUTS; outputs = OUTPUTS; line_bytes = LINE_BYTES; lines = LINES } }
+    ensures { format_limits
+        ≡ record { inputs = INPUTS; outputs = OUTPUTS; line_bytes = LINE_BYTES; lines = LINES } }
 {}

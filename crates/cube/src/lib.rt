@@ -1,14 +1,15 @@
 //! Packed cubes of binary inputs and outputs, for tools that work on two-level logic.
 //!
-//! A [`Cube`] asks each input for `0`, for `1` or for nothing (`-`), and has some of the outputs, at
-//! least one. It stands for a set of places: a place is a point, one bit an input, with the number
-//! of an output. (R. Brayton, G. Hachtel, C. McMullen and A. Sangiovanni-Vincentelli, "Logic
+//! A [`Cube`] asks each input for `0`, for `1` or for nothing (`-`), and has some of the outputs,
+//! at least one. It stands for a set of places: a place is a point, one bit an input, with the
+//! number of an output. (R. Brayton, G. Hachtel, C. McMullen and A. Sangiovanni-Vincentelli, "Logic
 //! Minimization Algorithms for VLSI Synthesis", 1984.)
 //!
-//! Make a cube by [`Shape::new`] and [`Cube::from_symbols`], or by [`Cube::from_bytes`] of a row of a
-//! file, and read it by [`Cube::symbol`] and [`Cube::output`]. [`Cube::contains`], [`Cube::disjoint`] and [`Cube::meet`] compare sets of
-//! places, [`Cube::sharp`] takes one from another, [`Cube::cofactor`] and [`Cube::with_symbol`]
-//! serve recursions over inputs, and [`Cube::row_cmp`] is the order in which lists are kept.
+//! Make a cube by [`Shape::new`] and [`Cube::from_symbols`], or by [`Cube::from_bytes`] of a row of
+//! a file, and read it by [`Cube::symbol`] and [`Cube::output`]. [`Cube::contains`],
+//! [`Cube::disjoint`] and [`Cube::meet`] compare sets of places, [`Cube::sharp`] takes one from
+//! another, [`Cube::cofactor`] and [`Cube::with_symbol`] serve recursions over inputs, and
+//! [`Cube::row_cmp`] is the order in which lists are kept.
 //!
 //! With two inputs and two outputs, what `1-` with both outputs has over `11` with the second
 //! output is covered by two cubes, the largest that do so:
@@ -22,7 +23,7 @@
 //! ```
 //!
 //! A cube keeps two bits an input and one bit an output, in words of 64 bits, and takes memory only
-//! where that makes more than four words. A call on two cubes looks at each word once, and so costs
+//! if that makes more than four words. A call on two cubes looks at each word once, and so costs
 //! some nanoseconds at 40 inputs; `sharp` makes at most one cube more than there are inputs.
 #![tactic(auto)]
 

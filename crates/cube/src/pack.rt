@@ -3,7 +3,7 @@
 //! Input `i` is the two bits `2 (i mod 32)` and `2 (i mod 32) + 1` of word `i div 32`: the lower
 //! says that its symbol agrees with 0, the higher that it agrees with 1. So `0` has the lower bit
 //! alone, `1` the higher alone, and `-` both, which the spare pairs of the last word have too.
-//! Behind the words of the inputs, output `j` is bit `j mod 64` of word `j div 64`, set where the
+//! After the words of the inputs, output `j` is bit `j mod 64` of word `j div 64`, set if the
 //! cube has the output; the spare bits of the last word are clear. So equal cubes have equal words.
 ghost use Rattle.std.specs.Prelude.{◌≡◌, ◌<◌, ◌^◌};
 ghost use Rattle.cube.specs.Packing.{input_words as input_words_of, output_words as output_words_of, IsInputWord, IsOutputWord, symbol_of};

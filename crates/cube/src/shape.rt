@@ -21,15 +21,17 @@ impl Model for Shape {
 
     ghost view = { λ s. record { inputs = s.inputs; outputs = s.outputs } };
 
-    ghost invariant = { λ s. IsWithinLimits format_limits (record { inputs = s.inputs; outputs = s.outputs }) };
+    ghost invariant = { λ s. IsWithinLimits format_limits
+        (record { inputs = s.inputs; outputs = s.outputs }) };
 
     ghost inverse = { λ s. record { inputs = s.inputs; outputs = s.outputs } };
 }
 
 impl Shape {
-    /// The shape with these numbers, or `None` where one is outside its limits.
+    /// The shape with these numbers, or `None` if one is outside its limits.
     pub fn new(inputs: usize, outputs: usize) -> Option<Shape>
-        ensures limits { IsSome result ↔ IsWithinLimits format_limits (record { inputs = inputs; outputs = outputs }) }
+        ensures limits { IsSome result
+            ↔ IsWithinLimits format_limits (record { inputs = inputs; outputs = outputs }) }
         ensures inputs { IfSome result (λ s. s.inputs ≡ inputs) }
         ensures outputs { IfSome result (λ s. s.outputs ≡ outputs) }
     {

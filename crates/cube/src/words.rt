@@ -59,7 +59,8 @@ pub(crate) fn zip_words<F: Fn(usize, u64, u64) -> u64>(
     requires same_len { length a.now ≡ length b.now }
     requires callable { F.IsAlwaysCallable op }
     ensures len { IfOk result (λ v. length v.items ≡ length a.now) }
-    ensures words { IfOk result (λ v. (k : ℕ) → k < length a.now → F.post op k (slice_index a.now k) (slice_index b.now k) (slice_index v.items k)) }
+    ensures words { IfOk result (λ v. (k : ℕ) → k < length a.now
+        → F.post op k (slice_index a.now k) (slice_index b.now k) (slice_index v.items k)) }
     ensures inline { length a.now ≤ 4 → IsOk result }
 {
     let mut words = SmallVec::with_capacity(alloc, a.len())?;
@@ -121,8 +122,8 @@ pub(crate) fn with_bit(word: u64, at: usize, bit: bool) -> u64
     }
 }
 
-/// The word with bit `at` cleared unless it is to be kept. It has no branch, so that words are packed at
-/// one speed whatever the symbols.
+/// The word with bit `at` cleared unless it is to be kept. It has no branch, so that words are
+/// packed at one speed whatever the symbols.
 pub(crate) fn kept_bit(word: u64, at: usize, keep: bool) -> u64
     requires { at < 64 }
     ensures same { bit_at result at ≡ (if keep then bit_at word at else 0) }
@@ -141,7 +142,8 @@ pub(crate) fn minus_word(a: u64, b: u64) -> u64
 /// The pairs of `a` where those of `b` have both bits, and elsewhere both bits.
 pub(crate) fn freed_word(a: u64, b: u64) -> u64
     ensures low { (k : ℕ) → k < 32 → bit_at result (2 * k) ≡ freed_bit (bit_at a (2 * k)) b k }
-    ensures high { (k : ℕ) → k < 32 → bit_at result (2 * k + 1) ≡ freed_bit (bit_at a (2 * k + 1)) b k }
+    ensures high { (k : ℕ) → k < 32 → bit_at result (2 * k + 1)
+        ≡ freed_bit (bit_at a (2 * k + 1)) b k }
 {
     let dashes = b & (b >> 1) & LOWER_BITS;
     a | !(dashes | (dashes << 1))
@@ -163,7 +165,8 @@ pub(crate) fn full_word(len: usize, w: usize) -> u64
 
 /// Word `w` of a set of `len` bits: the bits of `a`, and those that are not in `b`.
 pub(crate) fn widened_word(len: usize, w: usize, a: u64, b: u64) -> u64
-    ensures within { (k : ℕ) → k < 64 → 64 * w + k < len → bit_at result k ≡ max (bit_at a k) (1 - bit_at b k) }
+    ensures within { (k : ℕ) → k < 64 → 64 * w + k < len → bit_at result k
+        ≡ max (bit_at a k) (1 - bit_at b k) }
     ensures past { (k : ℕ) → k < 64 → len ≤ 64 * w + k → bit_at result k ≡ bit_at a k }
 {
     a | (full_word(len, w) & !b)
@@ -222,7 +225,8 @@ pub(crate) fn clear_from(word: u64, bit: usize) -> u64
 pub(crate) fn first_clear(words: &[u64], from: usize) -> Option<usize>
     requires { length words.now < 2 ^ 32 }
     ensures found { IfSome result (λ at. IsFirstClear words.now from at) }
-    ensures none { IfNone result ((k : ℕ) → from ≤ k → k < 64 * length words.now → bit_of_words words.now k ≡ 1) }
+    ensures none { IfNone result ((k : ℕ) → from ≤ k → k < 64 * length words.now
+        → bit_of_words words.now k ≡ 1) }
 {
     for w in from / 64..words.len() {
         let clear = clear_from(words[w], from.saturating_sub(64 * w));

@@ -1,4 +1,4 @@
-use Rattle.std.proofs.Common.{◌≡◌, ◌*◌, ◌%◌, ◌/◌, ◌+◌, arith}
+use Rattle.std.proofs.Common.{◌%◌, ◌/◌, arith}
 use Rattle.cube.proofs.ShiftLemmas.{shifted_low, shifted_high}
 use Rattle.cube.proofs.bytes.with_pair.Goals as goal
 
