@@ -7,10 +7,10 @@ pub mod SumStep
 pub mod SumParts
 pub mod SumRows
 pub mod Regions
-pub mod Tallying
+pub mod LiteralCounting
 pub mod Reasons
 pub mod Everywhere
-pub mod Containment
+pub mod ContainmentLemmas
 pub mod Agreement
 pub mod Relations
 pub mod Cofactors
@@ -24,8 +24,8 @@ pub mod SumChoice
 pub mod SumPlaces
 pub mod SumFreed
 pub mod SumSides
-pub mod SumJoin
-pub mod SumUncovered
+pub mod SumThirds
+pub mod SumWithoutAbsorbed
 pub mod SumMixed
 pub mod SumApart
 pub mod Dividing

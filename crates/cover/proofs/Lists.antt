@@ -1,5 +1,5 @@
 -- Lists of references, and members that pass a test.
-use Rattle.std.proofs.Common.{◌≡◌, ℕ, zero, suc, ◌+◌, ◌<◌, Bool, true, false, ◌||◌, List, [], ◌∷◌, ◌++◌, length, take, get_or, All, ap, sym, subst, ◌∙◌, arith, inl, inr, ◌⊎◌}
+use Rattle.std.proofs.Common.{◌≡◌, ℕ, zero, suc, ◌+◌, ◌<◌, Bool, true, ◌||◌, List, [], ◌∷◌, ◌++◌, length, take, get_or, All, ap, sym, subst, ◌∙◌, arith, inl, inr, ◌⊎◌}
 use Rattle.std.specs.List.{Contains, list_any}
 use Rattle.std.specs.Borrow.{Bor}
 use Rattle.std.proofs.lemmas.Bool.{cases_Bool, false≢true, or_left, or_right}
@@ -7,7 +7,7 @@ use Rattle.std.proofs.lemmas.List.{take_more, get_or_default, get_or-map, length
 use Rattle.std.proofs.lemmas.List.Elements.{Contains-append_cases}
 use Rattle.cube.specs.Size.{Size}
 use Rattle.cube.specs.Cube.{Cube, HasSize, SameSize, IsCube}
-use Rattle.cube.proofs.Members.{Contains-here, Contains-there, Contains-nil, Contains-cases, list_any_none, list_any_false}
+use Rattle.cube.proofs.Members.{Contains-here, Contains-there, Contains-nil, Contains-cases}
 use Rattle.cover.specs.Cubes.{AreCubes}
 use Rattle.cover.specs.Places.{behind}
 

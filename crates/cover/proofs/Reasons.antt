@@ -20,7 +20,7 @@ use Rattle.cube.proofs.Members.{Contains-here, Contains-nil, Contains-cases, Con
 use Rattle.cover.specs.Places.{places, is_disjoint, meeting, behind}
 use Rattle.cover.specs.Splits.{dashes}
 use Rattle.cover.specs.Reason.{IsReason, Explains, IsClosed, Leads, Share, AreAmong, set_bits, extent}
-use Rattle.cover.specs.declared.reason.Step.TheVariants.{Row}
+use Rattle.cover.specs.declared.cube_in_cover.Step.TheVariants.{Row}
 use Rattle.cover.proofs.Inputs.{matches-set_bit, matches-own}
 use Rattle.cover.proofs.Lists.{list_any_from, list_any_witness, length-behind, behind_at, behind_member, behind_all, all_behind}
 use Rattle.cover.proofs.Regions.{zero_literal, one_literal, place_at, held_by_none, narrowed, narrowed_at, bit_for, inputs_hold, held_lent, fewer_dashes, lent_meets}

@@ -13,7 +13,7 @@ use Rattle.cube.proofs.Members.{Contains-filter, Contains-filter_cases}
 use Rattle.cover.specs.Places.{places, is_disjoint, meeting, behind}
 use Rattle.cover.specs.Splits.{free, dashes}
 use Rattle.cover.proofs.Inputs.{matches-set_symbol, matches-own}
-use Rattle.cover.proofs.Lists.{list_any_from, list_any_witness, behind_all, all_behind}
+use Rattle.cover.proofs.Lists.{list_any_from, list_any_witness, behind_all}
 use Rattle.cover.proofs.Meeting.{is_disjoint-from_fact, IsDisjoint-from_test}
 
 -- a place of a region at each of its outputs

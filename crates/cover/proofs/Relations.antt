@@ -12,10 +12,10 @@ use Rattle.cube.proofs.HoldsLemmas.{agrees_at-matches}
 use Rattle.cube.proofs.Members.{Contains-filter, Contains-filter_cases}
 use Rattle.cover.specs.Places.{places, behind}
 use Rattle.cover.specs.Marks.{is_symbol, is_compatible}
-use Rattle.cover.specs.Related.{Relates, AreRelated}
-use Rattle.cover.specs.declared.joint.Relation.{Relation}
+use Rattle.cover.specs.Relation.{Relates, AreRelated}
+use Rattle.cover.specs.declared.pairwise.Relation.{Relation}
 use Rattle.cover.proofs.Lists.{list_any_from, list_any_witness, behind_all}
-use Rattle.cover.proofs.Containment.{is_symbol-same}
+use Rattle.cover.proofs.ContainmentLemmas.{is_symbol-same}
 
 -- the cubes behind the references that pass a test
 pub behind-filter : (q : Cube → Bool) (rows : List (Bor Cube)) → behind (filter (λ r. q r.now) rows) ≡ filter q (behind rows)

@@ -86,8 +86,8 @@ module _ (rows : List Cube) (i : ℕ) (row : Cube) (kept : List Cube) (rising : 
         ];
       }))
 
-  pub IsAbsorbed-covered : (d : Cube) × Contains kept d × IsSubset (holds row) (holds d) → IsAbsorbed (take (i + 1) rows) kept
-  IsAbsorbed-covered cover =
+  pub IsAbsorbed-left_out : (d : Cube) × Contains kept d × IsSubset (holds row) (holds d) → IsAbsorbed (take (i + 1) rows) kept
+  IsAbsorbed-left_out cover =
       subst (λ l. IsAbsorbed l kept) (sym more) (record {
         rising = before.rising;
         within = λ c h. Contains-append_left (take i rows) (row ∷ []) c (before.within c h);

@@ -1,7 +1,7 @@
 -- The complete sum of rows in two parts that have no input in common.
-use Rattle.std.proofs.Common.{◌≡◌, ℕ, zero, suc, ◌+◌, ◌<◌, ◌≤◌, Bool, true, false, not, ◌&&◌, ◌||◌, List, [], ◌∷◌, ◌++◌, length, map, replicate, get_or, set, refl, ap, sym, subst, ◌∙◌, arith, inl, inr, ◌⊎◌}
+use Rattle.std.proofs.Common.{◌≡◌, ℕ, ◌<◌, ◌≤◌, Bool, true, false, ◌&&◌, ◌||◌, List, length, map, replicate, get_or, set, refl, ap, sym, subst, ◌∙◌, arith, inl, inr, ◌⊎◌}
 use Rattle.std.specs.List.{Contains}
-use Rattle.std.proofs.lemmas.Bool.{cases_Bool, cases_lt, false≢true, and_parts, and_from, or_cases, or_left, or_right, or_parts, or_from}
+use Rattle.std.proofs.lemmas.Bool.{cases_Bool, cases_lt, false≢true, and_parts, and_from, or_cases, or_left}
 use Rattle.std.proofs.lemmas.List.{get_or_past, get_or-replicate, length-replicate}
 use Rattle.cube.specs.declared.symbol.Symbol.{Symbol}
 use Rattle.cube.specs.declared.symbol.Symbol.TheVariants.{Dash, Zero, One}
@@ -15,10 +15,10 @@ use Rattle.cube.proofs.SumLemmas.{Contains-complete_sum, complete_sum-over, sort
 use Rattle.cover.specs.Cubes.{AreCubes}
 use Rattle.cover.specs.Places.{places}
 use Rattle.cover.specs.Complete.{put}
-use Rattle.cover.specs.Parts.{merged, has_literal, live}
+use Rattle.cover.specs.Parts.{merged, has_literal}
 use Rattle.cover.specs.Apart.{IsFree, IsInParts}
 use Rattle.cover.proofs.Lists.{all_members, list_any_from, list_any_witness}
-use Rattle.cover.proofs.SumMixed.{mixed, matches-mixed, matches-mixed_left, matches-mixed_right, length-mixed, dash_of_member}
+use Rattle.cover.proofs.SumMixed.{mixed, matches-mixed, matches-mixed_left, matches-mixed_right, dash_of_member}
 use Rattle.cover.proofs.SumOrder.{merged-cases, merged-left, merged-right, merged-rising}
 use Rattle.cover.proofs.SumSplit.{holds-put, with_symbol-own, maximal_dash, same_size}
 

@@ -8,12 +8,12 @@ use Rattle.cube.specs.Cube.{Cube, Place, holds, IsCube, IsSubset}
 use Rattle.cube.proofs.Members.{list_any_none, list_any_false}
 use Rattle.cover.specs.Cubes.{AreCubes}
 use Rattle.cover.specs.Places.{places}
-use Rattle.cover.specs.Complete.{literal, at_input, at_both}
+use Rattle.cover.specs.Complete.{literal, cofactor_at, consensus_at}
 use Rattle.cover.specs.Marks.{is_symbol}
 use Rattle.cover.specs.Parts.{part, has_literal}
-use Rattle.cover.specs.Reduced.{IsMeets, IsBranch, IsAbsorbed, IsThinned, HasSameCubes}
+use Rattle.cover.specs.Reduced.{IsMeets, IsBranch, IsAbsorbed, IsPartlyAbsorbed, HasSameCubes}
 use Rattle.cover.proofs.Lists.{all_members, members_all, list_any_from, list_any_witness}
-use Rattle.cover.proofs.SumParts.{AreCubes-part, places-at_input, Frees-part, Frees-append, Frees-less}
+use Rattle.cover.proofs.SumParts.{AreCubes-part, places-cofactor_at, Frees-part, Frees-append, Frees-less}
 use Rattle.cover.proofs.SumMeets.{places-append}
 
 same_bool : (x y : Bool) → (x ≡ true → y ≡ true) → (y ≡ true → x ≡ true) → x ≡ y
@@ -37,23 +37,23 @@ module _ (cubes kept : List Cube) (within : (c : Cube) → Contains kept c → C
       let test = λ (c : Cube). not (is_symbol Dash (get_or c.symbols k Dash)) in
       list_any_false test kept (λ c m t. list_any_none test cubes c h (within c m) t)
 
-pub IsBranch-thinned : (size : Size) (i : ℕ) (cubes : List Cube) (s : Place → Bool) (all kept : List Cube) → IsBranch size i cubes s all
-    → IsThinned all kept → IsBranch size i cubes s kept
-IsBranch-thinned size i cubes s all kept branch thinned = record {
-  are_cubes = members_all (IsCube size) kept (λ c h. all_members (IsCube size) all branch.are_cubes c (thinned.within c h));
-  places = λ p. places-kept all kept thinned.within thinned.over p ∙ branch.places p;
-  frees = Frees-less i cubes all kept (has_literal-kept all kept thinned.within thinned.over) branch.frees;
+pub IsBranch-absorbed : (size : Size) (i : ℕ) (cubes : List Cube) (s : Place → Bool) (all kept : List Cube) → IsBranch size i cubes s all
+    → IsPartlyAbsorbed all kept → IsBranch size i cubes s kept
+IsBranch-absorbed size i cubes s all kept branch absorbed = record {
+  are_cubes = members_all (IsCube size) kept (λ c h. all_members (IsCube size) all branch.are_cubes c (absorbed.within c h));
+  places = λ p. places-kept all kept absorbed.within absorbed.over p ∙ branch.places p;
+  frees = Frees-less i cubes all kept (has_literal-kept all kept absorbed.within absorbed.over) branch.frees;
 }
 
-pub IsThinned-absorbed : (cubes kept : List Cube) → IsAbsorbed cubes kept → IsThinned cubes kept
-IsThinned-absorbed cubes kept h = record { within = h.within; over = h.over }
+pub IsPartlyAbsorbed-absorbed : (cubes kept : List Cube) → IsAbsorbed cubes kept → IsPartlyAbsorbed cubes kept
+IsPartlyAbsorbed-absorbed cubes kept h = record { within = h.within; over = h.over }
 
-pub IsThinned-same : (cubes kept : List Cube) → HasSameCubes cubes kept → IsThinned cubes kept
-IsThinned-same cubes kept same = record { within = λ c h. (same c).1 h; over = λ c h. (c, (same c).0 h, λ p k. k) }
+pub IsPartlyAbsorbed-same : (cubes kept : List Cube) → HasSameCubes cubes kept → IsPartlyAbsorbed cubes kept
+IsPartlyAbsorbed-same cubes kept same = record { within = λ c h. (same c).1 h; over = λ c h. (c, (same c).0 h, λ p k. k) }
 
 module _ (size : Size) (i : ℕ) (lt : i < size.inputs) (cubes : List Cube) (h : AreCubes size cubes) where
   pub IsBranch-both : (common : List Cube) → IsMeets size (part i Zero cubes) (part i One cubes) common
-      → IsBranch size i cubes (at_both i (places cubes)) (part i Dash cubes ++ common)
+      → IsBranch size i cubes (consensus_at i (places cubes)) (part i Dash cubes ++ common)
   IsBranch-both common meets = record {
     are_cubes = All-append (IsCube size) (part i Dash cubes) common (AreCubes-part size i Dash cubes h) meets.are_cubes;
     places = λ p.
@@ -61,8 +61,8 @@ module _ (size : Size) (i : ℕ) (lt : i < size.inputs) (cubes : List Cube) (h :
         let z = places (part i Zero cubes) p in
         let o = places (part i One cubes) p in
         places-append (part i Dash cubes) common p ∙ ap (λ x. d || x) (meets.places p) ∙ or_over_and d z o
-        ∙ ap (λ x. x && (d || o)) (places-at_input size i lt false cubes p h)
-        ∙ ap (λ x. at_input i false (places cubes) p && x) (places-at_input size i lt true cubes p h);
+        ∙ ap (λ x. x && (d || o)) (places-cofactor_at size i lt false cubes p h)
+        ∙ ap (λ x. cofactor_at i false (places cubes) p && x) (places-cofactor_at size i lt true cubes p h);
     frees = Frees-append i cubes (part i Dash cubes) common (Frees-part size i Dash cubes lt h) (record {
       there = meets.literals i (Frees-part size i Zero cubes lt h).there (Frees-part size i One cubes lt h).there;
       others = λ k ne none'. meets.literals k ((Frees-part size i Zero cubes lt h).others k ne none') ((Frees-part size i One cubes lt h).others k ne none');
@@ -75,20 +75,20 @@ module _ (size : Size) (i : ℕ) (lt : i < size.inputs) (cubes : List Cube) (h :
 
   -- the lists as the code makes them
   pub IsBranch-both_list : (dashes zeros ones common all : List Cube) → dashes ≡ part i Dash cubes → zeros ≡ part i Zero cubes → ones ≡ part i One cubes
-      → IsMeets size zeros ones common → all ≡ dashes ++ common → IsBranch size i cubes (at_both i (places cubes)) all
+      → IsMeets size zeros ones common → all ≡ dashes ++ common → IsBranch size i cubes (consensus_at i (places cubes)) all
   IsBranch-both_list dashes zeros ones common all d z o meets is =
-      subst (IsBranch size i cubes (at_both i (places cubes))) (sym (is ∙ ap (λ l. l ++ common) d))
+      subst (IsBranch size i cubes (consensus_at i (places cubes))) (sym (is ∙ ap (λ l. l ++ common) d))
       (IsBranch-both common (subst (λ l. IsMeets size l (part i One cubes) common) z (subst (λ l. IsMeets size zeros l common) o meets)))
 
   -- those at one value: the cubes with its literal, and those without one
   pub IsBranch-side : (b : Bool) (side dashes all : List Cube) → side ≡ part i (literal b) cubes → dashes ≡ part i Dash cubes → all ≡ side ++ dashes
-      → IsBranch size i cubes (at_input i b (places cubes)) all
+      → IsBranch size i cubes (cofactor_at i b (places cubes)) all
   IsBranch-side b side dashes all e d is =
       let own = part i (literal b) cubes in
       let free = part i Dash cubes in
-      subst (IsBranch size i cubes (at_input i b (places cubes))) (sym (is ∙ ap (λ l. l ++ dashes) e ∙ ap (λ l. own ++ l) d)) (record {
+      subst (IsBranch size i cubes (cofactor_at i b (places cubes))) (sym (is ∙ ap (λ l. l ++ dashes) e ∙ ap (λ l. own ++ l) d)) (record {
         are_cubes = All-append (IsCube size) own free (AreCubes-part size i (literal b) cubes h) (AreCubes-part size i Dash cubes h);
-        places = λ p. places-append own free p ∙ swapped (places own p) (places free p) ∙ places-at_input size i lt b cubes p h;
+        places = λ p. places-append own free p ∙ swapped (places own p) (places free p) ∙ places-cofactor_at size i lt b cubes p h;
         frees = Frees-append i cubes own free (Frees-part size i (literal b) cubes lt h) (Frees-part size i Dash cubes lt h);
       })
     where

@@ -11,7 +11,7 @@ use Rattle.cube.proofs.SharpLemmas.{some_true}
 use Rattle.cube.proofs.Members.{list_any_false}
 use Rattle.cover.specs.Cubes.{AreCubes}
 use Rattle.cover.proofs.Lists.{all_members}
-use Rattle.cover.proofs.Containment.{is_symbol-same}
+use Rattle.cover.proofs.ContainmentLemmas.{is_symbol-same}
 use Rattle.cover.proofs.Regions.{place_at}
 use Rattle.cover.specs.Marks.{is_symbol}
 use Rattle.cover.specs.Parts.{has_symbol}

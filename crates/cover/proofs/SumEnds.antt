@@ -127,21 +127,21 @@ module _ (size : Size) where
       ∙ ap (λ x. get_or c.outputs p.output false || x) (places-free cubes p (All-tail (IsCube size) c cubes h) (λ k lt. (parts k lt).1) place)
 
 -- the end of the recursion, as the code has it
-module _ (size : Size) (inner outer : List Cube) (cubes : AreCubes size inner) (others : AreCubes size outer)
-    (free : (k : ℕ) → k < size.inputs → (has_literal k inner || has_literal k outer) ≡ false) (bits : List Bool) (left : LeftOutputs size inner outer bits) where
-  left_place : (p : Place) → IsPlace size p → difference (places inner) (places outer) p ≡ get_or bits p.output false
+module _ (size : Size) (minuend subtrahend : List Cube) (cubes : AreCubes size minuend) (others : AreCubes size subtrahend)
+    (free : (k : ℕ) → k < size.inputs → (has_literal k minuend || has_literal k subtrahend) ≡ false) (bits : List Bool) (left : LeftOutputs size minuend subtrahend bits) where
+  left_place : (p : Place) → IsPlace size p → difference (places minuend) (places subtrahend) p ≡ get_or bits p.output false
   left_place p place =
-      let each = λ (k : ℕ). λ (lt : k < size.inputs). or_parts (has_literal k inner) (has_literal k outer) (free k lt) in
-      ap (λ x. x && not (places outer p)) (places-free size inner p cubes (λ k lt. (each k lt).0) place)
-      ∙ ap (λ x. list_any (λ (c : Cube). get_or c.outputs p.output false) inner && not x) (places-free size outer p others (λ k lt. (each k lt).1) place)
+      let each = λ (k : ℕ). λ (lt : k < size.inputs). or_parts (has_literal k minuend) (has_literal k subtrahend) (free k lt) in
+      ap (λ x. x && not (places subtrahend p)) (places-free size minuend p cubes (λ k lt. (each k lt).0) place)
+      ∙ ap (λ x. list_any (λ (c : Cube). get_or c.outputs p.output false) minuend && not x) (places-free size subtrahend p others (λ k lt. (each k lt).1) place)
       ∙ sym (left.each p.output place.1)
 
-  pub free_sum-none : (Contains bits true → ⊥) → [] ≡ complete_sum size (difference (places inner) (places outer))
-  free_sum-none none' = complete_sum-no_output size (difference (places inner) (places outer)) bits left_place none'
+  pub free_sum-none : (Contains bits true → ⊥) → [] ≡ complete_sum size (difference (places minuend) (places subtrahend))
+  free_sum-none none' = complete_sum-no_output size (difference (places minuend) (places subtrahend)) bits left_place none'
 
   pub free_sum-one : (c : Cube) → c ≡ record { symbols = replicate size.inputs Dash; outputs = bits } → IsCube size c
-      → c ∷ [] ≡ complete_sum size (difference (places inner) (places outer))
-  free_sum-one c is cube = complete_sum-outputs size (difference (places inner) (places outer)) bits left_place c is cube
+      → c ∷ [] ≡ complete_sum size (difference (places minuend) (places subtrahend))
+  free_sum-one c is cube = complete_sum-outputs size (difference (places minuend) (places subtrahend)) bits left_place c is cube
 
 -- ---- the loop over the rows
 

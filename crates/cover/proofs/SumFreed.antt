@@ -11,7 +11,7 @@ use Rattle.cube.specs.Pattern.{agrees}
 use Rattle.cube.specs.Cube.{Cube, Place, holds, IsCube, with_symbol}
 use Rattle.cover.specs.Places.{places}
 use Rattle.cover.specs.Cubes.{AreCubes}
-use Rattle.cover.specs.Complete.{put, at_input, at_either}
+use Rattle.cover.specs.Complete.{put, cofactor_at, smoothing_at}
 use Rattle.cover.specs.Marks.{is_symbol}
 use Rattle.cover.specs.Parts.{freed, has_literal}
 use Rattle.cover.specs.Reduced.{Frees, IsBranch}
@@ -67,25 +67,25 @@ module _ (size : Size) (i : ℕ) (lt : i < size.inputs) where
   place_of : (c : Cube) (b : Bool) (p : Place) → IsCube size c → holds c (put i b p) ≡ (agrees (get_or c.symbols i Dash) b && holds (with_symbol c i Dash) p)
   place_of c b p cube = let inside : i < length c.symbols = omega (arith, cube.has_size.0) in holds-put c i b p inside
 
-  places-value : (b : Bool) (cs : List Cube) (p : Place) → AreCubes size cs → places (freed i (λ s. agrees s b) cs) p ≡ at_input i b (places cs) p
+  places-value : (b : Bool) (cs : List Cube) (p : Place) → AreCubes size cs → places (freed i (λ s. agrees s b) cs) p ≡ cofactor_at i b (places cs) p
   places-value b [] p cubes = refl
   places-value b (c ∷ cs) p cubes =
       go (agrees (get_or c.symbols i Dash) b) (holds c (put i b p)) (place_of c b p (All-head (IsCube size) c cs cubes))
       (places-value b cs p (All-tail (IsCube size) c cs cubes))
     where
-      go : (a x : Bool) → x ≡ (a && holds (with_symbol c i Dash) p) → places (freed i (λ s. agrees s b) cs) p ≡ at_input i b (places cs) p
-          → places (cond a (with_symbol c i Dash ∷ freed i (λ s. agrees s b) cs) (freed i (λ s. agrees s b) cs)) p ≡ (x || at_input i b (places cs) p)
-      go true x e h = ap (λ y. holds (with_symbol c i Dash) p || y) h ∙ ap (λ y. y || at_input i b (places cs) p) (sym e)
-      go false x e h = h ∙ ap (λ y. y || at_input i b (places cs) p) (sym e)
+      go : (a x : Bool) → x ≡ (a && holds (with_symbol c i Dash) p) → places (freed i (λ s. agrees s b) cs) p ≡ cofactor_at i b (places cs) p
+          → places (cond a (with_symbol c i Dash ∷ freed i (λ s. agrees s b) cs) (freed i (λ s. agrees s b) cs)) p ≡ (x || cofactor_at i b (places cs) p)
+      go true x e h = ap (λ y. holds (with_symbol c i Dash) p || y) h ∙ ap (λ y. y || cofactor_at i b (places cs) p) (sym e)
+      go false x e h = h ∙ ap (λ y. y || cofactor_at i b (places cs) p) (sym e)
 
-  places-either : (cs : List Cube) (p : Place) → AreCubes size cs → places (freed i (λ s. true) cs) p ≡ at_either i (places cs) p
+  places-either : (cs : List Cube) (p : Place) → AreCubes size cs → places (freed i (λ s. true) cs) p ≡ smoothing_at i (places cs) p
   places-either [] p cubes = refl
   places-either (c ∷ cs) p cubes =
       ap (λ y. holds (with_symbol c i Dash) p || y) (places-either cs p (All-tail (IsCube size) c cs cubes))
-      ∙ go (get_or c.symbols i Dash) (holds (with_symbol c i Dash) p) (at_input i false (places cs) p) (at_input i true (places cs) p)
-      ∙ ap (λ y. (y || at_input i false (places cs) p) || ((agrees (get_or c.symbols i Dash) true && holds (with_symbol c i Dash) p) || at_input i true (places cs) p))
+      ∙ go (get_or c.symbols i Dash) (holds (with_symbol c i Dash) p) (cofactor_at i false (places cs) p) (cofactor_at i true (places cs) p)
+      ∙ ap (λ y. (y || cofactor_at i false (places cs) p) || ((agrees (get_or c.symbols i Dash) true && holds (with_symbol c i Dash) p) || cofactor_at i true (places cs) p))
       (sym (place_of c false p (All-head (IsCube size) c cs cubes)))
-      ∙ ap (λ y. (holds c (put i false p) || at_input i false (places cs) p) || (y || at_input i true (places cs) p))
+      ∙ ap (λ y. (holds c (put i false p) || cofactor_at i false (places cs) p) || (y || cofactor_at i true (places cs) p))
       (sym (place_of c true p (All-head (IsCube size) c cs cubes)))
     where
       go : (s : Symbol) (h l r : Bool) → (h || (l || r)) ≡ (((agrees s false && h) || l) || ((agrees s true && h) || r))
@@ -97,15 +97,15 @@ module _ (size : Size) (i : ℕ) (lt : i < size.inputs) where
       go One true false r = refl
       go One false l r = refl
 
-  pub IsBranch-value : (b : Bool) (cs branch : List Cube) → AreCubes size cs → branch ≡ freed i (λ s. agrees s b) cs → IsBranch size i cs (at_input i b (places cs)) branch
-  IsBranch-value b cs branch cubes is = subst (IsBranch size i cs (at_input i b (places cs))) (sym is) (record {
+  pub IsBranch-value : (b : Bool) (cs branch : List Cube) → AreCubes size cs → branch ≡ freed i (λ s. agrees s b) cs → IsBranch size i cs (cofactor_at i b (places cs)) branch
+  IsBranch-value b cs branch cubes is = subst (IsBranch size i cs (cofactor_at i b (places cs))) (sym is) (record {
     are_cubes = AreCubes-freed size i lt (λ s. agrees s b) cs cubes;
     places = λ p. places-value b cs p cubes;
     frees = Frees-freed size i lt (λ s. agrees s b) cs cubes;
   })
 
-  pub IsBranch-either : (cs branch : List Cube) → AreCubes size cs → branch ≡ freed i (λ s. true) cs → IsBranch size i cs (at_either i (places cs)) branch
-  IsBranch-either cs branch cubes is = subst (IsBranch size i cs (at_either i (places cs))) (sym is) (record {
+  pub IsBranch-either : (cs branch : List Cube) → AreCubes size cs → branch ≡ freed i (λ s. true) cs → IsBranch size i cs (smoothing_at i (places cs)) branch
+  IsBranch-either cs branch cubes is = subst (IsBranch size i cs (smoothing_at i (places cs))) (sym is) (record {
     are_cubes = AreCubes-freed size i lt (λ s. true) cs cubes;
     places = λ p. places-either cs p cubes;
     frees = Frees-freed size i lt (λ s. true) cs cubes;

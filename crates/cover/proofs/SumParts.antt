@@ -12,7 +12,7 @@ use Rattle.cube.specs.Cube.{Cube, Place, holds, IsCube, with_symbol}
 use Rattle.cube.specs.Sum.{IsMaximal}
 use Rattle.cover.specs.Places.{places}
 use Rattle.cover.specs.Cubes.{AreCubes}
-use Rattle.cover.specs.Complete.{literal, put, at_input}
+use Rattle.cover.specs.Complete.{literal, put, cofactor_at}
 use Rattle.cover.specs.Marks.{is_symbol}
 use Rattle.cover.specs.Parts.{part, has_literal, live}
 use Rattle.cover.specs.Reduced.{Frees}
@@ -41,34 +41,34 @@ module _ (size : Size) (i : ℕ) (lt : i < size.inputs) where
   place_of : (c : Cube) (b : Bool) (p : Place) → IsCube size c → holds c (put i b p) ≡ (agrees (get_or c.symbols i Dash) b && holds (with_symbol c i Dash) p)
   place_of c b p cube = let inside : i < length c.symbols = omega (arith, cube.has_size.0) in holds-put c i b p inside
 
-  pub places-at_input : (b : Bool) (cs : List Cube) (p : Place) → AreCubes size cs
-      → (places (part i Dash cs) p || places (part i (literal b) cs) p) ≡ at_input i b (places cs) p
-  places-at_input b [] p cubes = refl
-  places-at_input b (c ∷ cs) p cubes =
+  pub places-cofactor_at : (b : Bool) (cs : List Cube) (p : Place) → AreCubes size cs
+      → (places (part i Dash cs) p || places (part i (literal b) cs) p) ≡ cofactor_at i b (places cs) p
+  places-cofactor_at b [] p cubes = refl
+  places-cofactor_at b (c ∷ cs) p cubes =
       go b (get_or c.symbols i Dash) (holds c (put i b p)) (place_of c b p (All-head (IsCube size) c cs cubes))
-      (places-at_input b cs p (All-tail (IsCube size) c cs cubes))
+      (places-cofactor_at b cs p (All-tail (IsCube size) c cs cubes))
     where
       freed : Cube
       freed = with_symbol c i Dash
 
       go : (b : Bool) (s : Symbol) (x : Bool) → x ≡ (agrees s b && holds (with_symbol c i Dash) p)
-          → (places (part i Dash cs) p || places (part i (literal b) cs) p) ≡ at_input i b (places cs) p
+          → (places (part i Dash cs) p || places (part i (literal b) cs) p) ≡ cofactor_at i b (places cs) p
           → (places (cond (is_symbol Dash s) (with_symbol c i Dash ∷ part i Dash cs) (part i Dash cs)) p
-          || places (cond (is_symbol (literal b) s) (with_symbol c i Dash ∷ part i (literal b) cs) (part i (literal b) cs)) p) ≡ (x || at_input i b (places cs) p)
+          || places (cond (is_symbol (literal b) s) (with_symbol c i Dash ∷ part i (literal b) cs) (part i (literal b) cs)) p) ≡ (x || cofactor_at i b (places cs) p)
       go true Dash x e h =
           or_assoc (holds (with_symbol c i Dash) p) (places (part i Dash cs) p) (places (part i One cs) p)
-          ∙ ap (λ y. holds (with_symbol c i Dash) p || y) h ∙ ap (λ y. y || at_input i true (places cs) p) (sym e)
+          ∙ ap (λ y. holds (with_symbol c i Dash) p || y) h ∙ ap (λ y. y || cofactor_at i true (places cs) p) (sym e)
       go true One x e h =
           or_swap (places (part i Dash cs) p) (holds (with_symbol c i Dash) p) (places (part i One cs) p)
-          ∙ ap (λ y. holds (with_symbol c i Dash) p || y) h ∙ ap (λ y. y || at_input i true (places cs) p) (sym e)
-      go true Zero x e h = h ∙ ap (λ y. y || at_input i true (places cs) p) (sym e)
+          ∙ ap (λ y. holds (with_symbol c i Dash) p || y) h ∙ ap (λ y. y || cofactor_at i true (places cs) p) (sym e)
+      go true Zero x e h = h ∙ ap (λ y. y || cofactor_at i true (places cs) p) (sym e)
       go false Dash x e h =
           or_assoc (holds (with_symbol c i Dash) p) (places (part i Dash cs) p) (places (part i Zero cs) p)
-          ∙ ap (λ y. holds (with_symbol c i Dash) p || y) h ∙ ap (λ y. y || at_input i false (places cs) p) (sym e)
+          ∙ ap (λ y. holds (with_symbol c i Dash) p || y) h ∙ ap (λ y. y || cofactor_at i false (places cs) p) (sym e)
       go false Zero x e h =
           or_swap (places (part i Dash cs) p) (holds (with_symbol c i Dash) p) (places (part i Zero cs) p)
-          ∙ ap (λ y. holds (with_symbol c i Dash) p || y) h ∙ ap (λ y. y || at_input i false (places cs) p) (sym e)
-      go false One x e h = h ∙ ap (λ y. y || at_input i false (places cs) p) (sym e)
+          ∙ ap (λ y. holds (with_symbol c i Dash) p || y) h ∙ ap (λ y. y || cofactor_at i false (places cs) p) (sym e)
+      go false One x e h = h ∙ ap (λ y. y || cofactor_at i false (places cs) p) (sym e)
 
 -- ---- the inputs with a literal
 
@@ -147,24 +147,19 @@ module _ (i : ℕ) (cs ds es fs : List Cube) (none_later : (k : ℕ) → (has_li
         omega (arith, live-below n below on, cond-le (has_literal n cs || has_literal n ds) (has_literal n es || has_literal n fs) (none_later n))
   ]
 
-module _ (i : ℕ) (cs ds es fs : List Cube) (inner : Frees i cs es) (outer : Frees i ds fs) where
+module _ (i : ℕ) (cs ds es fs : List Cube) (minuend : Frees i cs es) (subtrahend : Frees i ds fs) where
   none_later : (k : ℕ) → (has_literal k cs || has_literal k ds) ≡ false → (has_literal k es || has_literal k fs) ≡ false
   none_later k h = elim (cases_eq k i) [
-    | inl e ↦ subst (λ x. (has_literal x es || has_literal x fs) ≡ false) (sym e) (or_from (has_literal i es) (has_literal i fs) inner.there outer.there)
+    | inl e ↦ subst (λ x. (has_literal x es || has_literal x fs) ≡ false) (sym e) (or_from (has_literal i es) (has_literal i fs) minuend.there subtrahend.there)
     | inr ne ↦
         let both = or_parts (has_literal k cs) (has_literal k ds) h in
-        or_from (has_literal k es) (has_literal k fs) (inner.others k ne both.0) (outer.others k ne both.1)
+        or_from (has_literal k es) (has_literal k fs) (minuend.others k ne both.0) (subtrahend.others k ne both.1)
   ]
 
   pub live-less : (n : ℕ) → i < n → (has_literal i cs || has_literal i ds) ≡ true → live n es fs < live n cs ds
-  live-less = live-below i cs ds es fs none_later (or_from (has_literal i es) (has_literal i fs) inner.there outer.there)
+  live-less = live-below i cs ds es fs none_later (or_from (has_literal i es) (has_literal i fs) minuend.there subtrahend.there)
 
 -- ---- meets
-
-symbol_literal : (s : Symbol) → not (is_symbol Dash s) ≡ false → s ≡ Dash
-symbol_literal Dash h = refl
-symbol_literal Zero h = absurd (false≢true (sym h))
-symbol_literal One h = absurd (false≢true (sym h))
 
 -- a cube that holds what is in two cubes has a literal only where one of them has
 pub meet-dash : (size : Size) (a b c : Cube) (k : ℕ) → IsCube size a → IsCube size b → IsCube size c

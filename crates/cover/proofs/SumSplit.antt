@@ -10,7 +10,7 @@ use Rattle.cube.specs.Cube.{Cube, Place, holds, SameSize, IsCube, IsSubset, with
 use Rattle.cube.specs.Sum.{IsMaximal}
 use Rattle.cube.proofs.HoldsLemmas.{Covers-from_IsSubset}
 use Rattle.cube.proofs.SharpLemmas.{Covers-antisym, some_true}
-use Rattle.cover.specs.Complete.{literal, put, at_input, at_both}
+use Rattle.cover.specs.Complete.{literal, put, cofactor_at, consensus_at}
 use Rattle.cover.proofs.Inputs.{matches-set_symbol, matches-set_bit, matches-own}
 
 -- ---- one cube
@@ -115,48 +115,48 @@ module _ (size : Size) (i : ℕ) (lt : i < size.inputs) where
   pub symbol-with_symbol : (c : Cube) (t : Symbol) → IsCube size c → get_or (with_symbol c i t).symbols i Dash ≡ t
   symbol-with_symbol c t cube = get_or-set_same c.symbols i t Dash (inside c cube)
 
-  at_own : (s : Place → Bool) (p : Place) (b : Bool) → get_or p.point i false ≡ b → at_input i b s p ≡ s p
+  at_own : (s : Place → Bool) (p : Place) (b : Bool) → get_or p.point i false ≡ b → cofactor_at i b s p ≡ s p
   at_own s p b e =
       let at = λ (x : List Bool). s (record { point = x; output = p.output }) in
       ap (λ x. at (set p.point i x)) (sym e) ∙ ap at (set-get_or p.point i false)
 
-  pub put-put : (s : Place → Bool) (a b : Bool) (p : Place) → at_input i a s (put i b p) ≡ at_input i a s p
+  pub put-put : (s : Place → Bool) (a b : Bool) (p : Place) → cofactor_at i a s (put i b p) ≡ cofactor_at i a s p
   put-put s a b p = ap (λ (x : List Bool). s (record { point = x; output = p.output })) (set-set p.point i b a)
 
   module _ (s : Place → Bool) where
-    from_both : (p : Place) → at_both i s p ≡ true → s p ≡ true
+    from_both : (p : Place) → consensus_at i s p ≡ true → s p ≡ true
     from_both p h =
-        let two = and_parts (at_input i false s p) (at_input i true s p) h in
+        let two = and_parts (cofactor_at i false s p) (cofactor_at i true s p) h in
         elim (cases_Bool (get_or p.point i false)) [
           | inl on ↦ sym (at_own s p true on) ∙ two.1
           | inr off ↦ sym (at_own s p false off) ∙ two.0
         ]
 
-    from_both_at : (b : Bool) (p : Place) → at_both i s p ≡ true → at_input i b s p ≡ true
-    from_both_at true p h = (and_parts (at_input i false s p) (at_input i true s p) h).1
-    from_both_at false p h = (and_parts (at_input i false s p) (at_input i true s p) h).0
+    from_both_at : (b : Bool) (p : Place) → consensus_at i s p ≡ true → cofactor_at i b s p ≡ true
+    from_both_at true p h = (and_parts (cofactor_at i false s p) (cofactor_at i true s p) h).1
+    from_both_at false p h = (and_parts (cofactor_at i false s p) (cofactor_at i true s p) h).0
 
     -- a cube without a literal at i
-    within_both : (c : Cube) → IsCube size c → get_or c.symbols i Dash ≡ Dash → IsSubset (holds c) s → IsSubset (holds c) (at_both i s)
+    within_both : (c : Cube) → IsCube size c → get_or c.symbols i Dash ≡ Dash → IsSubset (holds c) s → IsSubset (holds c) (consensus_at i s)
     within_both c cube dash sub p h =
         let freed : holds (free c i) p ≡ true = subst (λ d. holds d p ≡ true) (sym (with_symbol-own c i Dash dash)) h in
         let at = λ (b : Bool). sub (put i b p) (moved c b p cube (ap (λ t. agrees t b) dash) freed) in
-        and_from (at_input i false s p) (at_input i true s p) (at false) (at true)
+        and_from (cofactor_at i false s p) (cofactor_at i true s p) (at false) (at true)
 
     -- a cube with a literal at i
-    freed_within : (c : Cube) (b : Bool) → IsCube size c → get_or c.symbols i Dash ≡ literal b → IsSubset (holds c) s → IsSubset (holds (free c i)) (at_input i b s)
+    freed_within : (c : Cube) (b : Bool) → IsCube size c → get_or c.symbols i Dash ≡ literal b → IsSubset (holds c) s → IsSubset (holds (free c i)) (cofactor_at i b s)
     freed_within c b cube e sub p h = sub (put i b p) (moved c b p cube (ap (λ t. agrees t b) e ∙ agrees-literal b) h)
 
-    within_from_freed : (c : Cube) (b : Bool) → IsCube size c → get_or c.symbols i Dash ≡ literal b → IsSubset (holds (free c i)) (at_input i b s) → IsSubset (holds c) s
+    within_from_freed : (c : Cube) (b : Bool) → IsCube size c → get_or c.symbols i Dash ≡ literal b → IsSubset (holds (free c i)) (cofactor_at i b s) → IsSubset (holds c) s
     within_from_freed c b cube e sub p h =
         let own = and_parts (agrees (get_or c.symbols i Dash) (get_or p.point i false)) (holds (free c i) p) (sym (holds-own c i p (inside c cube)) ∙ h) in
         sym (at_own s p b (literal_bit b (get_or p.point i false) (ap (λ t. agrees t (get_or p.point i false)) (sym e) ∙ own.0))) ∙ sub p own.1
 
     -- a cube with `-` at i within s at one value, put at that value
-    placed_within : (c : Cube) (b : Bool) → IsCube size c → IsSubset (holds (free c i)) (at_input i b s) → IsSubset (holds (with_symbol c i (literal b))) s
+    placed_within : (c : Cube) (b : Bool) → IsCube size c → IsSubset (holds (free c i)) (cofactor_at i b s) → IsSubset (holds (with_symbol c i (literal b))) s
     placed_within c b cube sub =
         within_from_freed (with_symbol c i (literal b)) b (IsCube-with_symbol size c i (literal b) cube) (symbol-with_symbol c (literal b) cube)
-        (subst (λ d. IsSubset (holds d) (at_input i b s)) (sym (with_symbol-twice c i (literal b) Dash)) sub)
+        (subst (λ d. IsSubset (holds d) (cofactor_at i b s)) (sym (with_symbol-twice c i (literal b) Dash)) sub)
 
   -- the maximal cubes of a set that does not look at input i have `-` there
   pub maximal_dash : (t : Place → Bool) → ((p : Place) (b : Bool) → t (put i b p) ≡ t p) → (c : Cube) → IsMaximal size t c → get_or c.symbols i Dash ≡ Dash
@@ -179,17 +179,17 @@ module _ (size : Size) (i : ℕ) (lt : i < size.inputs) where
         let covers = Covers-from_IsSubset d c (same_size size d c cube_d cube_c) on.0 on.1 sub in
         dash_from (get_or d.symbols i Dash) (λ b. covers.inputs i b (ap (λ x. agrees x b) dash))
 
-    pub maximal_at_both : get_or c.symbols i Dash ≡ Dash → IsMaximal size s c → IsMaximal size (at_both i s) c
+    pub maximal_at_both : get_or c.symbols i Dash ≡ Dash → IsMaximal size s c → IsMaximal size (consensus_at i s) c
     maximal_at_both dash h = record {
       is_cube = h.is_cube;
       within = within_both s c h.is_cube dash h.within;
       largest = λ d cube within above. h.largest d cube (λ p k. from_both s p (within p k)) above;
     }
 
-    pub maximal_from_both : IsMaximal size (at_both i s) c → IsMaximal size s c
+    pub maximal_from_both : IsMaximal size (consensus_at i s) c → IsMaximal size s c
     maximal_from_both h =
-        let dash = maximal_dash (at_both i s) (λ p b.
-        ap (λ x. x && at_input i true s (put i b p)) (put-put s false b p) ∙ ap (λ x. at_input i false s p && x) (put-put s true b p)) c h in
+        let dash = maximal_dash (consensus_at i s) (λ p b.
+        ap (λ x. x && cofactor_at i true s (put i b p)) (put-put s false b p) ∙ ap (λ x. cofactor_at i false s p && x) (put-put s true b p)) c h in
         record {
           is_cube = h.is_cube;
           within = λ p k. from_both s p (h.within p k);
@@ -205,30 +205,30 @@ module _ (size : Size) (i : ℕ) (lt : i < size.inputs) where
         | One ↦ λ h. inr (ap literal (sym h))
       ] a
 
-      pub maximal_freed : get_or c.symbols i Dash ≡ literal b → IsMaximal size s c → IsMaximal size (at_input i b s) (free c i)
+      pub maximal_freed : get_or c.symbols i Dash ≡ literal b → IsMaximal size s c → IsMaximal size (cofactor_at i b s) (free c i)
       maximal_freed e h =
           let cube = h.is_cube in
           record {
             is_cube = IsCube-with_symbol size c i Dash cube;
             within = freed_within s c b cube e h.within;
             largest = λ d cube_d within above.
-                let placed = with_symbol d i (literal b) in
+                let without_absorbed_by = with_symbol d i (literal b) in
                 let cube_p = IsCube-with_symbol size d i (literal b) cube_d in
-                let wide : IsSubset (holds (free d i)) (at_input i b s) = λ p k.
+                let wide : IsSubset (holds (free d i)) (cofactor_at i b s) = λ p k.
                 let x = agreeing_bit (get_or d.symbols i Dash) in
                 sym (put-put s b x.0 p) ∙ within (put i x.0 p) (moved d x.0 p cube_d x.1 k) in
-                let over : IsSubset (holds c) (holds placed) = λ p k.
+                let over : IsSubset (holds c) (holds without_absorbed_by) = λ p k.
                 let own = and_parts (agrees (get_or c.symbols i Dash) (get_or p.point i false)) (holds (free c i) p) (sym (holds-own c i p (inside c cube)) ∙ k) in
                 holds-with_symbol d i (literal b) p (inside d cube_d)
                 ∙ and_from (agrees (literal b) (get_or p.point i false)) (holds (free d i) p)
                 (ap (λ x. agrees x (get_or p.point i false)) (sym e) ∙ own.0) (IsSubset-free d cube_d p (above p own.1)) in
-                let below = h.largest placed cube_p (placed_within s d b cube_d wide) over in
+                let below = h.largest without_absorbed_by cube_p (placed_within s d b cube_d wide) over in
                 λ p k.
-                subst (λ x. IsSubset (holds x) (holds (free c i))) (with_symbol-twice d i (literal b) Dash) (IsSubset-frees placed c cube_p cube below)
+                subst (λ x. IsSubset (holds x) (holds (free c i))) (with_symbol-twice d i (literal b) Dash) (IsSubset-frees without_absorbed_by c cube_p cube below)
                 p (IsSubset-free d cube_d p k);
           }
 
-      pub maximal_not_both : get_or c.symbols i Dash ≡ literal b → IsMaximal size s c → IsMaximal size (at_both i s) (free c i) → ⊥
+      pub maximal_not_both : get_or c.symbols i Dash ≡ literal b → IsMaximal size s c → IsMaximal size (consensus_at i s) (free c i) → ⊥
       maximal_not_both e h both =
           let cube = h.is_cube in
           let f = IsCube-with_symbol size c i Dash cube in
@@ -236,8 +236,8 @@ module _ (size : Size) (i : ℕ) (lt : i < size.inputs) where
           (h.largest (free c i) f (λ p k. from_both s p (both.within p k)) (IsSubset-free c cube)) in
           literal≢dash b (sym e ∙ ap (λ x. get_or x.symbols i Dash) same ∙ symbol-with_symbol c Dash cube)
 
-      pub maximal_from_freed : IsCube size c → get_or c.symbols i Dash ≡ literal b → IsMaximal size (at_input i b s) (free c i)
-          → (IsMaximal size (at_both i s) (free c i) → ⊥) → IsMaximal size s c
+      pub maximal_from_freed : IsCube size c → get_or c.symbols i Dash ≡ literal b → IsMaximal size (cofactor_at i b s) (free c i)
+          → (IsMaximal size (consensus_at i s) (free c i) → ⊥) → IsMaximal size s c
       maximal_from_freed cube e h out = record {
         is_cube = cube;
         within = within_from_freed s c b cube e h.within;
@@ -251,7 +251,7 @@ module _ (size : Size) (i : ℕ) (lt : i < size.inputs) where
                   let own = with_symbol-own d i Dash dash in
                   let over : IsSubset (holds (free c i)) (holds d) = subst (λ x. IsSubset (holds (free c i)) (holds x)) own free_above in
                   let both = within_both s d cube_d dash within in
-                  let at_b : IsSubset (holds d) (at_input i b s) = λ p k. from_both_at s b p (both p k) in
+                  let at_b : IsSubset (holds d) (cofactor_at i b s) = λ p k. from_both_at s b p (both p k) in
                   absurd (out (record {
                     is_cube = f;
                     within = λ p k. both p (over p k);

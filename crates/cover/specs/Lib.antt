@@ -3,7 +3,7 @@ pub mod Places
 pub mod Contained
 pub mod Splits
 pub mod Marks
-pub mod Related
+pub mod Relation
 pub mod Cofactor
 pub mod Complete
 pub mod Parts

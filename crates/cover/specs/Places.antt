@@ -18,7 +18,10 @@ holds_all size s = list_all s (all_places size)
 
 -- the cube of every place
 abbrev pub universal : Size → Cube
-universal size = record { symbols = replicate size.inputs Dash; outputs = replicate size.outputs true }
+universal size = record {
+  symbols = replicate size.inputs Dash;
+  outputs = replicate size.outputs true;
+}
 
 -- each place of the size that is in s is outside t
 abbrev pub is_disjoint : Size → (Place → Bool) → (Place → Bool) → Bool
@@ -36,24 +39,30 @@ agree_outside size s t free = holds_all size (λ p. free p || beq (s p) (t p))
 abbrev pub meeting : Size → Cube → List Cube → List Cube
 meeting size c cubes = filter (λ d. not (is_disjoint size (holds d) (holds c))) cubes
 
--- the cubes behind references
+-- the cubes that references are to
 abbrev pub behind : List (Bor Cube) → List Cube
 behind refs = map (λ r. r.now) refs
 
 -- one row of a dash and both outputs holds every place
-example_all : holds_all (record { inputs = 1; outputs = 2 }) (places (record { symbols = Dash ∷ []; outputs = true ∷ true ∷ [] } ∷ [])) ≡ true
+example_all : holds_all (record { inputs = 1; outputs = 2 })
+    (places (record { symbols = Dash ∷ []; outputs = true ∷ true ∷ [] } ∷ [])) ≡ true
 example_all = refl
 
 -- without one of the outputs it doesn't
-example_one_output : holds_all (record { inputs = 1; outputs = 2 }) (places (record { symbols = Dash ∷ []; outputs = true ∷ false ∷ [] } ∷ [])) ≡ false
+example_one_output : holds_all (record { inputs = 1; outputs = 2 })
+    (places (record { symbols = Dash ∷ []; outputs = true ∷ false ∷ [] } ∷ [])) ≡ false
 example_one_output = refl
 
 -- two rows that share the input do
-example_two_rows : holds_all (record { inputs = 1; outputs = 1 }) (places (record { symbols = Zero ∷ []; outputs = true ∷ [] } ∷ record { symbols = One ∷ []; outputs = true ∷ [] } ∷ [])) ≡ true
+example_two_rows : holds_all (record { inputs = 1; outputs = 1 })
+    (places (record { symbols = Zero ∷ []; outputs = true ∷ [] } ∷
+    record { symbols = One ∷ []; outputs = true ∷ [] } ∷ [])) ≡ true
 example_two_rows = refl
 
 -- without inputs each output has one place
-example_no_inputs : holds_all (record { inputs = 0; outputs = 2 }) (places (record { symbols = []; outputs = true ∷ false ∷ [] } ∷ record { symbols = []; outputs = false ∷ true ∷ [] } ∷ [])) ≡ true
+example_no_inputs : holds_all (record { inputs = 0; outputs = 2 })
+    (places (record { symbols = []; outputs = true ∷ false ∷ [] } ∷
+    record { symbols = []; outputs = false ∷ true ∷ [] } ∷ [])) ≡ true
 example_no_inputs = refl
 
 -- no row holds no place
@@ -64,7 +73,8 @@ example_none = refl
 example_agree : agree_outside (record { inputs = 2; outputs = 1 })
     (places (record { symbols = One ∷ Dash ∷ []; outputs = true ∷ [] } ∷ []))
     (places (record { symbols = Dash ∷ One ∷ []; outputs = true ∷ [] } ∷ []))
-    (places (record { symbols = One ∷ Zero ∷ []; outputs = true ∷ [] } ∷ record { symbols = Zero ∷ One ∷ []; outputs = true ∷ [] } ∷ [])) ≡ true
+    (places (record { symbols = One ∷ Zero ∷ []; outputs = true ∷ [] } ∷
+    record { symbols = Zero ∷ One ∷ []; outputs = true ∷ [] } ∷ [])) ≡ true
 example_agree = refl
 
 -- without `01` they don't

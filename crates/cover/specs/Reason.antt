@@ -8,8 +8,8 @@ use Rattle.std.specs.List.{Contains}
 use Rattle.std.specs.Borrow.{Bor}
 use Rattle.cover.specs.Places.{places, behind}
 use Rattle.cover.specs.Splits.{dashes}
-use Rattle.cover.specs.declared.reason.Step.{Step}
-use Rattle.cover.specs.declared.reason.Step.TheVariants.{Row, Split}
+use Rattle.cover.specs.declared.cube_in_cover.Step.{Step}
+use Rattle.cover.specs.declared.cube_in_cover.Step.TheVariants.{Row, Split}
 
 -- a cube that holds the region, and whose places are all in the list
 pub record IsReason (region : Cube) (rows : List Cube) (c : Cube) : Type 0 where
@@ -17,7 +17,7 @@ pub record IsReason (region : Cube) (rows : List Cube) (c : Cube) : Type 0 where
   pub above : IsSubset (holds region) (holds c)
   pub within : IsSubset (holds c) (places rows)
 
--- such a cube, or none where some place of the region is in no cube of the list
+-- such a cube, or none if some place of the region is in no cube of the list
 abbrev pub Explains : Cube → List Cube → Option Cube → Type 0
 Explains region rows None = IsSubset (holds region) (places rows) → ⊥
 Explains region rows (Some c) = IsReason region rows c
@@ -28,11 +28,13 @@ AreAmong some rows = (d : Cube) → Contains (behind some) d → Contains (behin
 
 -- the cube has no literal at an input where the region has none
 abbrev pub IsClosed : Cube → Cube → Type 0
-IsClosed region c = (i : ℕ) → i < length region.symbols → slice_index_or region.symbols i Dash ≡ Dash → slice_index_or c.symbols i Dash ≡ Dash
+IsClosed region c = (i : ℕ) → i < length region.symbols
+    → slice_index_or region.symbols i Dash ≡ Dash → slice_index_or c.symbols i Dash ≡ Dash
 
 -- what is next for a region and the cubes that meet it
 abbrev pub Leads : Cube → List Cube → Step → Type 0
-Leads region rows (Row k) = (k < length rows) × ((d : Cube) → slice_get rows k ≡ Some d → IsClosed region d)
+Leads region rows (Row k) = (k < length rows)
+    × ((d : Cube) → slice_get rows k ≡ Some d → IsClosed region d)
 Leads region rows (Split i literal) = (slice_get region.symbols i ≡ Some Dash) × (literal ≢ Dash)
 
 -- each bit agrees with one of the two

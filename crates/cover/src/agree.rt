@@ -3,16 +3,19 @@ ghost use Rattle.std.specs.Prelude.{◌≡◌, ◌↔◌, ◌||◌, IsTrue, IfOk
 ghost use Rattle.cube.specs.Cube.{IsSubset};
 ghost use Rattle.cover.specs.Places.{places, agree_outside as agree_outside_of};
 
-use crate::joint::{Relation, related};
 use crate::list::Cover;
+use crate::pairwise::{Relation, are_related};
 use crate::tautology::lent;
 use std::alloc::AllocError;
 
 // Whether each place of the first list is in one of the others.
-fn lies_in_either(list: &Cover, other: &Cover, free: &Cover) -> Result<bool, AllocError>
+fn is_within_either(list: &Cover, other: &Cover, free: &Cover) -> Result<bool, AllocError>
     requires other { other.now.size ≡ list.now.size }
     requires free { free.now.size ≡ list.now.size }
-    ensures { IfOk result (λ held. IsTrue held ↔ IsSubset (places list.now.cubes) (λ p. places free.now.cubes p || places other.now.cubes p)) }
+    ensures { IfOk result
+        (λ held. IsTrue held
+        ↔ IsSubset (places list.now.cubes) (λ p. places free.now.cubes p
+        || places other.now.cubes p)) }
 {
     let alloc = list.allocator();
     let shape = list.shape();
@@ -20,19 +23,29 @@ fn lies_in_either(list: &Cover, other: &Cover, free: &Cover) -> Result<bool, All
     let mut all = lent(free)?;
     let mut others = lent(other)?;
     all.append(&mut others)?;
-    related(alloc, shape, Relation::Within, shape.inputs(), &rows, &all)
+    are_related(
+        alloc,
+        shape,
+        Relation::Contained,
+        shape.inputs(),
+        &rows,
+        &all,
+    )
 }
 
 /// Whether the lists agree outside `free`: each place that is in no cube of `free` is in both
-/// lists or in neither.
+/// lists or in neither (equivalence modulo don't-cares).
 pub fn agree_outside(list: &Cover, other: &Cover, free: &Cover) -> Result<bool, AllocError>
     requires other { other.now.size ≡ list.now.size }
     requires free { free.now.size ≡ list.now.size }
-    ensures { IfOk result (λ agree. agree ≡ agree_outside_of list.now.size (places list.now.cubes) (places other.now.cubes) (places free.now.cubes)) }
+    ensures { IfOk result
+        (λ agree. agree
+        ≡ agree_outside_of list.now.size (places list.now.cubes) (places other.now.cubes)
+        (places free.now.cubes)) }
 {
     let (_list, _other) = (list.shape(), other.shape());
-    if !lies_in_either(list, other, free)? {
+    if !is_within_either(list, other, free)? {
         return Ok(false);
     }
-    lies_in_either(other, list, free)
+    is_within_either(other, list, free)
 }

@@ -2,8 +2,8 @@
 ghost use Rattle.std.specs.Prelude.{◌≡◌, IfOk};
 ghost use Rattle.cover.specs.Places.{places, share_place};
 
-use crate::joint::{Relation, related};
 use crate::list::Cover;
+use crate::pairwise::{Relation, are_related};
 use crate::tautology::lent;
 use std::alloc::AllocError;
 
@@ -12,14 +12,16 @@ impl Cover {
     /// lengths, and at worst each pair of rows is looked at.
     pub fn intersects(&self, other: &Cover) -> Result<bool, AllocError>
         requires { other.now.size ≡ self.now.size }
-        ensures { IfOk result (λ some. some ≡ share_place self.now.size (places self.now.cubes) (places other.now.cubes)) }
+        ensures { IfOk result
+            (λ some. some
+            ≡ share_place self.now.size (places self.now.cubes) (places other.now.cubes)) }
     {
         let alloc = self.allocator();
         let shape = self.shape();
         let rows = lent(self)?;
         let others = lent(other)?;
         let depth = shape.inputs();
-        let apart = related(alloc, shape, Relation::Apart, depth, &rows, &others)?;
+        let apart = are_related(alloc, shape, Relation::Disjoint, depth, &rows, &others)?;
         Ok(!apart)
     }
 }

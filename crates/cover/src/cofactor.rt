@@ -11,11 +11,17 @@ use std::alloc::AllocError;
 impl Cover {
     /// The cubes that have a place of `cube`, in their order, each with `-` at the inputs where
     /// `cube` has a literal and with the outputs that `cube` lacks. This list holds every place
-    /// exactly where the first holds all of `cube` (Brayton et al. 1984).
+    /// exactly if the first holds all of `cube` (Brayton et al. 1984).
     pub fn cofactor(&self, cube: &Cube) -> Result<Cover, AllocError>
         requires { HasSize cube.now self.now.size }
-        ensures value { IfOk result (λ left. left ≡ record { size = self.now.size; cubes = cofactors self.now.size cube.now self.now.cubes }) }
-        ensures places { IfOk result (λ left. IsTrue (holds_all left.size (places left.cubes)) ↔ IsSubset (holds cube.now) (places self.now.cubes)) }
+        ensures value { IfOk result
+            (λ left. left
+            ≡ record {
+              size = self.now.size;
+              cubes = cofactors self.now.size cube.now self.now.cubes;
+            }) }
+        ensures places { IfOk result (λ left. IsTrue (holds_all left.size (places left.cubes))
+            ↔ IsSubset (holds cube.now) (places self.now.cubes)) }
     {
         let _shape = cube.shape();
         let mut left = Vec::new(self.allocator());

@@ -17,37 +17,38 @@
 //! rows `-1 1`, `-- 1` and `-- 1`; its complete sum is the row `-- 1`, and its complement is empty.
 //!
 //! No call lists points. `cofactor` looks at each cube once. `tautology`, `holds_cube` and
-//! [`agree_outside`] split at inputs, each half answered by an implicant that says why it is held: so
-//! a split that has no part in the answer is undone at once. They take time in the number of cubes
-//! times that of the splits, which may be exponential in the inputs at worst. `contain` looks at far fewer than all pairs of cubes where these
-//! have literals at many inputs, and at worst at all of them. Each takes memory for indices or
-//! references; `cofactor`, `contain` and `try_clone` also for the cubes of their answer.
+//! [`agree_outside`] split at inputs, each half answered by an implicant that says why it is held:
+//! so a split that has no part in the answer is undone at once. They take time in the number of
+//! cubes times that of the splits, which may be exponential in the inputs at worst. `contain` looks
+//! at far fewer than all pairs of cubes if these have literals at many inputs, and at worst at all
+//! of them. Each takes memory for indices or references; `cofactor`, `contain` and `try_clone` also
+//! for the cubes of their answer.
 #![tactic(auto)]
 
 mod agree;
 mod apart;
 mod cofactor;
-mod joint;
+mod computed_table;
+mod containment;
+mod cube_in_cover;
 mod list;
-mod marking;
-mod reason;
-mod region;
+mod literal_counts;
+mod pairwise;
 mod splitting_input;
 mod sum;
 mod sum_absorb;
 mod sum_apart;
 mod sum_branch;
-mod sum_choice;
-mod sum_join;
 mod sum_leaf;
+mod sum_meets;
 mod sum_parts;
 mod sum_rows;
 mod sum_sides;
-mod sum_table;
+mod sum_splitting_input;
 mod symbols;
 mod tautology;
 
 pub use agree::agree_outside;
+pub use containment::contain;
 pub use list::Cover;
-pub use marking::contain;
 pub use sum::{complete_sum, difference, intersect};

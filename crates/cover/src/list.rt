@@ -92,7 +92,7 @@ impl Cover {
         self.cubes.as_slice()
     }
 
-    /// Adds a cube at the end, or hands it back where the memory for it was refused.
+    /// Adds a cube at the end, or hands it back if the memory for it was refused.
     pub fn push(&mut self, cube: Cube) -> Result<(), Cube>
         requires { HasSize cube self.old.size }
         ensures size { self.new.size ≡ self.old.size }
@@ -107,7 +107,7 @@ impl Cover {
         }
     }
 
-    /// Adds the other list's cubes at the end, in their order. Where memory is refused, this list
+    /// Adds the other list's cubes at the end, in their order. If memory is refused, this list
     /// stays as it was.
     pub fn append(&mut self, other: &Cover) -> Result<(), AllocError>
         requires { other.now.size ≡ self.old.size }

@@ -2,7 +2,7 @@
 //!
 //! A literal of a row is open where the region has none at its input. A row with one holds one half
 //! of the region (a unit, as in Davis, Logemann and Loveland 1962); else the input counts at which
-//! most of the nearest rows have an open literal, and where these are as many, most of all rows. All
+//! most of the nearest rows have an open literal, and if these are as many, most of all rows. All
 //! of this is a wish, which is looked at before it is used.
 
 use cube::{Cube, Shape, Symbol};
@@ -38,8 +38,8 @@ fn lacks_output(shape: Shape, row: &Cube, region: &Cube) -> bool {
     false
 }
 
-/// How many open literals a row that meets the region has, where a lack of outputs is one more; no more
-/// are counted where there are more than `enough`.
+/// How many open literals a row that meets the region has, where a lack of outputs is one more; no
+/// more are counted if there are more than `enough`.
 pub(crate) fn open_literals(shape: Shape, row: &Cube, region: &Cube, enough: u32) -> u32 {
     let mut count = 0u32;
     for w in 0..shape.inputs() / 32 + 1 {
@@ -132,7 +132,7 @@ fn count_near(near: &[&Cube], region: &Cube, w: usize, counts: &mut [u32; 64]) {
     }
 }
 
-// The same for some rows from all over the list.
+// Counts the open literals of some rows from all over the list.
 fn count_sample(rows: &[&Cube], region: &Cube, w: usize, counts: &mut [u32; 64]) {
     let step = rows.len() / SAMPLE + 1;
     for k in 0..SAMPLE {
@@ -204,7 +204,7 @@ fn unit(shape: Shape, near: &[&Cube], region: &Cube) -> Option<Wish> {
 }
 
 /// What to do next with a region, of which the nearest rows have so many open literals.
-pub(crate) fn wished(
+pub(crate) fn next_wish(
     shape: Shape,
     near: &[&Cube],
     rows: &[&Cube],

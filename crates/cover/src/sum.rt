@@ -5,37 +5,37 @@
 //! places that are inside at both values; those with `0` are the cubes of the sum at `0` that are
 //! not among the first, and those with `1` likewise. The lists at both values are the cubes without
 //! a literal at the input with the meets of those with `0` and those with `1`, and of the list that
-//! is taken away the cubes with either. Where one value has all places of the other, the places at
-//! both are the other's, and two sums are enough. The recursion over both cofactors and their product
-//! is that of Coudert and Madre (Implicit and Incremental Computation of Primes and Essential Primes
-//! of Boolean Functions, 1992); they keep the sets as decision diagrams, and here they are lists of
-//! cubes, whose sums are kept in a table to be found again. So no products of primes are formed, and
-//! no prime is compared with the others: each merge takes time in the lengths of its lists, which are
-//! in row order. The input with most literals is split at, and lists with one literal at each input
-//! are their own sum but for the cubes that lie in others (Brayton et al. 1984). The sum of rows in two
-//! parts that have no input in common is the sums of the parts side by side, so that they do not multiply
-//! each other's steps.
+//! is taken away the cubes with either. If one value has all places of the other, the places at
+//! both are the other's, and two sums are enough. The recursion over both cofactors and their
+//! product is that of Coudert and Madre (Implicit and Incremental Computation of Primes and
+//! Essential Primes of Boolean Functions, 1992); they keep the sets as decision diagrams, and here
+//! they are lists of cubes, whose sums are kept in a table to be found again. So no products of
+//! primes are formed, and no prime is compared with the others: each merge takes time in the
+//! lengths of its lists, which are in row order. The input with most literals is split at, and
+//! lists with one literal at each input are their own sum but for the cubes that lie in others
+//! (Brayton et al. 1984). The sum of rows in two parts that have no input in common is the sums of
+//! the parts side by side, so that they do not multiply each other's steps.
 ghost use Rattle.std.specs.Prelude.{◌≡◌, ◌<◌, ◌||◌, ◌++◌, IfOk, not, true};
 ghost use Rattle.cube.specs.Cube.{intersection, difference as difference_of};
 ghost use Rattle.cube.specs.Sum.{complete_sum as complete_sum_of};
 ghost use Rattle.cover.specs.Apart.{IsInParts};
 ghost use Rattle.cover.specs.Cubes.{AreCubes};
-ghost use Rattle.cover.specs.Complete.{at_input};
+ghost use Rattle.cover.specs.Complete.{cofactor_at};
 ghost use Rattle.cover.specs.Parts.{has_literal};
 ghost use Rattle.cover.specs.Places.{places};
 ghost use Rattle.cover.specs.Reduced.{IsBranch};
 ghost use Rattle.cover.specs.Sides.{IsSide};
 
+use crate::computed_table::{ComputedTable, hash_of};
 use crate::list::Cover;
-use crate::sum_absorb::{reduced, thinned, without_covered};
+use crate::sum_absorb::{absorb, absorb_if_short, without_absorbed};
 use crate::sum_apart::{Parts, has_free_row, parts_apart};
-use crate::sum_branch::{Branches, at_either_value, branches_at, literal, thin_at_value};
-use crate::sum_choice::{choose, has_literal_in_each, hold_everything, is_unate};
-use crate::sum_join::joined;
+use crate::sum_branch::{Branches, absorbed_cofactor_at, branches_at, literal, smoothing_at};
 use crate::sum_leaf::free_sum;
+use crate::sum_meets::pairwise_meets;
 use crate::sum_parts::has_symbol;
-use crate::sum_rows::{merge, merge_three, sorted};
-use crate::sum_table::{Sums, hash_of};
+use crate::sum_rows::{combine, merge, sorted};
+use crate::sum_splitting_input::{has_literal_in_each, hold_everything, is_unate, splitting_input};
 use crate::tautology::universal;
 use cube::{Cube, Shape};
 use std::alloc::{AllocError, Global};
@@ -46,101 +46,129 @@ use std::alloc::{AllocError, Global};
 fn sum_between(
     alloc: Global,
     shape: Shape,
-    found: &mut Sums,
-    inner: Vec<Cube>,
-    outer: Vec<Cube>,
+    found: &mut ComputedTable,
+    minuend: Vec<Cube>,
+    subtrahend: Vec<Cube>,
 ) -> Result<Vec<Cube>, AllocError>
-    requires inner { AreCubes shape inner.items }
-    requires outer { AreCubes shape outer.items }
-    ensures { IfOk result (λ rows. rows.items ≡ complete_sum_of shape (difference_of (places inner.items) (places outer.items))) }
+    requires minuend { AreCubes shape minuend.items }
+    requires subtrahend { AreCubes shape subtrahend.items }
+    ensures { IfOk result
+        (λ rows. rows.items
+        ≡ complete_sum_of shape (difference_of (places minuend.items) (places subtrahend.items))) }
 {
-    let left = without_covered(alloc, shape, inner, &outer)?;
-    left_sum(alloc, shape, found, left, outer)
+    let left = without_absorbed(alloc, shape, minuend, &subtrahend)?;
+    left_sum(alloc, shape, found, left, subtrahend)
 }
 
-// The same, where no row of the first list needs to be left out.
+// The complete sum of the places of the first list that are not in the second, if no row of the
+// first needs to be left out.
 #[cycle(sum)]
 fn left_sum(
     alloc: Global,
     shape: Shape,
-    found: &mut Sums,
-    inner: Vec<Cube>,
-    outer: Vec<Cube>,
+    found: &mut ComputedTable,
+    minuend: Vec<Cube>,
+    subtrahend: Vec<Cube>,
 ) -> Result<Vec<Cube>, AllocError>
-    requires inner { AreCubes shape inner.items }
-    requires outer { AreCubes shape outer.items }
-    ensures { IfOk result (λ rows. rows.items ≡ complete_sum_of shape (difference_of (places inner.items) (places outer.items))) }
+    requires minuend { AreCubes shape minuend.items }
+    requires subtrahend { AreCubes shape subtrahend.items }
+    ensures { IfOk result
+        (λ rows. rows.items
+        ≡ complete_sum_of shape (difference_of (places minuend.items) (places subtrahend.items))) }
 {
-    if inner.is_empty() {
-        return Ok(inner);
+    if minuend.is_empty() {
+        return Ok(minuend);
     }
-    if outer.is_empty() {
-        if inner.len() == 1 {
-            return Ok(inner);
+    if subtrahend.is_empty() {
+        if minuend.len() == 1 {
+            return Ok(minuend);
         }
-        if is_unate(shape, &inner)? {
-            return reduced(alloc, shape, inner);
+        if is_unate(shape, &minuend)? {
+            return absorb(alloc, shape, minuend);
         }
     }
-    if inner.len() == 1 && outer.len() == 1 {
-        return inner[0].sharp(&outer[0]);
+    if minuend.len() == 1 && subtrahend.len() == 1 {
+        return minuend[0].sharp(&subtrahend[0]);
     }
-    if hold_everything(shape, &outer) {
+    if hold_everything(shape, &subtrahend) {
         return Ok(Vec::new(alloc));
     }
-    let hash = hash_of(shape, &inner, &outer);
-    if let Some(sum) = found.find(alloc, shape, hash, &inner, &outer)? {
+    let hash = hash_of(shape, &minuend, &subtrahend);
+    if let Some(sum) = found.find(alloc, shape, hash, &minuend, &subtrahend)? {
         return Ok(sum);
     }
-    let sum = split_sum(alloc, shape, found, &inner, &outer)?;
-    found.keep(alloc, shape, hash, inner, outer, &sum)?;
+    let sum = split_sum(alloc, shape, found, &minuend, &subtrahend)?;
+    found.keep(alloc, shape, hash, minuend, subtrahend, &sum)?;
     Ok(sum)
 }
 
-// The same by way of the lists at the values of an input, if one has a literal.
+// That sum by way of the lists at the values of an input, if one has a literal.
 #[cycle(sum)]
 fn split_sum(
     alloc: Global,
     shape: Shape,
-    found: &mut Sums,
-    inner: &[Cube],
-    outer: &[Cube],
+    found: &mut ComputedTable,
+    minuend: &[Cube],
+    subtrahend: &[Cube],
 ) -> Result<Vec<Cube>, AllocError>
-    requires inner { AreCubes shape inner.now }
-    requires outer { AreCubes shape outer.now }
-    ensures { IfOk result (λ rows. rows.items ≡ complete_sum_of shape (difference_of (places inner.now) (places outer.now))) }
+    requires minuend { AreCubes shape minuend.now }
+    requires subtrahend { AreCubes shape subtrahend.now }
+    ensures { IfOk result
+        (λ rows. rows.items
+        ≡ complete_sum_of shape (difference_of (places minuend.now) (places subtrahend.now))) }
 {
-    let Some(i) = choose(shape, inner, outer) else {
-        return free_sum(alloc, shape, inner, outer);
+    let Some(i) = splitting_input(shape, minuend, subtrahend) else {
+        return free_sum(alloc, shape, minuend, subtrahend);
     };
-    if outer.is_empty() && !has_literal_in_each(shape, inner, i) {
-        if let Some(parts) = parts_apart(alloc, shape, inner)? {
+    if subtrahend.is_empty() && !has_literal_in_each(shape, minuend, i) {
+        if let Some(parts) = parts_apart(alloc, shape, minuend)? {
             return apart_sum(alloc, shape, found, parts);
         }
     }
     let Branches {
-        both: both_inner,
-        low: low_inner,
-        high: high_inner,
-    } = branches_at(alloc, shape, inner, i)?;
-    let both_outer = at_either_value(alloc, shape, outer, i)?;
-    let both = sum_between(alloc, shape, found, both_inner, both_outer)?;
-    let low = side_sum(alloc, shape, found, i, false, inner, outer, low_inner)?;
-    let high = side_sum(alloc, shape, found, i, true, inner, outer, high_inner)?;
-    merge_three(alloc, shape, i, both, low, high)
+        both: both_minuend,
+        low: low_minuend,
+        high: high_minuend,
+    } = branches_at(alloc, shape, minuend, i)?;
+    let both_subtrahend = smoothing_at(alloc, shape, subtrahend, i)?;
+    let both = sum_between(alloc, shape, found, both_minuend, both_subtrahend)?;
+    let low = side_sum(
+        alloc,
+        shape,
+        found,
+        i,
+        false,
+        minuend,
+        subtrahend,
+        low_minuend,
+    )?;
+    let high = side_sum(
+        alloc,
+        shape,
+        found,
+        i,
+        true,
+        minuend,
+        subtrahend,
+        high_minuend,
+    )?;
+    combine(alloc, shape, i, both, low, high)
 }
 
-// The complete sum of the places of two parts that have no input in common: the sums of both, or that
-// of one, where it holds everything.
+// The complete sum of the places of two parts that have no input in common: the sums of both, or
+// that of one, if it holds everything.
 #[cycle(sum)]
 fn apart_sum(
     alloc: Global,
     shape: Shape,
-    found: &mut Sums,
+    found: &mut ComputedTable,
     parts: Parts,
 ) -> Result<Vec<Cube>, AllocError>
-    requires { IsInParts shape (parts.one.items ++ parts.other.items) parts.one.items parts.other.items }
-    ensures { IfOk result (λ rows. rows.items ≡ complete_sum_of shape (places (parts.one.items ++ parts.other.items))) }
+    requires { IsInParts shape
+        (parts.one.items ++ parts.other.items) parts.one.items parts.other.items }
+    ensures { IfOk result
+        (λ rows. rows.items
+        ≡ complete_sum_of shape (places (parts.one.items ++ parts.other.items))) }
 {
     let Parts { one, other } = parts;
     let sum = left_sum(alloc, shape, found, one, Vec::new(alloc))?;
@@ -155,62 +183,78 @@ fn apart_sum(
 }
 
 // What the places at one value of input `i` add to those at both: their complete sum, or nothing
-// where the other value has them too. `side` has the first list's places there.
+// if the other value has them too. `side` has the first list's places there.
 #[cycle(sum)]
 fn side_sum(
     alloc: Global,
     shape: Shape,
-    found: &mut Sums,
+    found: &mut ComputedTable,
     i: usize,
     value: bool,
-    inner: &[Cube],
-    outer: &[Cube],
+    minuend: &[Cube],
+    subtrahend: &[Cube],
     side: Vec<Cube>,
 ) -> Result<Vec<Cube>, AllocError>
     requires input { i < shape.inputs }
-    requires side { IsBranch shape i inner.now (at_input i value (places inner.now)) side.items }
-    requires literal { (has_literal i inner.now || has_literal i outer.now) ≡ true }
-    requires inner { AreCubes shape inner.now }
-    requires outer { AreCubes shape outer.now }
-    ensures { IfOk result (λ rows. IsSide shape i value (difference_of (places inner.now) (places outer.now)) rows.items) }
+    requires side { IsBranch shape i minuend.now
+        (cofactor_at i value (places minuend.now)) side.items }
+    requires literal { (has_literal i minuend.now || has_literal i subtrahend.now) ≡ true }
+    requires minuend { AreCubes shape minuend.now }
+    requires subtrahend { AreCubes shape subtrahend.now }
+    ensures { IfOk result
+        (λ rows. IsSide shape i value (difference_of (places minuend.now) (places subtrahend.now))
+        rows.items) }
 {
-    if !has_symbol(inner, i, literal(value)) && !has_symbol(outer, i, literal(!value)) {
+    if !has_symbol(minuend, i, literal(value)) && !has_symbol(subtrahend, i, literal(!value)) {
         return Ok(Vec::new(alloc));
     }
-    let side_inner = thinned(alloc, shape, side)?;
-    let side_outer = thin_at_value(alloc, shape, outer, i, value)?;
-    sum_between(alloc, shape, found, side_inner, side_outer)
+    let side_minuend = absorb_if_short(alloc, shape, side)?;
+    let side_subtrahend = absorbed_cofactor_at(alloc, shape, subtrahend, i, value)?;
+    sum_between(alloc, shape, found, side_minuend, side_subtrahend)
 }
 
-// The same for lists in any order.
+// The complete sum of the places of the first list that are not in the second, in any order.
 fn sum_in_order(
     alloc: Global,
     shape: Shape,
-    inner: Vec<Cube>,
-    outer: Vec<Cube>,
+    minuend: Vec<Cube>,
+    subtrahend: Vec<Cube>,
 ) -> Result<Vec<Cube>, AllocError>
-    requires inner { AreCubes shape inner.items }
-    requires outer { AreCubes shape outer.items }
-    ensures { IfOk result (λ rows. rows.items ≡ complete_sum_of shape (difference_of (places inner.items) (places outer.items))) }
+    requires minuend { AreCubes shape minuend.items }
+    requires subtrahend { AreCubes shape subtrahend.items }
+    ensures { IfOk result
+        (λ rows. rows.items
+        ≡ complete_sum_of shape (difference_of (places minuend.items) (places subtrahend.items))) }
 {
-    let inner = sorted(alloc, shape, inner)?;
-    let outer = sorted(alloc, shape, outer)?;
-    sum_between(alloc, shape, &mut Sums::new(alloc), inner, outer)
+    let minuend = sorted(alloc, shape, minuend)?;
+    let subtrahend = sorted(alloc, shape, subtrahend)?;
+    sum_between(
+        alloc,
+        shape,
+        &mut ComputedTable::new(alloc),
+        minuend,
+        subtrahend,
+    )
 }
 
 /// The complete sum of the places of the list: all cubes that hold only such places and lie in no
 /// larger such cube, in row order. These are the primes of a function of several outputs.
 ///
-/// There may be exponentially many in the inputs, and time goes at least with their number. Lists on
-/// the way whose sum was found before cost a copy of it; the sums and lists that are kept for this
-/// are forgotten where they become many. Lists are joined for their meets, and looked at pair by pair
-/// for cubes that lie in others where they are short or have one literal at each input.
+/// There may be exponentially many in the inputs, and time goes at least with their number. Lists
+/// on the way whose sum was found before cost a copy of it; the sums and lists that are kept for
+/// this are forgotten if they become many. Lists are joined for their meets, and looked at pair by
+/// pair for cubes that lie in others if they are short or have one literal at each input.
 ///
 /// # Errors
 ///
-/// [`AllocError`] where memory is refused.
+/// [`AllocError`] if memory is refused.
 pub fn complete_sum(list: &Cover) -> Result<Cover, AllocError>
-    ensures { IfOk result (λ sum. sum ≡ record { size = list.now.size; cubes = complete_sum_of list.now.size (places list.now.cubes) }) }
+    ensures { IfOk result
+        (λ sum. sum
+        ≡ record {
+          size = list.now.size;
+          cubes = complete_sum_of list.now.size (places list.now.cubes);
+        }) }
 {
     let alloc = list.allocator();
     let shape = list.shape();
@@ -226,12 +270,13 @@ pub fn complete_sum(list: &Cover) -> Result<Cover, AllocError>
 ///
 /// # Errors
 ///
-/// [`AllocError`] where memory is refused.
+/// [`AllocError`] if memory is refused.
 pub fn intersect(list: &Cover, other: &Cover) -> Result<Cover, AllocError>
     requires { other.now.size ≡ list.now.size }
     ensures { IfOk result (λ sum. sum ≡ record {
       size = list.now.size;
-      cubes = complete_sum_of list.now.size (intersection (places list.now.cubes) (places other.now.cubes));
+      cubes = complete_sum_of list.now.size
+          (intersection (places list.now.cubes) (places other.now.cubes));
     }) }
 {
     let alloc = list.allocator();
@@ -239,8 +284,8 @@ pub fn intersect(list: &Cover, other: &Cover) -> Result<Cover, AllocError>
     let _shape = other.shape();
     let mine = sorted(alloc, shape, list.try_clone()?.into_cubes())?;
     let theirs = sorted(alloc, shape, other.try_clone()?.into_cubes())?;
-    let rows = joined(alloc, shape, 0, &mine, &theirs)?;
-    let rows = reduced(alloc, shape, rows)?;
+    let rows = pairwise_meets(alloc, shape, 0, &mine, &theirs)?;
+    let rows = absorb(alloc, shape, rows)?;
     let sum = sum_in_order(alloc, shape, rows, Vec::new(alloc))?;
     Ok(Cover::from_cubes(shape, sum))
 }
@@ -252,20 +297,21 @@ pub fn intersect(list: &Cover, other: &Cover) -> Result<Cover, AllocError>
 ///
 /// # Errors
 ///
-/// [`AllocError`] where memory is refused.
+/// [`AllocError`] if memory is refused.
 pub fn difference(list: &Cover, other: &Cover) -> Result<Cover, AllocError>
     requires { other.now.size ≡ list.now.size }
     ensures { IfOk result (λ sum. sum ≡ record {
       size = list.now.size;
-      cubes = complete_sum_of list.now.size (difference_of (places list.now.cubes) (places other.now.cubes));
+      cubes = complete_sum_of list.now.size
+          (difference_of (places list.now.cubes) (places other.now.cubes));
     }) }
 {
     let alloc = list.allocator();
     let shape = list.shape();
     let _shape = other.shape();
-    let inner = list.try_clone()?.into_cubes();
-    let outer = other.try_clone()?.into_cubes();
-    let sum = sum_in_order(alloc, shape, inner, outer)?;
+    let minuend = list.try_clone()?.into_cubes();
+    let subtrahend = other.try_clone()?.into_cubes();
+    let sum = sum_in_order(alloc, shape, minuend, subtrahend)?;
     Ok(Cover::from_cubes(shape, sum))
 }
 
@@ -275,7 +321,7 @@ impl Cover {
     ///
     /// # Errors
     ///
-    /// [`AllocError`] where memory is refused.
+    /// [`AllocError`] if memory is refused.
     pub fn complement(&self) -> Result<Cover, AllocError>
         ensures { IfOk result (λ sum. sum ≡ record {
           size = self.now.size;
@@ -284,12 +330,12 @@ impl Cover {
     {
         let alloc = self.allocator();
         let shape = self.shape();
-        let mut inner = Vec::new(alloc);
+        let mut minuend = Vec::new(alloc);
         let everything = universal(alloc, shape)?;
         let _shape = everything.shape();
-        inner.push(everything)?;
-        let outer = self.try_clone()?.into_cubes();
-        let sum = sum_in_order(alloc, shape, inner, outer)?;
+        minuend.push(everything)?;
+        let subtrahend = self.try_clone()?.into_cubes();
+        let sum = sum_in_order(alloc, shape, minuend, subtrahend)?;
         Ok(Cover::from_cubes(shape, sum))
     }
 }

@@ -4,7 +4,7 @@ ghost use Rattle.std.specs.List.Sorted.{IsStrictlySortedBy};
 ghost use Rattle.cube.specs.Cube.{SameSize, IsSubset, holds, Cube as Row};
 ghost use Rattle.cube.specs.Order.{row_cmp as row_order};
 ghost use Rattle.cover.specs.Cubes.{AreCubes};
-ghost use Rattle.cover.specs.Reduced.{IsAbsorbed, IsThinned, IsUncovered};
+ghost use Rattle.cover.specs.Reduced.{IsAbsorbed, IsPartlyAbsorbed, IsWithoutAbsorbed};
 
 use crate::sum_rows::sorted;
 use cube::{Cube, Shape};
@@ -17,9 +17,10 @@ const MANY: usize = 32;
 const PAIRS: usize = 1024;
 
 // Whether the row lies in one of the kept rows.
-fn is_covered(kept: &[Cube], row: &Cube) -> bool
+fn is_absorbed(kept: &[Cube], row: &Cube) -> bool
     requires { All (λ d. SameSize d row.now) kept.now }
-    ensures covered { IsTrue result → (d : Row) × Contains kept.now d × IsSubset (holds row.now) (holds d) }
+    ensures absorbed { IsTrue result → (d : Row) × Contains kept.now d
+        × IsSubset (holds row.now) (holds d) }
     ensures open { result ≡ false → All (λ d. IsSubset (holds row.now) (holds d) → ⊥) kept.now }
 {
     for old in kept {
@@ -32,22 +33,22 @@ fn is_covered(kept: &[Cube], row: &Cube) -> bool
 
 // The rows that lie in no row before them. In row order the larger rows come first, so that among
 // rows of equal outputs none is left that lies in another.
-fn absorb(alloc: Global, shape: Shape, rows: &[Cube]) -> Result<Vec<Cube>, AllocError>
+fn absorb_sorted(alloc: Global, shape: Shape, rows: &[Cube]) -> Result<Vec<Cube>, AllocError>
     requires cubes { AreCubes shape rows.now }
     requires rising { IsStrictlySortedBy row_order rows.now }
     ensures { IfOk result (λ kept. IsAbsorbed rows.now kept.items) }
 {
     let mut kept = Vec::new(alloc);
     for row in rows {
-        if !is_covered(&kept, row) {
+        if !is_absorbed(&kept, row) {
             kept.push(row.try_clone()?)?;
         }
     }
     Ok(kept)
 }
 
-// Whether all rows have as many literals and, as far as the first 64 tell, outputs. Of such rows none
-// lies in another.
+// Whether all rows have as many literals and, as far as the first 64 tell, outputs. Of such rows
+// none lies in another.
 fn have_one_size(rows: &[Cube]) -> bool {
     let Some(first) = rows.first() else {
         return true;
@@ -62,7 +63,7 @@ fn have_one_size(rows: &[Cube]) -> bool {
 }
 
 // Whether some row lies in one before it.
-fn has_covered(shape: Shape, rows: &[Cube]) -> bool
+fn has_absorbed(shape: Shape, rows: &[Cube]) -> bool
     requires { AreCubes shape rows.now }
 {
     if have_one_size(rows) {
@@ -70,7 +71,7 @@ fn has_covered(shape: Shape, rows: &[Cube]) -> bool
     }
     for at in 0..rows.len() {
         let (before, _) = rows.split_at(at);
-        if is_covered(before, &rows[at]) {
+        if is_absorbed(before, &rows[at]) {
             return true;
         }
     }
@@ -78,12 +79,12 @@ fn has_covered(shape: Shape, rows: &[Cube]) -> bool
 }
 
 // Whether some row lies in one of the others.
-fn has_covered_by(shape: Shape, rows: &[Cube], others: &[Cube]) -> bool
+fn has_absorbed_by(shape: Shape, rows: &[Cube], others: &[Cube]) -> bool
     requires rows { AreCubes shape rows.now }
     requires others { AreCubes shape others.now }
 {
     for row in rows {
-        if is_covered(others, row) {
+        if is_absorbed(others, row) {
             return true;
         }
     }
@@ -91,7 +92,7 @@ fn has_covered_by(shape: Shape, rows: &[Cube], others: &[Cube]) -> bool
 }
 
 // The rows that lie in none of the others.
-fn uncovered(
+fn drop_absorbed(
     alloc: Global,
     shape: Shape,
     rows: &[Cube],
@@ -99,19 +100,19 @@ fn uncovered(
 ) -> Result<Vec<Cube>, AllocError>
     requires rows { AreCubes shape rows.now }
     requires others { AreCubes shape others.now }
-    ensures { IfOk result (λ kept. IsUncovered rows.now others.now kept.items) }
+    ensures { IfOk result (λ kept. IsWithoutAbsorbed rows.now others.now kept.items) }
 {
     let mut kept = Vec::new(alloc);
     for row in rows {
-        if !is_covered(others, row) {
+        if !is_absorbed(others, row) {
             kept.push(row.try_clone()?)?;
         }
     }
     Ok(kept)
 }
 
-/// The rows without those that lie in one of the others, or all of them, where the pairs are many.
-pub(crate) fn without_covered(
+/// The rows without those that lie in one of the others, or all of them, if the pairs are many.
+pub(crate) fn without_absorbed(
     alloc: Global,
     shape: Shape,
     rows: Vec<Cube>,
@@ -119,39 +120,43 @@ pub(crate) fn without_covered(
 ) -> Result<Vec<Cube>, AllocError>
     requires rows { AreCubes shape rows.items }
     requires others { AreCubes shape others.now }
-    ensures { IfOk result (λ kept. IsUncovered rows.items others.now kept.items) }
+    ensures { IfOk result (λ kept. IsWithoutAbsorbed rows.items others.now kept.items) }
 {
     let pairs = rows.len().saturating_mul(others.len());
     if pairs == 0 || pairs > PAIRS {
         return Ok(rows);
     }
-    if !has_covered_by(shape, &rows, others) {
+    if !has_absorbed_by(shape, &rows, others) {
         return Ok(rows);
     }
-    uncovered(alloc, shape, &rows, others)
+    drop_absorbed(alloc, shape, &rows, others)
 }
 
 /// The rows without some of those that lie in others: of few rows none is left that lies in one
 /// before it in row order, of many only the repeated ones leave, since each pair is looked at.
-pub(crate) fn thinned(alloc: Global, shape: Shape, rows: Vec<Cube>) -> Result<Vec<Cube>, AllocError>
+pub(crate) fn absorb_if_short(
+    alloc: Global,
+    shape: Shape,
+    rows: Vec<Cube>,
+) -> Result<Vec<Cube>, AllocError>
     requires { AreCubes shape rows.items }
-    ensures { IfOk result (λ kept. IsThinned rows.items kept.items) }
+    ensures { IfOk result (λ kept. IsPartlyAbsorbed rows.items kept.items) }
 {
     let rows = sorted(alloc, shape, rows)?;
     if rows.len() > MANY {
         return Ok(rows);
     }
-    if !has_covered(shape, &rows) {
+    if !has_absorbed(shape, &rows) {
         return Ok(rows);
     }
-    absorb(alloc, shape, &rows)
+    absorb_sorted(alloc, shape, &rows)
 }
 
 /// The rows in row order, without those that lie in one before them.
-pub(crate) fn reduced(alloc: Global, shape: Shape, rows: Vec<Cube>) -> Result<Vec<Cube>, AllocError>
+pub(crate) fn absorb(alloc: Global, shape: Shape, rows: Vec<Cube>) -> Result<Vec<Cube>, AllocError>
     requires { AreCubes shape rows.items }
     ensures { IfOk result (λ kept. IsAbsorbed rows.items kept.items) }
 {
     let rows = sorted(alloc, shape, rows)?;
-    absorb(alloc, shape, &rows)
+    absorb_sorted(alloc, shape, &rows)
 }

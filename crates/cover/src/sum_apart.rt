@@ -1,15 +1,15 @@
 //! Rows in two parts that have no input in common.
 //!
-//! A cube within both parts together then lies within one of them: a point of it outside the one and a
-//! point outside the other, mixed by the inputs, would be outside both. So the sum of the rows is the
-//! sums of the parts side by side, or everything, where one part holds everything.
+//! A cube within both parts together then lies within one of them: a point of it outside the one
+//! and a point outside the other, mixed by the inputs, would be outside both. So the sum of the
+//! rows is the sums of the parts side by side, or everything, if one part holds everything.
 ghost use Rattle.std.specs.Prelude.{◌≡◌, IfOk, IfSome, IsTrue, All, Contains, length, false};
 ghost use Rattle.cube.specs.Cube.{Cube as Row};
 ghost use Rattle.cover.specs.Cubes.{AreCubes};
 ghost use Rattle.cover.specs.Apart.{IsFree, IsOnSide, IsDivided, IsInParts, HasSomeLiteral};
 
-use crate::sum_choice::has_same_outputs;
 use crate::sum_sides::wished_sides;
+use crate::sum_splitting_input::has_same_outputs;
 use cube::{Cube, Shape};
 use std::alloc::{AllocError, Global};
 
@@ -44,7 +44,9 @@ fn divided(
 ) -> Result<Option<Parts>, AllocError>
     requires rows { AreCubes shape rows.now }
     requires sides { length sides.now ≡ shape.inputs }
-    ensures { IfOk result (λ found. IfSome found (λ parts. IsDivided sides.now rows.now parts.one.items parts.other.items)) }
+    ensures { IfOk result
+        (λ found. IfSome found
+        (λ parts. IsDivided sides.now rows.now parts.one.items parts.other.items)) }
 {
     let mut one = Vec::new(alloc);
     let mut other = Vec::new(alloc);
@@ -71,15 +73,17 @@ fn has_some_literal(shape: Shape, rows: &[Cube]) -> bool
     }
 }
 
-/// Two parts of the rows that have no input in common, each with a literal, where all rows have the same
-/// outputs and such parts are found.
+/// Two parts of the rows that have no input in common, each with a literal, if all rows have the
+/// same outputs and such parts are found.
 pub(crate) fn parts_apart(
     alloc: Global,
     shape: Shape,
     rows: &[Cube],
 ) -> Result<Option<Parts>, AllocError>
     requires { AreCubes shape rows.now }
-    ensures { IfOk result (λ found. IfSome found (λ parts. IsInParts shape rows.now parts.one.items parts.other.items)) }
+    ensures { IfOk result
+        (λ found. IfSome found
+        (λ parts. IsInParts shape rows.now parts.one.items parts.other.items)) }
 {
     let Some(sides) = wished_sides(alloc, shape, rows)? else {
         return Ok(None);

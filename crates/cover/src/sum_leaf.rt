@@ -1,5 +1,5 @@
 //! The ends of the recursion: rows without a literal, and rows with one literal at each input.
-ghost use Rattle.std.specs.Prelude.{◌≡◌, ℕ, ◌<◌, ◌&&◌, ◌||◌, not, IfOk, IsTrue, All, length, slice_index_or, true, false};
+ghost use Rattle.std.specs.Prelude.{◌≡◌, ℕ, ◌<◌, ◌&&◌, ◌||◌, IfOk, All, length, slice_index_or, true, false};
 ghost use Rattle.std.specs.List.{list_any};
 ghost use Rattle.cube.specs.Cube.{difference};
 ghost use Rattle.cube.specs.Sum.{complete_sum};
@@ -28,35 +28,38 @@ fn has_output(rows: &[Cube], j: usize) -> bool
 fn left_outputs(
     alloc: Global,
     shape: Shape,
-    inner: &[Cube],
-    outer: &[Cube],
+    minuend: &[Cube],
+    subtrahend: &[Cube],
 ) -> Result<Vec<bool>, AllocError>
-    requires inner { AreCubes shape inner.now }
-    requires outer { AreCubes shape outer.now }
-    ensures { IfOk result (λ bits. LeftOutputs shape inner.now outer.now bits.items) }
+    requires minuend { AreCubes shape minuend.now }
+    requires subtrahend { AreCubes shape subtrahend.now }
+    ensures { IfOk result (λ bits. LeftOutputs shape minuend.now subtrahend.now bits.items) }
 {
     let mut bits = Vec::new(alloc);
     for j in 0..shape.outputs() {
-        bits.push(has_output(inner, j) && !has_output(outer, j))?;
+        bits.push(has_output(minuend, j) && !has_output(subtrahend, j))?;
     }
     Ok(bits)
 }
 
-/// The complete sum of the places of the first list that are not in the second, where no row has a
+/// The complete sum of the places of the first list that are not in the second, if no row has a
 /// literal.
 pub(crate) fn free_sum(
     alloc: Global,
     shape: Shape,
-    inner: &[Cube],
-    outer: &[Cube],
+    minuend: &[Cube],
+    subtrahend: &[Cube],
 ) -> Result<Vec<Cube>, AllocError>
-    requires inner { AreCubes shape inner.now }
-    requires outer { AreCubes shape outer.now }
-    requires free { (k : ℕ) → k < shape.inputs → (has_literal k inner.now || has_literal k outer.now) ≡ false }
-    ensures { IfOk result (λ rows. rows.items ≡ complete_sum shape (difference (places inner.now) (places outer.now))) }
+    requires minuend { AreCubes shape minuend.now }
+    requires subtrahend { AreCubes shape subtrahend.now }
+    requires free { (k : ℕ) → k < shape.inputs
+        → (has_literal k minuend.now || has_literal k subtrahend.now) ≡ false }
+    ensures { IfOk result
+        (λ rows. rows.items
+        ≡ complete_sum shape (difference (places minuend.now) (places subtrahend.now))) }
 {
     let symbols = vec![in alloc; Symbol::Dash; shape.inputs()]?;
-    let outputs = left_outputs(alloc, shape, inner, outer)?;
+    let outputs = left_outputs(alloc, shape, minuend, subtrahend)?;
     let mut rows = Vec::new(alloc);
     if let Some(cube) = Cube::from_symbols(alloc, shape, &symbols, &outputs)? {
         let _shape = cube.shape();

@@ -1,10 +1,9 @@
 //! A list of rows split at an input, and the meets of two lists.
-ghost use Rattle.std.specs.Prelude.{◌≡◌, ℕ, List, ◌<◌, ◌++◌, ◌∷◌, [], ◌||◌, IfOk, OnOk, IfSome, IfNone, All, length, slice_index_or, false, true};
+ghost use Rattle.std.specs.Prelude.{◌≡◌, List, ◌<◌, ◌++◌, ◌∷◌, [], IfOk, OnOk, All, length, false, true};
 ghost use Rattle.cube.specs.Size.{Size};
 ghost use Rattle.cube.specs.Cube.{SameSize, IsCube, Cube as Row};
 ghost use Rattle.cover.specs.Cubes.{AreCubes};
-ghost use Rattle.cover.specs.Marks.{is_symbol};
-ghost use Rattle.cover.specs.Parts.{part as part_of, has_symbol as has_symbol_of, has_literal};
+ghost use Rattle.cover.specs.Parts.{part as part_of, has_symbol as has_symbol_of};
 ghost use Rattle.cover.specs.Reduced.{IsMeets};
 
 use crate::symbols::has_symbol_at;
@@ -62,7 +61,8 @@ pub(crate) fn has_symbol(rows: &[Cube], i: usize, symbol: Symbol) -> bool
 fn push_meets(row: &Cube, others: &[Cube], all: &mut Vec<Cube>) -> Result<(), AllocError>
     requires { All (λ c. SameSize row.now c) others.now }
     ensures { OnOk result ((size : Size) → IsCube size row.now → AreCubes size others.now
-        → (meets : List Row) × (all.new.items ≡ all.old.items ++ meets) × IsMeets size (row.now ∷ []) others.now meets) }
+        → (meets : List Row) × (all.new.items ≡ all.old.items ++ meets)
+        × IsMeets size (row.now ∷ []) others.now meets) }
 {
     for other in others {
         if let Some(met) = row.meet(other)? {
@@ -73,8 +73,8 @@ fn push_meets(row: &Cube, others: &[Cube], all: &mut Vec<Cube>) -> Result<(), Al
     Ok(())
 }
 
-/// The meets of a row of each list.
-pub(crate) fn meets(
+/// The meets of a row of each list, pair by pair.
+pub(crate) fn meets_by_pairs(
     alloc: Global,
     shape: Shape,
     rows: &[Cube],

@@ -1,8 +1,9 @@
 //! A wish: inputs on two sides, such that no row has literals on both.
 //!
-//! Inputs hang together where a row has literals at both. Rows that all hang together are told apart
-//! from others in one pass over their words, mostly; only where they fall apart are the inputs joined one
-//! by one, and whole groups are then put on one side until it has half of the rows.
+//! Inputs hang together where a row has literals at both. Rows that all hang together are told
+//! apart from others in one pass over their words, mostly; only where they fall apart are the
+//! inputs joined one by one, and whole groups are then put on one side until it has half of the
+//! rows.
 
 use cube::{Cube, Shape};
 use std::alloc::{AllocError, Global};
@@ -23,7 +24,7 @@ fn inputs_of(row: &Cube, w: usize) -> u64 {
 }
 
 // Whether the row has a literal at one of these inputs.
-fn meets(row: &Cube, words: usize, reached: &[u64; WORDS]) -> bool {
+fn has_literal_among(row: &Cube, words: usize, reached: &[u64; WORDS]) -> bool {
     for w in 0..words.min(WORDS) {
         if inputs_of(row, w) & reached[w] != 0 {
             return true;
@@ -42,7 +43,7 @@ fn add_inputs(row: &Cube, words: usize, reached: &mut [u64; WORDS]) {
 // Adds the inputs of the rows that have one of those that were reached.
 fn reach(rows: &[Cube], words: usize, reached: &mut [u64; WORDS]) {
     for row in rows {
-        if meets(row, words, reached) {
+        if has_literal_among(row, words, reached) {
             add_inputs(row, words, reached);
         }
     }
@@ -152,7 +153,7 @@ fn grouped(alloc: Global, shape: Shape, rows: &[Cube]) -> Result<Vec<usize>, All
     Ok(leaders)
 }
 
-/// For each input whether it is on the one side, or `None` where all rows hang together.
+/// For each input whether it is on the one side, or `None` if all rows hang together.
 pub(crate) fn wished_sides(
     alloc: Global,
     shape: Shape,

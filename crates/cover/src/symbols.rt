@@ -67,7 +67,9 @@ pub(crate) fn having<'a>(
     symbol: Symbol,
 ) -> Result<Vec<&'a Cube>, AllocError>
     requires { All (λ d. i < length d.now.symbols) rows.now }
-    ensures { IfOk result (λ kept. kept.items ≡ filter (λ d. is_symbol symbol (slice_index_or d.now.symbols i Symbol.Dash)) rows.now) }
+    ensures { IfOk result
+        (λ kept. kept.items
+        ≡ filter (λ d. is_symbol symbol (slice_index_or d.now.symbols i Symbol.Dash)) rows.now) }
 {
     let mut kept = Vec::new(alloc);
     for row in rows {
@@ -86,7 +88,10 @@ pub(crate) fn open_at<'a>(
     symbol: Symbol,
 ) -> Result<Vec<&'a Cube>, AllocError>
     requires { All (λ d. i < length d.now.symbols) rows.now }
-    ensures { IfOk result (λ kept. kept.items ≡ filter (λ d. is_compatible symbol (slice_index_or d.now.symbols i Symbol.Dash)) rows.now) }
+    ensures { IfOk result
+        (λ kept. kept.items
+        ≡ filter (λ d. is_compatible symbol (slice_index_or d.now.symbols i Symbol.Dash))
+        rows.now) }
 {
     let mut kept = Vec::new(alloc);
     for row in rows {

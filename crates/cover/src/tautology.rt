@@ -1,11 +1,11 @@
 //! Whether cubes hold every place, and whether they hold a cube.
-ghost use Rattle.std.specs.Prelude.{◌≡◌, true, IfOk, All, length, replicate};
+ghost use Rattle.std.specs.Prelude.{◌≡◌, true, IfOk, All};
 ghost use Rattle.cube.specs.Cube.{HasSize, holds};
 ghost use Rattle.cube.specs.Sum.{is_subset};
 ghost use Rattle.cover.specs.Places.{places, holds_all, behind, universal as universal_of};
 
+use crate::cube_in_cover::covers_cube;
 use crate::list::Cover;
-use crate::reason::is_held;
 use cube::{Cube, Shape, Symbol};
 use std::alloc::{AllocError, Global};
 
@@ -49,16 +49,17 @@ impl Cover {
         let alloc = self.allocator();
         let region = universal(alloc, self.shape())?;
         let rows = references(alloc, self.as_slice())?;
-        is_held(alloc, &rows, &region)
+        covers_cube(alloc, &rows, &region)
     }
 
     /// Whether every place of the cube is in some cube of the list.
     pub fn holds_cube(&self, cube: &Cube) -> Result<bool, AllocError>
         requires { HasSize cube.now self.now.size }
-        ensures { IfOk result (λ held. held ≡ is_subset self.now.size (holds cube.now) (places self.now.cubes)) }
+        ensures { IfOk result
+            (λ held. held ≡ is_subset self.now.size (holds cube.now) (places self.now.cubes)) }
     {
         let alloc = self.allocator();
         let rows = references(alloc, self.as_slice())?;
-        is_held(alloc, &rows, cube)
+        covers_cube(alloc, &rows, cube)
     }
 }

@@ -3,7 +3,7 @@ use Rattle.std.proofs.Common.{◌≡◌, ℕ, zero, suc, ◌+◌, ◌-◌, ◌<�
 use Rattle.std.specs.List.{AllByRecursion, range_with_len}
 use Rattle.std.proofs.lemmas.Bool.{cases_Bool, or_from, eqb-true, eqb-false, both_ways, false≢true}
 use Rattle.std.proofs.lemmas.List.{length-set, take_more, get_or-set_same, get_or-set_other}
-use Rattle.cover.proofs.Containment.{range-more}
+use Rattle.cover.proofs.ContainmentLemmas.{range-more}
 use Rattle.minimum.specs.Table.{has, RisesFrom, items_of}
 use Rattle.minimum.specs.Cover.{sum_over}
 use Rattle.minimum.specs.Weights.{at, total, load}

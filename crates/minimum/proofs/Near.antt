@@ -11,7 +11,7 @@ use Rattle.cube.specs.declared.symbol.Symbol.TheVariants.{Dash}
 use Rattle.cube.specs.Cube.{Cube, holds, SameSize, IsSubset, IsDisjoint, IsNextLiteral, size_of}
 use Rattle.cube.specs.Sum.{is_subset}
 use Rattle.cover.specs.Marks.{cube_at}
-use Rattle.cover.proofs.Containment.{cube_at-is}
+use Rattle.cover.proofs.ContainmentLemmas.{cube_at-is}
 use Rattle.cover.proofs.Everywhere.{same_test, is_subset-iff}
 use Rattle.cover.proofs.Meeting.{is_disjoint-from_answer}
 use Rattle.cover.proofs.Lists.{list_any_from}

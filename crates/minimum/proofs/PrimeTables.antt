@@ -15,7 +15,7 @@ use Rattle.cover.specs.Cubes.{AreCubes}
 use Rattle.cover.specs.Places.{places}
 use Rattle.cover.specs.Marks.{cube_at}
 use Rattle.cover.proofs.Lists.{list_any_from, list_any_witness, all_members}
-use Rattle.cover.proofs.Containment.{All-range}
+use Rattle.cover.proofs.ContainmentLemmas.{All-range}
 use Rattle.cover.proofs.Everywhere.{holds_universal}
 use Rattle.pla.specs.Sets.{SetLists}
 use Rattle.minimum.specs.Table.{has, RisesFrom, AreRows, fresh}

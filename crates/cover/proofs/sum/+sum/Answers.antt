@@ -8,148 +8,148 @@ use Rattle.cube.specs.Sum.{complete_sum}
 use Rattle.cover.specs.Apart.{IsFree, IsInParts}
 use Rattle.cover.specs.Cubes.{AreCubes}
 use Rattle.cover.specs.Places.{places}
-use Rattle.cover.specs.Complete.{at_input, at_both, at_either}
+use Rattle.cover.specs.Complete.{cofactor_at, consensus_at, smoothing_at}
 use Rattle.cover.specs.Parts.{live, has_symbol}
-use Rattle.cover.specs.Reduced.{IsUnate, IsUncovered}
+use Rattle.cover.specs.Reduced.{IsUnate, IsWithoutAbsorbed}
 use Rattle.cover.proofs.Dividing.{IsInParts-appended, complete_sum-appended, live-parts, live-one, live-other}
 use Rattle.cover.proofs.Lists.{all_members}
 use Rattle.cover.proofs.SumApart.{complete_sum-whole, complete_sum-whole_other, complete_sum-parts}
 use Rattle.cover.proofs.SumRows.{nothing_left}
 use Rattle.cover.proofs.SumUnate.{complete_sum-unate}
 use Rattle.cover.proofs.SumStep.{sum_of_lists, branch_falls, branch_sum, both_sum, complete_sum-no_outer, sum_of_list, complete_sum-empty, complete_sum-single, complete_sum-sharp, complete_sum-covered, AreCubes-complete_sum}
-use Rattle.cover.proofs.SumBranches.{IsBranch-thinned}
-use Rattle.cover.proofs.SumUncovered.{AreCubes-uncovered, live-uncovered, complete_sum-uncovered}
+use Rattle.cover.proofs.SumBranches.{IsBranch-absorbed}
+use Rattle.cover.proofs.SumWithoutAbsorbed.{AreCubes-without_absorbed, live-without_absorbed, complete_sum-without_absorbed}
 use Rattle.cover.proofs.SumSides.{IsSide-none, IsSide-sum, complete_sum-sides}
 use Rattle.cover.proofs.sum.+sum.Goals as goal
 
 pub left_sum-returns-then-is_empty : goal.left_sum-returns-then-is_empty
-left_sum-returns-then-is_empty t c = complete_sum-empty c.args.shape c.args.inner.items c.args.outer.items (sym c.args.inner.ok.0 ∙ eqb-true (vec_len c.args.inner) 0 (sym c.is_empty.ensures ∙ c.if-is_empty.true))
+left_sum-returns-then-is_empty t c = complete_sum-empty c.args.shape c.args.minuend.items c.args.subtrahend.items (sym c.args.minuend.ok.0 ∙ eqb-true (vec_len c.args.minuend) 0 (sym c.is_empty.ensures ∙ c.if-is_empty.true))
 
 pub left_sum-returns-then-len-eq1 : goal.left_sum-returns-then-len-eq1
 left_sum-returns-then-len-eq1 t c =
-    complete_sum-single c.args.shape c.args.inner.items c.args.outer.items c.requires.inner
-    (sym c.args.inner.ok.0 ∙ (sym c.len.ensures ∙ c.if-len-eq1.true))
-    (sym c.args.outer.ok.0 ∙ eqb-true (vec_len c.args.outer) 0 (sym c.is_empty-2.ensures ∙ c.if-is_empty-2.true))
+    complete_sum-single c.args.shape c.args.minuend.items c.args.subtrahend.items c.requires.minuend
+    (sym c.args.minuend.ok.0 ∙ (sym c.len.ensures ∙ c.if-len-eq1.true))
+    (sym c.args.subtrahend.ok.0 ∙ eqb-true (vec_len c.args.subtrahend) 0 (sym c.is_empty-2.ensures ∙ c.if-is_empty-2.true))
 
 pub left_sum-returns-then-branch : goal.left_sum-returns-then-branch
 left_sum-returns-then-branch t c =
     let unate = subst (IsUnate c.args.shape) c.deref.ensures.value (c.in_ok-is_unate.ensures c.if-branch.true) in
-    IfOk-weaker c.reduced.result _ _ (λ rows h. complete_sum-no_outer c.args.shape rows.items c.args.inner.items c.args.outer.items (nothing_left c.args.outer.items (sym c.args.outer.ok.0 ∙ eqb-true (vec_len c.args.outer) 0 (sym c.is_empty-2.ensures ∙ c.if-is_empty-2.true)))
-    (complete_sum-unate c.args.shape c.args.inner.items rows.items c.requires.inner unate h)) c.reduced.ensures
+    IfOk-weaker c.absorb.result _ _ (λ rows h. complete_sum-no_outer c.args.shape rows.items c.args.minuend.items c.args.subtrahend.items (nothing_left c.args.subtrahend.items (sym c.args.subtrahend.ok.0 ∙ eqb-true (vec_len c.args.subtrahend) 0 (sym c.is_empty-2.ensures ∙ c.if-is_empty-2.true)))
+    (complete_sum-unate c.args.shape c.args.minuend.items rows.items c.requires.minuend unate h)) c.absorb.ensures
 
 pub left_sum-returns-then-hold_everything : goal.left_sum-returns-then-hold_everything
 left_sum-returns-then-hold_everything t c =
     let all = c.hold_everything.ensures c.if-hold_everything.true in
-    c.new.ensures.items ∙ complete_sum-covered c.args.shape c.args.inner.items c.args.outer.items
+    c.new.ensures.items ∙ complete_sum-covered c.args.shape c.args.minuend.items c.args.subtrahend.items
     (subst (λ l. (p : Place) → IsPlace c.args.shape p → places l p ≡ true) c.deref-2.ensures.value all)
 
 pub left_sum-returns-in-Some : goal.left_sum-returns-in-Some
 left_sum-returns-in-Some t c =
     subst (λ found. IfSome found (λ rows. rows.items ≡ complete_sum c.args.shape (difference (places c.deref-5.result.now) (places c.deref-6.result.now)))) c.in-Some.is c.in_ok-sum.ensures
-    ∙ sum_of_lists c.args.shape c.deref-5.result.now c.args.inner.items c.deref-6.result.now c.args.outer.items c.deref-5.ensures.value c.deref-6.ensures.value
+    ∙ sum_of_lists c.args.shape c.deref-5.result.now c.args.minuend.items c.deref-6.result.now c.args.subtrahend.items c.deref-5.ensures.value c.deref-6.ensures.value
 
 pub left_sum-keep-requires : goal.left_sum-keep-requires
 left_sum-keep-requires t c =
     c.deref-9.ensures.value ∙ c.in_ok-sum-2.ensures
-    ∙ sum_of_lists c.args.shape c.deref-7.result.now c.args.inner.items c.deref-8.result.now c.args.outer.items c.deref-7.ensures.value c.deref-8.ensures.value
+    ∙ sum_of_lists c.args.shape c.deref-7.result.now c.args.minuend.items c.deref-8.result.now c.args.subtrahend.items c.deref-7.ensures.value c.deref-8.ensures.value
 
 pub left_sum-returns : goal.left_sum-returns
 left_sum-returns t c =
     c.in_ok-sum-2.ensures
-    ∙ sum_of_lists c.args.shape c.deref-7.result.now c.args.inner.items c.deref-8.result.now c.args.outer.items c.deref-7.ensures.value c.deref-8.ensures.value
+    ∙ sum_of_lists c.args.shape c.deref-7.result.now c.args.minuend.items c.deref-8.result.now c.args.subtrahend.items c.deref-7.ensures.value c.deref-8.ensures.value
 
 pub split_sum-sum_between-requires : goal.split_sum-sum_between-requires
 split_sum-sum_between-requires t c =
-    let inner = c.in_ok-both_inner.ensures.both in
-    let outer = c.in_ok-both_outer.ensures in
-    let less : live c.args.shape.inputs c.in_ok-both_inner.field-0.both.items c.in_ok-both_outer.both_outer.items < live c.args.shape.inputs c.args.inner.now c.args.outer.now =
-    branch_falls c.args.shape c.in-Some.i c.args.inner.now c.args.outer.now c.in_ok-both_inner.field-0.both.items c.in_ok-both_outer.both_outer.items
-    (at_both c.in-Some.i (places c.args.inner.now)) (at_either c.in-Some.i (places c.args.outer.now)) c.args.inner.now c.args.outer.now c.in-Some.ensures.bound refl refl
-    c.in-Some.ensures.some inner outer in
-    (omega arith, (inner.are_cubes, outer.are_cubes))
+    let minuend = c.in_ok-both_minuend.ensures.both in
+    let subtrahend = c.in_ok-both_subtrahend.ensures in
+    let less : live c.args.shape.inputs c.in_ok-both_minuend.field-0.both.items c.in_ok-both_subtrahend.both_subtrahend.items < live c.args.shape.inputs c.args.minuend.now c.args.subtrahend.now =
+    branch_falls c.args.shape c.in-Some.i c.args.minuend.now c.args.subtrahend.now c.in_ok-both_minuend.field-0.both.items c.in_ok-both_subtrahend.both_subtrahend.items
+    (consensus_at c.in-Some.i (places c.args.minuend.now)) (smoothing_at c.in-Some.i (places c.args.subtrahend.now)) c.args.minuend.now c.args.subtrahend.now c.in-Some.ensures.bound refl refl
+    c.in-Some.ensures.some minuend subtrahend in
+    (omega arith, (minuend.are_cubes, subtrahend.are_cubes))
 
-pub split_sum-merge_three-requires-clause-both : goal.split_sum-merge_three-requires-clause-both
-split_sum-merge_three-requires-clause-both t c =
-    AreCubes-complete_sum c.args.shape (difference (places c.in_ok-both_inner.field-0.both.items) (places c.in_ok-both_outer.both_outer.items)) c.in_ok-both.both.items c.in_ok-both.ensures
+pub split_sum-combine-requires-clause-both : goal.split_sum-combine-requires-clause-both
+split_sum-combine-requires-clause-both t c =
+    AreCubes-complete_sum c.args.shape (difference (places c.in_ok-both_minuend.field-0.both.items) (places c.in_ok-both_subtrahend.both_subtrahend.items)) c.in_ok-both.both.items c.in_ok-both.ensures
 
-pub split_sum-merge_three-requires-clause-low : goal.split_sum-merge_three-requires-clause-low
-split_sum-merge_three-requires-clause-low t c = c.in_ok-low.ensures.are_cubes
+pub split_sum-combine-requires-clause-low : goal.split_sum-combine-requires-clause-low
+split_sum-combine-requires-clause-low t c = c.in_ok-low.ensures.are_cubes
 
-pub split_sum-merge_three-requires-clause-high : goal.split_sum-merge_three-requires-clause-high
-split_sum-merge_three-requires-clause-high t c = c.in_ok-high.ensures.are_cubes
+pub split_sum-combine-requires-clause-high : goal.split_sum-combine-requires-clause-high
+split_sum-combine-requires-clause-high t c = c.in_ok-high.ensures.are_cubes
 
 pub split_sum-returns : goal.split_sum-returns
 split_sum-returns t c =
     let size = c.args.shape in
     let i = c.in-Some.i in
     let lt = c.in-Some.ensures.bound in
-    let inner = c.args.inner.now in
-    let outer = c.args.outer.now in
-    IfOk-weaker c.merge_three.result _ _ (λ rows h.
-    complete_sum-sides size i (difference (places inner) (places outer)) lt c.in_ok-both.both.items c.in_ok-low.low.items c.in_ok-high.high.items rows.items
-    (both_sum size i lt inner outer c.in_ok-both_inner.field-0.both.items c.in_ok-both_outer.both_outer.items c.in_ok-both.both.items c.in_ok-both_inner.ensures.both c.in_ok-both_outer.ensures c.in_ok-both.ensures)
-    c.in_ok-low.ensures c.in_ok-high.ensures h) c.merge_three.ensures
+    let minuend = c.args.minuend.now in
+    let subtrahend = c.args.subtrahend.now in
+    IfOk-weaker c.combine.result _ _ (λ rows h.
+    complete_sum-sides size i (difference (places minuend) (places subtrahend)) lt c.in_ok-both.both.items c.in_ok-low.low.items c.in_ok-high.high.items rows.items
+    (both_sum size i lt minuend subtrahend c.in_ok-both_minuend.field-0.both.items c.in_ok-both_subtrahend.both_subtrahend.items c.in_ok-both.both.items c.in_ok-both_minuend.ensures.both c.in_ok-both_subtrahend.ensures c.in_ok-both.ensures)
+    c.in_ok-low.ensures c.in_ok-high.ensures h) c.combine.ensures
 
 pub side_sum-sum_between-requires : goal.side_sum-sum_between-requires
 side_sum-sum_between-requires t c =
-    let inner = IsBranch-thinned c.args.shape c.args.i c.args.inner.now (at_input c.args.i c.args.value (places c.args.inner.now)) c.args.side.items c.in_ok-side_inner.side_inner.items c.requires.side c.in_ok-side_inner.ensures in
-    let outer = c.in_ok-side_outer.ensures in
-    let less : live c.args.shape.inputs c.in_ok-side_inner.side_inner.items c.in_ok-side_outer.side_outer.items < live c.args.shape.inputs c.args.inner.now c.args.outer.now =
-    branch_falls c.args.shape c.args.i c.args.inner.now c.args.outer.now c.in_ok-side_inner.side_inner.items c.in_ok-side_outer.side_outer.items
-    (at_input c.args.i c.args.value (places c.args.inner.now)) (at_input c.args.i c.args.value (places c.args.outer.now)) c.args.inner.now c.args.outer.now c.requires.input refl refl
-    c.requires.literal inner outer in
-    (omega arith, (inner.are_cubes, outer.are_cubes))
+    let minuend = IsBranch-absorbed c.args.shape c.args.i c.args.minuend.now (cofactor_at c.args.i c.args.value (places c.args.minuend.now)) c.args.side.items c.in_ok-side_minuend.side_minuend.items c.requires.side c.in_ok-side_minuend.ensures in
+    let subtrahend = c.in_ok-side_subtrahend.ensures in
+    let less : live c.args.shape.inputs c.in_ok-side_minuend.side_minuend.items c.in_ok-side_subtrahend.side_subtrahend.items < live c.args.shape.inputs c.args.minuend.now c.args.subtrahend.now =
+    branch_falls c.args.shape c.args.i c.args.minuend.now c.args.subtrahend.now c.in_ok-side_minuend.side_minuend.items c.in_ok-side_subtrahend.side_subtrahend.items
+    (cofactor_at c.args.i c.args.value (places c.args.minuend.now)) (cofactor_at c.args.i c.args.value (places c.args.subtrahend.now)) c.args.minuend.now c.args.subtrahend.now c.requires.input refl refl
+    c.requires.literal minuend subtrahend in
+    (omega arith, (minuend.are_cubes, subtrahend.are_cubes))
 
 pub side_sum-returns-then-not-has_symbol-2 : goal.side_sum-returns-then-not-has_symbol-2
 side_sum-returns-then-not-has_symbol-2 t c =
-    IsSide-none c.args.shape c.args.i c.requires.input c.args.inner.now c.args.outer.now c.requires.inner c.requires.outer c.args.value
-    (ap (λ t. has_symbol c.args.i t c.args.inner.now) (sym c.literal.ensures) ∙ sym c.has_symbol.ensures ∙ c.if-not-has_symbol.true)
-    (ap (λ t. has_symbol c.args.i t c.args.outer.now) (sym c.literal-then-not-has_symbol.ensures) ∙ sym c.has_symbol-then-not-has_symbol.ensures ∙ c.if-not-has_symbol-2.true)
+    IsSide-none c.args.shape c.args.i c.requires.input c.args.minuend.now c.args.subtrahend.now c.requires.minuend c.requires.subtrahend c.args.value
+    (ap (λ t. has_symbol c.args.i t c.args.minuend.now) (sym c.literal.ensures) ∙ sym c.has_symbol.ensures ∙ c.if-not-has_symbol.true)
+    (ap (λ t. has_symbol c.args.i t c.args.subtrahend.now) (sym c.literal-then-not-has_symbol.ensures) ∙ sym c.has_symbol-then-not-has_symbol.ensures ∙ c.if-not-has_symbol-2.true)
     c.new.result.items c.new.ensures.items
 
 pub side_sum-returns : goal.side_sum-returns
 side_sum-returns t c =
     IfOk-weaker c.sum_between.result _ _ (λ rows h.
-    IsSide-sum c.args.shape c.args.i (difference (places c.args.inner.now) (places c.args.outer.now)) c.args.value rows.items
-    (branch_sum c.args.shape c.args.i c.requires.input c.args.inner.now c.args.outer.now c.args.value c.in_ok-side_inner.side_inner.items c.in_ok-side_outer.side_outer.items rows.items
-    (IsBranch-thinned c.args.shape c.args.i c.args.inner.now (at_input c.args.i c.args.value (places c.args.inner.now)) c.args.side.items c.in_ok-side_inner.side_inner.items c.requires.side c.in_ok-side_inner.ensures)
-    c.in_ok-side_outer.ensures h)) c.sum_between.ensures
+    IsSide-sum c.args.shape c.args.i (difference (places c.args.minuend.now) (places c.args.subtrahend.now)) c.args.value rows.items
+    (branch_sum c.args.shape c.args.i c.requires.input c.args.minuend.now c.args.subtrahend.now c.args.value c.in_ok-side_minuend.side_minuend.items c.in_ok-side_subtrahend.side_subtrahend.items rows.items
+    (IsBranch-absorbed c.args.shape c.args.i c.args.minuend.now (cofactor_at c.args.i c.args.value (places c.args.minuend.now)) c.args.side.items c.in_ok-side_minuend.side_minuend.items c.requires.side c.in_ok-side_minuend.ensures)
+    c.in_ok-side_subtrahend.ensures h)) c.sum_between.ensures
 
 pub left_sum-returns-then-len-eq1-3 : goal.left_sum-returns-then-len-eq1-3
 left_sum-returns-then-len-eq1-3 t c =
     IfOk-weaker c.sharp.result _ _ (λ rows h.
-    complete_sum-sharp c.args.shape c.args.inner.items c.args.outer.items rows.items c.index.result.now c.index-then-len-eq1-3.result.now c.requires.inner
-    (sym c.args.inner.ok.0 ∙ (sym c.len-2.ensures ∙ c.if-len-eq1-2.true)) (sym c.args.outer.ok.0 ∙ (sym c.len-then-len-eq1-2.ensures ∙ c.if-len-eq1-3.true))
+    complete_sum-sharp c.args.shape c.args.minuend.items c.args.subtrahend.items rows.items c.index.result.now c.index-then-len-eq1-3.result.now c.requires.minuend
+    (sym c.args.minuend.ok.0 ∙ (sym c.len-2.ensures ∙ c.if-len-eq1-2.true)) (sym c.args.subtrahend.ok.0 ∙ (sym c.len-then-len-eq1-2.ensures ∙ c.if-len-eq1-3.true))
     c.index.ensures c.index-then-len-eq1-3.ensures h) c.sharp.ensures
 
 pub sum_between-left_sum-requires : goal.sum_between-left_sum-requires
 sum_between-left_sum-requires t c =
-    let kept = subst (λ l. IsUncovered c.args.inner.items l c.in_ok-left.left.items) c.deref.ensures.value c.in_ok-left.ensures in
-    let less : live c.args.shape.inputs c.in_ok-left.left.items c.args.outer.items ≤ live c.args.shape.inputs c.args.inner.items c.args.outer.items =
-    live-uncovered c.args.inner.items c.args.outer.items c.in_ok-left.left.items kept c.args.shape.inputs in
-    (omega arith, (AreCubes-uncovered c.args.shape c.args.inner.items c.args.outer.items c.in_ok-left.left.items kept c.requires.inner, c.requires.outer))
+    let kept = subst (λ l. IsWithoutAbsorbed c.args.minuend.items l c.in_ok-left.left.items) c.deref.ensures.value c.in_ok-left.ensures in
+    let less : live c.args.shape.inputs c.in_ok-left.left.items c.args.subtrahend.items ≤ live c.args.shape.inputs c.args.minuend.items c.args.subtrahend.items =
+    live-without_absorbed c.args.minuend.items c.args.subtrahend.items c.in_ok-left.left.items kept c.args.shape.inputs in
+    (omega arith, (AreCubes-without_absorbed c.args.shape c.args.minuend.items c.args.subtrahend.items c.in_ok-left.left.items kept c.requires.minuend, c.requires.subtrahend))
 
 pub sum_between-returns : goal.sum_between-returns
 sum_between-returns t c =
-    let kept = subst (λ l. IsUncovered c.args.inner.items l c.in_ok-left.left.items) c.deref.ensures.value c.in_ok-left.ensures in
-    IfOk-weaker c.left_sum.result _ _ (λ rows h. h ∙ complete_sum-uncovered c.args.shape c.args.inner.items c.args.outer.items c.in_ok-left.left.items kept) c.left_sum.ensures
+    let kept = subst (λ l. IsWithoutAbsorbed c.args.minuend.items l c.in_ok-left.left.items) c.deref.ensures.value c.in_ok-left.ensures in
+    IfOk-weaker c.left_sum.result _ _ (λ rows h. h ∙ complete_sum-without_absorbed c.args.shape c.args.minuend.items c.args.subtrahend.items c.in_ok-left.left.items kept) c.left_sum.ensures
 
 pub split_sum-apart_sum-requires : goal.split_sum-apart_sum-requires
 split_sum-apart_sum-requires t c =
-    let parts = subst (λ found. IfSome found (λ parts. IsInParts c.args.shape c.args.inner.now parts.one.items parts.other.items)) c.in-Some-2.is c.in_ok-parts.ensures in
+    let parts = subst (λ found. IfSome found (λ parts. IsInParts c.args.shape c.args.minuend.now parts.one.items parts.other.items)) c.in-Some-2.is c.in_ok-parts.ensures in
     let one = c.in-Some-2.parts.one.items in
     let other = c.in-Some-2.parts.other.items in
-    let less : live c.args.shape.inputs one other ≤ live c.args.shape.inputs c.args.inner.now c.args.outer.now =
-    live-parts c.args.shape c.args.inner.now one other parts c.args.outer.now c.args.shape.inputs in
-    (omega arith, IsInParts-appended c.args.shape c.args.inner.now one other parts)
+    let less : live c.args.shape.inputs one other ≤ live c.args.shape.inputs c.args.minuend.now c.args.subtrahend.now =
+    live-parts c.args.shape c.args.minuend.now one other parts c.args.subtrahend.now c.args.shape.inputs in
+    (omega arith, IsInParts-appended c.args.shape c.args.minuend.now one other parts)
 
 pub split_sum-returns-in-Some-2 : goal.split_sum-returns-in-Some-2
 split_sum-returns-in-Some-2 t c =
-    let parts = subst (λ found. IfSome found (λ parts. IsInParts c.args.shape c.args.inner.now parts.one.items parts.other.items)) c.in-Some-2.is c.in_ok-parts.ensures in
+    let parts = subst (λ found. IfSome found (λ parts. IsInParts c.args.shape c.args.minuend.now parts.one.items parts.other.items)) c.in-Some-2.is c.in_ok-parts.ensures in
     IfOk-weaker c.apart_sum.result _ _ (λ rows h.
-    complete_sum-no_outer c.args.shape rows.items c.args.inner.now c.args.outer.now
-    (nothing_left c.args.outer.now (eqb-true (length c.args.outer.now) 0 (sym c.is_empty.ensures ∙ c.if-is_empty.true)))
-    (h ∙ complete_sum-appended c.args.shape c.args.inner.now c.in-Some-2.parts.one.items c.in-Some-2.parts.other.items parts)) c.apart_sum.ensures
+    complete_sum-no_outer c.args.shape rows.items c.args.minuend.now c.args.subtrahend.now
+    (nothing_left c.args.subtrahend.now (eqb-true (length c.args.subtrahend.now) 0 (sym c.is_empty.ensures ∙ c.if-is_empty.true)))
+    (h ∙ complete_sum-appended c.args.shape c.args.minuend.now c.in-Some-2.parts.one.items c.in-Some-2.parts.other.items parts)) c.apart_sum.ensures
 
 pub apart_sum-left_sum-requires : goal.apart_sum-left_sum-requires
 apart_sum-left_sum-requires t c =

@@ -6,12 +6,12 @@ use Rattle.cover.proofs.sum.difference.Goals as goal
 
 pub from_cubes-requires : goal.from_cubes-requires
 from_cubes-requires c =
-    AreCubes-complete_sum c.shape-shape.result (difference (places c.into_cubes-inner.result.items) (places c.into_cubes-outer.result.items)) c.in_ok-sum.sum.items c.in_ok-sum.ensures
+    AreCubes-complete_sum c.shape-shape.result (difference (places c.into_cubes-minuend.result.items) (places c.into_cubes-subtrahend.result.items)) c.in_ok-sum.sum.items c.in_ok-sum.ensures
 
 pub returns : goal.returns
 returns c =
     c.from_cubes.ensures
-    ∙ Cubes-sum c.args.list.now.size c.shape-shape.result c.in_ok-sum.sum.items (difference (places c.into_cubes-inner.result.items) (places c.into_cubes-outer.result.items))
+    ∙ Cubes-sum c.args.list.now.size c.shape-shape.result c.in_ok-sum.sum.items (difference (places c.into_cubes-minuend.result.items) (places c.into_cubes-subtrahend.result.items))
     (difference (places c.args.list.now.cubes) (places c.args.other.now.cubes)) c.shape-shape.ensures.size c.in_ok-sum.ensures
-    (sum_of_lists c.args.list.now.size c.into_cubes-inner.result.items c.args.list.now.cubes c.into_cubes-outer.result.items c.args.other.now.cubes
-    (c.into_cubes-inner.ensures.value ∙ ap (λ v. v.cubes) c.in_ok-try_clone.ensures) (c.into_cubes-outer.ensures.value ∙ ap (λ v. v.cubes) c.in_ok-try_clone-2.ensures))
+    (sum_of_lists c.args.list.now.size c.into_cubes-minuend.result.items c.args.list.now.cubes c.into_cubes-subtrahend.result.items c.args.other.now.cubes
+    (c.into_cubes-minuend.ensures.value ∙ ap (λ v. v.cubes) c.in_ok-try_clone.ensures) (c.into_cubes-subtrahend.ensures.value ∙ ap (λ v. v.cubes) c.in_ok-try_clone-2.ensures))

@@ -1,4 +1,4 @@
-use Rattle.std.proofs.Common.{◌∙◌, ap, not, sym, subst, arith, All}
+use Rattle.std.proofs.Common.{◌∙◌, ap, not, subst, arith, All}
 use Rattle.std.proofs.lemmas.List.{take_all}
 use Rattle.std.proofs.lemmas.List.Elements.{All-more}
 use Rattle.cube.specs.Cube.{Cube}

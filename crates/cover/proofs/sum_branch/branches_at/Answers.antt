@@ -3,24 +3,24 @@ use Rattle.std.proofs.lemmas.List.Elements.{All-same}
 use Rattle.cube.specs.declared.symbol.Symbol.TheVariants.{Zero, One}
 use Rattle.cube.specs.Cube.{IsCube}
 use Rattle.cover.specs.Places.{places}
-use Rattle.cover.specs.Complete.{at_both}
+use Rattle.cover.specs.Complete.{consensus_at}
 use Rattle.cover.specs.Parts.{part}
 use Rattle.cover.proofs.SumParts.{AreCubes-part}
-use Rattle.cover.proofs.SumBranches.{IsBranch-both_list, IsBranch-side, IsBranch-thinned}
+use Rattle.cover.proofs.SumBranches.{IsBranch-both_list, IsBranch-side, IsBranch-absorbed}
 use Rattle.cover.proofs.sum_branch.branches_at.Goals as goal
 
-pub joined-requires-clause-rows : goal.joined-requires-clause-rows
-joined-requires-clause-rows c =
+pub pairwise_meets-requires-clause-rows : goal.pairwise_meets-requires-clause-rows
+pairwise_meets-requires-clause-rows c =
     All-same (IsCube c.args.shape) c.deref-2.result.now (part c.args.i Zero c.args.rows.now) (c.deref-2.ensures.value ∙ c.in_ok-dashes.ensures.zeros)
     (AreCubes-part c.args.shape c.args.i Zero c.args.rows.now c.requires.rows)
 
-pub joined-requires-clause-others : goal.joined-requires-clause-others
-joined-requires-clause-others c =
+pub pairwise_meets-requires-clause-others : goal.pairwise_meets-requires-clause-others
+pairwise_meets-requires-clause-others c =
     All-same (IsCube c.args.shape) c.deref-3.result.now (part c.args.i One c.args.rows.now) (c.deref-3.ensures.value ∙ c.in_ok-dashes.ensures.ones)
     (AreCubes-part c.args.shape c.args.i One c.args.rows.now c.requires.rows)
 
-pub thinned-requires : goal.thinned-requires
-thinned-requires c =
+pub absorb_if_short-requires : goal.absorb_if_short-requires
+absorb_if_short-requires c =
     (IsBranch-both_list c.args.shape c.args.i c.requires.input c.args.rows.now c.requires.rows c.in_ok-all.all.items c.deref-2.result.now c.deref-3.result.now
     c.in_ok-common.common.items c.append.new.self.items (c.in_ok-all.ensures ∙ c.deref.ensures.value ∙ c.in_ok-dashes.ensures.dashes)
     (c.deref-2.ensures.value ∙ c.in_ok-dashes.ensures.zeros) (c.deref-3.ensures.value ∙ c.in_ok-dashes.ensures.ones)
@@ -32,7 +32,7 @@ returns-clause-both c =
     c.in_ok-common.common.items c.append.new.self.items (c.in_ok-all.ensures ∙ c.deref.ensures.value ∙ c.in_ok-dashes.ensures.dashes)
     (c.deref-2.ensures.value ∙ c.in_ok-dashes.ensures.zeros) (c.deref-3.ensures.value ∙ c.in_ok-dashes.ensures.ones)
     c.in_ok-common.ensures c.in_ok-append.ensures.items in
-    IsBranch-thinned c.args.shape c.args.i c.args.rows.now (at_both c.args.i (places c.args.rows.now)) c.append.new.self.items c.in_ok-both.both.items branch c.in_ok-both.ensures
+    IsBranch-absorbed c.args.shape c.args.i c.args.rows.now (consensus_at c.args.i (places c.args.rows.now)) c.append.new.self.items c.in_ok-both.both.items branch c.in_ok-both.ensures
 
 pub returns-clause-low : goal.returns-clause-low
 returns-clause-low c =

@@ -23,11 +23,11 @@ returns c =
           let symbols = c.deref.ensures.value ∙ c.in_ok-symbols.ensures.items_if_clones_equal (λ y e. e) ∙ ap (λ n. replicate n Dash) c.inputs.ensures.value in
           let is = value ∙ ap (λ ss. cube_of ss c.deref-2.result.now) symbols ∙ ap (λ os. cube_of (replicate inputs Dash) os) c.deref-2.ensures.value in
           ap (λ v. v.items) w.rows-is ∙ w.in_ok-push.ensures.items ∙ ap (λ l. l ++ cube ∷ []) c.new-rows.ensures.items
-          ∙ free_sum-one c.args.shape c.args.inner.now c.args.outer.now c.requires.inner c.requires.outer c.requires.free c.in_ok-outputs.outputs.items left cube is
+          ∙ free_sum-one c.args.shape c.args.minuend.now c.args.subtrahend.now c.requires.minuend c.requires.subtrahend c.requires.free c.in_ok-outputs.outputs.items left cube is
           (IsCube-of_size w.shape-shape.result cube w.shape-shape.ensures.is_cube c.args.shape
           (ap (λ d. length d.symbols) is ∙ length-replicate inputs Dash, ap (λ d. length d.outputs) is ∙ left.len))
       | in_default w ↦
           ap (λ v. v.items) w.rows-is ∙ c.new-rows.ensures.items
-          ∙ free_sum-none c.args.shape c.args.inner.now c.args.outer.now c.requires.inner c.requires.outer c.requires.free c.in_ok-outputs.outputs.items left
+          ∙ free_sum-none c.args.shape c.args.minuend.now c.args.subtrahend.now c.requires.minuend c.requires.subtrahend c.requires.free c.in_ok-outputs.outputs.items left
           (λ h. false≢true (subst IsSome w.in_default.is (c.in_ok-cube.ensures.found.1 (subst (λ (l : List Bool). Contains l true) (sym c.deref-2.ensures.value) h))))
     ]

@@ -7,5 +7,5 @@ abbrev pub invariant-loop-j : goal.invariant-loop-j
 invariant-loop-j l = record {
   len : length l.bits.items ≡ l.j;
   each : (k : ℕ) → k < l.j → get_or l.bits.items k false
-      ≡ (list_any (λ (c : Cube). get_or c.outputs k false) l.inner && not (list_any (λ (c : Cube). get_or c.outputs k false) l.outer));
+      ≡ (list_any (λ (c : Cube). get_or c.outputs k false) l.minuend && not (list_any (λ (c : Cube). get_or c.outputs k false) l.subtrahend));
 }

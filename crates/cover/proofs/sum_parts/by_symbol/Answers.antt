@@ -1,4 +1,4 @@
-use Rattle.std.proofs.Common.{◌∙◌, ◌+◌, ◌++◌, ap, drop, refl, sym}
+use Rattle.std.proofs.Common.{◌∙◌, ◌+◌, ◌++◌, ap, drop}
 use Rattle.cube.specs.declared.symbol.Symbol.TheVariants.{Dash, Zero, One}
 use Rattle.cube.specs.Cube.{with_symbol}
 use Rattle.cover.specs.Marks.{is_symbol}

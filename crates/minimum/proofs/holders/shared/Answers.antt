@@ -1,6 +1,6 @@
 use Rattle.std.proofs.Common.{sym, subst, All}
 use Rattle.cube.specs.Cube.{SameSize}
-use Rattle.cover.proofs.Containment.{cube_at-is}
+use Rattle.cover.proofs.ContainmentLemmas.{cube_at-is}
 use Rattle.minimum.specs.Rivals.{LeavesShared}
 use Rattle.minimum.proofs.Shared.{shared_next}
 use Rattle.minimum.proofs.holders.shared.Goals as goal

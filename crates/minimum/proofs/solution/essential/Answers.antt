@@ -1,6 +1,6 @@
 use Rattle.std.proofs.Common.{◌≡◌, ap, sym, subst, ◌∙◌, ◌<◌, length, get_or}
 use Rattle.cover.specs.Cubes.{AreCubes}
-use Rattle.cover.proofs.Containment.{cube_at-is}
+use Rattle.cover.proofs.ContainmentLemmas.{cube_at-is}
 use Rattle.minimum.specs.Primes.{primes_of, is_essential}
 use Rattle.minimum.specs.Rivals.{AreShared}
 use Rattle.minimum.proofs.Needed.{kept_next, skipped_next}

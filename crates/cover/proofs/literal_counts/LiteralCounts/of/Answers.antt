@@ -1,0 +1,9 @@
+use Rattle.std.proofs.Common.{◌≡◌, length, subst, sym}
+use Rattle.cover.proofs.LiteralCounting.{CountsLiterals-more}
+use Rattle.cover.proofs.literal_counts.LiteralCounts.of.Goals as goal
+
+pub loop-row-preserved : goal.loop-row-preserved
+loop-row-preserved c =
+    CountsLiterals-more c.args.rows.now c.loop-row.row-index c.row-item.result c.loop-row-test.true c.row-item.is c.args.inputs _ _ _ _
+    (subst (λ x. length x.now.symbols ≡ c.args.inputs) (sym c.row-item.is) (c.requires c.loop-row.row-index c.row-item.result c.loop-row-test.true))
+    c.loop-row.invariant c.add.ensures.zeros c.add.ensures.ones

@@ -1,5 +1,0 @@
-use Rattle.cover.proofs.Containment.{KeepsUnmarked}
-use Rattle.cover.proofs.marking.unmarked.Given as goal
-
-abbrev pub invariant-loop-k : goal.invariant-loop-k
-invariant-loop-k l = KeepsUnmarked l.list.size l.list.cubes l.k l.kept.items

@@ -1,0 +1,200 @@
+//! Complete sums that were found, kept to be found again.
+//!
+//! If inputs are alike, as in symmetric functions and in adders, the lists at values of some come
+//! to those at other values of others. So the two lists of a step are kept with their sum, in a
+//! slot that their hash picks, the newer in place of the older. Packages for decision diagrams keep
+//! such a computed table (Brace, Rudell and Bryant, Efficient Implementation of a BDD Package,
+//! 1990).
+ghost use Rattle.std.specs.Prelude.{◌≡◌, IsTrue, IfOk, IfSome};
+ghost use Rattle.cube.specs.Cube.{difference as difference_of};
+ghost use Rattle.cube.specs.Sum.{complete_sum as complete_sum_of};
+ghost use Rattle.cover.specs.Places.{places};
+
+use crate::list::copied;
+use cube::{Cube, Shape};
+use std::alloc::{AllocError, Global};
+use std::mem;
+
+// How many slots there are.
+const SLOTS: usize = 16384;
+
+// If the rows that are kept would come to more than this with one more sum, all are forgotten.
+const ROWS: usize = 1 << 18;
+
+// Two lists, and the complete sum of the places of the first that are not in the second.
+#[derive(Drop)]
+struct Entry {
+    hash: u64,
+    shape: Shape,
+    minuend: Vec<Cube>,
+    subtrahend: Vec<Cube>,
+    sum: Vec<Cube>,
+    ghost is_sum: { sum.items
+        ≡ complete_sum_of shape (difference_of (places minuend.items) (places subtrahend.items)) },
+}
+
+impl Entry {
+    // How many rows are kept.
+    fn rows(&self) -> usize {
+        self.minuend
+            .len()
+            .saturating_add(self.subtrahend.len())
+            .saturating_add(self.sum.len())
+    }
+
+    // Whether the sum is that of these lists.
+    fn is_of(&self, shape: Shape, hash: u64, minuend: &[Cube], subtrahend: &[Cube]) -> bool
+        ensures { IsTrue result → (self.now.shape ≡ shape) × (self.now.minuend.items ≡ minuend.now)
+            × (self.now.subtrahend.items ≡ subtrahend.now) }
+    {
+        self.hash == hash
+            && self.shape.inputs() == shape.inputs()
+            && self.shape.outputs() == shape.outputs()
+            && are_equal(&self.minuend, minuend)
+            && are_equal(&self.subtrahend, subtrahend)
+    }
+}
+
+/// Sums that were found. No answer depends on how many are kept, and no contract speaks of it.
+#[derive(Drop)]
+pub(crate) struct ComputedTable {
+    slots: Vec<Option<Entry>>,
+    rows: usize,
+}
+
+impl ComputedTable {
+    /// No sum yet. Memory is taken with the first one kept.
+    pub(crate) fn new(alloc: Global) -> ComputedTable {
+        ComputedTable {
+            slots: Vec::new(alloc),
+            rows: 0,
+        }
+    }
+
+    /// The complete sum of the places of the first list that are not in the second, if it is kept.
+    pub(crate) fn find(
+        &self,
+        alloc: Global,
+        shape: Shape,
+        hash: u64,
+        minuend: &[Cube],
+        subtrahend: &[Cube],
+    ) -> Result<Option<Vec<Cube>>, AllocError>
+        ensures { IfOk result (λ found. IfSome found (λ rows.
+            rows.items ≡ complete_sum_of shape
+            (difference_of (places minuend.now) (places subtrahend.now)))) }
+    {
+        let Some(Some(known)) = self.slots.get(slot_of(hash)) else {
+            return Ok(None);
+        };
+        if !known.is_of(shape, hash, minuend, subtrahend) {
+            return Ok(None);
+        }
+        Ok(Some(copied(alloc, &known.sum)?))
+    }
+
+    /// Keeps a sum with its lists.
+    pub(crate) fn keep(
+        &mut self,
+        alloc: Global,
+        shape: Shape,
+        hash: u64,
+        minuend: Vec<Cube>,
+        subtrahend: Vec<Cube>,
+        sum: &[Cube],
+    ) -> Result<(), AllocError>
+        requires { sum.now
+            ≡ complete_sum_of shape
+            (difference_of (places minuend.items) (places subtrahend.items)) }
+    {
+        let sum = copied(alloc, sum)?;
+        let known = Entry {
+            hash,
+            shape,
+            minuend,
+            subtrahend,
+            sum,
+        };
+        self.make_room(known.rows())?;
+        self.put(known);
+        Ok(())
+    }
+
+    // Makes the slots if there are none, and forgets all sums if so many rows more are too many.
+    fn make_room(&mut self, rows: usize) -> Result<(), AllocError> {
+        if self.rows.saturating_add(rows) > ROWS {
+            self.slots.clear();
+            self.rows = 0;
+        }
+        for _ in self.slots.len()..SLOTS {
+            self.slots.push(None)?;
+        }
+        Ok(())
+    }
+
+    // Puts a sum into its slot.
+    fn put(&mut self, known: Entry) {
+        let rows = known.rows();
+        if rows > ROWS {
+            return;
+        }
+        if let Some(slot) = self.slots.get_mut(slot_of(known.hash)) {
+            let old = match mem::replace(slot, Some(known)) {
+                Some(old) => old.rows(),
+                None => 0,
+            };
+            self.rows = self.rows.saturating_sub(old).saturating_add(rows);
+        }
+    }
+}
+
+// The slot that a hash picks.
+fn slot_of(hash: u64) -> usize {
+    (hash % SLOTS as u64) as usize
+}
+
+/// A number of two lists, by which their sum is kept.
+pub(crate) fn hash_of(shape: Shape, minuend: &[Cube], subtrahend: &[Cube]) -> u64 {
+    let seed = minuend.len() as u64;
+    list_hash(shape, subtrahend, list_hash(shape, minuend, seed))
+}
+
+// A number of a list and a seed.
+fn list_hash(shape: Shape, rows: &[Cube], seed: u64) -> u64 {
+    let mut hash = seed;
+    for row in rows {
+        hash = row_hash(shape, row, hash);
+    }
+    hash
+}
+
+// A number of a row and a seed: for one seed equal rows give equal numbers, and others hardly ever.
+fn row_hash(shape: Shape, row: &Cube, seed: u64) -> u64 {
+    let mut hash = seed;
+    for w in 0..(shape.inputs() / 32).max(shape.outputs() / 64) + 1 {
+        hash = mixed(mixed(hash ^ row.literal_bits(w)) ^ row.output_bits(w));
+    }
+    hash
+}
+
+// A number that each bit of the word changes in many bits: an odd factor, and the higher half upon
+// the lower.
+fn mixed(word: u64) -> u64 {
+    let product = word.wrapping_mul(0x9E37_79B9_7F4A_7C15);
+    product ^ (product >> 32)
+}
+
+// Whether the lists are equal.
+fn are_equal(rows: &[Cube], others: &[Cube]) -> bool
+    ensures { IsTrue result → rows.now ≡ others.now }
+{
+    if rows.len() != others.len() {
+        return false;
+    }
+    for k in 0..rows.len() {
+        if !rows[k].is_equal(&others[k]) {
+            return false;
+        }
+    }
+    true
+}

@@ -1,0 +1,379 @@
+//! Why cubes hold every place of a region: a cube that holds the region, and of which they hold
+//! each place (an implicant of the list).
+//!
+//! A region is a cube. A row that holds it is such a cube. Else the region is split at an input,
+//! and each half is asked by itself. If the cube for one half has no literal at that input, it
+//! holds the whole region, and the other half is never asked: so a split that had no part in an
+//! answer is undone at once, wherever it was made (Marques-Silva and Sakallah 1996). Else the
+//! consensus of both cubes is the answer, which has `-` at the input and elsewhere what either asks
+//! (Brayton et al. 1984). A row with one open literal holds one of the halves, so that the other
+//! decides (Davis, Logemann and Loveland 1962). If a row has no open literal, the rest of the
+//! outputs is asked.
+//!
+//! Each question looks at the rows once. While some rows of a region have few open literals, its
+//! parts look at those rows alone, and at all rows that meet the region only once these have more.
+ghost use Rattle.std.specs.Prelude.{◌≡◌, ◌≢◌, ◌↔◌, ℕ, ◌≤◌, ◌<◌, Bool, List, false, ◌||◌, IsTrue, IfOk, IfSome, IfNone, OnOk, ◌++◌, ◌∷◌, [], length, slice_get, slice_index_or, Some, Contains, All};
+ghost use Rattle.cube.specs.Cube.{SameSize, IsSubset, IsDisjoint, holds, with_symbol, size_of};
+ghost use Rattle.cube.specs.Pattern.{matches};
+ghost use Rattle.cube.specs.Sharp.{opposite as opposite_of};
+ghost use Rattle.cover.specs.Places.{places, meeting as meeting_of, behind};
+ghost use Rattle.cover.specs.Reason.{IsReason, Explains, IsClosed, Leads, Share, AreAmong};
+
+use crate::splitting_input::{Wish, next_wish, open_literals};
+use cube::{Cube, Symbol};
+use std::alloc::{AllocError, Global};
+
+// What a look at each row finds.
+#[derive(Drop)]
+struct Survey<'a> {
+    // A copy of a row that holds the region, and then nothing else counts.
+    found: Option<Cube>,
+    // The rows that meet the region.
+    meeting: Vec<&'a Cube>,
+    // Those of them with fewest open literals, and how many these are.
+    nearest: Vec<&'a Cube>,
+    fewest: u32,
+}
+
+impl<'a> Survey<'a> {
+    // Adds a row that meets the region, with so many open literals.
+    fn add(&mut self, row: &'a Cube, open: u32) -> Result<(), AllocError>
+        requires { AreAmong self.old.nearest.items self.old.meeting.items }
+        ensures found { self.new.found ≡ self.old.found }
+        ensures meeting { OnOk result (self.new.meeting.items ≡ self.old.meeting.items
+            ++ row.entry ∷ []) }
+        ensures nearest { OnOk result (AreAmong self.new.nearest.items self.new.meeting.items) }
+        ensures some { OnOk result (1 ≤ length self.new.nearest.items) }
+    {
+        self.meeting.push(row)?;
+        if open > self.fewest && !self.nearest.is_empty() {
+            return Ok(());
+        }
+        if open < self.fewest {
+            self.nearest.clear();
+        }
+        self.fewest = open;
+        self.nearest.push(row)?;
+        Ok(())
+    }
+}
+
+// Looks at each row once.
+fn survey_rows<'a>(
+    alloc: Global,
+    rows: &[&'a Cube],
+    region: &Cube,
+) -> Result<Survey<'a>, AllocError>
+    requires { All (λ d. SameSize d.now region.now) rows.now }
+    ensures found { IfOk result
+        (λ s. IfSome s.found (λ c. IsReason region.now (behind rows.now) c)) }
+    ensures meeting { IfOk result
+        (λ s. IfNone s.found
+        (behind s.meeting.items ≡ meeting_of (size_of region.now) region.now (behind rows.now))) }
+    ensures nearest { IfOk result (λ s. AreAmong s.nearest.items s.meeting.items) }
+    ensures some { IfOk result (λ s. 1 ≤ length s.meeting.items → 1 ≤ length s.nearest.items) }
+{
+    let shape = region.shape();
+    let mut survey = Survey {
+        found: None,
+        meeting: Vec::new(alloc),
+        nearest: Vec::new(alloc),
+        fewest: u32::MAX,
+    };
+    for row in rows {
+        if !row.disjoint(region) {
+            let open = open_literals(shape, row, region, survey.fewest);
+            if open == 0 && row.contains(region) {
+                survey.found = Some(row.try_clone()?);
+                return Ok(survey);
+            }
+            survey.add(*row, open)?;
+        }
+    }
+    Ok(survey)
+}
+
+// The first input from `from` on at which the row has a literal and the region has none.
+fn open_literal(row: &Cube, region: &Cube, from: usize) -> Option<usize>
+    requires size { SameSize row.now region.now }
+    requires from { from ≤ length region.now.symbols }
+    ensures within { IfSome result (λ i. i < length region.now.symbols) }
+    ensures small { IfSome result (λ i. i < 1024) }
+    ensures from_on { IfSome result (λ i. from ≤ i) }
+    ensures dash { IfSome result (λ i. slice_get region.now.symbols i ≡ Some Symbol.Dash) }
+    ensures literal { IfSome result
+        (λ i. slice_index_or row.now.symbols i Symbol.Dash ≢ Symbol.Dash) }
+    ensures none { IfNone result ((i : ℕ) → from ≤ i → i < length region.now.symbols
+        → slice_index_or region.now.symbols i Symbol.Dash ≡ Symbol.Dash
+        → slice_index_or row.now.symbols i Symbol.Dash ≡ Symbol.Dash) }
+{
+    let _inputs = region.shape().inputs();
+    let mut at = from;
+    while let Some(i) = row.next_literal(at) {
+        if region.symbol(i) == Symbol::Dash {
+            return Some(i);
+        }
+        at = i + 1;
+    }
+    None
+}
+
+// What is next for a region.
+#[derive(Clone, Copy)]
+pub(crate) enum Step {
+    // The row at this index has no open literal.
+    Row(usize),
+    // The input splits the region, and the half with this literal is asked first.
+    Split(usize, Symbol),
+}
+
+// What is next for a region that all of the nearest rows meet.
+fn next_step(rows: &[&Cube], near: &[&Cube], fewest: u32, region: &Cube) -> Step
+    requires sizes { All (λ d. SameSize d.now region.now) near.now }
+    requires some { 1 ≤ length near.now }
+    ensures { Leads region.now (behind near.now) result }
+{
+    match next_wish(region.shape(), near, rows, fewest, region) {
+        Wish::Row(k) => {
+            if k < near.len() && open_literal(near[k], region, 0).is_none() {
+                return Step::Row(k);
+            }
+        }
+        Wish::Split(i, literal) => {
+            if i < region.shape().inputs()
+                && region.symbol(i) == Symbol::Dash
+                && literal != Symbol::Dash
+            {
+                return Step::Split(i, literal);
+            }
+        }
+    }
+    match open_literal(near[0], region, 0) {
+        None => Step::Row(0),
+        Some(i) => Step::Split(i, Symbol::Zero),
+    }
+}
+
+// The other literal.
+fn opposite(symbol: Symbol) -> Symbol
+    ensures { result ≡ opposite_of symbol }
+{
+    match symbol {
+        Symbol::Dash => Symbol::Dash,
+        Symbol::Zero => Symbol::One,
+        Symbol::One => Symbol::Zero,
+    }
+}
+
+// The cube that has `-` at the input and elsewhere what either of the two asks.
+fn consensus(region: &Cube, i: usize, one: &Cube, other: &Cube) -> Result<Cube, AllocError>
+    requires input { i < length region.now.symbols }
+    requires one_size { SameSize one.now region.now }
+    requires other_size { SameSize other.now region.now }
+    requires one { IsSubset (holds region.now) (holds (with_symbol one.now i Symbol.Dash)) }
+    requires other { IsSubset (holds region.now) (holds (with_symbol other.now i Symbol.Dash)) }
+    requires sides { Share (slice_index_or one.now.symbols i Symbol.Dash)
+        (slice_index_or other.now.symbols i Symbol.Dash) }
+    ensures size { IfOk result (λ c. SameSize c region.now) }
+    ensures above { IfOk result (λ c. IsSubset (holds region.now) (holds c)) }
+    ensures within { IfOk result
+        (λ c. IsSubset (holds c) (λ p. holds one.now p || holds other.now p)) }
+{
+    let _shape = region.shape();
+    let low = one.with_symbol(i, Symbol::Dash)?;
+    let high = other.with_symbol(i, Symbol::Dash)?;
+    match low.meet(&high)? {
+        Some(cube) => Ok(cube),
+        None => unreachable!(),
+    }
+}
+
+// The cube that asks what either of the two asks, with the outputs of both.
+fn stacked(region: &Cube, one: &Cube, other: &Cube) -> Result<Cube, AllocError>
+    requires one_size { SameSize one.now region.now }
+    requires other_size { SameSize other.now region.now }
+    requires one { (point : List Bool) → IsTrue (matches region.now.symbols point)
+        → IsTrue (matches one.now.symbols point) }
+    requires other { (point : List Bool) → IsTrue (matches region.now.symbols point)
+        → IsTrue (matches other.now.symbols point) }
+    requires outputs { (j : ℕ) → IsTrue (slice_index_or region.now.outputs j false)
+        → IsTrue (slice_index_or one.now.outputs j false
+        || slice_index_or other.now.outputs j false) }
+    ensures size { IfOk result (λ c. SameSize c region.now) }
+    ensures above { IfOk result (λ c. IsSubset (holds region.now) (holds c)) }
+    ensures within { IfOk result
+        (λ c. IsSubset (holds c) (λ p. holds one.now p || holds other.now p)) }
+{
+    let _shape = region.shape();
+    match one.stack(other)? {
+        Some(cube) => Ok(cube),
+        None => unreachable!(),
+    }
+}
+
+// A cube that holds the region and of which the rows hold each place, or `None` if they lack a
+// place of the region. Some of the rows are near; they alone are looked at while one of them has at
+// most so many open literals.
+#[cycle(reason)]
+pub(crate) fn reason(
+    alloc: Global,
+    rows: &[&Cube],
+    near: &[&Cube],
+    bound: u32,
+    region: &Cube,
+) -> Result<Option<Cube>, AllocError>
+    requires sizes { All (λ d. SameSize d.now region.now) rows.now }
+    requires near { AreAmong near.now rows.now }
+    ensures { IfOk result (λ found. Explains region.now (behind rows.now) found) }
+{
+    let Survey {
+        found,
+        meeting,
+        nearest,
+        fewest,
+    } = survey_rows(alloc, near, region)?;
+    if let Some(cube) = found {
+        return Ok(Some(cube));
+    }
+    if fewest <= bound && !meeting.is_empty() {
+        let rest = fewest.min(bound.saturating_sub(1));
+        return by_step(alloc, rows, &nearest, fewest, rest, region);
+    }
+    by_all_rows(alloc, rows, region)
+}
+
+// The reason by a look at each row.
+#[cycle(reason)]
+fn by_all_rows(alloc: Global, rows: &[&Cube], region: &Cube) -> Result<Option<Cube>, AllocError>
+    requires { All (λ d. SameSize d.now region.now) rows.now }
+    ensures { IfOk result (λ found. Explains region.now (behind rows.now) found) }
+{
+    let _shape = region.shape();
+    let Survey {
+        found,
+        meeting,
+        nearest,
+        fewest,
+    } = survey_rows(alloc, rows, region)?;
+    if let Some(cube) = found {
+        return Ok(Some(cube));
+    }
+    if meeting.is_empty() {
+        return Ok(None);
+    }
+    by_step(alloc, &meeting, &nearest, fewest, fewest, region)
+}
+
+// The reason by the next step, if all of the near rows meet the region.
+#[cycle(reason)]
+fn by_step(
+    alloc: Global,
+    rows: &[&Cube],
+    near: &[&Cube],
+    fewest: u32,
+    bound: u32,
+    region: &Cube,
+) -> Result<Option<Cube>, AllocError>
+    requires sizes { All (λ d. SameSize d.now region.now) rows.now }
+    requires near { AreAmong near.now rows.now }
+    requires meets { All (λ d. IsDisjoint (holds d.now) (holds region.now) → ⊥) near.now }
+    requires some { 1 ≤ length near.now }
+    ensures { IfOk result (λ found. Explains region.now (behind rows.now) found) }
+{
+    match next_step(rows, near, fewest, region) {
+        Step::Row(k) => by_outputs(alloc, rows, near, bound, region, near[k]),
+        Step::Split(i, literal) => by_input(alloc, rows, near, bound, region, (i, literal)),
+    }
+}
+
+// The reason if a row has no open literal: the row has some of the outputs.
+#[cycle(reason)]
+fn by_outputs(
+    alloc: Global,
+    rows: &[&Cube],
+    near: &[&Cube],
+    bound: u32,
+    region: &Cube,
+    row: &Cube,
+) -> Result<Option<Cube>, AllocError>
+    requires sizes { All (λ d. SameSize d.now region.now) rows.now }
+    requires near { AreAmong near.now rows.now }
+    requires size { SameSize row.now region.now }
+    requires member { Contains (behind rows.now) row.now }
+    requires meets { IsDisjoint (holds row.now) (holds region.now) → ⊥ }
+    requires closed { IsClosed region.now row.now }
+    ensures { IfOk result (λ found. Explains region.now (behind rows.now) found) }
+{
+    if !region.has_more_outputs(row) {
+        return Ok(Some(row.try_clone()?));
+    }
+    let rest = region.without_outputs(row)?;
+    let Some(other) = reason(alloc, rows, near, bound, &rest)? else {
+        return Ok(None);
+    };
+    if other.contains(region) {
+        return Ok(Some(other));
+    }
+    Ok(Some(stacked(region, row, &other)?))
+}
+
+// The reason by halves, that with the literal first.
+#[cycle(reason)]
+fn by_input(
+    alloc: Global,
+    rows: &[&Cube],
+    near: &[&Cube],
+    bound: u32,
+    region: &Cube,
+    at: (usize, Symbol),
+) -> Result<Option<Cube>, AllocError>
+    requires sizes { All (λ d. SameSize d.now region.now) rows.now }
+    requires near { AreAmong near.now rows.now }
+    requires dash { slice_get region.now.symbols at.0 ≡ Some Symbol.Dash }
+    requires literal { at.1 ≢ Symbol.Dash }
+    ensures { IfOk result (λ found. Explains region.now (behind rows.now) found) }
+{
+    let _shape = region.shape();
+    let (i, literal) = at;
+    let first = region.with_symbol(i, literal)?;
+    let Some(one) = reason(alloc, rows, near, bound, &first)? else {
+        return Ok(None);
+    };
+    if one.contains(region) {
+        return Ok(Some(one));
+    }
+    let second = region.with_symbol(i, opposite(literal))?;
+    let Some(other) = reason(alloc, rows, near, bound, &second)? else {
+        return Ok(None);
+    };
+    if other.contains(region) {
+        return Ok(Some(other));
+    }
+    Ok(Some(consensus(region, i, &one, &other)?))
+}
+
+/// Whether the rows hold each place of the region.
+pub(crate) fn covers_cube(alloc: Global, rows: &[&Cube], region: &Cube) -> Result<bool, AllocError>
+    requires { All (λ d. SameSize d.now region.now) rows.now }
+    ensures { IfOk result
+        (λ held. IsTrue held ↔ IsSubset (holds region.now) (places (behind rows.now))) }
+{
+    covers_cube_near(alloc, rows, &[], 0, region)
+}
+
+/// Whether the rows hold each place of the region. Near rows are looked at first, and they alone
+/// while one of them has at most so many open literals.
+pub(crate) fn covers_cube_near(
+    alloc: Global,
+    rows: &[&Cube],
+    near: &[&Cube],
+    bound: u32,
+    region: &Cube,
+) -> Result<bool, AllocError>
+    requires sizes { All (λ d. SameSize d.now region.now) rows.now }
+    requires near { AreAmong near.now rows.now }
+    ensures { IfOk result
+        (λ held. IsTrue held ↔ IsSubset (holds region.now) (places (behind rows.now))) }
+{
+    Ok(reason(alloc, rows, near, bound, region)?.is_some())
+}

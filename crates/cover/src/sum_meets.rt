@@ -1,0 +1,96 @@
+//! The meets of two lists.
+//!
+//! Of rows in row order with equal symbols at the inputs before one, those with `-`, with `0` and
+//! with `1` there stand one after the other. So both lists are cut in three at input after input,
+//! and rows with other literals never come together. Lists in another order are met pair by pair.
+ghost use Rattle.std.specs.Prelude.{◌≡◌, ◌<◌, ◌≤◌, IfOk, IfSome, All, length, take, slice_index_or};
+ghost use Rattle.cover.specs.Cubes.{AreCubes};
+ghost use Rattle.cover.specs.Reduced.{IsMeets, IsInThirds};
+
+use crate::sum_parts::meets_by_pairs;
+use crate::symbols::has_symbol_at;
+use cube::{Cube, Shape, Symbol};
+use std::alloc::{AllocError, Global};
+
+// Lists of so few pairs are not cut.
+const FEW: usize = 64;
+
+// The rows with `-`, with `0` and with `1` at an input.
+#[derive(Clone, Copy)]
+struct Thirds<'a> {
+    dashes: &'a [Cube],
+    zeros: &'a [Cube],
+    ones: &'a [Cube],
+}
+
+// How many rows from the first on have this symbol at input `i`.
+fn run(shape: Shape, rows: &[Cube], i: usize, symbol: Symbol) -> usize
+    requires rows { AreCubes shape rows.now }
+    requires input { i < shape.inputs }
+    ensures bound { result ≤ length rows.now }
+    ensures symbol { All (λ c. slice_index_or c.symbols i Symbol.Dash ≡ symbol)
+        (take result rows.now) }
+{
+    for at in 0..rows.len() {
+        if !has_symbol_at(&rows[at], i, symbol) {
+            return at;
+        }
+    }
+    rows.len()
+}
+
+// The rows cut in three, if they stand in that order.
+fn cut_in_three<'a>(shape: Shape, rows: &'a [Cube], i: usize) -> Option<Thirds<'a>>
+    requires rows { AreCubes shape rows.now }
+    requires input { i < shape.inputs }
+    ensures { IfSome result (λ t. IsInThirds shape i rows.now t.dashes.now t.zeros.now t.ones.now) }
+{
+    let (dashes, rest) = rows.split_at(run(shape, rows, i, Symbol::Dash));
+    let (zeros, ones) = rest.split_at(run(shape, rest, i, Symbol::Zero));
+    if run(shape, ones, i, Symbol::One) < ones.len() {
+        return None;
+    }
+    Some(Thirds {
+        dashes,
+        zeros,
+        ones,
+    })
+}
+
+/// The meets of a row of each list. The lists are cut at the inputs from `at` on.
+pub(crate) fn pairwise_meets(
+    alloc: Global,
+    shape: Shape,
+    at: usize,
+    rows: &[Cube],
+    others: &[Cube],
+) -> Result<Vec<Cube>, AllocError>
+    requires rows { AreCubes shape rows.now }
+    requires others { AreCubes shape others.now }
+    ensures { IfOk result (λ all. IsMeets shape rows.now others.now all.items) }
+{
+    if rows.len().saturating_mul(others.len()) <= FEW || at >= shape.inputs() {
+        return meets_by_pairs(alloc, shape, rows, others);
+    }
+    let Some(mine) = cut_in_three(shape, rows, at) else {
+        return meets_by_pairs(alloc, shape, rows, others);
+    };
+    let Some(theirs) = cut_in_three(shape, others, at) else {
+        return meets_by_pairs(alloc, shape, rows, others);
+    };
+    let next = at + 1;
+    let mut all = pairwise_meets(alloc, shape, next, mine.dashes, theirs.dashes)?;
+    let mut more = pairwise_meets(alloc, shape, next, mine.dashes, theirs.zeros)?;
+    all.append(&mut more)?;
+    let mut more = pairwise_meets(alloc, shape, next, mine.dashes, theirs.ones)?;
+    all.append(&mut more)?;
+    let mut more = pairwise_meets(alloc, shape, next, mine.zeros, theirs.dashes)?;
+    all.append(&mut more)?;
+    let mut more = pairwise_meets(alloc, shape, next, mine.zeros, theirs.zeros)?;
+    all.append(&mut more)?;
+    let mut more = pairwise_meets(alloc, shape, next, mine.ones, theirs.dashes)?;
+    all.append(&mut more)?;
+    let mut more = pairwise_meets(alloc, shape, next, mine.ones, theirs.ones)?;
+    all.append(&mut more)?;
+    Ok(all)
+}
