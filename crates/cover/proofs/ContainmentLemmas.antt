@@ -69,7 +69,7 @@ is_symbol-same Zero One h = absurd (false≢true h)
 is_symbol-same One Dash h = absurd (false≢true h)
 is_symbol-same One Zero h = absurd (false≢true h)
 
--- what leaves for a cube has its symbol under that cube's
+-- what is absorbed by a cube has its symbol under that cube's
 stays : (size : Size) (cubes : List Cube) → AreCubes size cubes → (i k j : ℕ) (s : Symbol) → k < length cubes → j < length cubes → symbol_at cubes i k ≡ s
     → is_over (symbol_at cubes i j) s ≡ false → is_absorbed_by size cubes k j ≡ false
 stays size cubes are i k j s k_lt j_lt e off = elim (cases_Bool (is_absorbed_by size cubes k j)) [

@@ -47,7 +47,7 @@ fn absorb_sorted(alloc: Global, shape: Shape, rows: &[Cube]) -> Result<Vec<Cube>
     Ok(kept)
 }
 
-// Whether all rows have as many literals and, as far as the first 64 tell, outputs. Of such rows
+// Whether all rows have as many literals and, as far as the first 64 show, outputs. Of such rows
 // none lies in another.
 fn have_one_size(rows: &[Cube]) -> bool {
     let Some(first) = rows.first() else {
