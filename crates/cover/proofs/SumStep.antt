@@ -33,7 +33,7 @@ module _ (size : Size) (i : ℕ) (lt : i < size.inputs) (s : Place → Bool) whe
   dash_at : (b : Bool) (c : Cube) → IsMaximal size (cofactor_at i b s) c → get_or c.symbols i Dash ≡ Dash
   dash_at b c h = maximal_dash size i lt (cofactor_at i b s) (λ p x. put-put size i lt s b x p) c h
 
-  -- one with a literal put at the input
+  -- the sum at one value of the input
   module _ (b : Bool) where
     low : List Cube
     low = complete_sum size (cofactor_at i b s)
