@@ -7,7 +7,7 @@ use Rattle.std.specs.Ordering.{nat_cmp}
 use Rattle.std.specs.declared.cmp.Ordering.TheVariants.{Less}
 use Rattle.std.proofs.lemmas.Bool.{cases_eq, cases_lt, cases_order, cases_Bool, or_cases, or_left, or_right, or_from, and_parts, and_from, both_ways, true≢false, lt-ltb, le-ltb, ltb-true, ltb-false, eq-eqb, ne_eqb}
 use Rattle.minimum.specs.declared.choice.Choice.{Choice}
-use Rattle.minimum.specs.Table.{Grid, has, RisesFrom, IsWithin, IsTable, items_of}
+use Rattle.minimum.specs.Table.{Table, has, RisesFrom, IsWithin, IsTable, items_of}
 use Rattle.minimum.specs.Cover.{meets, IsCover, counted, sum_over, IsBefore, Precedes, IsLeast}
 use Rattle.minimum.specs.Steps.{without, HasRow}
 use Rattle.minimum.specs.Choices.{choices, join, better, best_of, meets_all, best_choice}
@@ -294,8 +294,8 @@ meets_joined ts ch (row ∷ rows) h = (go row h.0, meets_joined ts ch rows h.1)
     go [] e = e
     go (c ∷ cs) e = elim (or_cases (has c ch) (meets ch cs) e) [ inl f ↦ or_left _ _ (join_right c ts ch f) | inr f ↦ or_right (has c (join ts ch)) _ (go cs f) ]
 
-pub plain_least : (choice : Choice) (t : Grid) (k : ℕ) (ch : List ℕ) → IsTable t → best_choice choice t k ≡ Some ch → ((j : ℕ) → j < k → best_choice choice t j ≡ None) → IsLeast choice t (join t.taken ch)
-plain_least choice t k ch w found none =
+pub exhaustive_least : (choice : Choice) (t : Table) (k : ℕ) (ch : List ℕ) → IsTable t → best_choice choice t k ≡ Some ch → ((j : ℕ) → j < k → best_choice choice t j ≡ None) → IsLeast choice t (join t.taken ch)
+exhaustive_least choice t k ch w found none =
     let count = counted choice t.weights in
     let passes = best_passes count (meets_all t.rows) (IsChoice 0 k t.live) ch (choices k t.live) (all_choices k 0 t.live w.live_rises) found in
     let is = passes.1 in
@@ -367,7 +367,7 @@ rows_live live (row ∷ rows) h = (go row h.0.0 h.0.2, rows_live live rows h.1)
     go (c ∷ cs) e k = (c, k c (has_here c c cs refl), has_here c c cs refl)
 
 -- nothing is found only below the number of live columns
-pub none_below : (choice : Choice) (t : Grid) (k : ℕ) → IsTable t → ((j : ℕ) → j < k → best_choice choice t j ≡ None) → k ≤ length t.live
+pub none_below : (choice : Choice) (t : Table) (k : ℕ) → IsTable t → ((j : ℕ) → j < k → best_choice choice t j ≡ None) → k ≤ length t.live
 none_below choice t k w none = elim (cases_lt (length t.live) k) [
   | inl l ↦ absurd (best_none (counted choice t.weights) (meets_all t.rows) (choices (length t.live) t.live) (none (length t.live) l) t.live
       (choice_there (length t.live) 0 t.live t.live w.live_rises (record { rises = w.live_rises; long = refl; from = λ n h. h }))
@@ -387,5 +387,5 @@ best_same count f g best (w ∷ ws) e = ap (λ b. best_of count f (cond b (bette
 pub best_items : {Z : Type 0} (count : ℕ → ℕ) (rows : List (Vec ℕ Z)) (best : Option (List ℕ)) (ws : List (List ℕ)) → best_of count (λ s. list_all (λ row. meets s row.items) rows) best ws ≡ best_of count (meets_all (items_of rows)) best ws
 best_items count rows best ws = best_same count (λ s. list_all (λ row. meets s row.items) rows) (meets_all (items_of rows)) best ws (meets_all_items rows)
 
-pub none_more : (choice : Choice) (t : Grid) (k : ℕ) → ((j : ℕ) → j < k → best_choice choice t j ≡ None) → best_choice choice t k ≡ None → (j : ℕ) → j < k + 1 → best_choice choice t j ≡ None
+pub none_more : (choice : Choice) (t : Table) (k : ℕ) → ((j : ℕ) → j < k → best_choice choice t j ≡ None) → best_choice choice t k ≡ None → (j : ℕ) → j < k + 1 → best_choice choice t j ≡ None
 none_more choice t k f h j l = elim (cases_eq j k) [ inl e ↦ subst (λ n. best_choice choice t n ≡ None) (sym e) h | inr e ↦ f j (omega arith) ]

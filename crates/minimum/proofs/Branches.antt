@@ -5,7 +5,7 @@ use Rattle.std.specs.List.{AllByRecursion, list_any}
 use Rattle.std.specs.Cmp.{both_ways as same_bool}
 use Rattle.std.proofs.lemmas.Bool.{cases_eq, cases_lt, cases_Bool, or_cases, or_left, or_right, or_parts, eqb-true, ltb-true, ltb-false, both_ways, true≢false}
 use Rattle.minimum.specs.declared.choice.Choice.{Choice}
-use Rattle.minimum.specs.Table.{Grid, has, RisesFrom, IsWithin, IsTable}
+use Rattle.minimum.specs.Table.{Table, has, RisesFrom, IsWithin, IsTable}
 use Rattle.minimum.specs.Cover.{meets, IsCover, counted, sum_over, Precedes, IsLeast}
 use Rattle.minimum.specs.Steps.{without, take_column, drop_column, with_rows, Step, row_leaves, only_column, column_leaves, Steps, done, more}
 use Rattle.minimum.specs.Search.{IsBeyond, NoneWithin, NoneBelow, IsAnswer, Answers, Leads, IsOutside, IsForced, IsNarrowed, keep_columns, is_blank, marked}
@@ -20,7 +20,7 @@ blank_lacks (d ∷ r) n f g = absurd (let k = eqb-true (length (d ∷ r)) 0 f in
 
 -- ---- the leaf
 
-pub leaf : (choice : Choice) (t : Grid) → IsTable t → t.rows ≡ [] → IsLeast choice t t.taken
+pub leaf : (choice : Choice) (t : Table) → IsTable t → t.rows ≡ [] → IsLeast choice t t.taken
 leaf choice t w e = record {
   cover = record {
     rises = w.taken_rises;
@@ -43,13 +43,13 @@ leaf choice t w e = record {
 
 -- ---- the branches, on the first live column
 
-below_first : (t : Grid) (c : ℕ) (s x : List ℕ) → ((m : ℕ) → has m t.live ≡ true → c ≤ m) → IsCover t s → IsCover t x → (m : ℕ) → m < c → has m s ≡ true → has m x ≡ true
+below_first : (t : Table) (c : ℕ) (s x : List ℕ) → ((m : ℕ) → has m t.live ≡ true → c ≤ m) → IsCover t s → IsCover t x → (m : ℕ) → m < c → has m s ≡ true → has m x ≡ true
 below_first t c s x first h k m below a = elim (or_cases (has m t.taken) (has m t.live) (h.only m a)) [
   | inl b ↦ k.taken m b
   | inr b ↦ absurd (let up = first m b in omega arith)
 ]
 
-module _ (choice : Choice) (t : Grid) (k w : ℕ) (s : List ℕ) (fits : length s ≤ k) (counts : sum_over (counted choice t.weights) s ≤ w) where
+module _ (choice : Choice) (t : Table) (k w : ℕ) (s : List ℕ) (fits : length s ≤ k) (counts : sum_over (counted choice t.weights) s ≤ w) where
   -- beyond the budget is after what is within it
   pub later : NoneBelow choice t k w → (x : List ℕ) → IsCover t x → IsBeyond (counted choice t.weights) k w x → Precedes (counted choice t.weights) s x
   later low x h (inl b) = inl (omega arith)
@@ -93,31 +93,31 @@ module _ (choice : Choice) (t : Grid) (k w : ℕ) (s : List ℕ) (fits : length 
 
 -- ---- answers
 
-pub answer_leaf : (choice : Choice) (t : Grid) (k w : ℕ) (s : List ℕ) → IsTable t → t.rows ≡ [] → s ≡ t.taken → length t.taken ≤ k → sum_over (counted choice t.weights) t.taken ≤ w → IsAnswer choice t k w s
+pub answer_leaf : (choice : Choice) (t : Table) (k w : ℕ) (s : List ℕ) → IsTable t → t.rows ≡ [] → s ≡ t.taken → length t.taken ≤ k → sum_over (counted choice t.weights) t.taken ≤ w → IsAnswer choice t k w s
 answer_leaf choice t k w s wt e f l m = record {
   cover = subst (IsCover t) (sym f) (leaf choice t wt e).cover;
   fits = (let g = ap length f in omega arith);
   counts = (let g = ap (sum_over (counted choice t.weights)) f in omega arith);
 }
 
-pub answer_taken : (choice : Choice) (t : Grid) (c k w : ℕ) (s : List ℕ) → has c t.live ≡ true → IsAnswer choice (take_column c t) k w s → IsAnswer choice t k w s
+pub answer_taken : (choice : Choice) (t : Table) (c k w : ℕ) (s : List ℕ) → has c t.live ≡ true → IsAnswer choice (take_column c t) k w s → IsAnswer choice t k w s
 answer_taken choice t c k w s live a = record { cover = (take_back t c s live a.cover).0; fits = a.fits; counts = a.counts }
 
-pub answers_dropped : (choice : Choice) (t : Grid) (c k w : ℕ) (o : Option (List ℕ)) → IsTable t → has c t.live ≡ true → NoneWithin choice (take_column c t) k w → Answers choice (drop_column c t) k w o → Answers choice t k w o
+pub answers_dropped : (choice : Choice) (t : Table) (c k w : ℕ) (o : Option (List ℕ)) → IsTable t → has c t.live ≡ true → NoneWithin choice (take_column c t) k w → Answers choice (drop_column c t) k w o → Answers choice t k w o
 answers_dropped choice t c k w None wt live none a = λ x h. elim (cases_Bool (has c x)) [ inl b ↦ none x (take_cover t c x h b) | inr b ↦ a x (drop_cover t c x h b) ]
 answers_dropped choice t c k w (Some s) wt live none a = record { cover = (drop_back t c s wt.live_rises (wt.apart c live) a.cover).0; fits = a.fits; counts = a.counts }
 
-pub over_taken : (choice : Choice) (t : Grid) (k w : ℕ) → IsTable t → (k < length t.taken) ⊎ (w < sum_over (counted choice t.weights) t.taken) → NoneWithin choice t k w
+pub over_taken : (choice : Choice) (t : Table) (k w : ℕ) → IsTable t → (k < length t.taken) ⊎ (w < sum_over (counted choice t.weights) t.taken) → NoneWithin choice t k w
 over_taken choice t k w wt (inl l) x h = let e = minus_length 0 x t.taken h.rises wt.taken_rises h.taken in inl (omega arith)
 over_taken choice t k w wt (inr l) x h = let e = minus_sum (counted choice t.weights) 0 x t.taken h.rises wt.taken_rises h.taken in inr (omega arith)
 
 -- ---- steps
 
-lead_by : (choice : Choice) (t u : Grid) (k w : ℕ) → counted choice u.weights ≡ counted choice t.weights → ((x : List ℕ) → IsCover u x → IsCover t x) → (NoneWithin choice u k w → NoneWithin choice t k w) → Leads choice k w t u
+lead_by : (choice : Choice) (t u : Table) (k w : ℕ) → counted choice u.weights ≡ counted choice t.weights → ((x : List ℕ) → IsCover u x → IsCover t x) → (NoneWithin choice u k w → NoneWithin choice t k w) → Leads choice k w t u
 lead_by choice t u k w e back beyond None a = beyond a
 lead_by choice t u k w e back beyond (Some s) a = record { cover = back s a.cover; fits = a.fits; counts = subst (λ f. sum_over f s ≤ w) e a.counts }
 
-lead_step : (choice : Choice) (t u : Grid) (k w : ℕ) → IsTable t → Step choice t u → Leads choice k w t u
+lead_step : (choice : Choice) (t u : Table) (k w : ℕ) → IsTable t → Step choice t u → Leads choice k w t u
 lead_step choice t _ k w wt (row_leaves _ front back row other e i h) =
     lead_by choice t (with_rows t (front ++ back)) k w refl (λ x g. row_back t front back row other e i h x g) (λ none x g. none x (row_cover t front back row e x g))
 lead_step choice t _ k w wt (only_column _ c h) =
@@ -133,13 +133,13 @@ lead_step choice t _ k w wt (column_leaves _ a b p la lb d) =
       | inr e ↦ none x (drop_cover t a x g e)
     ])
 
-pub lead_steps : (choice : Choice) (t u : Grid) (k w : ℕ) → IsTable t → Steps choice t u → Leads choice k w t u
+pub lead_steps : (choice : Choice) (t u : Table) (k w : ℕ) → IsTable t → Steps choice t u → Leads choice k w t u
 lead_steps choice t _ k w wt (done _) o a = a
 lead_steps choice t _ k w wt (more _ u v h s) o a = lead_steps choice t u k w wt h o (lead_step choice u v k w (steps_keep choice t u wt h).0 s o a)
 
 -- ---- columns outside the budget
 
-module _ (test : ℕ → Bool) (t : Grid) where
+module _ (test : ℕ → Bool) (t : Table) where
   pub kept_back : (x : List ℕ) → IsCover (keep_columns test t) x → IsCover t x
   kept_back x h = record {
     rises = h.rises;
@@ -178,7 +178,7 @@ module _ (test : ℕ → Bool) (t : Grid) where
         (rows_weaker2 (λ row. meets x row ≡ true) (λ row. IsWithin row t.live) (λ row. (meets x row ≡ true) × IsWithin row t.live) t.rows (λ row p q. (p, q)) h.rows (rows_within t t.rows w.rows));
   }
 
-module _ (choice : Choice) (test : ℕ → Bool) (t : Grid) (k w : ℕ) (wt : IsTable t) (out : (c : ℕ) → has c t.live ≡ true → test c ≡ false → IsOutside choice t k w c) where
+module _ (choice : Choice) (test : ℕ → Bool) (t : Table) (k w : ℕ) (wt : IsTable t) (out : (c : ℕ) → has c t.live ≡ true → test c ≡ false → IsOutside choice t k w c) where
   pub lead_kept : Leads choice k w t (keep_columns test t)
   lead_kept None a = λ x h. elim (split test t x) [
     | inl f ↦ a x (kept_cover test t wt x h f)
@@ -213,7 +213,7 @@ rows_kept test live (row ∷ rows) h e =
       rows_kept test live rows h.1 p.1,
     )
 
-pub kept_table : (test : ℕ → Bool) (t : Grid) → IsTable t → list_any is_blank (map (filter test) t.rows) ≡ false → IsTable (keep_columns test t)
+pub kept_table : (test : ℕ → Bool) (t : Table) → IsTable t → list_any is_blank (map (filter test) t.rows) ≡ false → IsTable (keep_columns test t)
 kept_table test t w e = record {
   taken_rises = w.taken_rises;
   live_rises = filter_rises test 0 t.live w.live_rises;
@@ -226,10 +226,10 @@ kept_table test t w e = record {
 
 -- ---- what the code asks
 
-pub live_falls : (t : Grid) (c : ℕ) → IsTable t → has c t.live ≡ true → length (without c t.live) < length t.live
+pub live_falls : (t : Table) (c : ℕ) → IsTable t → has c t.live ≡ true → length (without c t.live) < length t.live
 live_falls t c w h = let k = without_length c 0 t.live w.live_rises h in omega arith
 
-pub no_live : (t : Grid) → IsTable t → t.live ≡ [] → t.rows ≡ []
+pub no_live : (t : Table) → IsTable t → t.live ≡ [] → t.rows ≡ []
 no_live t w e = go t.rows w.rows
   where
     none : (row : List ℕ) → row ≢ [] → IsWithin row t.live → ⊥
@@ -254,32 +254,32 @@ forced_by c x (row ∷ rows) h e =
       | inr f ↦ forced_by c x rows h.1 f
     ]
 
-pub blank_forced : (t : Grid) (c : ℕ) → list_any is_blank (map (without c) t.rows) ≡ true → IsForced t c
+pub blank_forced : (t : Table) (c : ℕ) → list_any is_blank (map (without c) t.rows) ≡ true → IsForced t c
 blank_forced t c e x h = forced_by c x t.rows h.rows e
 
-pub none_forced : (choice : Choice) (t : Grid) (c k w : ℕ) → IsForced t c → NoneWithin choice (take_column c t) k w → NoneWithin choice t k w
+pub none_forced : (choice : Choice) (t : Table) (c k w : ℕ) → IsForced t c → NoneWithin choice (take_column c t) k w → NoneWithin choice t k w
 none_forced choice t c k w f p x h = p x (take_cover t c x h (f x h))
 
-pub unforced_table : (t : Grid) (c : ℕ) → IsTable t → list_any is_blank (map (without c) t.rows) ≡ false → IsTable (drop_column c t)
+pub unforced_table : (t : Table) (c : ℕ) → IsTable t → list_any is_blank (map (without c) t.rows) ≡ false → IsTable (drop_column c t)
 unforced_table t c w e = kept_table (λ x. not (eqb c x)) t w e
 
 -- ---- answers over narrowed tables
 
-pub narrowed_answer : (choice : Choice) (t u : Grid) (k w : ℕ) (o : Option (List ℕ)) → IsNarrowed choice k w t u → Answers choice u k w o → Answers choice t k w o
+pub narrowed_answer : (choice : Choice) (t u : Table) (k w : ℕ) (o : Option (List ℕ)) → IsNarrowed choice k w t u → Answers choice u k w o → Answers choice t k w o
 narrowed_answer choice t u k w o n a = n.leads o a
 
-pub over_sum : (choice : Choice) (t : Grid) (k w n : ℕ) → IsTable t → length t.taken ≤ k → n ≡ sum_over (counted choice t.weights) t.taken → MatchBool (nat_lt w n) (NoneWithin choice t k w) ((length t.taken ≤ k) × (sum_over (counted choice t.weights) t.taken ≤ w))
+pub over_sum : (choice : Choice) (t : Table) (k w n : ℕ) → IsTable t → length t.taken ≤ k → n ≡ sum_over (counted choice t.weights) t.taken → MatchBool (nat_lt w n) (NoneWithin choice t k w) ((length t.taken ≤ k) × (sum_over (counted choice t.weights) t.taken ≤ w))
 over_sum choice t k w n wt l e = go (nat_lt w n) refl
   where
     go : (b : Bool) → nat_lt w n ≡ b → MatchBool b (NoneWithin choice t k w) ((length t.taken ≤ k) × (sum_over (counted choice t.weights) t.taken ≤ w))
     go true f = over_taken choice t k w wt (inr (let a = ltb-true w n f in omega arith))
     go false f = (l, (let a = ltb-false w n f in omega arith))
 
-pub narrowed_kept : (choice : Choice) (test : ℕ → Bool) (t : Grid) (k w : ℕ) → IsTable t → ((c : ℕ) → has c t.live ≡ true → test c ≡ false → IsOutside choice t k w c) → IsNarrowed choice k w t (keep_columns test t)
+pub narrowed_kept : (choice : Choice) (test : ℕ → Bool) (t : Table) (k w : ℕ) → IsTable t → ((c : ℕ) → has c t.live ≡ true → test c ≡ false → IsOutside choice t k w c) → IsNarrowed choice k w t (keep_columns test t)
 narrowed_kept choice test t k w wt out = record { leads = lead_kept choice test t k w wt out; live = filter_length test t.live }
 
-pub narrowed_from : (choice : Choice) (test : ℕ → Bool) (t : Grid) (k w : ℕ) → IsTable t → ((c : ℕ) → has c t.live ≡ true → test c ≡ false → IsOutside choice t k w c)
-    → (o : Option Grid) → MatchOption o (list_any is_blank (map (filter test) t.rows) ≡ true) (λ u. u ≡ keep_columns test t) → MatchOption o (NoneWithin choice t k w) (IsNarrowed choice k w t)
+pub narrowed_from : (choice : Choice) (test : ℕ → Bool) (t : Table) (k w : ℕ) → IsTable t → ((c : ℕ) → has c t.live ≡ true → test c ≡ false → IsOutside choice t k w c)
+    → (o : Option Table) → MatchOption o (list_any is_blank (map (filter test) t.rows) ≡ true) (λ u. u ≡ keep_columns test t) → MatchOption o (NoneWithin choice t k w) (IsNarrowed choice k w t)
 narrowed_from choice test t k w wt out None h = none_blank choice test t k w wt out h
 narrowed_from choice test t k w wt out (Some u) h = subst (IsNarrowed choice k w t) (sym h) (narrowed_kept choice test t k w wt out)
 

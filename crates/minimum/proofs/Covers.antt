@@ -3,7 +3,7 @@ use Rattle.std.proofs.Common.{◌≡◌, ◌≢◌, ℕ, inl, inr, Bool, true, f
 use Rattle.std.specs.Prelude.{filter}
 use Rattle.std.specs.List.{AllByRecursion}
 use Rattle.std.proofs.lemmas.Bool.{cases_eq, cases_Bool, or_cases, or_left, or_right, both_ways, not_from_false}
-use Rattle.minimum.specs.Table.{Grid, has, RisesFrom}
+use Rattle.minimum.specs.Table.{Table, has, RisesFrom}
 use Rattle.minimum.specs.Cover.{meets, IsCover}
 use Rattle.minimum.specs.Steps.{without, put, take_column, drop_column, HasRow}
 use Rattle.minimum.proofs.Sets.{without_only, without_keeps, without_lacks, put_has, put_keeps, put_only, meets_at, meets_from}
@@ -57,7 +57,7 @@ rows_more P (r ∷ front) back row p h = (h.0, rows_more P front back row p h.1)
 
 -- ---- a column taken, and one dropped
 
-pub take_cover : (t : Grid) (c : ℕ) (s : List ℕ) → IsCover t s → has c s ≡ true → IsCover (take_column c t) s
+pub take_cover : (t : Table) (c : ℕ) (s : List ℕ) → IsCover t s → has c s ≡ true → IsCover (take_column c t) s
 take_cover t c s h k = record {
   rises = h.rises;
   taken = λ n e. elim (put_only n c t.taken e) [ inl f ↦ subst (λ m. has m s ≡ true) (sym f) k | inr f ↦ h.taken n f ];
@@ -71,7 +71,7 @@ take_cover t c s h k = record {
   rows = rows_filtered (λ row. meets s row ≡ true) (λ row. not (has c row)) t.rows h.rows;
 }
 
-pub take_back : (t : Grid) (c : ℕ) (s : List ℕ) → has c t.live ≡ true → IsCover (take_column c t) s → IsCover t s × (has c s ≡ true)
+pub take_back : (t : Table) (c : ℕ) (s : List ℕ) → has c t.live ≡ true → IsCover (take_column c t) s → IsCover t s × (has c s ≡ true)
 take_back t c s l h =
     let here : has c s ≡ true = h.taken c (put_has c t.taken) in (
       record {
@@ -92,7 +92,7 @@ take_back t c s l h =
     stands : (row : List ℕ) → not (has c row) ≡ false → has c row ≡ true
     stands row e = elim (cases_Bool (has c row)) [ inl f ↦ f | inr f ↦ absurd (both_ways _ e (not_from_false _ f)) ]
 
-pub drop_cover : (t : Grid) (c : ℕ) (s : List ℕ) → IsCover t s → has c s ≡ false → IsCover (drop_column c t) s
+pub drop_cover : (t : Table) (c : ℕ) (s : List ℕ) → IsCover t s → has c s ≡ false → IsCover (drop_column c t) s
 drop_cover t c s h k =
     let other : (n : ℕ) → has n s ≡ true → n ≢ c = λ n e f. both_ways _ k (subst (λ m. has m s ≡ true) f e) in
     record {
@@ -105,7 +105,7 @@ drop_cover t c s h k =
       rows = rows_mapped (λ row. meets s row ≡ true) (λ row. meets s row ≡ true) (without c) t.rows (λ row e. let w = meets_at s row e in meets_from w.0 s (without c row) w.1 (without_keeps w.0 c row (other w.0 w.1) w.2)) h.rows;
     }
 
-pub drop_back : (t : Grid) (c : ℕ) (s : List ℕ) → RisesFrom 0 t.live → has c t.taken ≡ false → IsCover (drop_column c t) s → IsCover t s × (has c s ≡ false)
+pub drop_back : (t : Table) (c : ℕ) (s : List ℕ) → RisesFrom 0 t.live → has c t.taken ≡ false → IsCover (drop_column c t) s → IsCover t s × (has c s ≡ false)
 drop_back t c s l a h =
     let lacks : has c s ≡ false = elim (cases_Bool (has c s)) [
       | inl e ↦ absurd (elim (or_cases (has c t.taken) (has c (without c t.live)) (h.only c e)) [ inl f ↦ both_ways _ a f | inr f ↦ both_ways _ (without_lacks c 0 t.live l) f ])

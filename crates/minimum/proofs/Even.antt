@@ -4,7 +4,7 @@ use Rattle.std.specs.List.{list_all}
 use Rattle.std.proofs.lemmas.Bool.{eqb-true}
 use Rattle.minimum.specs.declared.choice.Choice.{Choice}
 use Rattle.minimum.specs.declared.choice.Choice.TheVariants.{First}
-use Rattle.minimum.specs.Table.{Grid, has, IsTable}
+use Rattle.minimum.specs.Table.{Table, has, IsTable}
 use Rattle.minimum.specs.Cover.{IsCover, counted, sum_over, IsLeast}
 use Rattle.minimum.proofs.Sets.{has_here, has_later}
 use Rattle.minimum.proofs.Subsets.{minus, minus_length, minus_sum}
@@ -22,7 +22,7 @@ sum_even count k (x ∷ xs) (y ∷ ys) e f g =
     let other = g y (has_here y y ys refl) in
     omega arith
 
-module _ (choice : Choice) (t : Grid) (k : ℕ) (w : IsTable t) (even : list_all (λ c. eqb (counted choice t.weights c) k) t.live ≡ true) where
+module _ (choice : Choice) (t : Table) (k : ℕ) (w : IsTable t) (even : list_all (λ c. eqb (counted choice t.weights c) k) t.live ≡ true) where
   alike : (x : List ℕ) → IsCover t x → (c : ℕ) → has c (minus x t.taken) ≡ true → counted choice t.weights c ≡ k
   alike x h c e = eqb-true (counted choice t.weights c) k (all_has (λ d. eqb (counted choice t.weights d) k) c t.live even (rest_live t x h c e))
 

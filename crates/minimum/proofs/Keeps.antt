@@ -5,7 +5,7 @@ use Rattle.std.specs.List.{AllByRecursion}
 use Rattle.std.proofs.lemmas.Bool.{cases_eq, cases_Bool, or_cases, or_left, or_right, both_ways, true≢false}
 use Rattle.std.specs.Cmp.{both_ways as same_bool}
 use Rattle.minimum.specs.declared.choice.Choice.{Choice}
-use Rattle.minimum.specs.Table.{Grid, has, RisesFrom, IsWithin, IsTable}
+use Rattle.minimum.specs.Table.{Table, has, RisesFrom, IsWithin, IsTable}
 use Rattle.minimum.specs.Cover.{meets, IsCover, counted, sum_over, Precedes, IsLeast}
 use Rattle.minimum.specs.Steps.{without, put, take_column, drop_column, with_rows, HasRow, StandsWith, IsPreferred, Step, row_leaves, only_column, column_leaves, Steps, done, more, SameLeast}
 use Rattle.minimum.proofs.Sets.{has_here, without_only, without_keeps, without_lacks, without_rises, without_length, sum_without, put_has, put_keeps, put_only, put_rises, put_length, sum_put, meets_at, meets_from, first_by_sets}
@@ -15,7 +15,7 @@ use Rattle.minimum.proofs.Covers.{rows_weaker2, rows_mapped, rows_at, rows_less,
 -- ---- the third step
 
 -- what has b in place of a covers what is left without a
-pub exchanged : (t : Grid) (a b : ℕ) (x y : List ℕ) → IsTable t → b ≢ a → has a t.live ≡ true → has b t.live ≡ true → StandsWith t a b → IsCover t x
+pub exchanged : (t : Table) (a b : ℕ) (x y : List ℕ) → IsTable t → b ≢ a → has a t.live ≡ true → has b t.live ≡ true → StandsWith t a b → IsCover t x
     → RisesFrom 0 y → has b y ≡ true → ((n : ℕ) → n ≢ a → has n x ≡ true → has n y ≡ true) → ((n : ℕ) → has n y ≡ true → (n ≡ b) ⊎ ((n ≢ a) × (has n x ≡ true)))
     → IsCover (drop_column a t) y
 exchanged t a b x y w apart la lb d h r hb keeps only =
@@ -42,7 +42,7 @@ preferred_apart count b a (inl h) e = absurd (let k = ap count e in omega arith)
 preferred_apart count b a (inr h) e = absurd (omega (arith, h.1))
 
 -- a cover with the column that leaves has one before it without that column, which counts no more
-pub exchange : (count : ℕ → ℕ) (t : Grid) (a b : ℕ) (x : List ℕ) → IsTable t → IsPreferred count b a → has a t.live ≡ true → has b t.live ≡ true → StandsWith t a b → IsCover t x → has a x ≡ true
+pub exchange : (count : ℕ → ℕ) (t : Table) (a b : ℕ) (x : List ℕ) → IsTable t → IsPreferred count b a → has a t.live ≡ true → has b t.live ≡ true → StandsWith t a b → IsCover t x → has a x ≡ true
     → (y : List ℕ) × IsCover (drop_column a t) y × Precedes count y x × (sum_over count y ≤ sum_over count x)
 exchange count t a b x w p la lb d h k = go (cases_Bool (has b x))
   where
@@ -89,7 +89,7 @@ exchange count t a b x w p la lb d h k = go (cases_Bool (has b x))
           omega arith,
         )
 
-module _ (choice : Choice) (t : Grid) (a b : ℕ) (s : List ℕ) (w : IsTable t) (p : IsPreferred (counted choice t.weights) b a) (la : has a t.live ≡ true) (lb : has b t.live ≡ true) (d : StandsWith t a b) where
+module _ (choice : Choice) (t : Table) (a b : ℕ) (s : List ℕ) (w : IsTable t) (p : IsPreferred (counted choice t.weights) b a) (la : has a t.live ≡ true) (lb : has b t.live ≡ true) (d : StandsWith t a b) where
   pub column_keeps : IsLeast choice t s → IsLeast choice (drop_column a t) s
   column_keeps h =
       let count = counted choice t.weights in
@@ -122,38 +122,38 @@ module _ (choice : Choice) (t : Grid) (a b : ℕ) (s : List ℕ) (w : IsTable t)
 pub only_has : (c : ℕ) (s : List ℕ) → meets s (c ∷ []) ≡ true → has c s ≡ true
 only_has c s h = elim (or_cases (has c s) false h) [ inl e ↦ e | inr e ↦ absurd (true≢false (sym e)) ]
 
-pub row_live : (t : Grid) (c : ℕ) → IsTable t → HasRow (c ∷ []) t.rows → has c t.live ≡ true
+pub row_live : (t : Table) (c : ℕ) → IsTable t → HasRow (c ∷ []) t.rows → has c t.live ≡ true
 row_live t c w h = (rows_at (λ row. (row ≢ []) × RisesFrom 0 row × IsWithin row t.live) (c ∷ []) t.rows h w.rows).2 c (has_here c c [] refl)
 
-meets_wider : (s row other : List ℕ) → IsWithin other row → meets s other ≡ true → meets s row ≡ true
-meets_wider s row other h k = let w = meets_at s other k in meets_from w.0 s row w.1 (h w.0 w.2)
+meets_dominating : (s row other : List ℕ) → IsWithin other row → meets s other ≡ true → meets s row ≡ true
+meets_dominating s row other h k = let w = meets_at s other k in meets_from w.0 s row w.1 (h w.0 w.2)
 
-cover_rows : (t : Grid) (rows : List (List ℕ)) (s : List ℕ) → IsCover t s → AllByRecursion (λ row. meets s row ≡ true) rows → IsCover (with_rows t rows) s
+cover_rows : (t : Table) (rows : List (List ℕ)) (s : List ℕ) → IsCover t s → AllByRecursion (λ row. meets s row ≡ true) rows → IsCover (with_rows t rows) s
 cover_rows t rows s h k = record { rises = h.rises; taken = h.taken; only = h.only; rows = k }
 
-cover_rows_back : (t : Grid) (rows : List (List ℕ)) (s : List ℕ) → IsCover (with_rows t rows) s → AllByRecursion (λ row. meets s row ≡ true) t.rows → IsCover t s
+cover_rows_back : (t : Table) (rows : List (List ℕ)) (s : List ℕ) → IsCover (with_rows t rows) s → AllByRecursion (λ row. meets s row ≡ true) t.rows → IsCover t s
 cover_rows_back t rows s h k = record { rises = h.rises; taken = h.taken; only = h.only; rows = k }
 
 -- tables with the same covers and weights have the same least cover
-least_along : (choice : Choice) (t u : Grid) (s : List ℕ) → counted choice t.weights ≡ counted choice u.weights → ((x : List ℕ) → IsCover t x → IsCover u x) → ((x : List ℕ) → IsCover u x → IsCover t x) → IsLeast choice t s → IsLeast choice u s
+least_along : (choice : Choice) (t u : Table) (s : List ℕ) → counted choice t.weights ≡ counted choice u.weights → ((x : List ℕ) → IsCover t x → IsCover u x) → ((x : List ℕ) → IsCover u x → IsCover t x) → IsLeast choice t s → IsLeast choice u s
 least_along choice t u s e f g h = record { cover = f s h.cover; first = λ x k. subst (λ count. (s ≡ x) ⊎ Precedes count s x) e (h.first x (g x k)) }
 
-same_covers : (choice : Choice) (t u : Grid) → counted choice t.weights ≡ counted choice u.weights → ((x : List ℕ) → IsCover t x → IsCover u x) → ((x : List ℕ) → IsCover u x → IsCover t x) → SameLeast choice t u
+same_covers : (choice : Choice) (t u : Table) → counted choice t.weights ≡ counted choice u.weights → ((x : List ℕ) → IsCover t x → IsCover u x) → ((x : List ℕ) → IsCover u x → IsCover t x) → SameLeast choice t u
 same_covers choice t u e f g s = (least_along choice t u s e f g, least_along choice u t s (sym e) g f)
 
 -- a row less, or one that holds another more, and the same covers
-pub row_cover : (t : Grid) (front back : List (List ℕ)) (row : List ℕ) → t.rows ≡ front ++ row ∷ back → (s : List ℕ) → IsCover t s → IsCover (with_rows t (front ++ back)) s
+pub row_cover : (t : Table) (front back : List (List ℕ)) (row : List ℕ) → t.rows ≡ front ++ row ∷ back → (s : List ℕ) → IsCover t s → IsCover (with_rows t (front ++ back)) s
 row_cover t front back row e s k =
     let P : List ℕ → Type 0 = λ row. meets s row ≡ true in
     cover_rows t (front ++ back) s k (rows_less P front back row (subst (AllByRecursion P) e k.rows))
 
-pub row_back : (t : Grid) (front back : List (List ℕ)) (row other : List ℕ) → t.rows ≡ front ++ row ∷ back → IsWithin other row → HasRow other (front ++ back) → (s : List ℕ) → IsCover (with_rows t (front ++ back)) s → IsCover t s
+pub row_back : (t : Table) (front back : List (List ℕ)) (row other : List ℕ) → t.rows ≡ front ++ row ∷ back → IsWithin other row → HasRow other (front ++ back) → (s : List ℕ) → IsCover (with_rows t (front ++ back)) s → IsCover t s
 row_back t front back row other e i h s k =
     let P : List ℕ → Type 0 = λ row. meets s row ≡ true in
     cover_rows_back t (front ++ back) s k (subst (AllByRecursion P) (sym e)
-    (rows_more P front back row (meets_wider s row other i (rows_at P other (front ++ back) h k.rows)) k.rows))
+    (rows_more P front back row (meets_dominating s row other i (rows_at P other (front ++ back) h k.rows)) k.rows))
 
-pub step_keeps : (choice : Choice) (t u : Grid) → IsTable t → Step choice t u → SameLeast choice t u
+pub step_keeps : (choice : Choice) (t u : Table) → IsTable t → Step choice t u → SameLeast choice t u
 step_keeps choice t _ w (row_leaves _ front back row other e i h) =
     same_covers choice t (with_rows t (front ++ back)) refl (λ s k. row_cover t front back row e s k) (λ s k. row_back t front back row other e i h s k)
 step_keeps choice t _ w (only_column _ c h) =
@@ -189,10 +189,10 @@ pub apart_from : (n c : ℕ) (xs : List ℕ) → has n xs ≡ true → has c xs 
 apart_from n c xs h k e = both_ways _ k (subst (λ m. has m xs ≡ true) e h)
 
 -- the live columns without c, and rows of them
-live_without : (t : Grid) (c n : ℕ) → IsTable t → has n (without c t.live) ≡ true → (n ≢ c) × (has n t.live ≡ true)
+live_without : (t : Table) (c n : ℕ) → IsTable t → has n (without c t.live) ≡ true → (n ≢ c) × (has n t.live ≡ true)
 live_without t c n w h = (apart_from n c (without c t.live) h (without_lacks c 0 t.live w.live_rises), without_only n c t.live h)
 
-pub take_table : (t : Grid) (c : ℕ) → IsTable t → has c t.live ≡ true → IsTable (take_column c t)
+pub take_table : (t : Table) (c : ℕ) → IsTable t → has c t.live ≡ true → IsTable (take_column c t)
 take_table t c w l = record {
   taken_rises = put_rises c 0 t.taken (omega arith) w.taken_rises;
   live_rises = without_rises c 0 t.live w.live_rises;
@@ -207,7 +207,7 @@ take_table t c w l = record {
       (λ row e h. (h.0, h.1, λ n k. without_keeps n c t.live (apart_from n c row k (not_true _ e)) (h.2 n k))) w.rows;
 }
 
-pub drop_table : (t : Grid) (a b : ℕ) → IsTable t → b ≢ a → StandsWith t a b → IsTable (drop_column a t)
+pub drop_table : (t : Table) (a b : ℕ) → IsTable t → b ≢ a → StandsWith t a b → IsTable (drop_column a t)
 drop_table t a b w d sw = record {
   taken_rises = w.taken_rises;
   live_rises = without_rises a 0 t.live w.live_rises;
@@ -227,7 +227,7 @@ drop_table t a b w d sw = record {
       (rows_weaker2 (λ row. (row ≢ []) × RisesFrom 0 row × IsWithin row t.live) (λ row. has a row ≡ true → has b row ≡ true) (λ row. ((row ≢ []) × RisesFrom 0 row × IsWithin row t.live) × (has a row ≡ true → has b row ≡ true)) t.rows (λ row p q. (p, q)) w.rows sw);
 }
 
-pub step_table : (choice : Choice) (t u : Grid) → IsTable t → Step choice t u → IsTable u
+pub step_table : (choice : Choice) (t u : Table) → IsTable t → Step choice t u → IsTable u
 step_table choice t _ w (row_leaves _ front back row other e i h) = record {
   taken_rises = w.taken_rises;
   live_rises = w.live_rises;
@@ -240,7 +240,7 @@ step_table choice t _ w (row_leaves _ front back row other e i h) = record {
 step_table choice t _ w (only_column _ c h) = take_table t c w (row_live t c w h)
 step_table choice t _ w (column_leaves _ a b p la lb d) = drop_table t a b w (preferred_apart (counted choice t.weights) b a p) d
 
-pub steps_keep : (choice : Choice) (t u : Grid) → IsTable t → Steps choice t u → IsTable u × SameLeast choice t u
+pub steps_keep : (choice : Choice) (t u : Table) → IsTable t → Steps choice t u → IsTable u × SameLeast choice t u
 steps_keep choice t _ w (done _) = (w, λ s. (λ h. h, λ h. h))
 steps_keep choice t _ w (more _ u v h k) =
     let i = steps_keep choice t u w h in

@@ -15,7 +15,7 @@ use Rattle.cube.specs.Cube.{Cube}
 use Rattle.cube.proofs.Members.{Contains-here, Contains-there, Contains-nil, Contains-cases, Contains-map, Contains-map_cases, Contains-filter, Contains-filter_cases}
 use Rattle.pla.specs.Sets.{SetLists}
 use Rattle.minimum.specs.declared.choice.Choice.{Choice}
-use Rattle.minimum.specs.Table.{Grid, has, RisesFrom}
+use Rattle.minimum.specs.Table.{Table, has, RisesFrom}
 use Rattle.minimum.specs.Cover.{IsLeast, Precedes, counted, sum_over}
 use Rattle.minimum.specs.Primes.{primes_of, sublists, is_prime_cover, prime_covers, cover_cmp, prime_count, least_prime_cover, chosen}
 use Rattle.minimum.specs.PrimeTable.{HasPrimeCovers, HasPrimeColumns}
@@ -142,7 +142,7 @@ module _ (count : ℕ → ℕ) where
           ap (λ o. ordering_then o (ordering_then (nat_cmp (sum_over count s) (sum_over count x)) (slice_cmp nat_cmp s x))) (sym (nat_cmp_is (length s) (length x) Equal long))
           ∙ ap (λ o. ordering_then o (slice_cmp nat_cmp s x)) (sym (nat_cmp_is (sum_over count s) (sum_over count x) Equal tied)) ∙ first
 
-pub least_is : (choice : Choice) (sets : SetLists) (t : Grid) (s : List ℕ) → HasPrimeColumns sets t → HasPrimeCovers sets t → IsLeast choice t s → s ≡ least_prime_cover choice sets
+pub least_is : (choice : Choice) (sets : SetLists) (t : Table) (s : List ℕ) → HasPrimeColumns sets t → HasPrimeCovers sets t → IsLeast choice t s → s ≡ least_prime_cover choice sets
 least_is choice sets t s columns covers least =
     let count = prime_count choice sets in
     let n = length (primes_of sets) in

@@ -9,7 +9,7 @@ use Rattle.cover.specs.Places.{places}
 use Rattle.cover.specs.Marks.{cube_at}
 use Rattle.cover.proofs.Lists.{list_any_from, list_any_witness, all_members}
 use Rattle.minimum.specs.Table.{has}
-use Rattle.minimum.specs.Regions.{holds_at}
+use Rattle.minimum.specs.PrimeRows.{holds_at}
 
 pub has_member : (n : ℕ) (xs : List ℕ) → has n xs ≡ true → Contains xs n
 has_member n xs h = let w = list_any_witness (λ x. eqb n x) xs h in subst (Contains xs) (sym (eqb-true n w.0 w.2)) w.1

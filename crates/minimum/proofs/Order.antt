@@ -6,7 +6,7 @@ use Rattle.std.specs.declared.cmp.Ordering.{Ordering}
 use Rattle.std.specs.declared.cmp.Ordering.TheVariants.{Less, Equal, Greater}
 use Rattle.std.proofs.lemmas.Cmp.{nat_list_cmp_total}
 use Rattle.minimum.specs.declared.choice.Choice.{Choice}
-use Rattle.minimum.specs.Table.{Grid}
+use Rattle.minimum.specs.Table.{Table}
 use Rattle.minimum.specs.Cover.{IsBefore, Precedes, IsLeast, counted}
 
 not_both : (o : Ordering) → o ≡ Less → ordering_reverse o ≡ Less → ⊥
@@ -43,7 +43,7 @@ module _ (count : ℕ → ℕ) where
   Precedes-irrefl s x e h = Precedes-asym s x h (subst (λ z. Precedes count z s) e (subst (λ z. Precedes count s z) (sym e) h))
 
 -- there is one least cover at most
-pub IsLeast-unique : (choice : Choice) (t : Grid) (s x : List ℕ) → IsLeast choice t s → IsLeast choice t x → s ≡ x
+pub IsLeast-unique : (choice : Choice) (t : Table) (s x : List ℕ) → IsLeast choice t s → IsLeast choice t x → s ≡ x
 IsLeast-unique choice t s x h k = elim (h.first x k.cover) [
   | inl e ↦ e
   | inr p ↦ elim (k.first s h.cover) [ inl e ↦ sym e | inr q ↦ absurd (Precedes-asym (counted choice t.weights) s x p q) ]

@@ -21,21 +21,21 @@ use Rattle.pla.specs.Sets.{SetLists}
 use Rattle.minimum.specs.Table.{has, RisesFrom, AreRows, fresh}
 use Rattle.minimum.specs.Cover.{meets}
 use Rattle.minimum.specs.Steps.{HasRow}
-use Rattle.minimum.specs.Primes.{primes_of, wanted, chosen, is_prime_cover}
+use Rattle.minimum.specs.Primes.{primes_of, care_on, chosen, is_prime_cover}
 use Rattle.minimum.specs.PrimeTable.{HasPrimeCovers}
-use Rattle.minimum.specs.Regions.{holds_at, IsNear, AreEnough, IsSplit, IsHolding, IsDemand, Fills, AreRowsOf, RowsSoFar}
+use Rattle.minimum.specs.PrimeRows.{holds_at, AreCandidates, AreEnough, IsSplit, IsHolding, IsDemand, AddsRows, AreRowsOf, RowsSoFar}
 use Rattle.minimum.proofs.Sets.{meets_at}
 use Rattle.minimum.proofs.Rising.{range_rises, range_has, range_below}
 use Rattle.minimum.proofs.Numbers.{has_member, member_has, numbered, holds_at-below}
 
 -- ---- the primes are enough
 
-wanted_parts : (on dc : List Cube) (p : Place) → difference (places on) (places dc) p ≡ true → (places on p ≡ true) × (not (places dc p) ≡ true)
-wanted_parts on dc p want = and_parts (places on p) (not (places dc p)) want
+care_on_parts : (on dc : List Cube) (p : Place) → difference (places on) (places dc) p ≡ true → (places on p ≡ true) × (not (places dc p) ≡ true)
+care_on_parts on dc p want = and_parts (places on p) (not (places dc p)) want
 
 pub enough : (size : Size) (primes on dc : List Cube) → primes ≡ complete_sum size (λ p. places on p || places dc p) → AreCubes size on → AreEnough primes on dc
 enough size primes on dc e are p want =
-    let w = list_any_witness (λ c. holds c p) on (wanted_parts on dc p want).0 in
+    let w = list_any_witness (λ c. holds c p) on (care_on_parts on dc p want).0 in
     let over = complete_sum-over size (λ q. places on q || places dc q) w.0 (all_members (IsCube size) on are w.0 w.1)
     (λ q h. or_left (places on q) (places dc q) (list_any_from (λ c. holds c q) on w.0 w.1 h)) in
     numbered primes p (list_any_from (λ c. holds c p) primes over.0 (subst (λ l. Contains l over.0) (sym e) over.1) (over.2 p w.2))
@@ -66,19 +66,19 @@ places_chosen cubes (i ∷ s) p = go (slice_get cubes i) (unwrap_or-slice_get cu
 -- ---- covers
 
 module _ (sets : SetLists) (on_cubes : AreCubes sets.size sets.on) where
-  place_of : (p : Place) → wanted sets p ≡ true → IsPlace sets.size p
+  place_of : (p : Place) → care_on sets p ≡ true → IsPlace sets.size p
   place_of p want =
-      let w = list_any_witness (λ c. holds c p) sets.on (wanted_parts sets.on sets.dc p want).0 in
+      let w = list_any_witness (λ c. holds c p) sets.on (care_on_parts sets.on sets.dc p want).0 in
       IsPlace-from_holds sets.size w.0 p (all_members (IsCube sets.size) sets.on on_cubes w.0 w.1).has_size w.2
 
   holding_from : (s : List ℕ) → is_prime_cover sets s ≡ true → IsHolding (primes_of sets) sets.on sets.dc s
   holding_from s test p want =
-      let held = implied_at sets.size (wanted sets) (places (chosen (primes_of sets) s)) test p (place_of p want) want in
+      let held = implied_at sets.size (care_on sets) (places (chosen (primes_of sets) s)) test p (place_of p want) want in
       let w = list_any_witness (λ i. holds_at (primes_of sets) i p) s (sym (places_chosen (primes_of sets) s p) ∙ held) in
       (w.0, member_has w.0 s w.1, w.2)
 
   holding_to : (s : List ℕ) → IsHolding (primes_of sets) sets.on sets.dc s → is_prime_cover sets s ≡ true
-  holding_to s h = is_subset-from_fact sets.size (wanted sets) (places (chosen (primes_of sets) s)) (λ p want.
+  holding_to s h = is_subset-from_fact sets.size (care_on sets) (places (chosen (primes_of sets) s)) (λ p want.
       let k = h p want in
       places_chosen (primes_of sets) s p ∙ list_any_from (λ i. holds_at (primes_of sets) i p) s k.0 (has_member k.0 s k.1) k.2)
 
@@ -97,7 +97,7 @@ module _ (sets : SetLists) (on_cubes : AreCubes sets.size sets.on) where
       rises = cover.rises;
       below = λ n h. subst (λ k. n < k) long (let k = range_below n 0 (length weights) (cover.only n h) in omega arith);
       holds = holding_to s (λ p want.
-          let r = of.serves p refl want in
+          let r = of.has_rows p refl want in
           let m = meets_at s r.0 (met_row s r.0 rows cover.rows r.1) in
           (m.0, m.1, r.2 m.0 m.2));
     },
@@ -135,8 +135,8 @@ module _ (size : Size) (primes on dc : List Cube) (primes_are : AreCubes size pr
   region_size : (j : ℕ) (d : Cube) → IsCube size d → SameSize d (region_of j)
   region_size j d cube = (cube.has_size.0 ∙ sym (length-replicate size.inputs Dash), cube.has_size.1 ∙ sym (length-set (replicate size.outputs false) j true ∙ length-replicate size.outputs false))
 
-  all_near : (cubes : List Cube) (region : Cube) (all : List ℕ) → all ≡ range_with_len 0 (length cubes) → IsNear cubes region all
-  all_near cubes region all e = record {
+  all_candidates : (cubes : List Cube) (region : Cube) (all : List ℕ) → all ≡ range_with_len 0 (length cubes) → AreCandidates cubes region all
+  all_candidates cubes region all e = record {
     rises = subst (RisesFrom 0) (sym e) (range_rises 0 (length cubes));
     below = All-range (length cubes) all e;
     all = λ i p _ held. ap (has i) e ∙ range_has i 0 (length cubes) (omega arith) (let k = holds_at-below cubes i p held in omega arith);
@@ -150,24 +150,24 @@ module _ (size : Size) (primes on dc : List Cube) (primes_are : AreCubes size pr
     primes_size = λ k d lt. region_size j (get_or primes k d) (primes_are k d lt);
     on_size = λ k d lt. region_size j (get_or on k d) (on_are k d lt);
     dc_size = λ k d lt. region_size j (get_or dc k d) (dc_are k d lt);
-    primes_near = all_near primes (region_of j) np a;
-    on_near = all_near on (region_of j) non b;
-    dc_near = all_near dc (region_of j) ndc c;
+    primes_candidates = all_candidates primes (region_of j) np a;
+    on_candidates = all_candidates on (region_of j) non b;
+    dc_candidates = all_candidates dc (region_of j) ndc c;
   })
 
   pub rows_none : RowsSoFar primes on dc 0 []
-  rows_none = record { demands = tt; serves = λ p low want. absurd (let l = ltb-true p.output 0 low in omega arith) }
+  rows_none = record { demands = tt; has_rows = λ p low want. absurd (let l = ltb-true p.output 0 low in omega arith) }
 
-  pub rows_more : (j : ℕ) (region : Cube) (old new : List (List ℕ)) → j < size.outputs → region ≡ region_of j → RowsSoFar primes on dc j old → Fills primes on dc (holds region) old new → RowsSoFar primes on dc (j + 1) new
-  rows_more j region old new lt e before fills = record {
-    demands = fills.demands before.demands;
-    serves = λ p low want. elim (cases_lt p.output j) [
-      | inl less ↦ (let r = before.serves p (lt-ltb p.output j less) want in (r.0, fills.kept r.0 r.1, r.2))
+  pub rows_more : (j : ℕ) (region : Cube) (old new : List (List ℕ)) → j < size.outputs → region ≡ region_of j → RowsSoFar primes on dc j old → AddsRows primes on dc (holds region) old new → RowsSoFar primes on dc (j + 1) new
+  rows_more j region old new lt e before adds = record {
+    demands = adds.demands before.demands;
+    has_rows = λ p low want. elim (cases_lt p.output j) [
+      | inl less ↦ (let r = before.has_rows p (lt-ltb p.output j less) want in (r.0, adds.kept r.0 r.1, r.2))
       | inr more ↦ (
           let same : p.output ≡ j = (let l = ltb-true p.output (j + 1) low in omega arith) in
-          let w = list_any_witness (λ c. holds c p) on (wanted_parts on dc p want).0 in
+          let w = list_any_witness (λ c. holds c p) on (care_on_parts on dc p want).0 in
           let place = IsPlace-from_holds size w.0 p (all_members (IsCube size) on on_are w.0 w.1).has_size w.2 in
-          fills.serves p (ap (λ c. holds c p) e ∙ and_from (matches (replicate size.inputs Dash) p.point) (get_or (set (replicate size.outputs false) j true) p.output false)
+          adds.has_rows p (ap (λ c. holds c p) e ∙ and_from (matches (replicate size.inputs Dash) p.point) (get_or (set (replicate size.outputs false) j true) p.output false)
           (and_parts (matches (replicate size.inputs Dash) p.point) (get_or (replicate size.outputs true) p.output false) (holds_universal size p place.0 place.1)).0
           (ap (λ k. get_or (set (replicate size.outputs false) j true) k false) same ∙ get_or-set_same (replicate size.outputs false) j true false (omega (arith, length-replicate size.outputs false)))) want)
     ];
@@ -176,8 +176,8 @@ module _ (size : Size) (primes on dc : List Cube) (primes_are : AreCubes size pr
   pub rows_all : (j : ℕ) (rows : List (List ℕ)) → size.outputs ≤ j → RowsSoFar primes on dc j rows → AreRowsOf primes on dc rows
   rows_all j rows past so = record {
     demands = so.demands;
-    serves = λ p _ want.
-        let w = list_any_witness (λ c. holds c p) on (wanted_parts on dc p want).0 in
+    has_rows = λ p _ want.
+        let w = list_any_witness (λ c. holds c p) on (care_on_parts on dc p want).0 in
         let place = IsPlace-from_holds size w.0 p (all_members (IsCube size) on on_are w.0 w.1).has_size w.2 in
-        so.serves p (lt-ltb p.output j (omega (arith, place.1))) want;
+        so.has_rows p (lt-ltb p.output j (omega (arith, place.1))) want;
   }

@@ -4,19 +4,19 @@ use Rattle.std.specs.Prelude.{filter, Option, Some, None, MatchOption}
 use Rattle.std.specs.List.{AllByRecursion, list_all, list_any, range_with_len}
 use Rattle.std.proofs.lemmas.Bool.{cases_eq, cases_lt, cases_Bool, or_cases, or_left, or_right, or_from, and_parts, eq-eqb, ne_eqb, eqb-true, both_ways, true≢false, cond-true}
 use Rattle.minimum.specs.declared.choice.Choice.{Choice}
-use Rattle.minimum.specs.Table.{Grid, has, RisesFrom, IsWithin, IsTable, grid}
+use Rattle.minimum.specs.Table.{Table, has, RisesFrom, IsWithin, IsTable, table_of}
 use Rattle.minimum.specs.Cover.{meets, counted}
 use Rattle.minimum.specs.Steps.{without, take_column, drop_column, with_rows, HasRow, StandsWith, IsPreferred, Step, row_leaves, only_column, column_leaves, Steps, done, more, IsReduced}
 use Rattle.minimum.specs.Choices.{join}
 use Rattle.minimum.specs.Search.{IsLightened, marked, keep_columns, IsNarrowed}
-use Rattle.minimum.specs.Reduce.{row_at, IsCrossed, MarksOthers, is_single, rows_from, LeavesNoWider, HasNoWider, LeavesNoUnder, HasNoSingle, HasNoUnder, Shrinks, take_unmarked}
+use Rattle.minimum.specs.Reduce.{row_at, IsTranspose, MarksInessentialColumns, is_essential_column, rows_from, LeavesNoDominatingRow, HasNoDominatingRow, LeavesNoDominatedColumn, HasNoEssentialColumn, HasNoDominatedColumn, Shrinks, take_unmarked}
 use Rattle.minimum.proofs.Sets.{has_here, has_later, has_cases, lacks_below, filter_parts, filter_keeps, filter_rises, filter_length}
 use Rattle.minimum.proofs.Subsets.{same_list, join_rises, join_left, join_right, join_only}
 use Rattle.minimum.proofs.Keeps.{row_live, steps_keep}
-use Rattle.minimum.proofs.Made.{grid_same}
+use Rattle.minimum.proofs.Made.{table_same}
 use Rattle.minimum.proofs.Rising.{range_rises, range_has, range_below}
-use Rattle.minimum.proofs.Crossing.{row_at_none}
-use Rattle.minimum.proofs.Passes.{over_parts, over_from}
+use Rattle.minimum.proofs.TransposeSteps.{row_at_none}
+use Rattle.minimum.proofs.Dominance.{dominates_parts, dominates_from}
 
 -- ---- filters
 
@@ -97,12 +97,12 @@ refused keep xs n h = go (marked keep n) refl
 
 -- ---- columns leave
 
-keep_more : (t : Grid) (c : ℕ) (cs : List ℕ) → keep_columns (apart_of (c ∷ cs)) t ≡ drop_column c (keep_columns (apart_of cs) t)
-keep_more t c cs = grid_same t.columns t.taken t.taken _ _ _ _ t.weights t.weights refl (lacking_more c cs t.live)
+keep_more : (t : Table) (c : ℕ) (cs : List ℕ) → keep_columns (apart_of (c ∷ cs)) t ≡ drop_column c (keep_columns (apart_of cs) t)
+keep_more t c cs = table_same t.columns t.taken t.taken _ _ _ _ t.weights t.weights refl (lacking_more c cs t.live)
     (map_same (filter (apart_of (c ∷ cs))) (λ row. without c (filter (apart_of cs) row)) t.rows (all_anywhere (λ row. filter (apart_of (c ∷ cs)) row ≡ without c (filter (apart_of cs) row)) t.rows (lacking_more c cs)) ∙ sym (map_twice (without c) (filter (apart_of cs)) t.rows)) refl
 
-keep_none : (t : Grid) → keep_columns (apart_of []) t ≡ t
-keep_none t = grid_same t.columns t.taken t.taken _ _ _ _ t.weights t.weights refl (whole t.live) (map_self (filter (apart_of [])) t.rows whole) refl
+keep_none : (t : Table) → keep_columns (apart_of []) t ≡ t
+keep_none t = table_same t.columns t.taken t.taken _ _ _ _ t.weights t.weights refl (whole t.live) (map_self (filter (apart_of [])) t.rows whole) refl
   where
     whole : (xs : List ℕ) → filter (apart_of []) xs ≡ xs
     whole xs = filter_all (apart_of []) xs (all_anywhere (λ n. apart_of [] n ≡ true) xs (λ n. refl))
@@ -111,7 +111,7 @@ stands_kept : (test : ℕ → Bool) (a b : ℕ) (rows : List (List ℕ)) → tes
 stands_kept test a b [] k h = tt
 stands_kept test a b (row ∷ rows) k h = ((λ e. filter_keeps test b row (h.0 (filter_parts test a row e).0) k), stands_kept test a b rows k h.1)
 
-steps_columns : (choice : Choice) (t : Grid) (all cs : List ℕ) (l : ℕ) → RisesFrom l cs → ((n : ℕ) → has n cs ≡ true → has n all ≡ true)
+steps_columns : (choice : Choice) (t : Table) (all cs : List ℕ) (l : ℕ) → RisesFrom l cs → ((n : ℕ) → has n cs ≡ true → has n all ≡ true)
     → ((c : ℕ) → has c cs ≡ true → (has c t.live ≡ true) × ((b : ℕ) × (has b t.live ≡ true) × (has b all ≡ false) × IsPreferred (counted choice t.weights) b c × StandsWith t c b))
     → Steps choice t (keep_columns (apart_of cs) t)
 steps_columns choice t all [] l r i f = subst (Steps choice t) (sym (keep_none t)) (done t)
@@ -135,11 +135,11 @@ at_all P [] i h k = absurd (omega arith)
 at_all P (row ∷ rows) zero h k = k.0
 at_all P (row ∷ rows) (suc i) h k = at_all P rows i (omega arith) k.1
 
-pub stands_from : (columns : ℕ) (rows crossed : List (List ℕ)) (a b : ℕ) → IsCrossed columns rows crossed → a < columns → b < columns → IsWithin (row_at crossed a) (row_at crossed b) → AllByRecursion (λ row. has a row ≡ true → has b row ≡ true) rows
-stands_from columns rows crossed a b x la lb w = all_at (λ row. has a row ≡ true → has b row ≡ true) rows (λ i h e. sym (x.same b i lb) ∙ w i (x.same a i la ∙ e))
+pub stands_from : (columns : ℕ) (rows transpose : List (List ℕ)) (a b : ℕ) → IsTranspose columns rows transpose → a < columns → b < columns → IsWithin (row_at transpose a) (row_at transpose b) → AllByRecursion (λ row. has a row ≡ true → has b row ≡ true) rows
+stands_from columns rows transpose a b x la lb w = all_at (λ row. has a row ≡ true → has b row ≡ true) rows (λ i h e. sym (x.same b i lb) ∙ w i (x.same a i la ∙ e))
 
-within_stands : (columns : ℕ) (rows crossed : List (List ℕ)) (a b : ℕ) → IsCrossed columns rows crossed → a < columns → b < columns → AllByRecursion (λ row. has a row ≡ true → has b row ≡ true) rows → IsWithin (row_at crossed a) (row_at crossed b)
-within_stands columns rows crossed a b x la lb s i e = elim (cases_lt i (length rows)) [
+within_stands : (columns : ℕ) (rows transpose : List (List ℕ)) (a b : ℕ) → IsTranspose columns rows transpose → a < columns → b < columns → AllByRecursion (λ row. has a row ≡ true → has b row ≡ true) rows → IsWithin (row_at transpose a) (row_at transpose b)
+within_stands columns rows transpose a b x la lb s i e = elim (cases_lt i (length rows)) [
   | inl l ↦ x.same b i lb ∙ at_all (λ row. has a row ≡ true → has b row ≡ true) rows i l s (sym (x.same a i la) ∙ e)
   | inr l ↦ absurd (true≢false (sym (sym (ap (has a) (row_at_none rows i l)) ∙ (sym (x.same a i la) ∙ e))))
 ]
@@ -148,15 +148,15 @@ rows_within_all : (keep : List Bool) (live : List ℕ) (rows : List (List ℕ)) 
 rows_within_all keep live [] h = tt
 rows_within_all keep live (row ∷ rows) h = (filter_at (marked keep) (apart_of (filter (λ m. not (marked keep m)) live)) row (λ n k. refused keep live n (h.0.2 n k)), rows_within_all keep live rows h.1)
 
-module _ (choice : Choice) (t : Grid) (crossed : List (List ℕ)) (keep : List Bool) (wt : IsTable t) (x : IsCrossed t.columns t.rows crossed) (h : LeavesNoUnder (counted choice t.weights) t.live crossed keep) where
+module _ (choice : Choice) (t : Table) (transpose : List (List ℕ)) (keep : List Bool) (wt : IsTable t) (x : IsTranspose t.columns t.rows transpose) (h : LeavesNoDominatedColumn (counted choice t.weights) t.live transpose keep) where
   abbrev gone : List ℕ
   gone = filter (λ m. not (marked keep m)) t.live
 
-  under_steps : Steps choice t (keep_columns (marked keep) t)
-  under_steps = subst (Steps choice t) (sym same) (steps_columns choice t gone gone 0 (filter_rises (λ m. not (marked keep m)) 0 t.live wt.live_rises) (λ n k. k) each)
+  column_dominance_steps : Steps choice t (keep_columns (marked keep) t)
+  column_dominance_steps = subst (Steps choice t) (sym same) (steps_columns choice t gone gone 0 (filter_rises (λ m. not (marked keep m)) 0 t.live wt.live_rises) (λ n k. k) each)
     where
       same : keep_columns (marked keep) t ≡ keep_columns (apart_of gone) t
-      same = grid_same t.columns t.taken t.taken _ _ _ _ t.weights t.weights refl (filter_at (marked keep) (apart_of gone) t.live (refused keep t.live)) (map_same (filter (marked keep)) (filter (apart_of gone)) t.rows (rows_within_all keep t.live t.rows wt.rows)) refl
+      same = table_same t.columns t.taken t.taken _ _ _ _ t.weights t.weights refl (filter_at (marked keep) (apart_of gone) t.live (refused keep t.live)) (map_same (filter (marked keep)) (filter (apart_of gone)) t.rows (rows_within_all keep t.live t.rows wt.rows)) refl
 
       not_false : (b : Bool) → not b ≡ true → b ≡ false
       not_false true e = sym e
@@ -166,12 +166,12 @@ module _ (choice : Choice) (t : Grid) (crossed : List (List ℕ)) (keep : List B
       each c k =
           let p = filter_parts (λ m. not (marked keep m)) c t.live k in
           let y = h.witnessed c p.0 (not_false (marked keep c) p.1) in
-          let o = over_parts (counted choice t.weights) crossed keep c y.0 y.2 in
+          let o = dominates_parts (counted choice t.weights) transpose keep c y.0 y.2 in
           let stays : has y.0 gone ≡ false = elim (cases_Bool (has y.0 gone)) [ inl e ↦ absurd (true≢false (sym (filter_parts (λ m. not (marked keep m)) y.0 t.live e).1 ∙ ap not o.kept)) | inr e ↦ e ] in
-          (p.0, (y.0, y.1, stays, o.preferred, stands_from t.columns t.rows crossed c y.0 x (wt.within c p.0) (wt.within y.0 y.1) o.stands))
+          (p.0, (y.0, y.1, stays, o.preferred, stands_from t.columns t.rows transpose c y.0 x (wt.within c p.0) (wt.within y.0 y.1) o.stands))
 
-  pub under_shrinks : length (filter (marked keep) t.live) ≢ length t.live → Shrinks choice t (keep_columns (marked keep) t)
-  under_shrinks d = record { steps = under_steps; smaller = fewer (length (filter (marked keep) t.live)) (length t.live) d (filter_length (marked keep) t.live) (length_map t.rows) }
+  pub column_dominance_shrinks : length (filter (marked keep) t.live) ≢ length t.live → Shrinks choice t (keep_columns (marked keep) t)
+  column_dominance_shrinks d = record { steps = column_dominance_steps; smaller = fewer (length (filter (marked keep) t.live)) (length t.live) d (filter_length (marked keep) t.live) (length_map t.rows) }
     where
       length_map : (rows : List (List ℕ)) → length (map (filter (marked keep)) rows) ≡ length rows
       length_map [] = refl
@@ -180,17 +180,17 @@ module _ (choice : Choice) (t : Grid) (crossed : List (List ℕ)) (keep : List B
       fewer : (a b : ℕ) → a ≢ b → a ≤ b → length (map (filter (marked keep)) t.rows) ≡ length t.rows → a + length (map (filter (marked keep)) t.rows) < b + length t.rows
       fewer a b d l e = elim (cases_lt a b) [ inl m ↦ omega arith | inr m ↦ absurd (d (omega arith)) ]
 
-  pub none_under : length (filter (marked keep) t.live) ≡ length t.live → HasNoUnder choice t
-  none_under e a b la lb p s = both_ways _ (h.complete (λ n k. filter_full (marked keep) t.live n e k) a b la lb) (over_from (counted choice t.weights) crossed keep a b (record {
+  pub none_dominated : length (filter (marked keep) t.live) ≡ length t.live → HasNoDominatedColumn choice t
+  none_dominated e a b la lb p s = both_ways _ (h.complete (λ n k. filter_full (marked keep) t.live n e k) a b la lb) (dominates_from (counted choice t.weights) transpose keep a b (record {
     kept = filter_full (marked keep) t.live b e lb;
     preferred = p;
-    stands = within_stands t.columns t.rows crossed a b x (wt.within a la) (wt.within b lb) s;
+    stands = within_stands t.columns t.rows transpose a b x (wt.within a la) (wt.within b lb) s;
   }))
 
 -- ---- single columns are taken
 
-abbrev take_list : List ℕ → Grid → Grid
-take_list cs t = grid t.columns (join t.taken cs) (filter (apart_of cs) t.live) (filter (λ row. not (meets cs row)) t.rows) t.weights
+abbrev take_list : List ℕ → Table → Table
+take_list cs t = table_of t.columns (join t.taken cs) (filter (apart_of cs) t.live) (filter (λ row. not (meets cs row)) t.rows) t.weights
 
 meets_none : (row : List ℕ) → meets [] row ≡ false
 meets_none [] = refl
@@ -207,8 +207,8 @@ meets_more c cs (d ∷ row) = ap (λ b. (eqb d c || has d cs) || b) (meets_more 
     swap false true r s = refl
     swap false false r s = refl
 
-take_none : (t : Grid) → take_list [] t ≡ t
-take_none t = grid_same t.columns _ _ _ _ _ _ t.weights t.weights refl
+take_none : (t : Table) → take_list [] t ≡ t
+take_none t = table_same t.columns _ _ _ _ _ _ t.weights t.weights refl
     (filter_all (apart_of []) t.live (all_anywhere (λ n. apart_of [] n ≡ true) t.live (λ n. refl)))
     (filter_all (λ row. not (meets [] row)) t.rows (all_anywhere (λ row. not (meets [] row) ≡ true) t.rows (λ row. ap not (meets_none row)))) refl
 
@@ -221,8 +221,8 @@ take_more_rows c cs rows =
     both true b = refl
     both false b = refl
 
-take_more_list : (t : Grid) (c : ℕ) (cs : List ℕ) → take_list (c ∷ cs) t ≡ take_column c (take_list cs t)
-take_more_list t c cs = grid_same t.columns _ _ _ _ _ _ t.weights t.weights refl (lacking_more c cs t.live) (take_more_rows c cs t.rows) refl
+take_more_list : (t : Table) (c : ℕ) (cs : List ℕ) → take_list (c ∷ cs) t ≡ take_column c (take_list cs t)
+take_more_list t c cs = table_same t.columns _ _ _ _ _ _ t.weights t.weights refl (lacking_more c cs t.live) (take_more_rows c cs t.rows) refl
 
 row_kept : (test : List ℕ → Bool) (row : List ℕ) (rows : List (List ℕ)) → HasRow row rows → test row ≡ true → HasRow row (filter test rows)
 row_kept test row [] h e = h
@@ -234,82 +234,82 @@ row_kept test row (r ∷ rows) h e = go (test r) refl h (row_kept test row rows)
     go false f (inl k) again = absurd (both_ways _ f (ap test (sym k) ∙ e))
     go false f (inr k) again = again k e
 
-steps_singles : (choice : Choice) (t : Grid) (cs : List ℕ) (l : ℕ) → RisesFrom l cs → ((c : ℕ) → has c cs ≡ true → HasRow (c ∷ []) t.rows) → Steps choice t (take_list cs t)
-steps_singles choice t [] l r f = subst (Steps choice t) (sym (take_none t)) (done t)
-steps_singles choice t (c ∷ cs) l r f =
-    let rest = steps_singles choice t cs (suc c) r.1 (λ n h. f n (has_later n c cs h)) in
+steps_essentials : (choice : Choice) (t : Table) (cs : List ℕ) (l : ℕ) → RisesFrom l cs → ((c : ℕ) → has c cs ≡ true → HasRow (c ∷ []) t.rows) → Steps choice t (take_list cs t)
+steps_essentials choice t [] l r f = subst (Steps choice t) (sym (take_none t)) (done t)
+steps_essentials choice t (c ∷ cs) l r f =
+    let rest = steps_essentials choice t cs (suc c) r.1 (λ n h. f n (has_later n c cs h)) in
     let u = take_list cs t in
     let lone : not (meets cs (c ∷ [])) ≡ true = ap not (or_from (has c cs) false (lacks_below c (suc c) cs r.1 (omega arith)) refl) in
     let step : Step choice u (take_column c u) = only_column u c (row_kept (λ row. not (meets cs row)) (c ∷ []) t.rows (f c (has_here c c cs refl)) lone) in
     subst (Steps choice t) (sym (take_more_list t c cs)) (more t u (take_column c u) rest step)
 
-single_row : (c : ℕ) (row : List ℕ) → is_single c row ≡ true → row ≡ c ∷ []
-single_row c [] h = absurd (true≢false (sym h))
-single_row c (d ∷ []) h = let p = and_parts (eqb (length (d ∷ [])) 1) (has c (d ∷ [])) h in elim (has_cases c d [] p.1) [ inl e ↦ ap (λ n. n ∷ []) (sym e) | inr e ↦ absurd (true≢false (sym e)) ]
-single_row c (d ∷ e ∷ row) h = let p = and_parts (eqb (length (d ∷ e ∷ row)) 1) (has c (d ∷ e ∷ row)) h in absurd (let k = eqb-true (length (d ∷ e ∷ row)) 1 p.0 in omega arith)
+essential_row : (c : ℕ) (row : List ℕ) → is_essential_column c row ≡ true → row ≡ c ∷ []
+essential_row c [] h = absurd (true≢false (sym h))
+essential_row c (d ∷ []) h = let p = and_parts (eqb (length (d ∷ [])) 1) (has c (d ∷ [])) h in elim (has_cases c d [] p.1) [ inl e ↦ ap (λ n. n ∷ []) (sym e) | inr e ↦ absurd (true≢false (sym e)) ]
+essential_row c (d ∷ e ∷ row) h = let p = and_parts (eqb (length (d ∷ e ∷ row)) 1) (has c (d ∷ e ∷ row)) h in absurd (let k = eqb-true (length (d ∷ e ∷ row)) 1 p.0 in omega arith)
 
-pub single_has : (c : ℕ) (rows : List (List ℕ)) → list_any (is_single c) rows ≡ true → HasRow (c ∷ []) rows
-single_has c [] h = absurd (true≢false (sym h))
-single_has c (row ∷ rows) h = elim (or_cases (is_single c row) (list_any (is_single c) rows) h) [ inl e ↦ inl (sym (single_row c row e)) | inr e ↦ inr (single_has c rows e) ]
+pub essential_has : (c : ℕ) (rows : List (List ℕ)) → list_any (is_essential_column c) rows ≡ true → HasRow (c ∷ []) rows
+essential_has c [] h = absurd (true≢false (sym h))
+essential_has c (row ∷ rows) h = elim (or_cases (is_essential_column c row) (list_any (is_essential_column c) rows) h) [ inl e ↦ inl (sym (essential_row c row e)) | inr e ↦ inr (essential_has c rows e) ]
 
-pub has_single : (c : ℕ) (rows : List (List ℕ)) → HasRow (c ∷ []) rows → list_any (is_single c) rows ≡ true
-has_single c [] h = absurd h
-has_single c (row ∷ rows) (inl e) = or_left (is_single c row) _ (ap (is_single c) (sym e) ∙ or_left (eqb c c) false (eq-eqb c c refl))
-has_single c (row ∷ rows) (inr e) = or_right (is_single c row) _ (has_single c rows e)
+pub has_essential : (c : ℕ) (rows : List (List ℕ)) → HasRow (c ∷ []) rows → list_any (is_essential_column c) rows ≡ true
+has_essential c [] h = absurd h
+has_essential c (row ∷ rows) (inl e) = or_left (is_essential_column c row) _ (ap (is_essential_column c) (sym e) ∙ or_left (eqb c c) false (eq-eqb c c refl))
+has_essential c (row ∷ rows) (inr e) = or_right (is_essential_column c row) _ (has_essential c rows e)
 
-module _ (choice : Choice) (t : Grid) (keep : List Bool) (wt : IsTable t) (h : MarksOthers t.columns t.rows keep) where
-  abbrev singles : List ℕ
-  singles = filter (λ m. not (marked keep m)) t.live
+module _ (choice : Choice) (t : Table) (keep : List Bool) (wt : IsTable t) (h : MarksInessentialColumns t.columns t.rows keep) where
+  abbrev essentials : List ℕ
+  essentials = filter (λ m. not (marked keep m)) t.live
 
-  single_at : (c : ℕ) → c < t.columns → marked keep c ≡ false → HasRow (c ∷ []) t.rows
-  single_at c l e = single_has c t.rows (not_true (list_any (is_single c) t.rows) (sym (h.at c l) ∙ e))
+  essential_at : (c : ℕ) → c < t.columns → marked keep c ≡ false → HasRow (c ∷ []) t.rows
+  essential_at c l e = essential_has c t.rows (not_true (list_any (is_essential_column c) t.rows) (sym (h.at c l) ∙ e))
     where
       not_true : (b : Bool) → not b ≡ false → b ≡ true
       not_true true f = refl
       not_true false f = sym f
 
-  of_singles : (c : ℕ) → has c singles ≡ true → (has c t.live ≡ true) × (marked keep c ≡ false)
-  of_singles c k = let p = filter_parts (λ m. not (marked keep m)) c t.live k in (p.0, not_false (marked keep c) p.1)
+  of_essentials : (c : ℕ) → has c essentials ≡ true → (has c t.live ≡ true) × (marked keep c ≡ false)
+  of_essentials c k = let p = filter_parts (λ m. not (marked keep m)) c t.live k in (p.0, not_false (marked keep c) p.1)
     where
       not_false : (b : Bool) → not b ≡ true → b ≡ false
       not_false true e = sym e
       not_false false e = refl
 
-  taken_same : filter (λ n. has n t.taken || not (marked keep n)) (range_with_len 0 t.columns) ≡ join t.taken singles
-  taken_same = same_list 0 (filter (λ n. has n t.taken || not (marked keep n)) (range_with_len 0 t.columns)) (join t.taken singles) (filter_rises _ 0 _ (range_rises 0 t.columns)) (join_rises t.taken singles wt.taken_rises)
+  taken_same : filter (λ n. has n t.taken || not (marked keep n)) (range_with_len 0 t.columns) ≡ join t.taken essentials
+  taken_same = same_list 0 (filter (λ n. has n t.taken || not (marked keep n)) (range_with_len 0 t.columns)) (join t.taken essentials) (filter_rises _ 0 _ (range_rises 0 t.columns)) (join_rises t.taken essentials wt.taken_rises)
       (λ n k. let p = filter_parts (λ m. has m t.taken || not (marked keep m)) n (range_with_len 0 t.columns) k in elim (or_cases (has n t.taken) (not (marked keep n)) p.1) [
-        | inl e ↦ join_left n t.taken singles e
-        | inr e ↦ join_right n t.taken singles (let b = range_below n 0 t.columns p.0 in filter_keeps (λ m. not (marked keep m)) n t.live (row_live t n wt (single_at n (omega arith) (not_false (marked keep n) e))) e)
+        | inl e ↦ join_left n t.taken essentials e
+        | inr e ↦ join_right n t.taken essentials (let b = range_below n 0 t.columns p.0 in filter_keeps (λ m. not (marked keep m)) n t.live (row_live t n wt (essential_at n (omega arith) (not_false (marked keep n) e))) e)
       ])
-      (λ n k. elim (join_only n t.taken singles k) [
+      (λ n k. elim (join_only n t.taken essentials k) [
         | inl e ↦ filter_keeps (λ m. has m t.taken || not (marked keep m)) n (range_with_len 0 t.columns) (range_has n 0 t.columns (omega arith) (let b = wt.taken_within n e in omega arith)) (or_left (has n t.taken) _ e)
-        | inr e ↦ (let p = of_singles n e in filter_keeps (λ m. has m t.taken || not (marked keep m)) n (range_with_len 0 t.columns) (range_has n 0 t.columns (omega arith) (let b = wt.within n p.0 in omega arith)) (or_right (has n t.taken) _ (ap not p.1)))
+        | inr e ↦ (let p = of_essentials n e in filter_keeps (λ m. has m t.taken || not (marked keep m)) n (range_with_len 0 t.columns) (range_has n 0 t.columns (omega arith) (let b = wt.within n p.0 in omega arith)) (or_right (has n t.taken) _ (ap not p.1)))
       ])
     where
       not_false : (b : Bool) → not b ≡ true → b ≡ false
       not_false true e = sym e
       not_false false e = refl
 
-  rows_same : (rows : List (List ℕ)) → AllByRecursion (λ row. (row ≢ []) × RisesFrom 0 row × IsWithin row t.live) rows → AllByRecursion (λ row. list_all (marked keep) row ≡ not (meets singles row)) rows
+  rows_same : (rows : List (List ℕ)) → AllByRecursion (λ row. (row ≢ []) × RisesFrom 0 row × IsWithin row t.live) rows → AllByRecursion (λ row. list_all (marked keep) row ≡ not (meets essentials row)) rows
   rows_same [] a = tt
   rows_same (row ∷ rows) a = (one row a.0.2, rows_same rows a.1)
     where
-      one : (row : List ℕ) → IsWithin row t.live → list_all (marked keep) row ≡ not (meets singles row)
+      one : (row : List ℕ) → IsWithin row t.live → list_all (marked keep) row ≡ not (meets essentials row)
       one [] w = refl
-      one (c ∷ row) w = ap (λ b. b && list_all (marked keep) row) (refused keep t.live c (w c (has_here c c row refl))) ∙ ap (λ b. apart_of singles c && b) (one row (λ n k. w n (has_later n c row k))) ∙ join_not (has c singles) (meets singles row)
+      one (c ∷ row) w = ap (λ b. b && list_all (marked keep) row) (refused keep t.live c (w c (has_here c c row refl))) ∙ ap (λ b. apart_of essentials c && b) (one row (λ n k. w n (has_later n c row k))) ∙ join_not (has c essentials) (meets essentials row)
         where
           join_not : (a b : Bool) → (not a && not b) ≡ not (a || b)
           join_not true b = refl
           join_not false b = refl
 
-  pub singles_same : take_unmarked keep t ≡ take_list singles t
-  singles_same = grid_same t.columns _ _ _ _ _ _ t.weights t.weights taken_same (filter_at (marked keep) (apart_of singles) t.live (refused keep t.live)) (filter_same (list_all (marked keep)) (λ row. not (meets singles row)) t.rows (rows_same t.rows wt.rows)) refl
+  pub essentials_same : take_unmarked keep t ≡ take_list essentials t
+  essentials_same = table_same t.columns _ _ _ _ _ _ t.weights t.weights taken_same (filter_at (marked keep) (apart_of essentials) t.live (refused keep t.live)) (filter_same (list_all (marked keep)) (λ row. not (meets essentials row)) t.rows (rows_same t.rows wt.rows)) refl
 
-  singles_steps : Steps choice t (take_unmarked keep t)
-  singles_steps = subst (Steps choice t) (sym singles_same) (steps_singles choice t singles 0 (filter_rises (λ m. not (marked keep m)) 0 t.live wt.live_rises) (λ c k. let p = of_singles c k in single_at c (wt.within c p.0) p.1))
+  essentials_steps : Steps choice t (take_unmarked keep t)
+  essentials_steps = subst (Steps choice t) (sym essentials_same) (steps_essentials choice t essentials 0 (filter_rises (λ m. not (marked keep m)) 0 t.live wt.live_rises) (λ c k. let p = of_essentials c k in essential_at c (wt.within c p.0) p.1))
 
-  pub singles_shrink : length (filter (marked keep) t.live) ≢ length t.live → Shrinks choice t (take_unmarked keep t)
-  singles_shrink d = record { steps = singles_steps; smaller = fewer (length (filter (marked keep) t.live)) (length t.live) d (filter_length (marked keep) t.live) (shorter t.rows) }
+  pub essentials_shrink : length (filter (marked keep) t.live) ≢ length t.live → Shrinks choice t (take_unmarked keep t)
+  essentials_shrink d = record { steps = essentials_steps; smaller = fewer (length (filter (marked keep) t.live)) (length t.live) d (filter_length (marked keep) t.live) (shorter t.rows) }
     where
       shorter : (rows : List (List ℕ)) → length (filter (list_all (marked keep)) rows) ≤ length rows
       shorter [] = omega arith
@@ -322,20 +322,20 @@ module _ (choice : Choice) (t : Grid) (keep : List Bool) (wt : IsTable t) (h : M
       fewer : (a b : ℕ) → a ≢ b → a ≤ b → length (filter (list_all (marked keep)) t.rows) ≤ length t.rows → a + length (filter (list_all (marked keep)) t.rows) < b + length t.rows
       fewer a b d l e = elim (cases_lt a b) [ inl m ↦ omega arith | inr m ↦ absurd (d (omega arith)) ]
 
-  pub none_single : length (filter (marked keep) t.live) ≡ length t.live → HasNoSingle t
-  none_single e c k =
+  pub none_essential : length (filter (marked keep) t.live) ≡ length t.live → HasNoEssentialColumn t
+  none_essential e c k =
       let l = row_live t c wt k in
-      true≢false (sym (filter_full (marked keep) t.live c e l) ∙ h.at c (wt.within c l) ∙ ap not (has_single c t.rows k))
+      true≢false (sym (filter_full (marked keep) t.live c e l) ∙ h.at c (wt.within c l) ∙ ap not (has_essential c t.rows k))
 
-pub singles_table : (choice : Choice) (t : Grid) (keep : List Bool) → IsTable t → MarksOthers t.columns t.rows keep → IsTable (take_unmarked keep t)
-singles_table choice t keep wt h = (steps_keep choice t (take_unmarked keep t) wt (singles_steps choice t keep wt h)).0
+pub essentials_table : (choice : Choice) (t : Table) (keep : List Bool) → IsTable t → MarksInessentialColumns t.columns t.rows keep → IsTable (take_unmarked keep t)
+essentials_table choice t keep wt h = (steps_keep choice t (take_unmarked keep t) wt (essentials_steps choice t keep wt h)).0
 
-pub under_table : (choice : Choice) (t : Grid) (crossed : List (List ℕ)) (keep : List Bool) → IsTable t → IsCrossed t.columns t.rows crossed → LeavesNoUnder (counted choice t.weights) t.live crossed keep → IsTable (keep_columns (marked keep) t)
-under_table choice t crossed keep wt x h = (steps_keep choice t (keep_columns (marked keep) t) wt (under_steps choice t crossed keep wt x h)).0
+pub column_dominance_table : (choice : Choice) (t : Table) (transpose : List (List ℕ)) (keep : List Bool) → IsTable t → IsTranspose t.columns t.rows transpose → LeavesNoDominatedColumn (counted choice t.weights) t.live transpose keep → IsTable (keep_columns (marked keep) t)
+column_dominance_table choice t transpose keep wt x h = (steps_keep choice t (keep_columns (marked keep) t) wt (column_dominance_steps choice t transpose keep wt x h)).0
 
 -- ---- rows leave
 
-cons_step : (choice : Choice) (t u v : Grid) → Step choice t u → Steps choice u v → Steps choice t v
+cons_step : (choice : Choice) (t u v : Table) → Step choice t u → Steps choice u v → Steps choice t v
 cons_step choice t u _ s (done _) = more t t u (done t) s
 cons_step choice t u _ s (more _ w v h k) = more t w v (cons_step choice t u w s h) k
 
@@ -362,7 +362,7 @@ from_rows test i (row ∷ rows) v h = go (test i) h (from_rows test (i + 1) rows
     go true (inr e) again = inr (again e)
     go false k again = inr (again k)
 
-steps_rows : (choice : Choice) (t : Grid) (test : ℕ → Bool) (i : ℕ) (front rows : List (List ℕ))
+steps_rows : (choice : Choice) (t : Table) (test : ℕ → Bool) (i : ℕ) (front rows : List (List ℕ))
     → ((k : ℕ) → k < length rows → test (i + k) ≡ false → (other : List ℕ) × HasRow other (front ++ rows_from test i rows) × IsWithin other (row_at rows k))
     → Steps choice (with_rows t (front ++ rows)) (with_rows t (front ++ rows_from test i rows))
 steps_rows choice t test i front [] f = done (with_rows t (front ++ []))
@@ -413,24 +413,24 @@ rows_from_full test i (row ∷ rows) k e l = go (test i) refl e k l (rows_from_f
     go true f g (suc k) l again = ap test (let e : i + suc k ≡ i + 1 + k = omega arith in e) ∙ again k (omega arith) (omega arith)
     go false f g k l again = absurd (let m = rows_from_length test (i + 1) rows in omega arith)
 
-module _ (choice : Choice) (t : Grid) (stay : List Bool) (h : LeavesNoWider t.rows stay) where
-  wider_steps : Steps choice t (with_rows t (rows_from (marked stay) 0 t.rows))
-  wider_steps = steps_rows choice t (marked stay) 0 [] t.rows (λ k l m.
+module _ (choice : Choice) (t : Table) (stay : List Bool) (h : LeavesNoDominatingRow t.rows stay) where
+  row_dominance_steps : Steps choice t (with_rows t (rows_from (marked stay) 0 t.rows))
+  row_dominance_steps = steps_rows choice t (marked stay) 0 [] t.rows (λ k l m.
       let same : 0 + k ≡ k = omega arith in
       let y = h.witnessed k l (ap (marked stay) (sym same) ∙ m) in
       (row_at t.rows y.0, rows_from_has (marked stay) 0 y.0 t.rows y.1 (ap (marked stay) (let e : 0 + y.0 ≡ y.0 = omega arith in e) ∙ y.2), y.3))
 
-  pub wider_shrinks : length (rows_from (marked stay) 0 t.rows) ≢ length t.rows → Shrinks choice t (with_rows t (rows_from (marked stay) 0 t.rows))
-  wider_shrinks d = record { steps = wider_steps; smaller = fewer (length (rows_from (marked stay) 0 t.rows)) (length t.rows) d (rows_from_length (marked stay) 0 t.rows) }
+  pub row_dominance_shrinks : length (rows_from (marked stay) 0 t.rows) ≢ length t.rows → Shrinks choice t (with_rows t (rows_from (marked stay) 0 t.rows))
+  row_dominance_shrinks d = record { steps = row_dominance_steps; smaller = fewer (length (rows_from (marked stay) 0 t.rows)) (length t.rows) d (rows_from_length (marked stay) 0 t.rows) }
     where
       fewer : (a b : ℕ) → a ≢ b → a ≤ b → length t.live + a < length t.live + b
       fewer a b d l = elim (cases_lt a b) [ inl m ↦ omega arith | inr m ↦ absurd (d (omega arith)) ]
 
-  pub none_wider : length (rows_from (marked stay) 0 t.rows) ≡ length t.rows → HasNoWider t.rows
-  none_wider e = h.complete (λ i l. ap (marked stay) (let f : i ≡ 0 + i = omega arith in f) ∙ rows_from_full (marked stay) 0 t.rows i e l)
+  pub none_dominating : length (rows_from (marked stay) 0 t.rows) ≡ length t.rows → HasNoDominatingRow t.rows
+  none_dominating e = h.complete (λ i l. ap (marked stay) (let f : i ≡ 0 + i = omega arith in f) ∙ rows_from_full (marked stay) 0 t.rows i e l)
 
-pub wider_table : (choice : Choice) (t : Grid) (stay : List Bool) → IsTable t → LeavesNoWider t.rows stay → IsTable (with_rows t (rows_from (marked stay) 0 t.rows))
-wider_table choice t stay wt h = (steps_keep choice t (with_rows t (rows_from (marked stay) 0 t.rows)) wt (wider_steps choice t stay h)).0
+pub row_dominance_table : (choice : Choice) (t : Table) (stay : List Bool) → IsTable t → LeavesNoDominatingRow t.rows stay → IsTable (with_rows t (rows_from (marked stay) 0 t.rows))
+row_dominance_table choice t stay wt h = (steps_keep choice t (with_rows t (rows_from (marked stay) 0 t.rows)) wt (row_dominance_steps choice t stay h)).0
 
 -- ---- no step is left
 
@@ -452,13 +452,13 @@ middle_below : (front back : List (List ℕ)) (row : List ℕ) → length front 
 middle_below [] back row = omega arith
 middle_below (r ∷ front) back row = let k = middle_below front back row in omega arith
 
-pub reduced_from : (choice : Choice) (t : Grid) → HasNoSingle t → HasNoWider t.rows → HasNoUnder choice t → IsReduced choice t
-reduced_from choice t one wider under _ (row_leaves _ front back row other e i h) =
+pub reduced_from : (choice : Choice) (t : Table) → HasNoEssentialColumn t → HasNoDominatingRow t.rows → HasNoDominatedColumn choice t → IsReduced choice t
+reduced_from choice t one dominating under _ (row_leaves _ front back row other e i h) =
     let k = index_split front back row other h in
-    k.1 (sym (wider (length front) k.0 (subst (λ rs. length front < length rs) (sym e) (middle_below front back row)) (subst (λ rs. k.0 < length rs) (sym e) k.2)
+    k.1 (sym (dominating (length front) k.0 (subst (λ rs. length front < length rs) (sym e) (middle_below front back row)) (subst (λ rs. k.0 < length rs) (sym e) k.2)
     (λ n a. subst (λ r. has n r ≡ true) (sym (ap (λ rs. row_at rs (length front)) e ∙ row_at_middle front back row)) (i n (subst (λ r. has n r ≡ true) (ap (λ rs. row_at rs k.0) e ∙ k.3) a)))))
-reduced_from choice t one wider under _ (only_column _ c h) = one c h
-reduced_from choice t one wider under _ (column_leaves _ a b p la lb d) = under a b la lb p d
+reduced_from choice t one dominating under _ (only_column _ c h) = one c h
+reduced_from choice t one dominating under _ (column_leaves _ a b p la lb d) = under a b la lb p d
 
 -- ---- rows as the code keeps them
 
@@ -478,30 +478,30 @@ pub append_nothing : (rows : List (List ℕ)) → rows ++ [] ≡ rows
 append_nothing [] = refl
 append_nothing (row ∷ rows) = ap (λ rs. row ∷ rs) (append_nothing rows)
 
-pub smaller_from : (choice : Choice) (t : Grid) → HasNoSingle t → HasNoWider t.rows → (o : Option Grid) → MatchOption o (HasNoUnder choice t) (Shrinks choice t) → MatchOption o (IsReduced choice t) (Shrinks choice t)
-smaller_from choice t one wider None h = reduced_from choice t one wider h
-smaller_from choice t one wider (Some u) h = h
+pub reduced_once_from : (choice : Choice) (t : Table) → HasNoEssentialColumn t → HasNoDominatingRow t.rows → (o : Option Table) → MatchOption o (HasNoDominatedColumn choice t) (Shrinks choice t) → MatchOption o (IsReduced choice t) (Shrinks choice t)
+reduced_once_from choice t one dominating None h = reduced_from choice t one dominating h
+reduced_once_from choice t one dominating (Some u) h = h
 
-pub steps_join : (choice : Choice) (t u v : Grid) → Steps choice t u → Steps choice u v → Steps choice t v
+pub steps_join : (choice : Choice) (t u v : Table) → Steps choice t u → Steps choice u v → Steps choice t v
 steps_join choice t u _ s (done _) = s
 steps_join choice t u _ s (more _ w v h k) = more t w v (steps_join choice t u w s h) k
 
 -- ---- steps narrow a table
 
-pub steps_live : (choice : Choice) (t u : Grid) → IsTable t → Steps choice t u → length u.live ≤ length t.live
+pub steps_live : (choice : Choice) (t u : Table) → IsTable t → Steps choice t u → length u.live ≤ length t.live
 steps_live choice t _ w (done _) = omega arith
 steps_live choice t _ w (more _ u v h s) =
     let before = steps_live choice t u w h in
     let one = step_live u v s in
     omega arith
   where
-    step_live : (u v : Grid) → Step choice u v → length v.live ≤ length u.live
+    step_live : (u v : Table) → Step choice u v → length v.live ≤ length u.live
     step_live u _ (row_leaves _ front back row other e i h) = omega arith
     step_live u _ (only_column _ c h) = filter_length (λ x. not (eqb c x)) u.live
     step_live u _ (column_leaves _ a b p la lb d) = filter_length (λ x. not (eqb a x)) u.live
 
-pub lightened_narrowed : (choice : Choice) (k w : ℕ) (t u : Grid) → IsLightened choice t u → IsNarrowed choice k w t u
+pub lightened_narrowed : (choice : Choice) (k w : ℕ) (t u : Table) → IsLightened choice t u → IsNarrowed choice k w t u
 lightened_narrowed choice k w t u h = record { leads = h.leads k w; live = h.live }
 
-pub narrowed_join : (choice : Choice) (k w : ℕ) (t u v : Grid) → IsNarrowed choice k w t u → IsNarrowed choice k w u v → IsNarrowed choice k w t v
+pub narrowed_join : (choice : Choice) (k w : ℕ) (t u v : Table) → IsNarrowed choice k w t u → IsNarrowed choice k w u v → IsNarrowed choice k w t v
 narrowed_join choice k w t u v h g = record { leads = λ o a. h.leads o (g.leads o a); live = (let a = h.live in let b = g.live in omega arith) }

@@ -7,7 +7,7 @@ use Rattle.std.proofs.lemmas.Bool.{cases_order, cases_Bool, or_cases, or_left, o
 use Rattle.std.proofs.lemmas.List.{length-map}
 use Rattle.minimum.specs.declared.choice.Choice.{Choice}
 use Rattle.minimum.specs.declared.choice.Choice.TheVariants.{First, Literals}
-use Rattle.minimum.specs.Table.{Grid, has, RisesFrom, IsTable, AreRows, fresh}
+use Rattle.minimum.specs.Table.{Table, has, RisesFrom, IsTable, AreRows, fresh}
 use Rattle.minimum.specs.Cover.{meets, IsCover, counted, sum_over, Precedes, IsLeast}
 use Rattle.minimum.specs.Choices.{join}
 use Rattle.minimum.specs.Parts.{IsRenumbered, pick}
@@ -65,7 +65,7 @@ sum_map count own f [] e = refl
 sum_map count own f (x ∷ xs) e = let k = sum_map count own f xs (λ i h. e i (has_later i x xs h)) in let one = e x (has_here x x xs refl) in omega arith
 
 -- a cover has live columns beside the taken ones
-pub rest_live : (t : Grid) (x : List ℕ) → IsCover t x → (n : ℕ) → has n (minus x t.taken) ≡ true → has n t.live ≡ true
+pub rest_live : (t : Table) (x : List ℕ) → IsCover t x → (n : ℕ) → has n (minus x t.taken) ≡ true → has n t.live ≡ true
 rest_live t x h n e = elim (or_cases (has n t.taken) (has n t.live) (h.only n (minus_only n x t.taken e))) [
   | inl f ↦ absurd (both_ways _ (minus_lacks n x t.taken h.rises e) f)
   | inr f ↦ f
@@ -73,7 +73,7 @@ rest_live t x h n e = elim (or_cases (has n t.taken) (has n t.live) (h.only n (m
 
 -- ---- the tables
 
-module _ (t : Grid) (w : IsTable t) (rows : List (List ℕ)) (weights : List ℕ) (same_rows : map (map (pick t.live)) rows ≡ t.rows) (are : AreRows (length weights) rows) (same_weights : weights ≡ map (λ c. slice_index_or t.weights c 0) t.live) where
+module _ (t : Table) (w : IsTable t) (rows : List (List ℕ)) (weights : List ℕ) (same_rows : map (map (pick t.live)) rows ≡ t.rows) (are : AreRows (length weights) rows) (same_weights : weights ≡ map (λ c. slice_index_or t.weights c 0) t.live) where
   long : length weights ≡ length t.live
   long = ap length same_weights ∙ length-map t.live (λ c. slice_index_or t.weights c 0)
 
@@ -213,10 +213,10 @@ module _ (t : Grid) (w : IsTable t) (rows : List (List ℕ)) (weights : List ℕ
   back_least : (choice : Choice) (s : List ℕ) → IsLeast choice (fresh rows weights) s → IsLeast choice t (join t.taken (back s))
   back_least choice s h = record { cover = back_cover s h.cover; first = λ x g. back_first choice s x h.cover g (h.first (forth x) (forth_cover x g)) }
 
-pub renumbered : (t : Grid) → IsTable t → (rows : List (List ℕ)) (weights : List ℕ) → map (map (pick t.live)) rows ≡ t.rows → weights ≡ map (λ c. slice_index_or t.weights c 0) t.live
-    → (o : Option Grid) → MatchOption o (AreRows (length weights) rows → ⊥) (λ u. AreRows (length weights) rows × (u ≡ fresh rows weights)) → IfSome o (IsRenumbered t)
+pub renumbered : (t : Table) → IsTable t → (rows : List (List ℕ)) (weights : List ℕ) → map (map (pick t.live)) rows ≡ t.rows → weights ≡ map (λ c. slice_index_or t.weights c 0) t.live
+    → (o : Option Table) → MatchOption o (AreRows (length weights) rows → ⊥) (λ u. AreRows (length weights) rows × (u ≡ fresh rows weights)) → IfSome o (IsRenumbered t)
 renumbered t w rows weights same_rows same_weights None h = tt
 renumbered t w rows weights same_rows same_weights (Some u) h = record {
   least = λ choice s l. back_least t w rows weights same_rows h.0 same_weights choice s (subst (λ g. IsLeast choice g s) h.1 l);
-  as_many = ap (λ (g : Grid). length g.rows) h.1 ∙ sym (length-map rows (map (pick t.live))) ∙ ap length same_rows;
+  as_many = ap (λ (g : Table). length g.rows) h.1 ∙ sym (length-map rows (map (pick t.live))) ∙ ap length same_rows;
 }

@@ -9,7 +9,7 @@ use Rattle.std.specs.declared.cmp.Ordering.TheVariants.{Less}
 use Rattle.std.proofs.lemmas.Bool.{cases_lt, cases_Bool, or_cases, or_left, or_right, or_from, and_parts, both_ways, true≢false, not-true, not_from_false}
 use Rattle.std.proofs.lemmas.List.Filters.{length-filter_both}
 use Rattle.minimum.specs.declared.choice.Choice.{Choice}
-use Rattle.minimum.specs.Table.{Grid, has, RisesFrom, IsWithin, IsTable}
+use Rattle.minimum.specs.Table.{Table, has, RisesFrom, IsWithin, IsTable}
 use Rattle.minimum.specs.Cover.{meets, IsCover, counted, sum_over, Precedes, IsLeast}
 use Rattle.minimum.specs.Choices.{join}
 use Rattle.minimum.specs.Parts.{part_of}
@@ -145,7 +145,7 @@ pub all_has : (test : ℕ → Bool) (c : ℕ) (row : List ℕ) → list_all test
 all_has test c [] h k = absurd (true≢false (sym k))
 all_has test c (d ∷ row) h k = let p = and_parts (test d) (list_all test row) h in elim (has_cases c d row k) [ inl e ↦ ap test e ∙ p.0 | inr e ↦ all_has test c row p.1 e ]
 
-pub part_table : (test : ℕ → Bool) (taken : List ℕ) (t : Grid) → IsTable t → RisesFrom 0 taken → IsWithin taken t.taken → IsTable (part_of test taken t)
+pub part_table : (test : ℕ → Bool) (taken : List ℕ) (t : Table) → IsTable t → RisesFrom 0 taken → IsWithin taken t.taken → IsTable (part_of test taken t)
 part_table test taken t w rises within = record {
   taken_rises = rises;
   live_rises = filter_rises test 0 t.live w.live_rises;
@@ -157,7 +157,7 @@ part_table test taken t w rises within = record {
   weighed = w.weighed;
 }
 
-module _ (t : Grid) (p q : ℕ → Bool) (w : IsTable t) (other : (c : ℕ) → has c t.live ≡ true → q c ≡ not (p c)) (parted : list_all (λ row. list_all p row || list_all q row) t.rows ≡ true) where
+module _ (t : Table) (p q : ℕ → Bool) (w : IsTable t) (other : (c : ℕ) → has c t.live ≡ true → q c ≡ not (p c)) (parted : list_all (λ row. list_all p row || list_all q row) t.rows ≡ true) where
   -- the columns of the first part, with all that are taken
   abbrev side : ℕ → Bool
   side n = has n t.taken || p n

@@ -4,7 +4,7 @@ use Rattle.std.specs.Prelude.{filter}
 use Rattle.std.specs.List.{AllByRecursion, list_any, range_with_len}
 use Rattle.std.proofs.lemmas.Bool.{cases_Bool, cases_eq, cases_lt, both_ways, true≢false, eqb-true, eq-eqb}
 use Rattle.minimum.specs.declared.choice.Choice.{Choice}
-use Rattle.minimum.specs.Table.{Grid, has, RisesFrom, IsWithin, IsTable}
+use Rattle.minimum.specs.Table.{Table, has, RisesFrom, IsWithin, IsTable}
 use Rattle.minimum.specs.Cover.{meets, counted, sum_over, IsLeast}
 use Rattle.minimum.specs.Steps.{take_column, with_rows}
 use Rattle.minimum.specs.Search.{NoneWithin, NoneBelow, IsAnswer, IsOutside, IsBest, IsStage, Continues, keep_columns, is_blank, marked}
@@ -14,12 +14,12 @@ use Rattle.minimum.proofs.Branches.{later, taken_least, kept_back, kept_cover, s
 use Rattle.minimum.proofs.Lagrange.{marks_at}
 
 -- within the budget and beyond it
-not_both : (choice : Choice) (t : Grid) (k w : ℕ) (s : List ℕ) → IsAnswer choice t k w s → ((k < length s) ⊎ (w < sum_over (counted choice t.weights) s)) → ⊥
+not_both : (choice : Choice) (t : Table) (k w : ℕ) (s : List ℕ) → IsAnswer choice t k w s → ((k < length s) ⊎ (w < sum_over (counted choice t.weights) s)) → ⊥
 not_both choice t k w s a (inl l) = let f = a.fits in omega arith
 not_both choice t k w s a (inr l) = let f = a.counts in omega arith
 
 -- what is least is within the budget too
-least_within : (choice : Choice) (t : Grid) (k w : ℕ) (s x : List ℕ) → IsAnswer choice t k w s → NoneBelow choice t k w → IsLeast choice t x → (length x ≤ k) × (sum_over (counted choice t.weights) x ≤ w)
+least_within : (choice : Choice) (t : Table) (k w : ℕ) (s x : List ℕ) → IsAnswer choice t k w s → NoneBelow choice t k w → IsLeast choice t x → (length x ≤ k) × (sum_over (counted choice t.weights) x ≤ w)
 least_within choice t k w s x a none h =
     let fits = a.fits in
     let counts = a.counts in
@@ -33,7 +33,7 @@ least_within choice t k w s x a none h =
 
 -- ---- the first live column is taken
 
-module _ (choice : Choice) (t : Grid) (c k w : ℕ) (s : List ℕ) (none : NoneBelow choice t k w) (live : has c t.live ≡ true) (a : IsAnswer choice (take_column c t) k w s) where
+module _ (choice : Choice) (t : Table) (c k w : ℕ) (s : List ℕ) (none : NoneBelow choice t k w) (live : has c t.live ≡ true) (a : IsAnswer choice (take_column c t) k w s) where
   pub stage_taken : IsStage choice k w (take_column c t) s
   stage_taken = record { none = λ x h. none x (take_back t c x live h).0; witness = a }
 
@@ -43,16 +43,16 @@ module _ (choice : Choice) (t : Grid) (c k w : ℕ) (s : List ℕ) (none : NoneB
     live = λ n h. without_only n c t.live h;
   }
 
-pub witness_taken : (choice : Choice) (t : Grid) (c k w : ℕ) (s : List ℕ) → has c s ≡ true → IsAnswer choice t k w s → IsAnswer choice (take_column c t) k w s
+pub witness_taken : (choice : Choice) (t : Table) (c k w : ℕ) (s : List ℕ) → has c s ≡ true → IsAnswer choice t k w s → IsAnswer choice (take_column c t) k w s
 witness_taken choice t c k w s h a = record { cover = take_cover t c s a.cover h; fits = a.fits; counts = a.counts }
 
 -- a column that the budget rules out
-pub outside_taken : (choice : Choice) (t : Grid) (c k w : ℕ) → NoneWithin choice (take_column c t) k w → IsOutside choice t k w c
+pub outside_taken : (choice : Choice) (t : Table) (c k w : ℕ) → NoneWithin choice (take_column c t) k w → IsOutside choice t k w c
 outside_taken choice t c k w none x h there = none x (take_cover t c x h there)
 
 -- ---- columns that no cover within the budget has
 
-module _ (choice : Choice) (test : ℕ → Bool) (t : Grid) (k w : ℕ) (s : List ℕ) (wt : IsTable t) (stage : IsStage choice k w t s) (out : (c : ℕ) → has c t.live ≡ true → test c ≡ false → IsOutside choice t k w c) where
+module _ (choice : Choice) (test : ℕ → Bool) (t : Table) (k w : ℕ) (s : List ℕ) (wt : IsTable t) (stage : IsStage choice k w t s) (out : (c : ℕ) → has c t.live ≡ true → test c ≡ false → IsOutside choice t k w c) where
   has_kept : (c : ℕ) → has c s ≡ true → has c t.live ≡ true → test c ≡ true
   has_kept c h l = elim (cases_Bool (test c)) [ inl e ↦ e | inr e ↦ absurd (not_both choice t k w s stage.witness (out c l e s stage.witness.cover h)) ]
 
@@ -89,7 +89,7 @@ all_front : (P : List ℕ → Type 0) (rows : List (List ℕ)) (row : List ℕ) 
 all_front P [] row h = tt
 all_front P (r ∷ rows) row h = (h.0, all_front P rows row h.1)
 
-pub row_table : (t : Grid) (row : List ℕ) → IsTable t → (row ≡ [] → ⊥) → RisesFrom 0 row → IsWithin row t.live → IsTable (with_rows t (t.rows ++ row ∷ []))
+pub row_table : (t : Table) (row : List ℕ) → IsTable t → (row ≡ [] → ⊥) → RisesFrom 0 row → IsWithin row t.live → IsTable (with_rows t (t.rows ++ row ∷ []))
 row_table t row w some rises within = record {
   taken_rises = w.taken_rises;
   live_rises = w.live_rises;
@@ -100,14 +100,14 @@ row_table t row w some rises within = record {
   weighed = w.weighed;
 }
 
-pub answer_asked : (choice : Choice) (t : Grid) (row : List ℕ) (k w : ℕ) (s : List ℕ) → IsAnswer choice (with_rows t (t.rows ++ row ∷ [])) k w s → IsAnswer choice t k w s
+pub answer_asked : (choice : Choice) (t : Table) (row : List ℕ) (k w : ℕ) (s : List ℕ) → IsAnswer choice (with_rows t (t.rows ++ row ∷ [])) k w s → IsAnswer choice t k w s
 answer_asked choice t row k w s a = record {
   cover = record { rises = a.cover.rises; taken = a.cover.taken; only = a.cover.only; rows = all_front (λ r. meets s r ≡ true) t.rows row a.cover.rows };
   fits = a.fits;
   counts = a.counts;
 }
 
-pub outside_asked : (choice : Choice) (t : Grid) (row : List ℕ) (k w c : ℕ) → has c row ≡ true → NoneWithin choice (with_rows t (t.rows ++ row ∷ [])) k w → IsOutside choice t k w c
+pub outside_asked : (choice : Choice) (t : Table) (row : List ℕ) (k w c : ℕ) → has c row ≡ true → NoneWithin choice (with_rows t (t.rows ++ row ∷ [])) k w → IsOutside choice t k w c
 outside_asked choice t row k w c h none x g there = none x (record {
   rises = g.rises;
   taken = g.taken;
@@ -117,13 +117,13 @@ outside_asked choice t row k w c h none x g there = none x (record {
 
 -- ---- from one table to the next
 
-pub next_same : (choice : Choice) (t : Grid) → Continues choice t t
+pub next_same : (choice : Choice) (t : Table) → Continues choice t t
 next_same choice t = record { least = λ x h. h; live = λ n h. h }
 
-pub next_join : (choice : Choice) (t u v : Grid) → Continues choice t u → Continues choice u v → Continues choice t v
+pub next_join : (choice : Choice) (t u v : Table) → Continues choice t u → Continues choice u v → Continues choice t v
 next_join choice t u v h g = record { least = λ x l. h.least x (g.least x l); live = λ n l. h.live n (g.live n l) }
 
-pub stage_first : (choice : Choice) (t : Grid) (s : List ℕ) → IsBest choice t s → IsStage choice (length s) (sum_over (counted choice t.weights) s) t s
+pub stage_first : (choice : Choice) (t : Table) (s : List ℕ) → IsBest choice t s → IsStage choice (length s) (sum_over (counted choice t.weights) s) t s
 stage_first choice t s h = record { none = h.none; witness = record { cover = h.cover; fits = omega arith; counts = omega arith } }
 
 -- ---- marks
@@ -145,14 +145,14 @@ lacks_marked live left keep c e f = elim (cases_Bool (has c left)) [
 ]
 
 -- the marks of all columns but one
-pub marked_but : (t : Grid) (keep : List Bool) (n a d : ℕ) → IsTable t → n ≡ t.columns → keep ≡ map (λ c. not (eqb c a)) (range_with_len 0 n) → has d t.live ≡ true → marked keep d ≡ not (eqb d a)
+pub marked_but : (t : Table) (keep : List Bool) (n a d : ℕ) → IsTable t → n ≡ t.columns → keep ≡ map (λ c. not (eqb c a)) (range_with_len 0 n) → has d t.live ≡ true → marked keep d ≡ not (eqb d a)
 marked_but t keep n a d w e k l = let below = w.within d l in ap (λ ks. marked ks d) k ∙ marks_at (λ c. not (eqb c a)) n d (omega arith)
 
-pub gone_next : (choice : Choice) (t u : Grid) (c : ℕ) → Continues choice t u → has c t.live ≡ false → has c u.live ≡ false
+pub gone_next : (choice : Choice) (t u : Table) (c : ℕ) → Continues choice t u → has c t.live ≡ false → has c u.live ≡ false
 gone_next choice t u c h e = elim (cases_Bool (has c u.live)) [ inl f ↦ absurd (both_ways _ e (h.live c f)) | inr f ↦ f ]
 
 -- where no row is left the taken columns are the least cover
-pub stage_done : (choice : Choice) (t u : Grid) (s : List ℕ) → IsTable u → Continues choice t u → u.rows ≡ [] → s ≡ u.taken → IsLeast choice t s
+pub stage_done : (choice : Choice) (t u : Table) (s : List ℕ) → IsTable u → Continues choice t u → u.rows ≡ [] → s ≡ u.taken → IsLeast choice t s
 stage_done choice t u s w h e f = subst (IsLeast choice t) (sym f) (h.least u.taken (leaf choice u w e))
 
 none_in : (xs : List ℕ) → ((c : ℕ) → has c xs ≡ true → ⊥) → xs ≡ []
@@ -160,10 +160,10 @@ none_in [] f = refl
 none_in (x ∷ xs) f = absurd (f x (has_here x x xs refl))
 
 -- and where no live column is left no row is
-pub all_settled : (choice : Choice) (t u : Grid) (n : ℕ) → IsTable t → IsTable u → Continues choice t u → ((c : ℕ) → has c u.live ≡ true → n ≤ c) → t.columns ≤ n → u.rows ≡ []
+pub all_settled : (choice : Choice) (t u : Table) (n : ℕ) → IsTable t → IsTable u → Continues choice t u → ((c : ℕ) → has c u.live ≡ true → n ≤ c) → t.columns ≤ n → u.rows ≡ []
 all_settled choice t u n wt wu h first e = no_live u wu (none_in u.live (λ c l. let a = first c l in let b = wt.within c (h.live c l) in omega arith))
 
-pub first_next : (u v : Grid) (n : ℕ) → ((c : ℕ) → has c v.live ≡ true → has c u.live ≡ true) → ((c : ℕ) → has c u.live ≡ true → n ≤ c) → has n v.live ≡ false → (c : ℕ) → has c v.live ≡ true → n + 1 ≤ c
+pub first_next : (u v : Table) (n : ℕ) → ((c : ℕ) → has c v.live ≡ true → has c u.live ≡ true) → ((c : ℕ) → has c u.live ≡ true → n ≤ c) → has n v.live ≡ false → (c : ℕ) → has c v.live ≡ true → n + 1 ≤ c
 first_next u v n within first gone c l = let a = first c (within c l) in elim (cases_eq n c) [
   | inl e ↦ absurd (both_ways _ gone (subst (λ m. has m v.live ≡ true) (sym e) l))
   | inr e ↦ elim (cases_lt n c) [ inl m ↦ omega arith | inr m ↦ absurd (e (omega arith)) ]

@@ -2,7 +2,7 @@
 use Rattle.std.proofs.Common.{◌≡◌, ◌≢◌, ℕ, suc, ◌+◌, ◌<◌, ◌≤◌, ◌⊎◌, inl, inr, true, false, List, [], ◌∷◌, length, refl, sym, ap, subst, ◌∙◌, arith}
 use Rattle.std.specs.List.{AllByRecursion}
 use Rattle.std.proofs.lemmas.Bool.{cases_Bool, or_left, or_right, or_parts, both_ways, true≢false}
-use Rattle.minimum.specs.Table.{Grid, has, RisesFrom, IsWithin, IsTable}
+use Rattle.minimum.specs.Table.{Table, has, RisesFrom, IsWithin, IsTable}
 use Rattle.minimum.specs.Cover.{meets, IsCover, sum_over}
 use Rattle.minimum.specs.Steps.{without, put}
 use Rattle.minimum.specs.Choices.{join}
@@ -60,13 +60,13 @@ minus_sum count l xs (t ∷ ts) q r f =
     let rest = minus_sum count (suc t) (without t xs) ts (without_rises t 0 xs q) r.1 (λ n h. without_keeps n t xs (λ e. absurd (let a = rises_above n (suc t) ts r.1 h in omega arith)) (f n (has_later n t ts h))) in
     omega arith
 
-pub rows_met : (t : Grid) (x : List ℕ) (rows : List (List ℕ)) → IsTable t → IsCover t x → AllByRecursion (λ row. IsWithin row t.live) rows → AllByRecursion (λ row. meets x row ≡ true) rows → AllByRecursion (λ row. (c : ℕ) × (has c (minus x t.taken) ≡ true) × (has c row ≡ true)) rows
+pub rows_met : (t : Table) (x : List ℕ) (rows : List (List ℕ)) → IsTable t → IsCover t x → AllByRecursion (λ row. IsWithin row t.live) rows → AllByRecursion (λ row. meets x row ≡ true) rows → AllByRecursion (λ row. (c : ℕ) × (has c (minus x t.taken) ≡ true) × (has c row ≡ true)) rows
 rows_met t x [] w h a b = tt
 rows_met t x (row ∷ rows) w h a b =
     let m = meets_at x row b.0 in
     ((m.0, minus_keeps m.0 x t.taken m.1 (w.apart m.0 (a.0 m.0 m.2)), m.2), rows_met t x rows w h a.1 b.1)
 
-pub rows_within : (t : Grid) (rows : List (List ℕ)) → AllByRecursion (λ row. (row ≢ []) × RisesFrom 0 row × IsWithin row t.live) rows → AllByRecursion (λ row. IsWithin row t.live) rows
+pub rows_within : (t : Table) (rows : List (List ℕ)) → AllByRecursion (λ row. (row ≢ []) × RisesFrom 0 row × IsWithin row t.live) rows → AllByRecursion (λ row. IsWithin row t.live) rows
 rows_within t [] h = tt
 rows_within t (row ∷ rows) h = (h.0.2, rows_within t rows h.1)
 
@@ -103,7 +103,7 @@ rows_all ts live (row ∷ rows) h = (go row h.0.0 h.0.2, rows_all ts live rows h
     go [] e k = absurd (e refl)
     go (c ∷ cs) e k = meets_from c (join ts live) (c ∷ cs) (join_right c ts live (k c (has_here c c cs refl))) (has_here c c cs refl)
 
-pub all_cover : (t : Grid) → IsTable t → IsCover t (join t.taken t.live)
+pub all_cover : (t : Table) → IsTable t → IsCover t (join t.taken t.live)
 all_cover t w = record {
   rises = join_rises t.taken t.live w.taken_rises;
   taken = λ n h. join_left n t.taken t.live h;
@@ -111,7 +111,7 @@ all_cover t w = record {
   rows = rows_all t.taken t.live t.rows w.rows;
 }
 
-pub some_cover : (t : Grid) → IsTable t → (x : List ℕ) × IsCover t x × (length x ≤ t.columns)
+pub some_cover : (t : Table) → IsTable t → (x : List ℕ) × IsCover t x × (length x ≤ t.columns)
 some_cover t w =
     let k = rises_length 0 t.columns (join t.taken t.live) (omega arith) (all_cover t w).rises (λ m e. elim (join_only m t.taken t.live e) [ inl f ↦ w.taken_within m f | inr f ↦ w.within m f ]) in (
       join t.taken t.live,

@@ -2,7 +2,7 @@
 use Rattle.std.specs.Prelude.{ℕ, zero, suc, List, [], ◌∷◌, ◌++◌, map, Bool, cond, nat_lt, Option, Some, None}
 use Rattle.std.specs.List.{list_all}
 use Rattle.minimum.specs.declared.choice.Choice.{Choice}
-use Rattle.minimum.specs.Table.{Grid}
+use Rattle.minimum.specs.Table.{Table}
 use Rattle.minimum.specs.Steps.{put}
 use Rattle.minimum.specs.Cover.{meets, counted, sum_over}
 
@@ -32,5 +32,5 @@ abbrev pub meets_all : List (List ℕ) → List ℕ → Bool
 meets_all rows s = list_all (λ row. meets s row) rows
 
 -- the best choice of so many live columns that has a column of each row
-abbrev pub best_choice : Choice → Grid → ℕ → Option (List ℕ)
+abbrev pub best_choice : Choice → Table → ℕ → Option (List ℕ)
 best_choice choice t k = best_of (counted choice t.weights) (meets_all t.rows) None (choices k t.live)

@@ -6,14 +6,14 @@ use Rattle.std.specs.Ordering.{nat_cmp}
 use Rattle.std.specs.declared.cmp.Ordering.TheVariants.{Less}
 use Rattle.minimum.specs.declared.choice.Choice.{Choice}
 use Rattle.minimum.specs.declared.choice.Choice.TheVariants.{First, Literals}
-use Rattle.minimum.specs.Table.{Grid, has, RisesFrom}
+use Rattle.minimum.specs.Table.{Table, has, RisesFrom}
 
 -- whether the lists have a number in common
 abbrev pub meets : List ℕ → List ℕ → Bool
 meets s row = list_any (λ c. has c s) row
 
 -- a rising list of columns with each taken one, otherwise only live ones, and some column of each row
-pub record IsCover (t : Grid) (s : List ℕ) : Type 0 where
+pub record IsCover (t : Table) (s : List ℕ) : Type 0 where
   pub rises : RisesFrom 0 s
   pub taken : (n : ℕ) → has n t.taken ≡ true → has n s ≡ true
   pub only : (n : ℕ) → has n s ≡ true → (has n t.taken || has n t.live) ≡ true
@@ -38,6 +38,6 @@ abbrev pub Precedes : (ℕ → ℕ) → List ℕ → List ℕ → Type 0
 Precedes count s x = (length s < length x) ⊎ ((length s ≡ length x) × IsBefore count s x)
 
 -- the first of the shortest covers under the choice
-pub record IsLeast (choice : Choice) (t : Grid) (s : List ℕ) : Type 0 where
+pub record IsLeast (choice : Choice) (t : Table) (s : List ℕ) : Type 0 where
   pub cover : IsCover t s
   pub first : (x : List ℕ) → IsCover t x → (s ≡ x) ⊎ Precedes (counted choice t.weights) s x

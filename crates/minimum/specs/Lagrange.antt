@@ -2,22 +2,22 @@
 use Rattle.std.specs.Prelude.{◌≡◌, ℕ, ◌+◌, ◌-◌, ◌<◌, ◌≤◌, ◌⊎◌, true, false, List, length}
 use Rattle.std.specs.List.{AllByRecursion, range_with_len}
 use Rattle.minimum.specs.declared.choice.Choice.{Choice}
-use Rattle.minimum.specs.Table.{Grid, has, RisesFrom}
+use Rattle.minimum.specs.Table.{Table, has, RisesFrom}
 use Rattle.minimum.specs.Cover.{IsCover, meets, counted, sum_over}
 use Rattle.minimum.specs.Search.{IsBeyond}
 use Rattle.minimum.specs.Weights.{load, total, at}
 
 -- what the column bears beyond its share
 abbrev pub overload : (ℕ → ℕ) → List (List ℕ) → List ℕ → ℕ → ℕ
-overload share rows ys c = load c rows ys - share c
+overload scaled_cost rows ys c = load c rows ys - scaled_cost c
 
 -- what the column could still bear
-abbrev pub spare : (ℕ → ℕ) → List (List ℕ) → List ℕ → ℕ → ℕ
-spare share rows ys c = share c - load c rows ys
+abbrev pub slack : (ℕ → ℕ) → List (List ℕ) → List ℕ → ℕ → ℕ
+slack scaled_cost rows ys c = scaled_cost c - load c rows ys
 
 -- what the first n columns bear beyond their shares, together
 abbrev pub overloads : ℕ → (ℕ → ℕ) → List (List ℕ) → List ℕ → ℕ
-overloads n share rows ys = sum_over (overload share rows ys) (range_with_len 0 n)
+overloads n scaled_cost rows ys = sum_over (overload scaled_cost rows ys) (range_with_len 0 n)
 
 -- a rising list of some of the first n columns, with a column of each row
 pub record Hits (n : ℕ) (rows : List (List ℕ)) (x : List ℕ) : Type 0 where
@@ -28,29 +28,29 @@ pub record Hits (n : ℕ) (rows : List (List ℕ)) (x : List ℕ) : Type 0 where
 -- the weight of all rows is no more than the shares of the list and what all columns bear beyond theirs; a column in
 -- the list has nothing to spare beside that, and one that is not in it no overload
 abbrev pub LagrangianHolds : Type 0
-LagrangianHolds = (share : ℕ → ℕ) (n : ℕ) (rows : List (List ℕ)) (ys x : List ℕ) → length ys ≡ length rows → Hits n rows x →
-    (total ys ≤ sum_over share x + overloads n share rows ys)
-    × ((c : ℕ) → has c x ≡ true → total ys + spare share rows ys c ≤ sum_over share x + overloads n share rows ys)
-    × ((c : ℕ) → c < n → has c x ≡ false → total ys + overload share rows ys c ≤ sum_over share x + overloads n share rows ys)
+LagrangianHolds = (scaled_cost : ℕ → ℕ) (n : ℕ) (rows : List (List ℕ)) (ys x : List ℕ) → length ys ≡ length rows → Hits n rows x →
+    (total ys ≤ sum_over scaled_cost x + overloads n scaled_cost rows ys)
+    × ((c : ℕ) → has c x ≡ true → total ys + slack scaled_cost rows ys c ≤ sum_over scaled_cost x + overloads n scaled_cost rows ys)
+    × ((c : ℕ) → c < n → has c x ≡ false → total ys + overload scaled_cost rows ys c ≤ sum_over scaled_cost x + overloads n scaled_cost rows ys)
 
 -- every cover without the column is beyond the budget
-abbrev pub IsInside : Choice → Grid → ℕ → ℕ → ℕ → Type 0
+abbrev pub IsInside : Choice → Table → ℕ → ℕ → ℕ → Type 0
 IsInside choice t k w c = (x : List ℕ) → IsCover t x → has c x ≡ false → IsBeyond (counted choice t.weights) k w x
 
 -- what the column bears beyond its share, by lists of both
 abbrev pub beyond : List ℕ → List ℕ → ℕ → ℕ
-beyond loads shares c = at loads c - at shares c
+beyond loads scaled_costs c = at loads c - at scaled_costs c
 
 -- what each column bears, the weight of all rows, and what columns bear beyond their shares, or so large a number that it
 -- bounds nothing
-pub record IsLoaded (rows : List (List ℕ)) (ys shares loads : List ℕ) (n over : ℕ) : Type 0 where
-  pub bears : (c : ℕ) → c < length shares → at loads c ≡ load c rows ys
+pub record IsLoaded (rows : List (List ℕ)) (ys scaled_costs loads : List ℕ) (n over : ℕ) : Type 0 where
+  pub bears : (c : ℕ) → c < length scaled_costs → at loads c ≡ load c rows ys
   pub weighs : n ≡ total ys
-  pub exceeds : (over ≡ overloads (length shares) (at shares) rows ys) ⊎ (n + n ≤ over)
+  pub exceeds : (over ≡ overloads (length scaled_costs) (at scaled_costs) rows ys) ⊎ (n + n ≤ over)
 
 -- the weight of all rows is no more than the shares of a list with a column of each row and the overloads; a column of
 -- the list has nothing to spare beside that, and one that is not in it no overload
-pub record BoundsCovers (rows : List (List ℕ)) (shares loads : List ℕ) (n over : ℕ) : Type 0 where
-  pub all : (x : List ℕ) → Hits (length shares) rows x → n ≤ sum_over (at shares) x + over
-  pub having : (x : List ℕ) → Hits (length shares) rows x → (c : ℕ) → has c x ≡ true → n + (at shares c - at loads c) ≤ sum_over (at shares) x + over
-  pub lacking : (x : List ℕ) → Hits (length shares) rows x → (c : ℕ) → c < length shares → has c x ≡ false → n + (at loads c - at shares c) ≤ sum_over (at shares) x + over
+pub record BoundsCovers (rows : List (List ℕ)) (scaled_costs loads : List ℕ) (n over : ℕ) : Type 0 where
+  pub all : (x : List ℕ) → Hits (length scaled_costs) rows x → n ≤ sum_over (at scaled_costs) x + over
+  pub having : (x : List ℕ) → Hits (length scaled_costs) rows x → (c : ℕ) → has c x ≡ true → n + (at scaled_costs c - at loads c) ≤ sum_over (at scaled_costs) x + over
+  pub lacking : (x : List ℕ) → Hits (length scaled_costs) rows x → (c : ℕ) → c < length scaled_costs → has c x ≡ false → n + (at loads c - at scaled_costs c) ≤ sum_over (at scaled_costs) x + over

@@ -4,12 +4,12 @@ use Rattle.std.specs.Cmp.Lexicographic.{slice_cmp}
 use Rattle.std.specs.Ordering.{nat_cmp}
 use Rattle.std.specs.declared.cmp.Ordering.TheVariants.{Less}
 use Rattle.minimum.specs.declared.choice.Choice.{Choice}
-use Rattle.minimum.specs.Table.{Grid, has, RisesFrom}
+use Rattle.minimum.specs.Table.{Table, has, RisesFrom}
 use Rattle.minimum.specs.Cover.{IsLeast}
 
 -- a table has one least cover at most
 abbrev pub LeastIsUnique : Type 0
-LeastIsUnique = (choice : Choice) (t : Grid) (s x : List ℕ) → IsLeast choice t s → IsLeast choice t x → s ≡ x
+LeastIsUnique = (choice : Choice) (t : Table) (s x : List ℕ) → IsLeast choice t s → IsLeast choice t x → s ≡ x
 
 -- of two rising lists of one length the one comes first that has the least number in which they differ
 abbrev pub LeastDifferenceDecides : Type 0

@@ -11,5 +11,5 @@ pub mod Lagrange
 pub mod Reduce
 pub mod Primes
 pub mod PrimeTable
-pub mod Regions
-pub mod Rivals
+pub mod PrimeRows
+pub mod EssentialPrimes

@@ -20,8 +20,8 @@ abbrev pub primes_of : SetLists → List Cube
 primes_of sets = complete_sum sets.size (λ p. places sets.on p || places sets.dc p)
 
 -- the places that a cover has to hold: the ON-set without the DC-set
-abbrev pub wanted : SetLists → Place → Bool
-wanted sets = difference (places sets.on) (places sets.dc)
+abbrev pub care_on : SetLists → Place → Bool
+care_on sets = difference (places sets.on) (places sets.dc)
 
 -- the cubes of a list other than c
 abbrev pub others : Cube → List Cube → List Cube
@@ -29,7 +29,7 @@ others c cubes = filter (λ d. not (is_eq (row_cmp d c))) cubes
 
 -- whether c holds a wanted place that no other of the primes holds
 abbrev pub is_essential : SetLists → List Cube → Cube → Bool
-is_essential sets primes c = not (is_subset sets.size (intersection (wanted sets) (holds c)) (places (others c primes)))
+is_essential sets primes c = not (is_subset sets.size (intersection (care_on sets) (holds c)) (places (others c primes)))
 
 -- the essential ones among the primes, in their order
 abbrev pub essential_of : SetLists → List Cube → List Cube
@@ -41,7 +41,7 @@ chosen cubes numbers = filter_map (slice_get cubes) numbers
 
 -- whether the primes with these numbers hold each wanted place
 abbrev pub is_prime_cover : SetLists → List ℕ → Bool
-is_prime_cover sets numbers = is_subset sets.size (wanted sets) (places (chosen (primes_of sets) numbers))
+is_prime_cover sets numbers = is_subset sets.size (care_on sets) (places (chosen (primes_of sets) numbers))
 
 -- the lists that are left where any of the numbers are left out
 abbrev pub sublists : List ℕ → List (List ℕ)

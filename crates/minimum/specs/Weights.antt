@@ -15,4 +15,4 @@ total (y ∷ ys) = y + total ys
 
 -- the number for the column, 0 where there is none
 abbrev pub at : List ℕ → ℕ → ℕ
-at shares c = slice_index_or shares c 0
+at scaled_costs c = slice_index_or scaled_costs c 0

@@ -25,34 +25,23 @@
 //! covering problems, 1996). Weights, witnesses and branches are wished for by heuristics, and looked at before they are
 //! used. Rows that fall into parts which share no column are solved part by part, each in numbers of its own (the first
 //! of two lists of one length has the least number in which they differ, so that the parts' least covers make the least
-//! cover); where all columns of a part count alike its size decides. A search holds a copy of the table for each branch that is open, as many as columns are decided on one path. The
-//! number of branches is not bounded by less than the number of covers.
+//! cover); if all columns of a part count alike its size decides. A search holds a copy of the table for each branch
+//! that is open, as many as columns are decided on one path. The number of branches is not bounded by less than the
+//! number of covers.
 #![tactic(auto)]
 
-mod bound;
-mod build;
 mod choice;
-mod first;
-mod holders;
-mod implicants;
+mod covering;
+mod essential_primes;
+mod exact_minimum;
 mod laws;
-mod lists;
-mod partition;
-mod parts;
-mod plain;
-mod reduction;
-mod regions;
-mod renumber;
-mod search;
-mod solution;
-mod subgradient;
-mod table;
-mod weighing;
-mod witness;
+mod prime_implicants;
+mod prime_table;
 
 pub use choice::Choice;
-pub use implicants::primes;
+pub use covering::reduce::reduce;
+pub use covering::table::Table;
+pub use essential_primes::essential;
+pub use exact_minimum::exact;
 pub use laws::{least_difference_decides, least_is_unique, weights_bound_covers};
-pub use reduction::reduce;
-pub use solution::{essential, exact};
-pub use table::Table;
+pub use prime_implicants::primes;

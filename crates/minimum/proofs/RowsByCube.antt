@@ -1,0 +1,100 @@
+-- Regions that are filled ON cube by ON cube.
+use Rattle.std.proofs.Common.{◌≡◌, ◌⊎◌, ℕ, ◌+◌, ◌<◌, ◌≤◌, Bool, true, false, ◌||◌, List, [], ◌∷◌, length, take, get_or, All, map, inl, inr, ap, sym, ◌∙◌}
+use Rattle.std.proofs.lemmas.Bool.{false≢true, and_parts, and_from, or_cases}
+use Rattle.std.proofs.lemmas.List.{take_more, take_all}
+use Rattle.std.proofs.lemmas.List.Folds.{list_any-append}
+use Rattle.cube.specs.Pattern.{matches}
+use Rattle.cube.specs.Cube.{Cube, Place, holds, intersection, SameSize, IsDisjoint}
+use Rattle.cube.proofs.HoldsLemmas.{pick, matches-map_pick}
+use Rattle.cover.specs.Places.{places}
+use Rattle.minimum.specs.PrimeRows.{AreCandidates, IsSplit, AddsRows}
+use Rattle.minimum.proofs.PrimeRows.{adds_nothing}
+
+-- ---- a part of a region
+
+candidates_part : (cubes : List Cube) (region part : Cube) (numbers : List ℕ) → ((p : Place) → holds part p ≡ true → holds region p ≡ true) → AreCandidates cubes region numbers → AreCandidates cubes part numbers
+candidates_part cubes region part numbers within candidates = record {
+  rises = candidates.rises;
+  below = candidates.below;
+  all = λ i p in_part in_cube. candidates.all i p (within p in_part) in_cube;
+}
+
+sizes_part : (cubes : List Cube) (region part : Cube) → SameSize part region → All (λ d. SameSize d region) cubes → All (λ d. SameSize d part) cubes
+sizes_part cubes region part same sizes i d lt = let own = sizes i d lt in (own.0 ∙ sym same.0, own.1 ∙ sym same.1)
+
+pub split_part : (primes on dc : List Cube) (region part c : Cube) (np non ndc : List ℕ) → IsSplit primes on dc region np non ndc → SameSize part region
+    → ((p : Place) → holds part p ≡ intersection (holds c) (holds region) p) → IsSplit primes on dc part np non ndc
+split_part primes on dc region part c np non ndc s same is = record {
+  one = λ j k on_j on_k. s.one j k (output_of j on_j) (output_of k on_k);
+  enough = s.enough;
+  primes_size = sizes_part primes region part same s.primes_size;
+  on_size = sizes_part on region part same s.on_size;
+  dc_size = sizes_part dc region part same s.dc_size;
+  primes_candidates = candidates_part primes region part np within s.primes_candidates;
+  on_candidates = candidates_part on region part non within s.on_candidates;
+  dc_candidates = candidates_part dc region part ndc within s.dc_candidates;
+}
+  where
+    within : (p : Place) → holds part p ≡ true → holds region p ≡ true
+    within p h = (and_parts (holds c p) (holds region p) (sym (is p) ∙ h)).1
+
+    output_of : (j : ℕ) → get_or part.outputs j false ≡ true → get_or region.outputs j false ≡ true
+    output_of j h =
+        let p : Place = record { point = map pick part.symbols; output = j } in
+        let in_part = and_from (matches part.symbols p.point) (get_or part.outputs j false) (matches-map_pick part.symbols) h in
+        (and_parts (matches region.symbols p.point) (get_or region.outputs j false) (within p in_part)).1
+
+-- ---- the parts of the first ON cubes
+
+module _ (primes on dc : List Cube) (region : Cube) where
+  -- a place of the region that one of the first k ON cubes holds
+  abbrev pub among : ℕ → Place → Bool
+  among k = intersection (holds region) (places (take k on))
+
+  pub parted_none : (rows : List (List ℕ)) → AddsRows primes on dc (among 0) rows rows
+  parted_none rows = adds_nothing primes on dc (among 0) rows
+      (λ p h want. absurd (false≢true ((and_parts (holds region p) (places (take 0 on) p) h).1)))
+
+  module _ (k : ℕ) (c : Cube) (lt : k < length on) (at : c ≡ get_or on k c) where
+    next_cases : (p : Place) → among (k + 1) p ≡ true → (among k p ≡ true) ⊎ (holds c p ≡ true)
+    next_cases p h =
+        let parts = and_parts (holds region p) (places (take (k + 1) on) p) h in
+        let split : places (take k on) p || (holds (get_or on k c) p || false) ≡ true =
+        sym (list_any-append (λ d. holds d p) (take k on) (get_or on k c ∷ [])) ∙ ap (λ l. places l p) (sym (take_more on k c lt)) ∙ parts.1 in
+        elim (or_cases (places (take k on) p) (holds (get_or on k c) p || false) split) [
+          | inl before ↦ inl (and_from (holds region p) (places (take k on) p) parts.0 before)
+          | inr here ↦ elim (or_cases (holds (get_or on k c) p) false here) [
+            | inl own ↦ inr (ap (λ d. holds d p) at ∙ own)
+            | inr off ↦ absurd (false≢true off)
+          ]
+        ]
+
+    pub parted_some : (part : Cube) (old mid new : List (List ℕ)) → ((p : Place) → holds part p ≡ intersection (holds c) (holds region) p)
+        → AddsRows primes on dc (among k) old mid → AddsRows primes on dc (holds part) mid new → AddsRows primes on dc (among (k + 1)) old new
+    parted_some part old mid new is one two = record {
+      kept = λ row h. two.kept row (one.kept row h);
+      demands = λ h. two.demands (one.demands h);
+      has_rows = λ p h want. elim (next_cases p h) [
+        | inl before ↦ (let r = one.has_rows p before want in (r.0, two.kept r.0 r.1, r.2))
+        | inr own ↦ two.has_rows p (is p ∙ and_from (holds c p) (holds region p) own (and_parts (holds region p) (places (take (k + 1) on) p) h).0) want
+      ];
+    }
+
+    pub parted_skip : (old new : List (List ℕ)) → IsDisjoint (holds c) (holds region) → AddsRows primes on dc (among k) old new → AddsRows primes on dc (among (k + 1)) old new
+    parted_skip old new apart one = record {
+      kept = one.kept;
+      demands = one.demands;
+      has_rows = λ p h want. elim (next_cases p h) [
+        | inl before ↦ one.has_rows p before want
+        | inr own ↦ absurd (apart p own (and_parts (holds region p) (places (take (k + 1) on) p) h).0)
+      ];
+    }
+
+  pub parted_all : (k : ℕ) (old new : List (List ℕ)) → length on ≤ k → AddsRows primes on dc (among k) old new → AddsRows primes on dc (holds region) old new
+  parted_all k old new past so = record {
+    kept = so.kept;
+    demands = so.demands;
+    has_rows = λ p in_region want. so.has_rows p
+        (and_from (holds region p) (places (take k on) p) in_region
+        (ap (λ l. places l p) (take_all k on past) ∙ (and_parts (places on p) _ want).0)) want;
+  }

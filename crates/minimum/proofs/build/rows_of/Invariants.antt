@@ -1,6 +1,0 @@
-use Rattle.minimum.specs.Table.{items_of}
-use Rattle.minimum.specs.Regions.{RowsSoFar}
-use Rattle.minimum.proofs.build.rows_of.Given as goal
-
-abbrev pub invariant-loop-j : goal.invariant-loop-j
-invariant-loop-j l = RowsSoFar l.lists.primes.now l.lists.on.now l.lists.dc.now l.j (items_of l.rows.items)

@@ -1,0 +1,15 @@
+use Rattle.std.proofs.Common.{◌≡◌, true, subst, map}
+use Rattle.std.specs.Prelude.{MatchOption, filter}
+use Rattle.std.specs.List.{list_any}
+use Rattle.std.proofs.lemmas.Result.{IfOk-weaker}
+use Rattle.minimum.specs.Search.{is_blank, marked, keep_columns}
+use Rattle.minimum.proofs.Branches.{narrowed_from}
+use Rattle.minimum.proofs.covering.table.Table.bounded.Goals as goal
+
+pub returns : goal.returns
+returns c =
+    let out = rw c.in-Some.is at c.in_ok-keep.ensures in
+    IfOk-weaker c.keep_marked.result _ _
+    (λ o h. narrowed_from c.args.choice (marked c.in-Some.keep.items) c.args.self.now c.args.budget.columns c.args.budget.counts c.keep_marked.ensures.table out o
+    (subst (λ ks. MatchOption o (list_any is_blank (map (filter (marked ks)) c.args.self.now.rows) ≡ true) (λ u. u ≡ keep_columns (marked ks) c.args.self.now)) c.deref.ensures.value h))
+    c.keep_marked.ensures.kept

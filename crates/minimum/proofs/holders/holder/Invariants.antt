@@ -1,6 +1,0 @@
-use Rattle.std.proofs.Common.{◌≡◌, ◌<◌, ◌≤◌, ℕ, false}
-use Rattle.minimum.specs.Regions.{spans}
-use Rattle.minimum.proofs.holders.holder.Given as goal
-
-abbrev pub invariant-loop-number : goal.invariant-loop-number
-invariant-loop-number l = (l.from ≤ l.number) × ((n : ℕ) → l.from ≤ n → n < l.number → spans l.primes l.cube n ≡ false)

@@ -1,8 +1,0 @@
-use Rattle.std.proofs.Common.{◌≡◌, ℕ, true, take}
-use Rattle.cover.specs.Marks.{cube_at}
-use Rattle.minimum.specs.Table.{has}
-use Rattle.minimum.specs.Regions.{HasNoneInside}
-use Rattle.minimum.proofs.regions.first_inside.Given as goal
-
-abbrev pub invariant-loop-number : goal.invariant-loop-number
-invariant-loop-number l = (n : ℕ) → has n (take l.number-index l.numbers) ≡ true → HasNoneInside (cube_at l.cubes n) l.region

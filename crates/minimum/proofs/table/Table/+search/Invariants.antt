@@ -1,8 +1,0 @@
-use Rattle.std.proofs.Common.{◌+◌, ◌*◌, length}
-use Rattle.minimum.proofs.table.Table.+search.Given as goal
-
-abbrev pub decreases-search : goal.decreases-search
-decreases-search l = 2 * length l.self.now.live + 1
-
-abbrev pub decreases-branch : goal.decreases-branch
-decreases-branch l = 2 * length l.self.now.live

@@ -1,0 +1,82 @@
+//! A wish: columns on two sides, such that no row has columns on both.
+//!
+//! Columns hang together where a row has both. They are joined row by row, and whole groups are then put on one side
+//! until it has half of the rows. What comes out is looked at before it is used.
+
+use crate::covering::local_search::{number, set};
+use std::alloc::{AllocError, Global};
+
+/// The column that stands for those that hang together with this one; the way there becomes shorter.
+fn leader(leaders: &mut Vec<usize>, column: usize) -> usize {
+    let mut at = column;
+    for _ in 0..leaders.len() {
+        let next = number(leaders, at);
+        if next == at {
+            return at;
+        }
+        let after = number(leaders, next);
+        set(leaders, at, after);
+        at = after;
+    }
+    at
+}
+
+/// Joins the columns of the row.
+fn join_columns(leaders: &mut Vec<usize>, row: &[usize]) {
+    let Some(first) = row.first() else {
+        return;
+    };
+    let mut own = leader(leaders, *first);
+    for column in row {
+        let other = leader(leaders, *column);
+        set(leaders, own.max(other), own.min(other));
+        own = own.min(other);
+    }
+}
+
+/// How many rows each group has, at the column that stands for it.
+fn sizes(
+    alloc: Global,
+    rows: &[Vec<usize>],
+    leaders: &mut Vec<usize>,
+) -> Result<Vec<usize>, AllocError> {
+    let mut sizes: Vec<usize> = vec![in alloc; 0; leaders.len()]?;
+    for row in rows {
+        if let Some(first) = row.first() {
+            let group = leader(leaders, *first);
+            let more = number(&sizes, group).saturating_add(1);
+            set(&mut sizes, group, more);
+        }
+    }
+    Ok(sizes)
+}
+
+/// Marks the columns of one side, or `None` where all rows hang together.
+pub(crate) fn wished_side(
+    alloc: Global,
+    rows: &[Vec<usize>],
+    columns: usize,
+) -> Result<Option<Vec<bool>>, AllocError> {
+    let mut leaders: Vec<usize> = (0..columns).collect(alloc)?;
+    for row in rows {
+        join_columns(&mut leaders, row);
+    }
+    let sizes = sizes(alloc, rows, &mut leaders)?;
+    let mut chosen: Vec<bool> = vec![in alloc; false; columns]?;
+    let mut taken: usize = 0;
+    for (column, size) in sizes.iter().enumerate() {
+        if *size == rows.len() {
+            return Ok(None);
+        }
+        if *size > 0 && taken < rows.len() / 2 && column < chosen.len() {
+            taken = taken.saturating_add(*size);
+            chosen[column] = true;
+        }
+    }
+    let mut side: Vec<bool> = Vec::with_capacity(alloc, columns)?;
+    for column in 0..columns {
+        let group = leader(&mut leaders, column);
+        side.push(group < chosen.len() && chosen[group])?;
+    }
+    Ok(Some(side))
+}

@@ -1,0 +1,463 @@
+//! The least cover: its length, then what it counts, and then the first such cover in list order.
+//!
+//! A cover of the least length is found by asking for shorter ones until there is none; with literals, covers with
+//! fewer are asked for in the same way. Then the columns are settled one by one, in list order. Where the witness, a
+//! cover within the budget, has the next column, so has the least cover; else it is asked whether some cover within the
+//! budget has it, which gives a new witness or drops the column. Many columns are asked for at once, by a further row of
+//! them: where no cover has one of them all are dropped.
+
+ghost use Rattle.std.specs.Prelude.{◌≡◌, ◌≢◌, ◌≤◌, ◌<◌, ◌+◌, ◌++◌, ◌∷◌, [], ℕ, IfOk, MatchOption, filter, ◌==◌, true, false};
+ghost use Rattle.std.specs.List.{list_all};
+ghost use Rattle.minimum.specs.Table.{has, IsWithin, RisesFrom};
+ghost use Rattle.minimum.specs.Cover.{IsCover, IsLeast, counted};
+ghost use Rattle.minimum.specs.Search.{Continues, HasFewer, HasShorter, IsBest, IsFewest, IsOutside, IsShortest, IsStage, marked};
+ghost use Rattle.minimum.specs.Steps.{with_rows};
+
+use crate::choice::Choice;
+use crate::covering::bound::Budget;
+use crate::covering::columns::{contains, copied, copied_rows, count, joined, sum};
+use crate::covering::marks::{all_but, marked_columns, others};
+use crate::covering::subgradient::{Goal, WarmStart};
+use crate::covering::table::Table;
+use std::alloc::{AllocError, Global};
+
+/// A table with so few live columns is solved by trying all choices.
+const FEW: usize = 8;
+
+/// What is left to settle: a table, and a cover of it within the budget.
+#[derive(Drop)]
+struct Stage {
+    table: Table,
+    witness: Vec<usize>,
+}
+
+/// What helps with it: weights, and how many columns are asked for at once.
+#[derive(Drop)]
+struct Help {
+    warm_start: WarmStart,
+    most: usize,
+}
+
+/// Marks the first live columns from one on that the witness has not, at most so many: a wish.
+fn batch(
+    alloc: Global,
+    live: &[usize],
+    witness: &[usize],
+    column: usize,
+    most: usize,
+    end: usize,
+) -> Result<Vec<bool>, AllocError> {
+    let mut marks = vec![in alloc; false; end]?;
+    let mut number: usize = 0;
+    for other in live {
+        if column <= *other {
+            if number >= most || contains(witness, *other) {
+                return Ok(marks);
+            }
+            number = number.saturating_add(1);
+            if *other < marks.len() {
+                marks[*other] = true;
+            }
+        }
+    }
+    Ok(marks)
+}
+
+/// Whether each of the columns counts so much.
+fn all_count(choice: Choice, weights: &[u32], columns: &[usize], number: u32) -> bool
+    ensures { result ≡ list_all (λ c. counted choice weights.now c == number) columns.now }
+{
+    columns
+        .iter()
+        .all(|column| count(choice, weights, *column) == number)
+}
+
+impl Stage {
+    /// The table without columns that no cover within the budget has.
+    fn without_columns(
+        self,
+        alloc: Global,
+        choice: Choice,
+        budget: Budget,
+        keep: &[bool],
+    ) -> Result<Stage, AllocError>
+        requires stage { IsStage choice budget.columns budget.counts self.table self.witness.items }
+        requires outside { (c : ℕ) → has c self.table.live ≡ true → marked keep.now c ≡ false → IsOutside choice self.table budget.columns budget.counts c }
+        ensures stage { IfOk result (λ s. IsStage choice budget.columns budget.counts s.table s.witness.items) }
+        ensures next { IfOk result (λ s. Continues choice self.table s.table) }
+        ensures live { IfOk result (λ s. s.table.live ≡ filter (marked keep.now) self.table.live) }
+    {
+        let Stage { table, witness } = self;
+        match table.keep_marked(alloc, keep)? {
+            Some(table) => Ok(Stage { table, witness }),
+            None => unreachable!(),
+        }
+    }
+
+    /// Drops a batch of columns where no cover within the budget has one of them; else there is a new witness.
+    fn ask_for_many(
+        self,
+        alloc: Global,
+        choice: Choice,
+        budget: Budget,
+        column: usize,
+        help: &mut Help,
+    ) -> Result<Stage, AllocError>
+        requires { IsStage choice budget.columns budget.counts self.table self.witness.items }
+        ensures stage { IfOk result (λ s. IsStage choice budget.columns budget.counts s.table s.witness.items) }
+        ensures next { IfOk result (λ s. Continues choice self.table s.table) }
+    {
+        let live = self.table.live_columns();
+        let marks = batch(
+            alloc,
+            live,
+            &self.witness,
+            column,
+            help.most,
+            self.table.columns(),
+        )?;
+        let row = marked_columns(alloc, live, &marks)?;
+        if row.len() < 2 {
+            return Ok(self);
+        }
+        let keep = others(alloc, &marks, self.table.columns())?;
+        let asked = self.table.with_row(alloc, row)?;
+        match asked.decide(alloc, choice, budget, &mut help.warm_start.copy(alloc)?)? {
+            Some(witness) => {
+                help.most = 1;
+                Ok(Stage {
+                    table: self.table,
+                    witness,
+                })
+            }
+            None => {
+                help.most = help.most.saturating_mul(2);
+                self.without_columns(alloc, choice, budget, &keep)
+            }
+        }
+    }
+
+    /// Takes the first live column where some cover within the budget has it, and else drops it.
+    fn ask_for_one(
+        self,
+        alloc: Global,
+        choice: Choice,
+        budget: Budget,
+        column: usize,
+        help: &mut Help,
+    ) -> Result<Stage, AllocError>
+        requires stage { IsStage choice budget.columns budget.counts self.table self.witness.items }
+        requires live { has column self.table.live ≡ true }
+        requires first { (c : ℕ) → has c self.table.live ≡ true → column ≤ c }
+        ensures stage { IfOk result (λ s. IsStage choice budget.columns budget.counts s.table s.witness.items) }
+        ensures next { IfOk result (λ s. Continues choice self.table s.table) }
+        ensures gone { IfOk result (λ s. has column s.table.live ≡ false) }
+    {
+        let _live = self.table.live_columns();
+        let with = self.table.take(alloc, column)?;
+        if contains(&self.witness, column) {
+            return Ok(Stage {
+                table: with,
+                witness: self.witness,
+            });
+        }
+        match with.decide(alloc, choice, budget, &mut help.warm_start.copy(alloc)?)? {
+            Some(witness) => {
+                help.most = 1;
+                Ok(Stage {
+                    table: with,
+                    witness,
+                })
+            }
+            None => {
+                help.most = help.most.saturating_mul(2);
+                let keep = all_but(alloc, column, self.table.columns())?;
+                self.without_columns(alloc, choice, budget, &keep)
+            }
+        }
+    }
+
+    /// Drops the columns that row weights tell to be in no cover within the budget.
+    fn bounded(
+        self,
+        alloc: Global,
+        choice: Choice,
+        budget: Budget,
+        help: &mut Help,
+    ) -> Result<Stage, AllocError>
+        requires { IsStage choice budget.columns budget.counts self.table self.witness.items }
+        ensures stage { IfOk result (λ s. IsStage choice budget.columns budget.counts s.table s.witness.items) }
+        ensures next { IfOk result (λ s. Continues choice self.table s.table) }
+    {
+        match self
+            .table
+            .kept_within(alloc, choice, budget, &mut help.warm_start)?
+        {
+            Some(keep) => self.without_columns(alloc, choice, budget, &keep),
+            None => unreachable!(),
+        }
+    }
+
+    /// Drops such columns until weights tell of no more.
+    fn narrowed(
+        self,
+        alloc: Global,
+        choice: Choice,
+        budget: Budget,
+        help: &mut Help,
+    ) -> Result<Stage, AllocError>
+        requires { IsStage choice budget.columns budget.counts self.table self.witness.items }
+        ensures stage { IfOk result (λ s. IsStage choice budget.columns budget.counts s.table s.witness.items) }
+        ensures next { IfOk result (λ s. Continues choice self.table s.table) }
+    {
+        let mut stage = self;
+        loop {
+            let live = stage.table.live_columns().len();
+            stage = stage.bounded(alloc, choice, budget, help)?;
+            if live <= stage.table.live_columns().len() {
+                return Ok(stage);
+            }
+        }
+    }
+
+    /// Takes or drops the column, which is the first that may be live.
+    fn settle(
+        self,
+        alloc: Global,
+        choice: Choice,
+        budget: Budget,
+        column: usize,
+        help: &mut Help,
+    ) -> Result<Stage, AllocError>
+        requires stage { IsStage choice budget.columns budget.counts self.table self.witness.items }
+        requires first { (c : ℕ) → has c self.table.live ≡ true → column ≤ c }
+        ensures stage { IfOk result (λ s. IsStage choice budget.columns budget.counts s.table s.witness.items) }
+        ensures next { IfOk result (λ s. Continues choice self.table s.table) }
+        ensures gone { IfOk result (λ s. has column s.table.live ≡ false) }
+    {
+        if !contains(self.table.live_columns(), column) {
+            return Ok(self);
+        }
+        let stage = self.ask_for_many(alloc, choice, budget, column, help)?;
+        if !contains(stage.table.live_columns(), column) {
+            return stage.narrowed(alloc, choice, budget, help);
+        }
+        if contains(&stage.witness, column) {
+            return stage.ask_for_one(alloc, choice, budget, column, help);
+        }
+        let stage = stage.ask_for_one(alloc, choice, budget, column, help)?;
+        stage.narrowed(alloc, choice, budget, help)
+    }
+}
+
+impl Table {
+    fn with_row(&self, alloc: Global, row: Vec<usize>) -> Result<Table, AllocError>
+        requires some { row.items ≢ [] }
+        requires rises { RisesFrom 0 row.items }
+        requires within { IsWithin row.items self.now.live }
+        ensures { IfOk result (λ t. t ≡ with_rows self.now (self.now.rows ++ row.items ∷ [])) }
+    {
+        let mut rows = copied_rows(alloc, self.row_lists())?;
+        rows.push(row)?;
+        let taken = copied(alloc, self.taken_columns())?;
+        let live = copied(alloc, self.live_columns())?;
+        self.with(alloc, taken, live, rows)
+    }
+
+    /// The first of the best covers, from one of them.
+    fn first_of(
+        &self,
+        alloc: Global,
+        choice: Choice,
+        best: Vec<usize>,
+    ) -> Result<Vec<usize>, AllocError>
+        requires { IsBest choice self.now best.items }
+        ensures { IfOk result (λ v. IsLeast choice self.now v.items) }
+    {
+        let budget = Budget {
+            columns: best.len(),
+            counts: sum(choice, self.literals(), &best),
+        };
+        let mut help = Help {
+            warm_start: WarmStart::new(alloc),
+            most: 1,
+        };
+        let mut stage = Stage {
+            table: self.copied(alloc)?,
+            witness: best,
+        };
+        stage = stage.narrowed(alloc, choice, budget, &mut help)?;
+        for column in 0..self.columns() {
+            if stage.table.is_solved() {
+                return copied(alloc, stage.table.taken_columns());
+            }
+            stage = stage.settle(alloc, choice, budget, column, &mut help)?;
+        }
+        copied(alloc, stage.table.taken_columns())
+    }
+
+    /// A shorter cover; `None` where there is none.
+    fn shorter(
+        &self,
+        alloc: Global,
+        columns: usize,
+        warm_start: &mut WarmStart,
+    ) -> Result<Option<Vec<usize>>, AllocError>
+        ensures { IfOk result (λ o. MatchOption o (IsShortest self.now columns) (λ v. HasShorter self.now columns v.items)) }
+    {
+        let Some(columns) = columns.checked_sub(1) else {
+            return Ok(None);
+        };
+        let budget = Budget { columns, counts: 0 };
+        self.decide(alloc, Choice::First, budget, warm_start)
+    }
+
+    /// All taken and live columns: a cover.
+    fn all_columns(&self, alloc: Global) -> Result<Vec<usize>, AllocError>
+        ensures { IfOk result (λ v. IsCover self.now v.items) }
+    {
+        joined(alloc, self.taken_columns(), self.live_columns())
+    }
+
+    /// A cover that a local search comes upon.
+    fn some_cover(&self, alloc: Global, choice: Choice) -> Result<Vec<usize>, AllocError>
+        ensures { IfOk result (λ v. IsCover self.now v.items) }
+    {
+        let budget = Budget {
+            columns: self.columns(),
+            counts: u128::MAX,
+        };
+        let goal = Goal {
+            columns: 0,
+            counts: 0,
+        };
+        let all = self.all_columns(alloc)?;
+        match self.witness(alloc, choice, budget, goal, 200)? {
+            None => Ok(all),
+            Some(cover) => Ok(cover),
+        }
+    }
+
+    /// A cover of the least length.
+    fn shortest(
+        &self,
+        alloc: Global,
+        choice: Choice,
+        warm_start: &mut WarmStart,
+    ) -> Result<Vec<usize>, AllocError>
+        ensures { IfOk result (λ v. IsBest Choice.First self.now v.items) }
+    {
+        let mut cover = self.some_cover(alloc, choice)?;
+        while let Some(shorter) = self.shorter(alloc, cover.len(), warm_start)? {
+            cover = shorter;
+        }
+        Ok(cover)
+    }
+
+    /// A cover of so many columns with fewer literals; `None` where every cover is longer or has as many.
+    fn with_fewer(
+        &self,
+        alloc: Global,
+        columns: usize,
+        literals: u128,
+        warm_start: &mut WarmStart,
+    ) -> Result<Option<Vec<usize>>, AllocError>
+        ensures { IfOk result (λ o. MatchOption o (IsFewest self.now columns literals) (λ v. HasFewer self.now columns literals v.items)) }
+    {
+        let Some(counts) = literals.checked_sub(1) else {
+            return Ok(None);
+        };
+        let budget = Budget { columns, counts };
+        self.decide(alloc, Choice::Literals, budget, warm_start)
+    }
+
+    /// A cover of the least length with the fewest literals, from one of the least length.
+    fn fewest(
+        &self,
+        alloc: Global,
+        cover: Vec<usize>,
+        warm_start: &mut WarmStart,
+    ) -> Result<Vec<usize>, AllocError>
+        requires { IsBest Choice.First self.now cover.items }
+        ensures { IfOk result (λ v. IsBest Choice.Literals self.now v.items) }
+    {
+        let columns = cover.len();
+        let mut cover = cover;
+        let mut low: u128 = 0;
+        loop {
+            let counts = sum(Choice::Literals, self.literals(), &cover);
+            if counts <= low {
+                return Ok(cover);
+            }
+            let wished = self.wished(alloc, columns, counts, warm_start)?;
+            let asked = wished.max(low + 1).min(counts);
+            match self.with_fewer(alloc, columns, asked, warm_start)? {
+                None => low = asked,
+                Some(fewer) => cover = fewer,
+            }
+        }
+    }
+
+    /// Fewer literals than which covers of so many columns hardly have, as far as row weights tell: a wish.
+    fn wished(
+        &self,
+        alloc: Global,
+        columns: usize,
+        counts: u128,
+        warm_start: &mut WarmStart,
+    ) -> Result<u128, AllocError> {
+        let budget = Budget { columns, counts };
+        let _keep = self.kept_within(alloc, Choice::Literals, budget, warm_start)?;
+        Ok(counts.saturating_sub(u128::from(warm_start.missing)))
+    }
+
+    fn best(&self, alloc: Global, choice: Choice) -> Result<Vec<usize>, AllocError>
+        ensures { IfOk result (λ v. IsBest choice self.now v.items) }
+    {
+        let mut warm_start = WarmStart::new(alloc);
+        let cover = self.shortest(alloc, choice, &mut warm_start)?;
+        match choice {
+            Choice::First => Ok(cover),
+            Choice::Literals => self.fewest(alloc, cover, &mut warm_start),
+        }
+    }
+
+    /// The least cover, of all rows at once. Where all live columns count alike, size decides before what they count.
+    pub(crate) fn least_of_whole(
+        &self,
+        alloc: Global,
+        choice: Choice,
+    ) -> Result<Vec<usize>, AllocError>
+        ensures { IfOk result (λ v. IsLeast choice self.now v.items) }
+    {
+        let live = self.live_columns();
+        if live.len() <= FEW {
+            return self.least_cover_plain(alloc, choice);
+        }
+        if all_count(
+            choice,
+            self.literals(),
+            live,
+            count(choice, self.literals(), live[0]),
+        ) {
+            return self.first_of_best(alloc, Choice::First);
+        }
+        self.first_of_best(alloc, choice)
+    }
+
+    /// The first of the best covers.
+    fn first_of_best(&self, alloc: Global, choice: Choice) -> Result<Vec<usize>, AllocError>
+        ensures { IfOk result (λ v. IsLeast choice self.now v.items) }
+    {
+        let best = self.best(alloc, choice)?;
+        self.first_of(alloc, choice, best)
+    }
+
+    /// The least cover: the first of the shortest; with `Choice::Literals`, of those with the fewest literals.
+    pub fn least_cover(&self, alloc: Global, choice: Choice) -> Result<Vec<usize>, AllocError>
+        ensures { IfOk result (λ v. IsLeast choice self.now v.items) }
+    {
+        let table = self.cyclic_core(alloc, choice)?;
+        table.least_by_parts(alloc, choice)
+    }
+}

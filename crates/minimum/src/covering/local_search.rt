@@ -1,0 +1,322 @@
+//! Wishes for a cover: a local search, which owes nothing to anyone.
+//!
+//! It adds columns until each row is held, takes one away, and goes on by swaps: a column leaves that holds the least
+//! alone, and a column of some open row comes in. Rows that stay open weigh more and more, so that the search does not
+//! turn in circles. Whatever it finds is looked at before it is used.
+
+use crate::covering::subgradient::{Compact, Goal, SEED, at, drawn, put};
+use std::alloc::{AllocError, Global};
+
+pub(crate) fn number(numbers: &[usize], place: usize) -> usize {
+    if place < numbers.len() {
+        numbers[place]
+    } else {
+        0
+    }
+}
+
+pub(crate) fn set(numbers: &mut Vec<usize>, place: usize, number: usize) {
+    if place < numbers.len() {
+        numbers[place] = number;
+    }
+}
+
+fn flag(flags: &[bool], place: usize) -> bool {
+    place < flags.len() && flags[place]
+}
+
+fn mark(flags: &mut Vec<bool>, place: usize, to: bool) {
+    if place < flags.len() {
+        flags[place] = to;
+    }
+}
+
+/// A list of columns, which rows it leaves open, and what a change of each column would bring.
+#[derive(Drop)]
+struct LocalSearch {
+    weights: Vec<i64>,
+    held: Vec<usize>,
+    open: Vec<usize>,
+    places: Vec<usize>,
+    scores: Vec<i64>,
+    inside: Vec<bool>,
+    chosen: Vec<usize>,
+    fresh: Vec<bool>,
+    stamps: Vec<usize>,
+}
+
+impl LocalSearch {
+    fn new(alloc: Global, table: &Compact) -> Result<LocalSearch, AllocError> {
+        let columns = table.costs.len();
+        let rows = table.rows.len();
+        let mut scores: Vec<i64> = Vec::with_capacity(alloc, columns)?;
+        for rows in &table.standing {
+            scores.push(i64::try_from(rows.len()).unwrap_or(0))?;
+        }
+        Ok(LocalSearch {
+            weights: vec![in alloc; 1; rows]?,
+            held: vec![in alloc; 0; rows]?,
+            open: (0..rows).collect(alloc)?,
+            places: (0..rows).collect(alloc)?,
+            scores,
+            inside: vec![in alloc; false; columns]?,
+            chosen: Vec::new(alloc),
+            fresh: vec![in alloc; true; columns]?,
+            stamps: vec![in alloc; 0; columns]?,
+        })
+    }
+
+    /// The other columns of a row, or those inside, score so much more.
+    fn touch(&mut self, row: &[usize], column: usize, more: i64, inside: bool) {
+        for other in row {
+            let other = *other;
+            if other != column {
+                if !inside || flag(&self.inside, other) {
+                    let score = at(&self.scores, other).wrapping_add(more);
+                    put(&mut self.scores, other, score);
+                }
+                mark(&mut self.fresh, other, true);
+            }
+        }
+    }
+
+    /// The row is no longer open.
+    fn close(&mut self, row: usize) {
+        let place = number(&self.places, row);
+        if place < self.open.len() {
+            self.open.swap_remove(place);
+            if place < self.open.len() {
+                let moved = self.open[place];
+                set(&mut self.places, moved, place);
+            }
+        }
+    }
+
+    fn add(&mut self, table: &Compact, column: usize) -> Result<(), AllocError> {
+        let score = at(&self.scores, column);
+        put(&mut self.scores, column, 0i64.wrapping_sub(score));
+        mark(&mut self.inside, column, true);
+        self.chosen.push(column)?;
+        if column >= table.standing.len() {
+            return Ok(());
+        }
+        for row in &table.standing[column] {
+            let row = *row;
+            let held = number(&self.held, row).wrapping_add(1);
+            set(&mut self.held, row, held);
+            if held == 1 {
+                self.close(row);
+            }
+            if held <= 2 && row < table.rows.len() {
+                let weight = at(&self.weights, row);
+                let more = if held == 1 {
+                    0i64.wrapping_sub(weight)
+                } else {
+                    weight
+                };
+                self.touch(&table.rows[row], column, more, held == 2);
+            }
+        }
+        Ok(())
+    }
+
+    fn remove(&mut self, table: &Compact, column: usize, now: usize) -> Result<(), AllocError> {
+        let score = at(&self.scores, column);
+        put(&mut self.scores, column, 0i64.wrapping_sub(score));
+        mark(&mut self.inside, column, false);
+        mark(&mut self.fresh, column, false);
+        set(&mut self.stamps, column, now);
+        self.chosen.retain(|other| *other != column);
+        if column >= table.standing.len() {
+            return Ok(());
+        }
+        for row in &table.standing[column] {
+            let row = *row;
+            let held = number(&self.held, row).wrapping_sub(1);
+            set(&mut self.held, row, held);
+            if held == 0 {
+                set(&mut self.places, row, self.open.len());
+                self.open.push(row)?;
+            }
+            if held <= 1 && row < table.rows.len() {
+                let weight = at(&self.weights, row);
+                let more = if held == 0 {
+                    weight
+                } else {
+                    0i64.wrapping_sub(weight)
+                };
+                self.touch(&table.rows[row], column, more, held == 1);
+            }
+        }
+        Ok(())
+    }
+
+    /// Whether a change of the first column would bring more than one of the second.
+    fn is_better(&self, table: &Compact, first: usize, second: usize) -> bool {
+        let a = at(&self.scores, first);
+        let b = at(&self.scores, second);
+        if a != b {
+            return a > b;
+        }
+        let a = at(&table.costs, first);
+        let b = at(&table.costs, second);
+        if a != b {
+            return (a > b) == flag(&self.inside, first);
+        }
+        number(&self.stamps, first) < number(&self.stamps, second)
+    }
+
+    /// The column of the list whose going brings the most, other than the last one.
+    fn leaving(&self, table: &Compact, last: usize) -> usize {
+        let mut best = usize::MAX;
+        for column in &self.chosen {
+            if *column != last && (best == usize::MAX || self.is_better(table, *column, best)) {
+                best = *column;
+            }
+        }
+        best
+    }
+
+    /// The column of the row whose coming brings the most.
+    fn coming(&self, table: &Compact, row: &[usize]) -> usize {
+        let mut best = usize::MAX;
+        for column in row {
+            if flag(&self.fresh, *column)
+                && (best == usize::MAX || self.is_better(table, *column, best))
+            {
+                best = *column;
+            }
+        }
+        best
+    }
+
+    /// The column outside whose coming brings the most.
+    fn greediest(&self, table: &Compact) -> usize {
+        let mut best = usize::MAX;
+        for column in 0..table.costs.len() {
+            if !flag(&self.inside, column)
+                && (best == usize::MAX || self.is_better(table, column, best))
+            {
+                best = column;
+            }
+        }
+        best
+    }
+
+    /// The rows that are open weigh more.
+    fn weigh(&mut self, table: &Compact) {
+        for i in 0..self.open.len() {
+            let row = number(&self.open, i);
+            let weight = at(&self.weights, row).wrapping_add(1);
+            put(&mut self.weights, row, weight);
+            if row < table.rows.len() {
+                for column in &table.rows[row] {
+                    let score = at(&self.scores, *column).wrapping_add(1);
+                    put(&mut self.scores, *column, score);
+                }
+            }
+        }
+    }
+
+    /// What the list counts.
+    fn counts(&self, table: &Compact) -> i64 {
+        let mut sum: i64 = 0;
+        for column in &self.chosen {
+            sum = sum.wrapping_add(at(&table.costs, *column));
+        }
+        sum
+    }
+
+    fn size(&self) -> i64 {
+        i64::try_from(self.chosen.len()).unwrap_or(i64::MAX)
+    }
+
+    /// Whether the list reaches the goal.
+    fn reaches(&self, table: &Compact, goal: Goal) -> bool {
+        self.size() <= goal.columns && self.counts(table) <= goal.counts
+    }
+
+    /// Adds columns until no row is open.
+    fn fill(&mut self, table: &Compact) -> Result<(), AllocError> {
+        for _ in 0..table.rows.len() {
+            if self.open.is_empty() {
+                return Ok(());
+            }
+            let column = self.greediest(table);
+            self.add(table, column)?;
+        }
+        Ok(())
+    }
+
+    /// A swap, or a column more.
+    fn swap(
+        &mut self,
+        table: &Compact,
+        goal: Goal,
+        last: usize,
+        now: usize,
+        seed: u64,
+    ) -> Result<usize, AllocError> {
+        if self.size() >= goal.columns {
+            let column = self.leaving(table, last);
+            if column == usize::MAX {
+                return Ok(last);
+            }
+            self.remove(table, column, now)?;
+        }
+        if self.open.is_empty() {
+            return Ok(last);
+        }
+        let row = number(
+            &self.open,
+            usize::try_from(seed >> 1).unwrap_or(0) % self.open.len(),
+        );
+        if row >= table.rows.len() {
+            return Ok(last);
+        }
+        let column = self.coming(table, &table.rows[row]);
+        if column == usize::MAX {
+            return Ok(last);
+        }
+        self.add(table, column)?;
+        set(&mut self.stamps, column, now);
+        self.weigh(table);
+        Ok(column)
+    }
+}
+
+/// The best list that is met, at once where it reaches the goal.
+pub(crate) fn local_search(
+    alloc: Global,
+    table: &Compact,
+    goal: Goal,
+    steps: usize,
+) -> Result<Vec<usize>, AllocError> {
+    let mut local_search = LocalSearch::new(alloc, table)?;
+    local_search.fill(table)?;
+    let mut best = local_search.chosen.to_vec(alloc)?;
+    let mut least = (i64::MAX, i64::MAX);
+    let mut last = usize::MAX;
+    let mut seed = SEED;
+    for now in 1..steps {
+        if local_search.open.is_empty() {
+            let counts = local_search.counts(table);
+            if (local_search.size(), counts) < least {
+                least = (local_search.size(), counts);
+                best = local_search.chosen.to_vec(alloc)?;
+            }
+            if local_search.reaches(table, goal) {
+                break;
+            }
+            let column = local_search.leaving(table, usize::MAX);
+            if column == usize::MAX {
+                break;
+            }
+            local_search.remove(table, column, now)?;
+            continue;
+        }
+        seed = drawn(seed);
+        last = local_search.swap(table, goal, last, now, seed)?;
+    }
+    Ok(best)
+}

@@ -1,0 +1,495 @@
+//! Whether there is a cover within a budget.
+//!
+//! A budget is a number of columns and of what they count. A search answers a cover within it, or that there is none: it
+//! narrows the table, branches on a column, taken and then dropped, and searches on. A table is narrowed by the steps of
+//! a reduction, by columns that stand under any other that counts no more, and by weights of its rows (the dual bound):
+//! where the weights are more than the budget can bear there is no cover within it, and a column that has more to spare
+//! than the slack that is left is in none. Which cover is answered is left open, so that any order of branches serves.
+
+ghost use Rattle.std.specs.Prelude.{◌≡◌, ◌≤◌, ◌<◌, ◌*◌, ◌-◌, ℕ, Vec, IfOk, IfSome, MatchOption, MatchBool, IsTrue, ◌↔◌, [], ◌==◌, ◌&&◌, ◌||◌, option_map, map, filter, not, length, true, false};
+ghost use Rattle.std.specs.List.{list_all, list_any, range_with_len};
+ghost use Rattle.minimum.specs.Table.{IsTable, items_of, has, RisesFrom};
+ghost use Rattle.minimum.specs.Cover.{counted, meets, sum_over};
+ghost use Rattle.minimum.specs.Steps.{without, take_column, drop_column};
+ghost use Rattle.minimum.specs.Search.{NoneWithin, Answers, IsAnswer, IsNarrowed, IsForced, IsOutside, keep_columns, marked, is_blank};
+
+use crate::choice::Choice;
+use crate::covering::bound::{Budget, columns_within_gap, limit_of, scaled_costs};
+use crate::covering::columns::{contains, copied, holds, is_blank, sum, with_column};
+use crate::covering::lagrangian::lagrangian;
+use crate::covering::local_search::local_search;
+use crate::covering::marks::{all_marked, is_marked, marked_columns, rows_of_marked};
+use crate::covering::subgradient::{Compact, Goal, Multipliers, WarmStart, at, put};
+use crate::covering::table::Table;
+use std::alloc::{AllocError, Global};
+
+fn without_column(alloc: Global, xs: &[usize], column: usize) -> Result<Vec<usize>, AllocError>
+    ensures { IfOk result (λ v. v.items ≡ without column xs.now) }
+{
+    xs.iter()
+        .copied()
+        .filter(|x| !(column == *x))
+        .collect(alloc)
+}
+
+fn rows_without(
+    alloc: Global,
+    rows: &[Vec<usize>],
+    column: usize,
+) -> Result<Vec<Vec<usize>>, AllocError>
+    ensures { IfOk result (λ v. items_of v.items ≡ map (without column) (items_of rows.now)) }
+{
+    let mut kept = Vec::new(alloc);
+    for row in rows {
+        kept.push(without_column(alloc, row, column)?)?;
+    }
+    Ok(kept)
+}
+
+fn rows_lacking(
+    alloc: Global,
+    rows: &[Vec<usize>],
+    column: usize,
+) -> Result<Vec<Vec<usize>>, AllocError>
+    ensures { IfOk result (λ v. items_of v.items ≡ filter (λ row. not (has column row)) (items_of rows.now)) }
+{
+    let mut kept = Vec::new(alloc);
+    for row in rows {
+        if !contains(row, column) {
+            kept.push(copied(alloc, row)?)?;
+        }
+    }
+    Ok(kept)
+}
+
+fn any_blank(rows: &[Vec<usize>]) -> bool
+    ensures { result ≡ list_any (λ row. is_blank row.items) rows.now }
+{
+    rows.iter().any(|row| is_blank(row))
+}
+
+/// The marked numbers of the second list and all of the first, below the end.
+fn chosen_of(
+    alloc: Global,
+    taken: &[usize],
+    live: &[usize],
+    marks: &[bool],
+    end: usize,
+) -> Result<Vec<usize>, AllocError>
+    requires taken { RisesFrom 0 taken.now }
+    requires live { RisesFrom 0 live.now }
+    ensures { IfOk result (λ v. v.items ≡ filter (λ n. has n taken.now || (marked marks.now n && has n live.now)) (range_with_len 0 end)) }
+{
+    (0..end)
+        .filter(|n| holds(taken, *n) || (is_marked(marks, *n) && holds(live, *n)))
+        .collect(alloc)
+}
+
+/// Whether the row has a number of the list, which rises.
+fn is_held(columns: &[usize], row: &[usize]) -> bool
+    requires { RisesFrom 0 columns.now }
+    ensures { result ≡ meets columns.now row.now }
+{
+    row.iter().any(|c| holds(columns, *c))
+}
+
+/// Whether each row has a number of the list, which rises.
+fn all_held(columns: &[usize], rows: &[Vec<usize>]) -> bool
+    requires { RisesFrom 0 columns.now }
+    ensures { result ≡ list_all (λ row. meets columns.now row.items) rows.now }
+{
+    rows.iter().all(|row| is_held(columns, row))
+}
+
+/// Marks the live columns with these places among them.
+fn marks_of(
+    alloc: Global,
+    live: &[usize],
+    places: &[usize],
+    end: usize,
+) -> Result<Vec<bool>, AllocError> {
+    let mut marks = vec![in alloc; false; end]?;
+    for place in places {
+        if *place < live.len() && live[*place] < marks.len() {
+            marks[live[*place]] = true;
+        }
+    }
+    Ok(marks)
+}
+
+/// In how many rows each column stands.
+fn entanglement(
+    alloc: Global,
+    rows: &[Vec<usize>],
+    columns: usize,
+) -> Result<Vec<i64>, AllocError> {
+    let mut numbers: Vec<i64> = vec![in alloc; 0; columns]?;
+    for row in rows {
+        for column in row {
+            let number = at(&numbers, *column).wrapping_add(1);
+            put(&mut numbers, *column, number);
+        }
+    }
+    Ok(numbers)
+}
+
+/// The sum of the numbers of the row's columns.
+fn entangled(row: &[usize], numbers: &[i64]) -> i64 {
+    let mut sum: i64 = 0;
+    for column in row {
+        sum = sum.wrapping_add(at(numbers, *column));
+    }
+    sum
+}
+
+/// The likeliest column of the row, the one of more rows among equals.
+fn likeliest_of(row: &[usize], likely: &[i64], numbers: &[i64]) -> usize {
+    let mut best = 0;
+    let mut most = (i64::MIN, i64::MIN);
+    for column in row {
+        let here = (at(likely, *column), at(numbers, *column));
+        if here > most {
+            most = here;
+            best = *column;
+        }
+    }
+    best
+}
+
+/// The likeliest column of a shortest row, the most entangled among those.
+fn likeliest(rows: &[Vec<usize>], likely: &[i64], numbers: &[i64]) -> usize {
+    let mut shortest = usize::MAX;
+    let mut most = i64::MIN;
+    let mut best = 0;
+    for row in rows {
+        let here = entangled(row, numbers);
+        if row.len() < shortest || (row.len() == shortest && here > most) {
+            shortest = row.len();
+            most = here;
+            best = likeliest_of(row, likely, numbers);
+        }
+    }
+    best
+}
+
+impl Table {
+    pub(crate) fn is_solved(&self) -> bool
+        ensures solved { IsTrue result ↔ (self.now.rows ≡ []) }
+        ensures table { IsTable self.now }
+    {
+        self.rows.is_empty()
+    }
+
+    pub(crate) fn take(&self, alloc: Global, column: usize) -> Result<Table, AllocError>
+        requires { has column self.now.live ≡ true }
+        ensures { IfOk result (λ t. t ≡ take_column column self.now) }
+    {
+        let taken = with_column(alloc, self.taken_columns(), column)?;
+        let live = without_column(alloc, self.live_columns(), column)?;
+        let rows = rows_lacking(alloc, self.row_lists(), column)?;
+        self.with(alloc, taken, live, rows)
+    }
+
+    /// The table without a live column, where each row keeps one.
+    fn drop_live(&self, alloc: Global, column: usize) -> Result<Option<Table>, AllocError>
+        ensures { IfOk result (λ o. MatchOption o (IsForced self.now column) (λ t. t ≡ drop_column column self.now)) }
+    {
+        let rows = rows_without(alloc, self.row_lists(), column)?;
+        if any_blank(&rows) {
+            return Ok(None);
+        }
+        let taken = copied(alloc, self.taken_columns())?;
+        let live = without_column(alloc, self.live_columns(), column)?;
+        Ok(Some(self.with(alloc, taken, live, rows)?))
+    }
+
+    /// The table with no columns but the marked ones, where each row keeps one.
+    pub(crate) fn keep_marked(
+        &self,
+        alloc: Global,
+        keep: &[bool],
+    ) -> Result<Option<Table>, AllocError>
+        ensures kept { IfOk result (λ o. MatchOption o (list_any is_blank (map (filter (marked keep.now)) self.now.rows) ≡ true) (λ t. t ≡ keep_columns (marked keep.now) self.now)) }
+        ensures table { IsTable self.now }
+    {
+        let rows = rows_of_marked(alloc, self.row_lists(), keep)?;
+        if any_blank(&rows) {
+            return Ok(None);
+        }
+        let taken = copied(alloc, self.taken_columns())?;
+        let live = marked_columns(alloc, self.live_columns(), keep)?;
+        Ok(Some(self.with(alloc, taken, live, rows)?))
+    }
+
+    /// Whether the taken columns alone go past the budget.
+    fn is_over_budget(&self, choice: Choice, budget: Budget) -> bool
+        ensures { MatchBool result (NoneWithin choice self.now budget.columns budget.counts) ((length self.now.taken ≤ budget.columns) × (sum_over (counted choice self.now.weights) self.now.taken ≤ budget.counts)) }
+    {
+        if self.taken_columns().len() > budget.columns {
+            return true;
+        }
+        sum(choice, self.literals(), self.taken_columns()) > budget.counts
+    }
+
+    /// What a cover within the budget may have beside the taken columns, for those who wish.
+    fn goal(&self, choice: Choice, budget: Budget) -> Goal {
+        let columns = budget.columns.saturating_sub(self.taken_columns().len());
+        let counts = budget
+            .counts
+            .saturating_sub(sum(choice, self.literals(), self.taken_columns()));
+        Goal {
+            columns: i64::try_from(columns).unwrap_or(i64::MAX),
+            counts: i64::try_from(counts).unwrap_or(i64::MAX),
+        }
+    }
+
+    /// The live columns and the rows, for those who wish.
+    fn compact(&self, alloc: Global, choice: Choice) -> Result<Compact, AllocError> {
+        Compact::of(
+            alloc,
+            choice,
+            self.literals(),
+            self.live_columns(),
+            self.row_lists(),
+        )
+    }
+
+    /// All columns marked.
+    fn any_marked(&self, alloc: Global) -> Result<Vec<bool>, AllocError>
+        ensures { IfOk result (λ v. (c : ℕ) → has c self.now.live ≡ true → marked v.items c ≡ true) }
+    {
+        let _live = self.live_columns();
+        all_marked(alloc, self.columns())
+    }
+
+    /// Marks the columns that a cover within the budget may have, as far as these row weights and shares tell; `None`
+    /// where they tell that there is no such cover.
+    fn kept_by(
+        &self,
+        alloc: Global,
+        choice: Choice,
+        budget: Budget,
+        multipliers: &Multipliers,
+    ) -> Result<Option<Vec<bool>>, AllocError>
+        ensures { IfOk result (λ o. MatchOption o (NoneWithin choice self.now budget.columns budget.counts) (λ v. (c : ℕ) → has c self.now.live ≡ true → marked v.items c ≡ false → IsOutside choice self.now budget.columns budget.counts c)) }
+    {
+        let rows = self.row_lists();
+        if multipliers.weights.len() != rows.len() || rows.len() >= 4611686018427387904 {
+            return Ok(Some(self.any_marked(alloc)?));
+        }
+        let scaled_costs = scaled_costs(
+            alloc,
+            choice,
+            self.literals(),
+            multipliers.column,
+            multipliers.count,
+        )?;
+        let loads = lagrangian(alloc, rows, &multipliers.weights, &scaled_costs)?;
+        let columns = budget.columns.saturating_sub(self.taken_columns().len());
+        let counts = budget
+            .counts
+            .saturating_sub(sum(choice, self.literals(), self.taken_columns()));
+        let Some(limit) = limit_of(
+            multipliers.column,
+            columns,
+            multipliers.count,
+            counts,
+            loads.over,
+        ) else {
+            return Ok(Some(self.any_marked(alloc)?));
+        };
+        if loads.total > limit {
+            return Ok(None);
+        }
+        Ok(Some(columns_within_gap(alloc, &scaled_costs, &loads.loads, limit - loads.total)?))
+    }
+
+    /// The same for weights that are wished for.
+    pub(crate) fn kept_within(
+        &self,
+        alloc: Global,
+        choice: Choice,
+        budget: Budget,
+        warm_start: &mut WarmStart,
+    ) -> Result<Option<Vec<bool>>, AllocError>
+        ensures { IfOk result (λ o. MatchOption o (NoneWithin choice self.now budget.columns budget.counts) (λ v. (c : ℕ) → has c self.now.live ≡ true → marked v.items c ≡ false → IsOutside choice self.now budget.columns budget.counts c)) }
+    {
+        let compact = self.compact(alloc, choice)?;
+        let goal = self.goal(choice, budget);
+        let multipliers = warm_start.multipliers(
+            alloc,
+            &compact,
+            self.live_columns(),
+            self.row_lists(),
+            self.columns(),
+            goal,
+        )?;
+        self.kept_by(alloc, choice, budget, &multipliers)
+    }
+
+    /// The table without the columns that no cover within the budget has, as far as row weights tell.
+    fn bounded(
+        &self,
+        alloc: Global,
+        choice: Choice,
+        budget: Budget,
+        warm_start: &mut WarmStart,
+    ) -> Result<Option<Table>, AllocError>
+        ensures { IfOk result (λ o. MatchOption o (NoneWithin choice self.now budget.columns budget.counts) (IsNarrowed choice budget.columns budget.counts self.now)) }
+    {
+        let Some(keep) = self.kept_within(alloc, choice, budget, warm_start)? else {
+            return Ok(None);
+        };
+        self.keep_marked(alloc, &keep)
+    }
+
+    /// The table as far as a search within the budget has to look at it; `None` where there is no cover.
+    fn narrowed(
+        &self,
+        alloc: Global,
+        choice: Choice,
+        budget: Budget,
+        warm_start: &mut WarmStart,
+    ) -> Result<Option<Table>, AllocError>
+        ensures { IfOk result (λ o. MatchOption o (NoneWithin choice self.now budget.columns budget.counts) (IsNarrowed choice budget.columns budget.counts self.now)) }
+    {
+        let mut table = self.lightened(alloc, choice)?;
+        loop {
+            let Some(next) = table.bounded(alloc, choice, budget, warm_start)? else {
+                return Ok(None);
+            };
+            if table.live_columns().len() <= next.live_columns().len() {
+                return Ok(Some(next));
+            }
+            table = next.lightened(alloc, choice)?;
+        }
+    }
+
+    /// A live column to branch on: the likeliest one of a shortest row.
+    fn likeliest(&self, alloc: Global, warm_start: &WarmStart) -> Result<Option<usize>, AllocError>
+        ensures live { IfOk result (λ o. MatchOption o (self.now.live ≡ []) (λ c. has c self.now.live ≡ true)) }
+        ensures table { IsTable self.now }
+    {
+        let numbers = entanglement(alloc, self.row_lists(), self.columns())?;
+        let wished = likeliest(self.row_lists(), &warm_start.likely, &numbers);
+        if contains(self.live_columns(), wished) {
+            return Ok(Some(wished));
+        }
+        Ok(self.live.first().copied())
+    }
+
+    /// A cover within the budget, or none where there is none.
+    #[cycle(search)]
+    fn search(
+        &self,
+        alloc: Global,
+        choice: Choice,
+        budget: Budget,
+        warm_start: &WarmStart,
+    ) -> Result<Option<Vec<usize>>, AllocError>
+        ensures { IfOk result (λ o. Answers choice self.now budget.columns budget.counts (option_map (λ v. v.items) o)) }
+    {
+        let mut warm_start = warm_start.copy(alloc)?;
+        match self.narrowed(alloc, choice, budget, &mut warm_start)? {
+            None => Ok(None),
+            Some(table) => table.branch(alloc, choice, budget, &warm_start),
+        }
+    }
+
+    /// The same, by taking a live column, and if that leads to no cover by dropping it.
+    #[cycle(search)]
+    fn branch(
+        &self,
+        alloc: Global,
+        choice: Choice,
+        budget: Budget,
+        warm_start: &WarmStart,
+    ) -> Result<Option<Vec<usize>>, AllocError>
+        ensures { IfOk result (λ o. Answers choice self.now budget.columns budget.counts (option_map (λ v. v.items) o)) }
+    {
+        if self.is_over_budget(choice, budget) {
+            return Ok(None);
+        }
+        if self.is_solved() {
+            return Ok(Some(copied(alloc, self.taken_columns())?));
+        }
+        let Some(column) = self.likeliest(alloc, warm_start)? else {
+            return Ok(None);
+        };
+        let with = self.take(alloc, column)?;
+        if let Some(cover) = with.search(alloc, choice, budget, warm_start)? {
+            return Ok(Some(cover));
+        }
+        match self.drop_live(alloc, column)? {
+            None => Ok(None),
+            Some(rest) => rest.search(alloc, choice, budget, warm_start),
+        }
+    }
+
+    /// The cover of the taken columns and the marked live ones, if it is one and within the budget.
+    fn completed(
+        &self,
+        alloc: Global,
+        choice: Choice,
+        budget: Budget,
+        marks: &[bool],
+    ) -> Result<Option<Vec<usize>>, AllocError>
+        ensures { IfOk result (λ o. IfSome o (λ v. IsAnswer choice self.now budget.columns budget.counts v.items)) }
+    {
+        let cover = chosen_of(
+            alloc,
+            self.taken_columns(),
+            self.live_columns(),
+            marks,
+            self.columns(),
+        )?;
+        if budget.columns < cover.len() {
+            return Ok(None);
+        }
+        if budget.counts < sum(choice, self.literals(), &cover) {
+            return Ok(None);
+        }
+        if !all_held(&cover, self.row_lists()) {
+            return Ok(None);
+        }
+        Ok(Some(cover))
+    }
+
+    /// A cover within the budget that a local search comes upon.
+    pub(crate) fn witness(
+        &self,
+        alloc: Global,
+        choice: Choice,
+        budget: Budget,
+        goal: Goal,
+        steps: usize,
+    ) -> Result<Option<Vec<usize>>, AllocError>
+        ensures { IfOk result (λ o. IfSome o (λ v. IsAnswer choice self.now budget.columns budget.counts v.items)) }
+    {
+        let compact = self.compact(alloc, choice)?;
+        let steps = steps.saturating_mul(self.row_lists().len()).min(100000);
+        let wished = local_search(alloc, &compact, goal, steps)?;
+        let marks = marks_of(alloc, self.live_columns(), &wished, self.columns())?;
+        self.completed(alloc, choice, budget, &marks)
+    }
+
+    /// A cover within the budget, or none where there is none: a local search looks for one before the branches.
+    pub(crate) fn decide(
+        &self,
+        alloc: Global,
+        choice: Choice,
+        budget: Budget,
+        warm_start: &mut WarmStart,
+    ) -> Result<Option<Vec<usize>>, AllocError>
+        ensures { IfOk result (λ o. Answers choice self.now budget.columns budget.counts (option_map (λ v. v.items) o)) }
+    {
+        let Some(table) = self.narrowed(alloc, choice, budget, warm_start)? else {
+            return Ok(None);
+        };
+        let goal = table.goal(choice, budget);
+        if let Some(cover) = table.witness(alloc, choice, budget, goal, 30)? {
+            return Ok(Some(cover));
+        }
+        table.branch(alloc, choice, budget, warm_start)
+    }
+}

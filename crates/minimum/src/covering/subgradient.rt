@@ -1,0 +1,650 @@
+//! Wishes for the weights of rows: a heuristic, which owes nothing to anyone.
+//!
+//! Whole-number subgradient steps with momentum on the Lagrangian relaxation of the covering problem (Held and Karp).
+//! A column has a cap: a share for itself, and one for each thing that it counts. A step lowers the rows of columns
+//! that bear more than their caps and raises the others. From time to time the weights are polished: cut where more
+//! than one column bears too much, and raised by the least room of the row's columns. The first weights are disturbed,
+//! since with even ones all columns of a symmetric table would cross their caps together; and where the steps end just
+//! short of what is wished for, they go on from weights a quarter of the way to their mean. A search hands its weights
+//! on. The cost is that of reading all rows some times a step; whatever comes out is looked at before it is used.
+
+use crate::choice::Choice;
+use crate::covering::columns::{copied_rows, count};
+use std::alloc::{AllocError, Global};
+
+/// The share of a column where it is not itself asked for.
+pub(crate) const UNIT: i64 = 16777216;
+
+/// How likely a column is thought to be at most.
+const LIKELIEST: i64 = 1048576;
+
+/// How many steps are made for a bound.
+const STEPS: u32 = 150;
+
+/// The first length of a step; a step that is shorter than the last brings nothing.
+const PACE: i64 = 1024;
+
+const LAST_PACE: i64 = 16;
+
+/// After so many steps that bring nothing they become shorter.
+const PATIENCE: u32 = 10;
+
+/// The next number of a fixed sequence.
+pub(crate) fn drawn(seed: u64) -> u64 {
+    let a = seed ^ (seed << 13);
+    let b = a ^ (a >> 7);
+    b ^ (b << 17)
+}
+
+/// Where the sequence begins.
+pub(crate) const SEED: u64 = 0x9E3779B97F4A7C15;
+
+pub(crate) fn at(numbers: &[i64], place: usize) -> i64 {
+    if place < numbers.len() {
+        numbers[place]
+    } else {
+        0
+    }
+}
+
+pub(crate) fn put(numbers: &mut Vec<i64>, place: usize, number: i64) {
+    if place < numbers.len() {
+        numbers[place] = number;
+    }
+}
+
+/// Adds to the numbers of a row's columns.
+fn shift(numbers: &mut Vec<i64>, row: &[usize], amount: i64) {
+    for column in row {
+        let column = *column;
+        if column < numbers.len() {
+            numbers[column] = numbers[column].wrapping_add(amount);
+        }
+    }
+}
+
+fn sum(numbers: &[i64]) -> i64 {
+    let mut sum: i64 = 0;
+    for number in numbers {
+        sum = sum.wrapping_add(*number);
+    }
+    sum
+}
+
+/// A table in numbers of its own: its live columns are numbered in their order.
+#[derive(Drop)]
+pub(crate) struct Compact {
+    pub(crate) rows: Vec<Vec<usize>>,
+    pub(crate) standing: Vec<Vec<usize>>,
+    pub(crate) costs: Vec<i64>,
+}
+
+/// The rows in which each column stands.
+fn standing(
+    alloc: Global,
+    rows: &[Vec<usize>],
+    columns: usize,
+) -> Result<Vec<Vec<usize>>, AllocError> {
+    let mut standing: Vec<Vec<usize>> = Vec::with_capacity(alloc, columns)?;
+    for _ in 0..columns {
+        standing.push(Vec::new(alloc))?;
+    }
+    for (i, row) in rows.iter().enumerate() {
+        for column in row {
+            if *column < standing.len() {
+                standing[*column].push(i)?;
+            }
+        }
+    }
+    Ok(standing)
+}
+
+/// The place of each live column among them.
+fn places(alloc: Global, live: &[usize], columns: usize) -> Result<Vec<usize>, AllocError> {
+    let mut places: Vec<usize> = vec![in alloc; 0; columns]?;
+    for (i, column) in live.iter().enumerate() {
+        if *column < places.len() {
+            places[*column] = i;
+        }
+    }
+    Ok(places)
+}
+
+fn placed(alloc: Global, row: &[usize], places: &[usize]) -> Result<Vec<usize>, AllocError> {
+    let mut placed = Vec::with_capacity(alloc, row.len())?;
+    for column in row {
+        if *column < places.len() {
+            placed.push(places[*column])?;
+        }
+    }
+    Ok(placed)
+}
+
+impl Compact {
+    pub(crate) fn of(
+        alloc: Global,
+        choice: Choice,
+        weights: &[u32],
+        live: &[usize],
+        rows: &[Vec<usize>],
+    ) -> Result<Compact, AllocError> {
+        let places = places(alloc, live, weights.len())?;
+        let mut lists = Vec::with_capacity(alloc, rows.len())?;
+        for row in rows {
+            lists.push(placed(alloc, row, &places)?)?;
+        }
+        let mut costs = Vec::with_capacity(alloc, live.len())?;
+        for column in live {
+            costs.push(i64::from(count(choice, weights, *column)))?;
+        }
+        Ok(Compact {
+            standing: standing(alloc, &lists, live.len())?,
+            rows: lists,
+            costs,
+        })
+    }
+
+    /// Whether the columns do not all cost the same.
+    pub(crate) fn is_uneven(&self) -> bool {
+        let mut uneven = false;
+        for cost in &self.costs {
+            uneven = uneven || *cost != at(&self.costs, 0);
+        }
+        uneven
+    }
+}
+
+/// What a bound is wished for: what a cover may have beside the taken columns.
+#[derive(Clone, Copy)]
+pub(crate) struct Goal {
+    pub(crate) columns: i64,
+    pub(crate) counts: i64,
+}
+
+/// Weights of rows, and the shares of a column and of each thing that it counts.
+#[derive(Drop)]
+pub(crate) struct Multipliers {
+    pub(crate) weights: Vec<u64>,
+    pub(crate) column: u32,
+    pub(crate) count: u32,
+}
+
+/// The steps: the weights and the share of a column, where they go, and the best so far.
+#[derive(Drop)]
+struct Ascent {
+    weights: Vec<i64>,
+    column: i64,
+    direction: Vec<i64>,
+    column_direction: i64,
+    scaled_costs: Vec<i64>,
+    loads: Vec<i64>,
+    count: i64,
+    top: i64,
+    top_weights: Vec<i64>,
+    top_column: i64,
+    best_value: i64,
+    best_weights: Vec<i64>,
+    best_column: i64,
+    pace: i64,
+    idle: u32,
+}
+
+/// What each column bears.
+fn load(loads: &mut Vec<i64>, rows: &[Vec<usize>], weights: &[i64]) {
+    for load in loads.iter_mut() {
+        *load = 0;
+    }
+    for (i, row) in rows.iter().enumerate() {
+        shift(loads, row, at(weights, i));
+    }
+}
+
+/// What columns bear beyond their caps.
+fn beyond(loads: &[i64], scaled_costs: &[i64]) -> i64 {
+    let mut beyond: i64 = 0;
+    for (i, load) in loads.iter().enumerate() {
+        beyond = beyond.wrapping_add(load.wrapping_sub(at(scaled_costs, i)).max(0));
+    }
+    beyond
+}
+
+/// How much a row has to leave so that one more of its columns bears no more than its cap; nothing where one does at most.
+fn excess(row: &[usize], weight: i64, loads: &[i64], scaled_costs: &[i64]) -> i64 {
+    let mut number: u32 = 0;
+    let mut least = weight;
+    for column in row {
+        let over = at(loads, *column).wrapping_sub(at(scaled_costs, *column));
+        if over > 0 {
+            number = number.wrapping_add(1);
+            least = least.min(over);
+        }
+    }
+    if number > 1 { least } else { 0 }
+}
+
+/// How much more each column of the row can bear.
+fn room(row: &[usize], loads: &[i64], scaled_costs: &[i64]) -> i64 {
+    let mut least = i64::MAX;
+    for column in row {
+        least = least.min(at(scaled_costs, *column).wrapping_sub(at(loads, *column)));
+    }
+    if row.is_empty() { 0 } else { least.max(0) }
+}
+
+/// How far the relaxed choice falls short of one column for the row: less than nothing where it has more.
+fn violation(row: &[usize], relaxed: &[i64]) -> i64 {
+    let mut violation: i64 = 1;
+    for column in row {
+        violation = violation.wrapping_sub(at(relaxed, *column));
+    }
+    violation
+}
+
+/// The rows by rising weight.
+fn by_weight(alloc: Global, weights: &[i64]) -> Result<Vec<(i64, usize)>, AllocError> {
+    let mut order: Vec<(i64, usize)> = Vec::with_capacity(alloc, weights.len())?;
+    for (i, weight) in weights.iter().enumerate() {
+        order.push((*weight, i))?;
+    }
+    order.sort_unstable();
+    Ok(order)
+}
+
+impl Ascent {
+    /// The caps under the share of a column.
+    fn set_scaled_costs(&mut self, costs: &[i64], column: i64) {
+        let count = self.count;
+        for (i, scaled_cost) in self.scaled_costs.iter_mut().enumerate() {
+            *scaled_cost = column.wrapping_add(count.wrapping_mul(at(costs, i)));
+        }
+    }
+
+    /// What weights say of a cover: more than nothing where no cover reaches the goal.
+    fn value(&self, weights: &[i64], column: i64, goal: Goal) -> i64 {
+        sum(weights)
+            .wrapping_sub(beyond(&self.loads, &self.scaled_costs))
+            .wrapping_sub(column.wrapping_mul(goal.columns))
+            .wrapping_sub(self.count.wrapping_mul(goal.counts))
+    }
+
+    /// Polishes the weights, and keeps them where they say more than the best so far.
+    fn polish(
+        &mut self,
+        alloc: Global,
+        table: &Compact,
+        weights: Vec<i64>,
+        column: i64,
+        goal: Goal,
+    ) -> Result<(), AllocError> {
+        let mut weights = weights;
+        self.set_scaled_costs(&table.costs, column);
+        load(&mut self.loads, &table.rows, &weights);
+        let order = by_weight(alloc, &weights)?;
+        for (_, i) in order.iter() {
+            if *i < table.rows.len() {
+                let row = &table.rows[*i];
+                let weight = at(&weights, *i);
+                let less = excess(row, weight, &self.loads, &self.scaled_costs);
+                put(&mut weights, *i, weight.wrapping_sub(less));
+                shift(&mut self.loads, row, 0i64.wrapping_sub(less));
+            }
+        }
+        for (_, i) in order.iter().rev() {
+            if *i < table.rows.len() {
+                let row = &table.rows[*i];
+                let more = room(row, &self.loads, &self.scaled_costs);
+                let weight = at(&weights, *i);
+                put(&mut weights, *i, weight.wrapping_add(more));
+                shift(&mut self.loads, row, more);
+            }
+        }
+        let value = self.value(&weights, column, goal);
+        if value > self.best_value {
+            self.best_value = value;
+            self.best_weights = weights;
+            self.best_column = column;
+        }
+        Ok(())
+    }
+
+    /// A step along the way, which is the slope with three quarters of the last way.
+    fn step(
+        &mut self,
+        alloc: Global,
+        table: &Compact,
+        goal: Goal,
+        far: i64,
+    ) -> Result<(), AllocError> {
+        let mut relaxed: Vec<i64> = Vec::with_capacity(alloc, self.loads.len())?;
+        for (i, load) in self.loads.iter().enumerate() {
+            relaxed.push(if *load > at(&self.scaled_costs, i) {
+                1
+            } else {
+                0
+            })?;
+        }
+        let mut square: i64 = 0;
+        for (i, row) in table.rows.iter().enumerate() {
+            let slope = violation(row, &relaxed).wrapping_mul(16);
+            let last = at(&self.direction, i).wrapping_mul(12) >> 4;
+            let direction = slope.wrapping_add(last);
+            put(&mut self.direction, i, direction);
+            if direction > 0 || at(&self.weights, i) > 0 {
+                square = square.wrapping_add(direction.wrapping_mul(direction));
+            }
+        }
+        if self.count > 0 {
+            let slope = sum(&relaxed).wrapping_sub(goal.columns).wrapping_mul(16);
+            self.column_direction = slope.wrapping_add(self.column_direction.wrapping_mul(12) >> 4);
+            square = square.wrapping_add(self.column_direction.wrapping_mul(self.column_direction));
+        }
+        if square <= 0 {
+            return Ok(());
+        }
+        let pace = far.wrapping_div(square.max(1));
+        for (i, weight) in self.weights.iter_mut().enumerate() {
+            let more = pace.wrapping_mul(at(&self.direction, i)) >> 8;
+            *weight = weight.wrapping_add(more).max(0);
+        }
+        let more = pace.wrapping_mul(self.column_direction) >> 8;
+        self.column = self.column.wrapping_add(more).max(0);
+        Ok(())
+    }
+
+    /// Notes what the weights say.
+    fn note(&mut self, alloc: Global, value: i64) -> Result<(), AllocError> {
+        if value > self.top.saturating_add(UNIT / 1000) {
+            self.idle = 0;
+        } else {
+            self.idle = self.idle.wrapping_add(1);
+        }
+        if value > self.top {
+            self.top = value;
+            self.top_weights = self.weights.to_vec(alloc)?;
+            self.top_column = self.column;
+        }
+        Ok(())
+    }
+
+    /// Goes a quarter of the way from the best weights to their mean, to begin anew.
+    fn kick(&mut self, alloc: Global) -> Result<(), AllocError> {
+        let number = self.top_weights.len();
+        let mean = match i64::try_from(number.max(1)) {
+            Ok(number) => sum(&self.top_weights).wrapping_div(number.max(1)),
+            Err(_) => 0,
+        };
+        let mut weights = Vec::with_capacity(alloc, number)?;
+        for weight in &self.top_weights {
+            weights.push(weight.wrapping_mul(3).wrapping_add(mean) >> 2)?;
+        }
+        self.weights = weights;
+        self.direction = vec![in alloc; 0; number]?;
+        self.column_direction = 0;
+        self.column = self.top_column;
+        self.pace = PACE;
+        self.idle = 0;
+        self.top = i64::MIN;
+        Ok(())
+    }
+}
+
+/// Whether each number of the first list, which rises, is in the second, which rises too.
+fn lies_in(row: &[usize], other: &[usize]) -> bool {
+    let mut met = 0;
+    for column in other {
+        if met < row.len() && row[met] == *column {
+            met += 1;
+        }
+    }
+    met == row.len()
+}
+
+/// The row from a place on that has all columns of this one and the fewest others, among some that follow the first.
+fn found(rows: &[Vec<usize>], row: &[usize], from: usize) -> usize {
+    let mut best = rows.len();
+    let mut fewest = usize::MAX;
+    let mut seen: usize = 0;
+    for place in from..rows.len() {
+        if rows[place].len() < fewest && lies_in(row, &rows[place]) {
+            fewest = rows[place].len();
+            best = place;
+        }
+        if fewest == row.len() || seen > 16 {
+            return best;
+        }
+        if fewest < usize::MAX {
+            seen = seen.wrapping_add(1);
+        }
+    }
+    best
+}
+
+/// What a search remembers: the rows and weights of the last bound, the share of a column, and how likely each column
+/// is thought to be in a cover.
+#[derive(Drop)]
+pub(crate) struct WarmStart {
+    rows: Vec<Vec<usize>>,
+    weights: Vec<i64>,
+    column: i64,
+    pub(crate) likely: Vec<i64>,
+    pub(crate) missing: u64,
+}
+
+impl WarmStart {
+    pub(crate) fn new(alloc: Global) -> WarmStart {
+        WarmStart {
+            rows: Vec::new(alloc),
+            weights: Vec::new(alloc),
+            column: 67108864,
+            likely: Vec::new(alloc),
+            missing: 0,
+        }
+    }
+
+    pub(crate) fn copy(&self, alloc: Global) -> Result<WarmStart, AllocError> {
+        Ok(WarmStart {
+            rows: copied_rows(alloc, &self.rows)?,
+            weights: self.weights.to_vec(alloc)?,
+            column: self.column,
+            likely: self.likely.to_vec(alloc)?,
+            missing: self.missing,
+        })
+    }
+
+    /// Even weights, disturbed.
+    fn first(&self, alloc: Global, table: &Compact) -> Result<Vec<i64>, AllocError> {
+        let mut standing: Vec<i64> = vec![in alloc; 0; table.costs.len()]?;
+        for row in &table.rows {
+            shift(&mut standing, row, 1);
+        }
+        let mut seed = SEED;
+        let mut weights = Vec::with_capacity(alloc, table.rows.len())?;
+        for row in &table.rows {
+            let mut most: i64 = 1;
+            for column in row {
+                most = most.max(at(&standing, *column));
+            }
+            seed = drawn(seed);
+            let part = 512i64.wrapping_add(i64::try_from(seed >> 54).unwrap_or(0));
+            weights.push((UNIT.wrapping_div(most.max(1)) >> 10).wrapping_mul(part))?;
+        }
+        Ok(weights)
+    }
+
+    /// The remembered weights of rows that come from the remembered ones, in their order, where some left, some have
+    /// lost columns and some came at the end.
+    fn carried(&self, alloc: Global, rows: &[Vec<usize>]) -> Result<Vec<i64>, AllocError> {
+        let mut weights = Vec::with_capacity(alloc, rows.len())?;
+        let mut from: usize = 0;
+        for row in rows {
+            let place = found(&self.rows, row, from);
+            if place < self.weights.len() {
+                weights.push(self.weights[place])?;
+            } else {
+                weights.push(UNIT / 2)?;
+            }
+            if place < self.rows.len() {
+                from = place.saturating_add(1);
+            }
+        }
+        Ok(weights)
+    }
+
+    /// Where the steps begin.
+    fn ascent(
+        &self,
+        alloc: Global,
+        table: &Compact,
+        rows: &[Vec<usize>],
+    ) -> Result<Ascent, AllocError> {
+        let weights = if self.rows.is_empty() {
+            self.first(alloc, table)?
+        } else {
+            self.carried(alloc, rows)?
+        };
+        let number = i64::try_from(table.costs.len()).unwrap_or(i64::MAX);
+        let total = sum(&table.costs).max(1);
+        let uneven = table.is_uneven();
+        let count = if uneven {
+            UNIT.wrapping_mul(number)
+                .wrapping_div(total)
+                .max(1)
+                .min(4294967295)
+        } else {
+            0
+        };
+        let column = if uneven { self.column } else { UNIT };
+        let mut ascent = Ascent {
+            direction: vec![in alloc; 0; rows.len()]?,
+            column,
+            column_direction: 0,
+            scaled_costs: vec![in alloc; 0; table.costs.len()]?,
+            loads: vec![in alloc; 0; table.costs.len()]?,
+            count,
+            top: i64::MIN,
+            top_weights: weights.to_vec(alloc)?,
+            top_column: column,
+            best_value: i64::MIN,
+            best_weights: weights.to_vec(alloc)?,
+            best_column: column,
+            pace: PACE,
+            idle: 0,
+            weights,
+        };
+        ascent.set_scaled_costs(&table.costs, column);
+        Ok(ascent)
+    }
+
+    /// Notes which columns bear more than their caps.
+    fn note_likely(&mut self, live: &[usize], ascent: &Ascent, fresh: bool) {
+        for (i, column) in live.iter().enumerate() {
+            let now = if at(&ascent.loads, i) > at(&ascent.scaled_costs, i) {
+                LIKELIEST
+            } else {
+                0
+            };
+            let before = at(&self.likely, *column);
+            let next = if fresh {
+                now
+            } else {
+                before.wrapping_add(now.wrapping_sub(before) >> 3)
+            };
+            put(&mut self.likely, *column, next);
+        }
+    }
+
+    /// Weights of the rows that are wished for, where no cover reaches the goal.
+    pub(crate) fn multipliers(
+        &mut self,
+        alloc: Global,
+        table: &Compact,
+        live: &[usize],
+        rows: &[Vec<usize>],
+        columns: usize,
+        goal: Goal,
+    ) -> Result<Multipliers, AllocError> {
+        let mut ascent = self.ascent(alloc, table, rows)?;
+        if rows.is_empty() {
+            return ascent.multipliers(alloc);
+        }
+        self.likely = vec![in alloc; 0; columns]?;
+        let mut last = STEPS;
+        let mut again = false;
+        for step in 0..STEPS * 2 + 2 {
+            let column = ascent.column;
+            ascent.set_scaled_costs(&table.costs, column);
+            load(&mut ascent.loads, &table.rows, &ascent.weights);
+            let value = ascent.value(&ascent.weights, column, goal);
+            self.note_likely(live, &ascent, step == 0);
+            ascent.note(alloc, value)?;
+            let slow = ascent.idle > PATIENCE && ascent.pace.wrapping_mul(3) / 5 < LAST_PACE;
+            let stop = step >= last || slow;
+            if stop {
+                let weights = ascent.top_weights.to_vec(alloc)?;
+                let column = ascent.top_column;
+                ascent.polish(alloc, table, weights, column, goal)?;
+                if !again && ascent.best_value <= 0 && ascent.best_value > 0 - UNIT / 8 {
+                    again = true;
+                    last = step.wrapping_add(STEPS);
+                    ascent.kick(alloc)?;
+                    continue;
+                }
+                break;
+            }
+            if step % (STEPS / 4) == 0 {
+                let weights = ascent.weights.to_vec(alloc)?;
+                ascent.polish(alloc, table, weights, column, goal)?;
+                if ascent.best_value > 0 {
+                    break;
+                }
+                ascent.set_scaled_costs(&table.costs, column);
+                load(&mut ascent.loads, &table.rows, &ascent.weights);
+            }
+            if ascent.idle > PATIENCE {
+                ascent.idle = 0;
+                ascent.pace = ascent.pace.wrapping_mul(3) / 5;
+                ascent.column = ascent.top_column;
+                ascent.weights = ascent.top_weights.to_vec(alloc)?;
+            }
+            let far = UNIT
+                .wrapping_sub(value)
+                .max(UNIT / 50)
+                .wrapping_mul(ascent.pace);
+            ascent.step(alloc, table, goal, far)?;
+        }
+        self.remember(alloc, rows, &ascent)?;
+        ascent.multipliers(alloc)
+    }
+
+    /// Remembers the rows and the weights that the steps came to.
+    fn remember(
+        &mut self,
+        alloc: Global,
+        rows: &[Vec<usize>],
+        ascent: &Ascent,
+    ) -> Result<(), AllocError> {
+        self.rows = copied_rows(alloc, rows)?;
+        self.weights = ascent.top_weights.to_vec(alloc)?;
+        if ascent.count > 0 {
+            self.column = ascent.top_column;
+            let missing = 0i64.wrapping_sub(ascent.best_value).max(0) / ascent.count.max(1);
+            self.missing = u64::try_from(missing).unwrap_or(0);
+        }
+        Ok(())
+    }
+}
+
+impl Ascent {
+    /// The best weights, in the form that is looked at.
+    fn multipliers(&self, alloc: Global) -> Result<Multipliers, AllocError> {
+        let mut weights = Vec::with_capacity(alloc, self.best_weights.len())?;
+        for weight in &self.best_weights {
+            weights.push(u64::try_from((*weight).max(0)).unwrap_or(0))?;
+        }
+        Ok(Multipliers {
+            weights,
+            column: u32::try_from(self.best_column).unwrap_or(u32::MAX),
+            count: u32::try_from(self.count).unwrap_or(u32::MAX),
+        })
+    }
+}

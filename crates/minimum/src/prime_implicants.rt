@@ -1,0 +1,23 @@
+//! Primes.
+
+ghost use Rattle.std.specs.Prelude.{◌≡◌, IfOk};
+ghost use Rattle.minimum.specs.Primes.{primes_of};
+
+use cover::{Cover, complete_sum};
+use pla::Sets;
+use std::alloc::AllocError;
+
+/// The primes, in row order: the largest cubes of places that are in the ON-set or the DC-set (Brayton et al. 1984).
+/// Those that lie in the DC-set alone are among them. Costs what [`complete_sum`] does, and a copy of both lists.
+pub fn primes(sets: &Sets) -> Result<Cover, AllocError>
+    ensures { IfOk result (λ sum. sum ≡ record { size = sets.now.size; cubes = primes_of sets.now }) }
+{
+    let on = sets.on();
+    let dc = sets.dc();
+    let shape = on.shape();
+    let _shape = dc.shape();
+    let mut rows = on.try_clone()?.into_cubes();
+    let mut others = dc.try_clone()?.into_cubes();
+    rows.append(&mut others)?;
+    complete_sum(&Cover::from_cubes(shape, rows))
+}

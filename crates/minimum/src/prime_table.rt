@@ -1,0 +1,96 @@
+//! The table of the primes.
+//!
+//! Its rows come from regions that are split until their places lie in the same primes, output by output; no point is
+//! listed. It takes a look at each cube for each output and each region, and memory for the rows and for a list of
+//! numbers at each level of the splits.
+
+ghost use Rattle.std.specs.Prelude.{◌≡◌, ◌<◌, true, false, IfOk, map, replicate, slice_set};
+ghost use Rattle.cube.specs.Cube.{literals as literals_of};
+ghost use Rattle.cover.specs.Cubes.{AreCubes};
+ghost use Rattle.minimum.specs.Table.{items_of};
+ghost use Rattle.minimum.specs.Primes.{primes_of};
+ghost use Rattle.minimum.specs.PrimeTable.{HasPrimeColumns, HasPrimeCovers};
+ghost use Rattle.minimum.specs.PrimeRows.{AreEnough, AreRowsOf};
+
+pub(crate) mod rows;
+
+use crate::covering::table::{Table, numbers};
+use crate::prime_table::rows::{Candidates, Lists};
+use cover::Cover;
+use cube::{Cube, Shape, Symbol};
+use pla::Sets;
+use std::alloc::{AllocError, Global};
+
+/// The cube of all places with this output.
+fn one_output(alloc: Global, shape: Shape, j: usize) -> Result<Cube, AllocError>
+    requires { j < shape.outputs }
+    ensures { IfOk result (λ c. c ≡ record { symbols = replicate shape.inputs Symbol.Dash; outputs = slice_set (replicate shape.outputs false) j true }) }
+{
+    let symbols = vec![in alloc; Symbol::Dash; shape.inputs()]?;
+    let mut outputs = vec![in alloc; false; shape.outputs()]?;
+    outputs[j] = true;
+    match Cube::from_symbols(alloc, shape, &symbols, &outputs)? {
+        Some(cube) => Ok(cube),
+        None => unreachable!(),
+    }
+}
+
+/// The number of literals.
+fn weight(cube: &Cube) -> u32
+    ensures { result ≡ literals_of cube.now }
+{
+    let _inputs = cube.shape().inputs();
+    cube.literals() as u32
+}
+
+fn weights(alloc: Global, cubes: &[Cube]) -> Result<Vec<u32>, AllocError>
+    ensures { IfOk result (λ v. v.items ≡ map literals_of cubes.now) }
+{
+    cubes.iter().map(|cube| weight(cube)).collect(alloc)
+}
+
+/// The rows of all wanted places.
+fn rows_of(alloc: Global, lists: &Lists, shape: Shape) -> Result<Vec<Vec<usize>>, AllocError>
+    requires primes { AreCubes shape lists.now.primes.now }
+    requires on { AreCubes shape lists.now.on.now }
+    requires dc { AreCubes shape lists.now.dc.now }
+    requires enough { AreEnough lists.now.primes.now lists.now.on.now lists.now.dc.now }
+    ensures { IfOk result (λ v. AreRowsOf lists.now.primes.now lists.now.on.now lists.now.dc.now (items_of v.items)) }
+{
+    let candidates = Candidates {
+        primes: numbers(alloc, lists.primes.len())?,
+        on: numbers(alloc, lists.on.len())?,
+        dc: numbers(alloc, lists.dc.len())?,
+    };
+    let mut rows = Vec::new(alloc);
+    for j in 0..shape.outputs() {
+        let region = one_output(alloc, shape, j)?;
+        lists.add_rows_by_cubes(alloc, &candidates, &region, &mut rows)?;
+    }
+    Ok(rows)
+}
+
+impl Table {
+    /// The table of the primes, as [`crate::primes`] answers them: a column for each, none taken and all live, weighed
+    /// by its literals. Its covers are the lists of primes that together hold each place of the ON-set that is not in
+    /// the DC-set.
+    ///
+    /// It may have as many rows as there are such places that lie in different primes; no point is listed.
+    pub fn build(alloc: Global, primes: &Cover, sets: &Sets) -> Result<Table, AllocError>
+        requires { primes.now ≡ record { size = sets.now.size; cubes = primes_of sets.now } }
+        ensures columns { IfOk result (HasPrimeColumns sets.now) }
+        ensures covers { IfOk result (HasPrimeCovers sets.now) }
+    {
+        let lists = Lists {
+            primes: primes.as_slice(),
+            on: sets.on().as_slice(),
+            dc: sets.dc().as_slice(),
+        };
+        let rows = rows_of(alloc, &lists, primes.shape())?;
+        let weights = weights(alloc, lists.primes)?;
+        match Table::new(alloc, rows, weights)? {
+            Some(table) => Ok(table),
+            None => unreachable!(),
+        }
+    }
+}

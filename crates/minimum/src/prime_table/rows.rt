@@ -1,0 +1,267 @@
+//! Rows from split cubes.
+//!
+//! A region is a cube of one output. The primes, the ON cubes and the DC cubes that have a place of it are known by
+//! their numbers. Where no ON cube is left, or a DC cube holds the region, no place of it is wanted; where each column
+//! of an earlier row holds the region, that row already asks for more. Where no DC cube is left and one prime alone, or
+//! where nothing has a literal inside the region, the primes that are left are the row of its wanted places. Else the
+//! region is split at such a literal. So places that the same primes hold are looked at together, and mostly once.
+
+ghost use Rattle.std.specs.Prelude.{◌≡◌, ◌<◌, ◌+◌, ◌==◌, ℕ, true, false, IfOk, OnOk, MatchOption, MatchBool, All, length, filter};
+ghost use Rattle.std.specs.List.{list_any};
+ghost use Rattle.cube.specs.Cube.{SameSize, Place, holds, difference};
+ghost use Rattle.cover.specs.Places.{places};
+ghost use Rattle.cover.specs.Marks.{cube_at};
+ghost use Rattle.minimum.specs.Table.{has, RisesFrom, items_of};
+ghost use Rattle.minimum.specs.Reduce.{holds_all};
+ghost use Rattle.minimum.specs.PrimeRows.{touches, spans, holds_at, HasNoneInside, IsFree, IsSplit, IsTouched, IsSettled, IsOpen, HasRowsFor, AddsRows};
+
+use crate::covering::columns::{copied, is_blank, is_within};
+use cube::{Cube, Symbol};
+use std::alloc::{AllocError, Global};
+
+/// The lists that are split against each other.
+#[derive(Clone, Copy)]
+pub(crate) struct Lists<'a> {
+    pub(crate) primes: &'a [Cube],
+    pub(crate) on: &'a [Cube],
+    pub(crate) dc: &'a [Cube],
+}
+
+/// Those of their cubes that may have a place of a region, by their numbers.
+#[derive(Drop)]
+pub(crate) struct Candidates {
+    pub(crate) primes: Vec<usize>,
+    pub(crate) on: Vec<usize>,
+    pub(crate) dc: Vec<usize>,
+}
+
+/// Whether the cube has a place of the region.
+fn touches(cubes: &[Cube], region: &Cube, number: usize) -> bool
+    requires size { All (λ d. SameSize d region.now) cubes.now }
+    requires below { number < length cubes.now }
+    ensures { result ≡ touches cubes.now region.now number }
+{
+    !cubes[number].disjoint(region)
+}
+
+/// Whether the cube holds the region.
+pub(crate) fn spans(cubes: &[Cube], region: &Cube, number: usize) -> bool
+    requires size { All (λ d. SameSize d region.now) cubes.now }
+    requires below { number < length cubes.now }
+    ensures { result ≡ spans cubes.now region.now number }
+{
+    cubes[number].contains(region)
+}
+
+/// Those of the cubes that have a place of the region.
+fn touching(
+    alloc: Global,
+    cubes: &[Cube],
+    region: &Cube,
+    numbers: &[usize],
+) -> Result<Vec<usize>, AllocError>
+    requires size { All (λ d. SameSize d region.now) cubes.now }
+    requires below { All (λ i. i < length cubes.now) numbers.now }
+    ensures { IfOk result (λ v. v.items ≡ filter (touches cubes.now region.now) numbers.now) }
+{
+    let mut kept = Vec::new(alloc);
+    for number in numbers {
+        if touches(cubes, region, *number) {
+            kept.push(*number)?;
+        }
+    }
+    Ok(kept)
+}
+
+/// Those of the cubes that hold the region.
+fn spanning(
+    alloc: Global,
+    cubes: &[Cube],
+    region: &Cube,
+    numbers: &[usize],
+) -> Result<Vec<usize>, AllocError>
+    requires size { All (λ d. SameSize d region.now) cubes.now }
+    requires below { All (λ i. i < length cubes.now) numbers.now }
+    ensures { IfOk result (λ v. v.items ≡ filter (spans cubes.now region.now) numbers.now) }
+{
+    let mut kept = Vec::new(alloc);
+    for number in numbers {
+        if spans(cubes, region, *number) {
+            kept.push(*number)?;
+        }
+    }
+    Ok(kept)
+}
+
+/// Whether one of the cubes holds the region.
+fn any_spans(cubes: &[Cube], region: &Cube, numbers: &[usize]) -> bool
+    requires size { All (λ d. SameSize d region.now) cubes.now }
+    requires below { All (λ i. i < length cubes.now) numbers.now }
+    ensures { result ≡ list_any (spans cubes.now region.now) numbers.now }
+{
+    for number in numbers {
+        if spans(cubes, region, *number) {
+            return true;
+        }
+    }
+    false
+}
+
+/// An input at which the region has a dash and the cube a literal.
+fn literal_inside(cube: &Cube, region: &Cube) -> Option<usize>
+    requires { SameSize cube.now region.now }
+    ensures { MatchOption result (HasNoneInside cube.now region.now) (IsFree region.now) }
+{
+    let _inputs = cube.shape().inputs();
+    let mut from = 0;
+    while let Some(i) = cube.next_literal(from) {
+        if region.symbol(i) == Symbol::Dash {
+            return Some(i);
+        }
+        from = i + 1;
+    }
+    None
+}
+
+/// The same for some of the cubes.
+fn first_inside(cubes: &[Cube], region: &Cube, numbers: &[usize]) -> Option<usize>
+    requires size { All (λ d. SameSize d region.now) cubes.now }
+    requires below { All (λ i. i < length cubes.now) numbers.now }
+    ensures { MatchOption result ((n : ℕ) → has n numbers.now ≡ true → HasNoneInside (cube_at cubes.now n) region.now) (IsFree region.now) }
+{
+    for number in numbers {
+        if let Some(i) = literal_inside(&cubes[*number], region) {
+            return Some(i);
+        }
+    }
+    None
+}
+
+/// Whether there is one number.
+fn is_alone(numbers: &[usize]) -> bool
+    ensures { result ≡ (length numbers.now == 1) }
+{
+    numbers.len() == 1
+}
+
+/// Whether some row has none but these columns.
+fn any_within(rows: &[Vec<usize>], columns: &[usize]) -> bool
+    requires { RisesFrom 0 columns.now }
+    ensures { result ≡ list_any (λ row. holds_all columns.now row.items) rows.now }
+{
+    rows.iter().any(|row| is_within(row, columns))
+}
+
+impl<'a> Lists<'a> {
+    /// Those that have a place of the region.
+    fn candidates(
+        &self,
+        alloc: Global,
+        candidates: &Candidates,
+        region: &Cube,
+    ) -> Result<Candidates, AllocError>
+        requires { IsSplit self.now.primes.now self.now.on.now self.now.dc.now region.now candidates.now.primes.items candidates.now.on.items candidates.now.dc.items }
+        ensures { IfOk result (λ n. IsTouched self.now.primes.now self.now.on.now self.now.dc.now region.now n.primes.items n.on.items n.dc.items) }
+    {
+        Ok(Candidates {
+            primes: touching(alloc, self.primes, region, &candidates.primes)?,
+            on: touching(alloc, self.on, region, &candidates.on)?,
+            dc: touching(alloc, self.dc, region, &candidates.dc)?,
+        })
+    }
+
+    /// Primes that hold each wanted place of the region.
+    fn common_primes(
+        &self,
+        alloc: Global,
+        candidates: &Candidates,
+        region: &Cube,
+    ) -> Result<Vec<usize>, AllocError>
+        requires { IsTouched self.now.primes.now self.now.on.now self.now.dc.now region.now candidates.now.primes.items candidates.now.on.items candidates.now.dc.items }
+        ensures rises { IfOk result (λ v. RisesFrom 0 v.items) }
+        ensures hold { IfOk result (λ v. (i : ℕ) (p : Place) → has i v.items ≡ true → holds region.now p ≡ true → difference (places self.now.on.now) (places self.now.dc.now) p ≡ true → holds_at self.now.primes.now i p ≡ true) }
+    {
+        if is_alone(&candidates.primes) {
+            return copied(alloc, &candidates.primes);
+        }
+        spanning(alloc, self.primes, region, &candidates.primes)
+    }
+
+    /// Whether no place of the region is wanted, or a row asks for more than its places do.
+    fn needs_no_row(
+        &self,
+        alloc: Global,
+        candidates: &Candidates,
+        region: &Cube,
+        rows: &[Vec<usize>],
+    ) -> Result<bool, AllocError>
+        requires { IsTouched self.now.primes.now self.now.on.now self.now.dc.now region.now candidates.now.primes.items candidates.now.on.items candidates.now.dc.items }
+        ensures { IfOk result (λ b. MatchBool b (HasRowsFor self.now.primes.now self.now.on.now self.now.dc.now (holds region.now) (items_of rows.now)) (IsOpen self.now.dc.now region.now candidates.now.on.items candidates.now.dc.items)) }
+    {
+        if is_blank(&candidates.on) || any_spans(self.dc, region, &candidates.dc) {
+            return Ok(true);
+        }
+        let common_primes = self.common_primes(alloc, candidates, region)?;
+        Ok(any_within(rows, &common_primes))
+    }
+
+    /// An input to split the region at; `None` where its wanted places are in the same primes.
+    fn split(&self, candidates: &Candidates, region: &Cube) -> Option<usize>
+        requires touched { IsTouched self.now.primes.now self.now.on.now self.now.dc.now region.now candidates.now.primes.items candidates.now.on.items candidates.now.dc.items }
+        requires open { IsOpen self.now.dc.now region.now candidates.now.on.items candidates.now.dc.items }
+        ensures { MatchOption result (IsSettled self.now.primes.now self.now.on.now self.now.dc.now region.now candidates.now.primes.items) (IsFree region.now) }
+    {
+        if is_alone(&candidates.primes) && is_blank(&candidates.dc) {
+            return None;
+        }
+        match first_inside(self.primes, region, &candidates.primes) {
+            Some(i) => Some(i),
+            None => first_inside(self.dc, region, &candidates.dc),
+        }
+    }
+
+    /// Adds the rows of the region's wanted places, but for those that rows have already.
+    pub(crate) fn add_rows(
+        &self,
+        alloc: Global,
+        candidates: &Candidates,
+        region: &Cube,
+        rows: &mut Vec<Vec<usize>>,
+    ) -> Result<(), AllocError>
+        requires { IsSplit self.now.primes.now self.now.on.now self.now.dc.now region.now candidates.now.primes.items candidates.now.on.items candidates.now.dc.items }
+        ensures { OnOk result (AddsRows self.now.primes.now self.now.on.now self.now.dc.now (holds region.now) (items_of rows.old.items) (items_of rows.new.items)) }
+    {
+        let candidates = self.candidates(alloc, candidates, region)?;
+        if self.needs_no_row(alloc, &candidates, region, rows)? {
+            return Ok(());
+        }
+        let Some(i) = self.split(&candidates, region) else {
+            rows.push(candidates.primes)?;
+            return Ok(());
+        };
+        let low = region.with_symbol(i, Symbol::Zero)?;
+        self.add_rows(alloc, &candidates, &low, rows)?;
+        let high = region.with_symbol(i, Symbol::One)?;
+        self.add_rows(alloc, &candidates, &high, rows)
+    }
+
+    /// The same, ON cube by ON cube: so primes that are of no use to a cube's places do not multiply its splits.
+    pub(crate) fn add_rows_by_cubes(
+        &self,
+        alloc: Global,
+        candidates: &Candidates,
+        region: &Cube,
+        rows: &mut Vec<Vec<usize>>,
+    ) -> Result<(), AllocError>
+        requires { IsSplit self.now.primes.now self.now.on.now self.now.dc.now region.now candidates.now.primes.items candidates.now.on.items candidates.now.dc.items }
+        ensures { OnOk result (AddsRows self.now.primes.now self.now.on.now self.now.dc.now (holds region.now) (items_of rows.old.items) (items_of rows.new.items)) }
+    {
+        let candidates = self.candidates(alloc, candidates, region)?;
+        for cube in self.on {
+            if let Some(part) = cube.meet(region)? {
+                self.add_rows(alloc, &candidates, &part, rows)?;
+            }
+        }
+        Ok(())
+    }
+}
