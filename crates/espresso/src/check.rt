@@ -12,7 +12,7 @@ ghost use Rattle.espresso.specs.Steps.{PutsOut};
 
 use crate::status::Status;
 use crate::stop::Stop;
-use pla::{FileType, Output, Pla, WriteFault, then, write_bytes};
+use pla::{FileType, Output, Pla, WriteFault, write_bytes, write_next};
 use std::alloc::AllocError;
 
 // Which of the three sets share a place, and whether there is a place outside of all.
@@ -121,11 +121,11 @@ fn write_flaws<W: Output>(flaws: Flaws, out: &mut W) -> Result<(), WriteFault>
     let line = line_if(flaws.on_dc, b"ON-set and DC-set intersect\n");
     let done = write_bytes(out, line);
     let line = line_if(flaws.on_off, b"ON-set and OFF-set intersect\n");
-    let done = then(out, done, line);
+    let done = write_next(out, done, line);
     let line = line_if(flaws.dc_off, b"DC-set and OFF-set intersect\n");
-    let done = then(out, done, line);
+    let done = write_next(out, done, line);
     let gap = b"ON-set, OFF-set and DC-set do not cover the space\n";
-    then(out, done, line_if(flaws.gap, gap))
+    write_next(out, done, line_if(flaws.gap, gap))
 }
 
 // The line, where the condition holds.

@@ -7,7 +7,7 @@ ghost use Rattle.espresso.specs.Steps.{Names, message_of, name_at, status_of, st
 
 use crate::status::Status;
 use itoa::Buffer;
-use pla::{Output, ReadFault, ReadKind, WriteFault, then, write_bytes};
+use pla::{Output, ReadFault, ReadKind, WriteFault, write_bytes, write_next};
 
 // A source of a run.
 #[derive(Clone, Copy, Debug, PartialEq, Eq)]
@@ -82,8 +82,8 @@ fn say_closed<E: Output>(name: &[u8], err: &mut E) -> Result<(), WriteFault>
     ensures count { TellsFailure (E.calls err.old) (E.calls err.new) result }
 {
     let done = write_bytes(err, b"espresso: cannot open ");
-    let done = then(err, done, name);
-    then(err, done, b"\n")
+    let done = write_next(err, done, name);
+    write_next(err, done, b"\n")
 }
 
 fn say_fault<E: Output>(name: &[u8], fault: ReadFault, err: &mut E) -> Result<(), WriteFault>
@@ -91,12 +91,12 @@ fn say_fault<E: Output>(name: &[u8], fault: ReadFault, err: &mut E) -> Result<()
     ensures count { TellsFailure (E.calls err.old) (E.calls err.new) result }
 {
     let done = write_bytes(err, b"espresso: ");
-    let done = then(err, done, name);
-    let done = then(err, done, b":");
+    let done = write_next(err, done, name);
+    let done = write_next(err, done, b":");
     let done = then_number(err, done, fault.line);
-    let done = then(err, done, b": ");
+    let done = write_next(err, done, b": ");
     let done = then_kind(err, done, fault.kind);
-    then(err, done, b"\n")
+    write_next(err, done, b"\n")
 }
 
 // The number in decimal, behind what was written.
@@ -109,7 +109,7 @@ fn then_number<E: Output>(
     ensures count { CountsOn (E.calls err.old) done (E.calls err.new) result }
 {
     let mut digits = Buffer::new();
-    then(err, done, digits.format(number).as_bytes())
+    write_next(err, done, digits.format(number).as_bytes())
 }
 
 // What the kind is called, behind what was written.
@@ -121,7 +121,7 @@ fn then_kind<E: Output>(
     ensures bytes { Continues (E.taken err.old) done (E.taken err.new) result (kind_text kind) }
     ensures count { CountsOn (E.calls err.old) done (E.calls err.new) result }
 {
-    then(err, done, text_of_kind(kind))
+    write_next(err, done, text_of_kind(kind))
 }
 
 fn text_of_kind(kind: ReadKind) -> &'static [u8]

@@ -107,7 +107,7 @@ pub fn keyword_code_of(line: &[u8]) -> &[u8]
     line
 }
 
-/// The first word, or nothing where there is none.
+/// The first word, or nothing if there is none.
 fn first_word(code: &[u8]) -> &[u8]
     ensures { result.now ≡ slice_index_or (words code.now) 0 [] }
 {
@@ -117,7 +117,7 @@ fn first_word(code: &[u8]) -> &[u8]
     }
 }
 
-/// The keyword with its dot: empty where the line has none.
+/// The keyword with its dot: empty if the line has none.
 pub fn keyword_of(line: &[u8]) -> &[u8]
     ensures { result.now ≡ keyword line.now }
 {

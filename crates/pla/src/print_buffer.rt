@@ -5,24 +5,24 @@ ghost use Rattle.pla.specs.Text.{row_text};
 
 use crate::device::Output;
 use crate::row::{ROW_BYTES, put_row};
-use crate::writing::{WriteFault, then};
+use crate::writing::{WriteFault, write_next};
 use cube::Cube;
 use std::marker::Model;
 
 // How many bytes are put together at most.
-const BATCH_BYTES: usize = 32768;
+const BUFFER_BYTES: usize = 32768;
 
 /// Bytes that are due to an output and pending, in one buffer on the stack. Takes no memory.
 ///
-/// The output is passed to each call, and so is the answer of the call before: behind a failure
+/// The output is passed to each call, and so is the answer of the call before: after a failure
 /// nothing more is written.
 #[derive(Drop)]
-pub struct Batch {
-    bytes: [u8; BATCH_BYTES],
+pub struct PrintBuffer {
+    bytes: [u8; BUFFER_BYTES],
     used: usize,
 }
 
-impl Model for Batch {
+impl Model for PrintBuffer {
     ghost use Rattle.std.specs.Prelude.{◌≡◌, ◌≤◌, ℕ, List, length, take};
 
     ghost Value = { List ℕ };
@@ -32,13 +32,13 @@ impl Model for Batch {
     ghost invariant = { λ s. (s.used ≤ 32768) × (length s.bytes ≡ 32768) };
 }
 
-impl Batch {
+impl PrintBuffer {
     /// Nothing pending.
-    pub fn new() -> Batch
+    pub fn new() -> PrintBuffer
         ensures { result ≡ [] }
     {
-        Batch {
-            bytes: [0; BATCH_BYTES],
+        PrintBuffer {
+            bytes: [0; BUFFER_BYTES],
             used: 0,
         }
     }
@@ -47,56 +47,59 @@ impl Batch {
     ///
     /// # Errors
     ///
-    /// The fault of what was written before, or `WriteFault` where the output fails now.
-    pub fn hand_on<W: Output>(
+    /// The fault of what was written before, or `WriteFault` if the output fails now.
+    pub fn flush_to<W: Output>(
         &mut self,
         out: &mut W,
         done: Result<(), WriteFault>,
     ) -> Result<(), WriteFault>
-        ensures bytes { PutsOn (W.taken out.old) self.old done (W.taken out.new) self.new result [] }
+        ensures bytes { PutsOn (W.taken out.old) self.old done
+            (W.taken out.new) self.new result [] }
         ensures count { CountsOn (W.calls out.old) done (W.calls out.new) result }
         ensures empty { self.new ≡ [] }
     {
-        let done = then(out, done, &self.bytes[..self.used]);
+        let done = write_next(out, done, &self.bytes[..self.used]);
         self.used = 0;
         done
     }
 
-    // Writes what is pending where so many bytes have no room behind it.
+    // Writes what is pending if so many bytes have no room after it.
     fn make_room<W: Output>(
         &mut self,
         count: usize,
         out: &mut W,
         done: Result<(), WriteFault>,
     ) -> Result<(), WriteFault>
-        ensures bytes { PutsOn (W.taken out.old) self.old done (W.taken out.new) self.new result [] }
+        ensures bytes { PutsOn (W.taken out.old) self.old done
+            (W.taken out.new) self.new result [] }
         ensures count { CountsOn (W.calls out.old) done (W.calls out.new) result }
         ensures room { length self.new + min count 32768 ≤ 32768 }
     {
-        if count > BATCH_BYTES - self.used {
-            self.hand_on(out, done)
+        if count > BUFFER_BYTES - self.used {
+            self.flush_to(out, done)
         } else {
             done
         }
     }
 
-    /// Puts bytes behind what was put before.
+    /// Puts bytes after what was put before.
     ///
     /// # Errors
     ///
-    /// The fault of what was written before, or `WriteFault` where the output fails now.
-    pub fn then<W: Output>(
+    /// The fault of what was written before, or `WriteFault` if the output fails now.
+    pub fn write_next<W: Output>(
         &mut self,
         out: &mut W,
         done: Result<(), WriteFault>,
         bytes: &[u8],
     ) -> Result<(), WriteFault>
-        ensures bytes { PutsOn (W.taken out.old) self.old done (W.taken out.new) self.new result bytes.now }
+        ensures bytes { PutsOn (W.taken out.old) self.old done
+            (W.taken out.new) self.new result bytes.now }
         ensures count { CountsOn (W.calls out.old) done (W.calls out.new) result }
     {
         let done = self.make_room(bytes.len(), out, done);
-        if bytes.len() > BATCH_BYTES {
-            return then(out, done, bytes);
+        if bytes.len() > BUFFER_BYTES {
+            return write_next(out, done, bytes);
         }
         self.keep(bytes);
         done
@@ -112,13 +115,13 @@ impl Batch {
         self.used = end;
     }
 
-    /// Puts the row of a cube behind what was put before: `mark` for an output in the cube, `other`
+    /// Puts the row of a cube after what was put before: `mark` for an output in the cube, `other`
     /// for any other output.
     ///
     /// # Errors
     ///
-    /// The fault of what was written before, or `WriteFault` where the output fails now.
-    pub fn then_row<W: Output>(
+    /// The fault of what was written before, or `WriteFault` if the output fails now.
+    pub fn write_next_row<W: Output>(
         &mut self,
         out: &mut W,
         done: Result<(), WriteFault>,
@@ -126,7 +129,8 @@ impl Batch {
         mark: u8,
         other: u8,
     ) -> Result<(), WriteFault>
-        ensures bytes { PutsOn (W.taken out.old) self.old done (W.taken out.new) self.new result (row_text mark other cube.now) }
+        ensures bytes { PutsOn (W.taken out.old) self.old done (W.taken out.new) self.new result
+            (row_text mark other cube.now) }
         ensures count { CountsOn (W.calls out.old) done (W.calls out.new) result }
     {
         let done = self.make_room(ROW_BYTES, out, done);

@@ -1,7 +1,7 @@
 use Rattle.std.proofs.Common.{arith, ◌≡◌, ◌+◌, ◌≤◌, take, drop, length, ℕ, ◌-◌, List, ◌++◌, sym, ap, ◌∙◌}
 use Rattle.std.proofs.lemmas.List.{take-append-le, take-append-drop, drop-drop, length-take-le, drop_all, length-append, length-drop}
 use Rattle.std.proofs.Math.Seq.{take-length}
-use Rattle.pla.proofs.fakes.GivenInput.read.Goals as goal
+use Rattle.pla.proofs.memory.GivenInput.read.Goals as goal
 
 -- what a read put at the buffer's front, and then the rest, was left before
 moved : (bs x y : List ℕ) (at n : ℕ) → length x ≡ n → x ≡ take n (drop at bs) → drop at bs ≡ take n (x ++ y) ++ drop (at + n) bs

@@ -1,4 +1,4 @@
-//! Bytes that are held back from an output, so that it gets them in one write.
+//! A buffer of echoes, so that the output gets those of a piece at once.
 ghost use Rattle.std.specs.Prelude.{◌≡◌, [], Some};
 ghost use Rattle.pla.specs.Device.{TellsFailure, Writes};
 
@@ -7,20 +7,20 @@ use crate::device::{Broken, Output};
 use crate::writing::{WriteFault, write_bytes};
 use std::alloc::Global;
 
-/// An output in memory, which holds what it takes until that is handed on. A write breaks where memory
-/// is refused.
+/// An output in memory, which holds what it takes until a flush to another output. A write breaks if
+/// memory is refused.
 #[derive(Drop)]
-pub struct Held {
+pub struct EchoBuffer {
     pub bytes: Vec<u8>,
     pub calls: WriteCalls,
 }
 
-impl Held {
+impl EchoBuffer {
     /// Nothing held. Takes no memory.
-    pub fn new(alloc: Global) -> Held
+    pub fn new(alloc: Global) -> EchoBuffer
         ensures { result.bytes.items ≡ [] }
     {
-        Held {
+        EchoBuffer {
             bytes: Vec::new(alloc),
             calls: WriteCalls::new(),
         }
@@ -30,9 +30,10 @@ impl Held {
     ///
     /// # Errors
     ///
-    /// `WriteFault` where the output fails; it took a beginning of the bytes then.
-    pub fn hand_on<W: Output>(&mut self, output: &mut W) -> Result<(), WriteFault>
-        ensures bytes { Writes (W.taken output.old) (W.taken output.new) result self.old.bytes.items }
+    /// `WriteFault` if the output fails; it took a prefix of the bytes then.
+    pub fn flush_to<W: Output>(&mut self, output: &mut W) -> Result<(), WriteFault>
+        ensures bytes { Writes (W.taken output.old)
+            (W.taken output.new) result self.old.bytes.items }
         ensures count { TellsFailure (W.calls output.old) (W.calls output.new) result }
         ensures empty { self.new.bytes.items ≡ [] }
         ensures calls { self.new.calls ≡ self.old.calls }
@@ -43,7 +44,7 @@ impl Held {
     }
 }
 
-impl Output for Held {
+impl Output for EchoBuffer {
     ghost taken = { λ s. Some s.bytes.items };
 
     ghost calls = { λ s. s.calls };

@@ -1,6 +1,6 @@
 use Rattle.pla.specs.Text.{row_text}
 use Rattle.pla.proofs.Putting.{puts_after, puts_kept}
-use Rattle.pla.proofs.batch.Batch.then_row.Goals as goal
+use Rattle.pla.proofs.print_buffer.PrintBuffer.write_next_row.Goals as goal
 
 pub returns-clause-bytes : goal.returns-clause-bytes
 returns-clause-bytes g c =

@@ -24,13 +24,14 @@ pub record Parsed : Type 0 where
 
 -- what these lines give
 abbrev pub parsed_of : Limits → List (List ℕ) → Parsed
-parsed_of limits lines = let h = header_of limits lines in let symbols = all_symbols lines in record {
-  header = h;
-  pending = unfinished_row (size_in h) symbols;
-  on = given_list (type_in h) On (size_in h) symbols;
-  dc = given_list (type_in h) DontCare (size_in h) symbols;
-  off = given_list (type_in h) Off (size_in h) symbols;
-}
+parsed_of limits lines =
+    let h = header_of limits lines in let symbols = all_symbols lines in record {
+      header = h;
+      pending = unfinished_row (size_in h) symbols;
+      on = given_list (type_in h) On (size_in h) symbols;
+      dc = given_list (type_in h) DontCare (size_in h) symbols;
+      off = given_list (type_in h) Off (size_in h) symbols;
+    }
 
 -- the lines have no fault, none follows one that ends the description, and this is what they give
 pub record StandsForLines (limits : Limits) (parsed : Parsed) (lines : List (List ℕ)) : Type 0 where
@@ -38,13 +39,13 @@ pub record StandsForLines (limits : Limits) (parsed : Parsed) (lines : List (Lis
   pub within : looked_at lines ≡ lines
   pub given : parsed ≡ parsed_of limits lines
 
--- a line after these was refused for want of memory, or has this first kind
+-- a line after these was refused, out of memory, or has this first kind
 abbrev pub Refuses : Limits → List (List ℕ) → List ℕ → LineError → Type 0
 Refuses limits before line Memory = ⊤
 Refuses limits before line (Fault kind) = fault_on limits before line ≡ Some kind
 
 -- what a reader keeps
-pub record State : Type 0 where
+pub record Scan : Type 0 where
   -- whether comments are passed on
   pub echo : Echo
   -- what the lines that a line feed ended have given
@@ -53,14 +54,14 @@ pub record State : Type 0 where
   pub rest : List ℕ
 
 -- what is kept of a text: once the description has ended, no rest
-abbrev pub state_of : Limits → Echo → List ℕ → State
-state_of limits echo text = let parsed = parsed_of limits (looked_at (ended_lines text)) in record {
+abbrev pub scan_of : Limits → Echo → List ℕ → Scan
+scan_of limits echo text = let parsed = parsed_of limits (looked_at (ended_lines text)) in record {
   echo = echo;
   parsed = parsed;
   rest = if parsed.header.ended then [] else open_rest text;
 }
 
 -- the text has no fault yet, and this is what is kept of it
-pub record StandsFor (limits : Limits) (state : State) (text : List ℕ) : Type 0 where
+pub record StandsFor (limits : Limits) (state : Scan) (text : List ℕ) : Type 0 where
   pub faultless : open_fault limits text ≡ None
-  pub given : state ≡ state_of limits state.echo text
+  pub given : state ≡ scan_of limits state.echo text

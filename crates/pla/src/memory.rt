@@ -1,8 +1,8 @@
-//! Devices that tell their bytes, for tests.
+//! Devices in memory, which report their bytes: for tests.
 ghost use Rattle.std.specs.Prelude.{◌≡◌, ◌+◌, ◌-◌, ◌<◌, ◌≤◌, ◌↔◌, ◌⊎◌, Some, None, false, [], length, min, IfOk, IfErr, IsErr, IsTrue};
 ghost use Rattle.std.specs.Io.KnownBytes.{Keeps, ReadConsumes, WriteAppends};
 ghost use Rattle.pla.specs.Device.{TellsFlush, TellsRead, TellsWrite};
-ghost use Rattle.pla.specs.Fakes.{one_nearer};
+ghost use Rattle.pla.specs.Memory.{one_nearer};
 
 use crate::calls::{ReadCalls, WriteCalls};
 use crate::device::{Broken, Input, Output};
@@ -10,8 +10,8 @@ use crate::ending::Ending;
 use std::alloc::{AllocError, Global};
 use std::marker::Model;
 
-/// An input that delivers stored bytes, at most so many a read, and then ends or fails. One read may fail
-/// alone, before which and behind which it works.
+/// An input that delivers stored bytes, at most so many a read, and then ends or fails. One read may
+/// fail alone, before and after which it works.
 #[derive(Drop)]
 pub struct Given {
     bytes: Vec<u8>,
@@ -24,18 +24,25 @@ pub struct Given {
 
 impl Model for Given {
     ghost use Rattle.std.specs.Prelude.{◌<◌, ◌≤◌, drop, vec_len};
-    ghost use Rattle.pla.specs.Fakes.{Store};
+    ghost use Rattle.pla.specs.Memory.{Given as Store};
 
     ghost Value = { Store };
 
-    ghost view = { λ s. record { left = drop s.at s.bytes.items; delivered = s.at; most = s.most; ending = s.ending; until_failure = s.until_failure; calls = s.calls } };
+    ghost view = { λ s. record {
+      left = drop s.at s.bytes.items;
+      delivered = s.at;
+      most = s.most;
+      ending = s.ending;
+      until_failure = s.until_failure;
+      calls = s.calls;
+    } };
 
     ghost invariant = { λ s. (s.at ≤ vec_len s.bytes) × (0 < s.most) };
 }
 
 impl Given {
     /// These bytes, at most `most` of them a read, and then `ending`. A failing one fails at each
-    /// read behind the last byte.
+    /// read after the last byte.
     pub fn new(bytes: Vec<u8>, most: usize, ending: Ending) -> Given
         requires { 0 < most }
         ensures { result ≡ record {
@@ -57,7 +64,7 @@ impl Given {
         }
     }
 
-    /// The same, but that one read fails alone: the first from here on where `reads` is 0.
+    /// This input, but that one read fails alone: the first from here on if `reads` is 0.
     pub fn failing_after(self, reads: u64) -> Given
         ensures { result ≡ record self { until_failure = Some reads } }
     {
@@ -89,7 +96,8 @@ impl Input for Given {
         ensures bytes { ReadConsumes (Some self.old.left) (Some self.new.left) result buffer.new }
         ensures count { TellsRead self.old.calls self.new.calls result }
         ensures delivered { IfOk result (λ n. self.new.delivered ≡ self.old.delivered + n) }
-        ensures most { IfOk result (λ n. n ≡ min (min (length self.old.left) self.old.most) (length buffer.old)) }
+        ensures most { IfOk result
+            (λ n. n ≡ min (min (length self.old.left) self.old.most) (length buffer.old)) }
         ensures fails { IsErr result ↔ ((self.old.until_failure ≡ Some 0)
             ⊎ ((self.old.left ≡ []) × (self.old.ending ≡ Ending.Failed))) }
         ensures undelivered { IfErr result (λ _. self.new.delivered ≡ self.old.delivered) }
@@ -124,8 +132,8 @@ fn nearer(until_failure: Option<u64>) -> Option<u64>
     }
 }
 
-/// An output that takes bytes up to its room, at most so many a write, and then breaks. One write may fail
-/// alone, before which and behind which it works.
+/// An output that takes bytes up to its room, at most so many a write, and then breaks. One write may
+/// fail alone, before and after which it works.
 #[derive(Drop)]
 pub struct Taken {
     bytes: Vec<u8>,
@@ -138,18 +146,25 @@ pub struct Taken {
 
 impl Model for Taken {
     ghost use Rattle.std.specs.Prelude.{◌-◌, ◌<◌, ◌≤◌, take, vec_len};
-    ghost use Rattle.pla.specs.Fakes.{Room};
+    ghost use Rattle.pla.specs.Memory.{Taken as Room};
 
     ghost Value = { Room };
 
-    ghost view = { λ s. record { taken = take s.used s.bytes.items; room = vec_len s.bytes - s.used; most = s.most; flush_fails = s.flush_fails; until_failure = s.until_failure; calls = s.calls } };
+    ghost view = { λ s. record {
+      taken = take s.used s.bytes.items;
+      room = vec_len s.bytes - s.used;
+      most = s.most;
+      flush_fails = s.flush_fails;
+      until_failure = s.until_failure;
+      calls = s.calls;
+    } };
 
     ghost invariant = { λ s. (s.used ≤ vec_len s.bytes) × (0 < s.most) };
 }
 
 impl Taken {
     /// Nothing taken, and room for so many bytes, at most `most` of them a write. Each flush fails
-    /// where `flush_fails` says so.
+    /// if `flush_fails` says so.
     pub fn new(
         alloc: Global,
         room: usize,
@@ -163,7 +178,11 @@ impl Taken {
           most = most;
           flush_fails = flush_fails;
           until_failure = None;
-          calls = record { counts = record { failures = 0; flushes = 0; failed_flushes = 0 }; broken = false; flushed = false };
+          calls = record {
+            counts = record { failures = 0; flushes = 0; failed_flushes = 0 };
+            broken = false;
+            flushed = false;
+          };
         }) }
     {
         let bytes = vec![in alloc; 0; room]?;
@@ -177,7 +196,7 @@ impl Taken {
         })
     }
 
-    /// The same, but that one write fails alone: the first from here on where `writes` is 0.
+    /// This output, but that one write fails alone: the first from here on if `writes` is 0.
     pub fn failing_after(self, writes: u64) -> Taken
         ensures { result ≡ record self { until_failure = Some writes } }
     {
@@ -216,7 +235,8 @@ impl Output for Taken {
         ensures some { IfOk result (λ n. 0 < length bytes.now → 0 < n) }
         ensures bytes { WriteAppends (Some self.old.taken) (Some self.new.taken) result bytes.now }
         ensures count { TellsWrite self.old.calls self.new.calls result }
-        ensures most { IfOk result (λ n. n ≡ min (min self.old.room self.old.most) (length bytes.now)) }
+        ensures most { IfOk result
+            (λ n. n ≡ min (min self.old.room self.old.most) (length bytes.now)) }
         ensures room { IfOk result (λ n. self.new.room + n ≡ self.old.room) }
         ensures fails { IsErr result ↔ ((self.old.until_failure ≡ Some 0)
             ⊎ ((self.old.room ≡ 0) × (0 < length bytes.now))) }
