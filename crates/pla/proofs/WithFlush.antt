@@ -23,11 +23,6 @@ cause_any P WriteFailed h = h
 cause_any P OutOfMemory h = h
 cause_any P _ h = h
 
-cause_all : (P : Type 0) (kind : ReadKind) → P → MatchCause kind P P P
-cause_all P WriteFailed h = h
-cause_all P OutOfMemory h = h
-cause_all P _ h = h
-
 -- ---- the clauses of a step
 
 -- what was buffered is a front of what was due

@@ -1,5 +1,5 @@
 //! What a reader reads from and a writer writes to.
-ghost use Rattle.std.specs.Prelude.{◌≡◌, ℕ, List, Option, ◌≤◌, ◌<◌, length, IfOk};
+ghost use Rattle.std.specs.Prelude.{ℕ, List, Option, ◌≤◌, ◌<◌, length, IfOk};
 ghost use Rattle.std.specs.Io.KnownBytes.{Keeps, ReadConsumes, WriteAppends};
 ghost use Rattle.pla.specs.declared.calls.ReadCalls.{ReadCalls};
 ghost use Rattle.pla.specs.declared.calls.WriteCalls.{WriteCalls};

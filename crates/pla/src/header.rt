@@ -1,5 +1,5 @@
 //! What the lines so far have given, and the tests of a line under it.
-ghost use Rattle.std.specs.Prelude.{◌≡◌, ℕ, ◌+◌, ◌<◌, ◌≤◌, ◌^◌, [], IfOk, OnOk, OnErr, Some, None, slice_index_or, drop, length, true, false};
+ghost use Rattle.std.specs.Prelude.{◌≡◌, ℕ, ◌<◌, ◌≤◌, [], IfOk, OnOk, OnErr, Some, None, slice_index_or, drop, false};
 ghost use Rattle.std.specs.Option.{ForSome};
 ghost use Rattle.cube.specs.Limits.{format_limits};
 ghost use Rattle.pla.specs.Keywords.{texts, is_one_of, endings, refused_keywords, type_named, type_by};

@@ -1,7 +1,7 @@
 //! What a line is and holds.
-ghost use Rattle.std.specs.Prelude.{◌≡◌, [], slice_index_or, ◌++◌, ◌<◌, ◌^◌, IfOk, map, drop, find, position, ◌==◌, not, filter, OnErr};
+ghost use Rattle.std.specs.Prelude.{◌≡◌, [], slice_index_or, ◌<◌, ◌^◌, IfOk, find, position, ◌==◌, not, filter};
 ghost use Rattle.std.specs.List.{list_any};
-ghost use Rattle.pla.specs.Lines.{is_blank, is_row_blank, kind, words, is_empty, row_code, keyword_code, keyword_words, keyword};
+ghost use Rattle.pla.specs.Lines.{is_blank, is_row_blank, kind, words, is_empty, row_code, keyword_code, keyword};
 ghost use Rattle.pla.specs.Keywords.{texts, number_within};
 
 use memchr::memchr;

@@ -1,6 +1,6 @@
 //! Devices in memory, which report their bytes: for tests.
 ghost use Rattle.std.specs.Prelude.{◌≡◌, ◌+◌, ◌-◌, ◌<◌, ◌≤◌, ◌↔◌, ◌⊎◌, Some, None, false, [], length, min, IfOk, IfErr, IsErr, IsTrue};
-ghost use Rattle.std.specs.Io.KnownBytes.{Keeps, ReadConsumes, WriteAppends};
+ghost use Rattle.std.specs.Io.KnownBytes.{ReadConsumes, WriteAppends};
 ghost use Rattle.pla.specs.Device.{TellsFlush, TellsRead, TellsWrite};
 ghost use Rattle.pla.specs.Memory.{one_nearer};
 

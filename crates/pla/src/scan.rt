@@ -3,7 +3,7 @@
 //! A line goes to the parser at its line feed, straight from the piece where it began there, and its
 //! echo is written before the next line is taken. Only what stands after the last line feed is kept
 //! between pieces; it is refused if it is too long to be a line, before it is kept.
-ghost use Rattle.std.specs.Prelude.{◌≡◌, ◌++◌, ◌∷◌, [], List, ℕ, Some, None, false, ◌≤◌, ◌<◌, ◌+◌, ◌*◌, MatchResult, MatchOption, OnOk, IfOk, IfErr, length, take, drop, vec_len, ⊤, option_map};
+ghost use Rattle.std.specs.Prelude.{◌≡◌, ◌++◌, ◌∷◌, [], List, ℕ, Some, None, false, ◌≤◌, ◌<◌, ◌+◌, MatchOption, OnOk, IfOk, IfErr, length, take, drop, vec_len, option_map};
 ghost use Rattle.cube.specs.Limits.{format_limits};
 ghost use Rattle.pla.specs.Scan.{StandsFor, StandsForLines};
 ghost use Rattle.pla.specs.Reads.{MatchCause, IsTold, CountsWrites, WritesGrowth, Answers};

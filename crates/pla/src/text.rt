@@ -7,7 +7,7 @@ ghost use Rattle.std.specs.Prelude.{◌≡◌, ◌∷◌, length, flat_map, sum_
 ghost use Rattle.pla.specs.Device.{CountsOn, PutsOn, TellsFailure, Writes};
 ghost use Rattle.pla.specs.Names.{lent_names, name_bytes};
 ghost use Rattle.pla.specs.Sets.{lists_of};
-ghost use Rattle.pla.specs.Text.{Section, elsewhere, names_text, rows_text, sections, text_of, type_text};
+ghost use Rattle.pla.specs.Text.{elsewhere, names_text, rows_text, sections, text_of, type_text};
 
 use crate::description::Pla;
 use crate::device::Output;
