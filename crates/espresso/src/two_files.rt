@@ -1,13 +1,13 @@
 //! What the commands on two files answer.
 ghost use Rattle.std.specs.Prelude.{◌≡◌, IfOk};
 ghost use Rattle.espresso.specs.Answer.{agree as agree_of, answer_of};
-ghost use Rattle.espresso.specs.Run.{told};
+ghost use Rattle.espresso.specs.Run.{trace};
 ghost use Rattle.espresso.specs.Steps.{PutsOut};
 
 use crate::answer::{lent, put_judgement, put_lists};
 use crate::command::Command;
+use crate::failure::Failure;
 use crate::status::Status;
-use crate::stop::Stop;
 use cover::{agree_outside, difference, intersect};
 use minimum::Choice;
 use pla::{OutType, Output, Pla, open_dc};
@@ -19,10 +19,10 @@ pub(crate) fn put_comparison<W: Output>(
     pla: &Pla,
     other: &Pla,
     out: &mut W,
-) -> Result<Status, Stop>
+) -> Result<Status, Failure>
     requires { other.now.size ≡ pla.now.size }
     ensures { PutsOut (answer_of Command.Verify OutType.F Choice.First pla.now other.now)
-        (told (W.taken out.old) (W.taken out.new) (W.calls out.old) (W.calls out.new)) result }
+        (trace (W.taken out.old) (W.taken out.new) (W.calls out.old) (W.calls out.new)) result }
 {
     match agree(alloc, pla, other) {
         Ok(holds) => {
@@ -30,7 +30,7 @@ pub(crate) fn put_comparison<W: Output>(
             let no = b"PLA comparison failed; the PLAs are not equivalent\n";
             put_judgement(holds, yes, no, out)
         }
-        Err(_) => Err(Stop::OutOfMemory),
+        Err(_) => Err(Failure::OutOfMemory),
     }
 }
 
@@ -52,14 +52,14 @@ pub(crate) fn put_intersection<W: Output>(
     pla: &Pla,
     other: &Pla,
     out: &mut W,
-) -> Result<Status, Stop>
+) -> Result<Status, Failure>
     requires { other.now.size ≡ pla.now.size }
     ensures { PutsOut (answer_of Command.Intersect OutType.F Choice.First pla.now other.now)
-        (told (W.taken out.old) (W.taken out.new) (W.calls out.old) (W.calls out.new)) result }
+        (trace (W.taken out.old) (W.taken out.new) (W.calls out.old) (W.calls out.new)) result }
 {
     match intersect(pla.on(), other.on()) {
         Ok(on) => put_lists(alloc, pla, OutType::F, &on, out),
-        Err(_) => Err(Stop::OutOfMemory),
+        Err(_) => Err(Failure::OutOfMemory),
     }
 }
 
@@ -69,13 +69,13 @@ pub(crate) fn put_difference<W: Output>(
     pla: &Pla,
     other: &Pla,
     out: &mut W,
-) -> Result<Status, Stop>
+) -> Result<Status, Failure>
     requires { other.now.size ≡ pla.now.size }
     ensures { PutsOut (answer_of Command.Sharp OutType.F Choice.First pla.now other.now)
-        (told (W.taken out.old) (W.taken out.new) (W.calls out.old) (W.calls out.new)) result }
+        (trace (W.taken out.old) (W.taken out.new) (W.calls out.old) (W.calls out.new)) result }
 {
     match difference(pla.on(), other.on()) {
         Ok(on) => put_lists(alloc, pla, OutType::F, &on, out),
-        Err(_) => Err(Stop::OutOfMemory),
+        Err(_) => Err(Failure::OutOfMemory),
     }
 }

@@ -1,7 +1,7 @@
 use Rattle.std.proofs.Common.{refl}
 use Rattle.espresso.specs.Run.{Bytes, name_of}
 use Rattle.espresso.proofs.Readings.{stopped_reading, whole_reading}
-use Rattle.espresso.proofs.tool.read_source.Goals as goal
+use Rattle.espresso.proofs.run.read_source.Goals as goal
 
 pub returns-in-Ok : goal.returns-in-Ok
 returns-in-Ok g c = let read = rw (c.in-Ok.is, c.echo.ensures) at c.read_pla.ensures in (

@@ -1,9 +1,9 @@
-//! What stops a run, and what is said of it.
+//! What failed when a run stops, and what is said of it.
 ghost use Rattle.std.specs.Prelude.{◌≡◌, decimal};
 ghost use Rattle.pla.specs.Device.{Continues, CountsOn, TellsFailure, Writes};
 ghost use Rattle.espresso.specs.Messages.{closed_message, fault_message, kind_text};
-ghost use Rattle.espresso.specs.Run.{Says, told};
-ghost use Rattle.espresso.specs.Steps.{Names, message_of, name_at, status_of, stop_by};
+ghost use Rattle.espresso.specs.Run.{WroteOrFailed, trace};
+ghost use Rattle.espresso.specs.Steps.{message_of, name_at, status_of, failure_by};
 
 use crate::status::Status;
 use itoa::Buffer;
@@ -18,7 +18,7 @@ pub(crate) enum Operand {
 
 // What stops a run before its answer was printed.
 #[derive(Clone, Copy, Debug, PartialEq, Eq)]
-pub(crate) enum Stop {
+pub(crate) enum Failure {
     NotOpened(Operand),
     Faulty(Operand, ReadFault),
     SizesDiffer,
@@ -26,15 +26,15 @@ pub(crate) enum Stop {
     OutOfMemory,
 }
 
-impl Stop {
-    // By the fault of a reading, which tells failed writes and want of memory too.
-    pub(crate) fn by(operand: Operand, fault: ReadFault) -> Stop
-        ensures { result ≡ stop_by operand fault fault.kind }
+impl Failure {
+    // By the fault of a reading, which reports failed writes and out of memory too.
+    pub(crate) fn by(operand: Operand, fault: ReadFault) -> Failure
+        ensures { result ≡ failure_by operand fault fault.kind }
     {
         match fault.kind {
-            ReadKind::WriteFailed => Stop::WriteFailed,
-            ReadKind::OutOfMemory => Stop::OutOfMemory,
-            _ => Stop::Faulty(operand, fault),
+            ReadKind::WriteFailed => Failure::WriteFailed,
+            ReadKind::OutOfMemory => Failure::OutOfMemory,
+            _ => Failure::Faulty(operand, fault),
         }
     }
 
@@ -42,25 +42,27 @@ impl Stop {
         ensures { result ≡ status_of self }
     {
         match self {
-            Stop::OutOfMemory => Status::Memory,
-            Stop::NotOpened(_) | Stop::Faulty(_, _) | Stop::SizesDiffer | Stop::WriteFailed => {
-                Status::Fault
-            }
+            Failure::OutOfMemory => Status::Memory,
+            Failure::NotOpened(_)
+            | Failure::Faulty(_, _)
+            | Failure::SizesDiffer
+            | Failure::WriteFailed => { Status::Fault }
         }
     }
 
     // Says on standard error what stopped the run, with the name of the source that did. A failure
     // there is ignored.
     pub(crate) fn say<E: Output>(self, first: &[u8], second: &[u8], err: &mut E)
-        ensures { Says (told (E.taken err.old) (E.taken err.new) (E.calls err.old) (E.calls err.new))
+        ensures { WroteOrFailed
+            (trace (E.taken err.old) (E.taken err.new) (E.calls err.old) (E.calls err.new))
             (message_of (record { first = first.now; second = second.now }) self) }
     {
         let _ = match self {
-            Stop::NotOpened(operand) => say_closed(operand.choose(first, second), err),
-            Stop::Faulty(operand, fault) => say_fault(operand.choose(first, second), fault, err),
-            Stop::SizesDiffer => write_bytes(err, b"espresso: sizes differ\n"),
-            Stop::WriteFailed => write_bytes(err, b"espresso: write failed\n"),
-            Stop::OutOfMemory => write_bytes(err, b"espresso: out of memory\n"),
+            Failure::NotOpened(operand) => say_closed(operand.choose(first, second), err),
+            Failure::Faulty(operand, fault) => say_fault(operand.choose(first, second), fault, err),
+            Failure::SizesDiffer => write_bytes(err, b"espresso: sizes differ\n"),
+            Failure::WriteFailed => write_bytes(err, b"espresso: write failed\n"),
+            Failure::OutOfMemory => write_bytes(err, b"espresso: out of memory\n"),
         };
     }
 }
@@ -87,20 +89,21 @@ fn say_closed<E: Output>(name: &[u8], err: &mut E) -> Result<(), WriteFault>
 }
 
 fn say_fault<E: Output>(name: &[u8], fault: ReadFault, err: &mut E) -> Result<(), WriteFault>
-    ensures bytes { Writes (E.taken err.old) (E.taken err.new) result (fault_message name.now fault) }
+    ensures bytes { Writes (E.taken err.old) (E.taken err.new) result
+        (fault_message name.now fault) }
     ensures count { TellsFailure (E.calls err.old) (E.calls err.new) result }
 {
     let done = write_bytes(err, b"espresso: ");
     let done = write_next(err, done, name);
     let done = write_next(err, done, b":");
-    let done = then_number(err, done, fault.line);
+    let done = write_number(err, done, fault.line);
     let done = write_next(err, done, b": ");
-    let done = then_kind(err, done, fault.kind);
+    let done = write_kind(err, done, fault.kind);
     write_next(err, done, b"\n")
 }
 
-// The number in decimal, behind what was written.
-fn then_number<E: Output>(
+// The number in decimal, after what was written.
+fn write_number<E: Output>(
     err: &mut E,
     done: Result<(), WriteFault>,
     number: u64,
@@ -112,8 +115,8 @@ fn then_number<E: Output>(
     write_next(err, done, digits.format(number).as_bytes())
 }
 
-// What the kind is called, behind what was written.
-fn then_kind<E: Output>(
+// What the kind is called, after what was written.
+fn write_kind<E: Output>(
     err: &mut E,
     done: Result<(), WriteFault>,
     kind: ReadKind,

@@ -1,6 +1,6 @@
 use Rattle.espresso.specs.Run.{name_of}
 use Rattle.espresso.proofs.Both.{both_answered}
-use Rattle.espresso.proofs.tool.go_on.Goals as goal
+use Rattle.espresso.proofs.run.go_on.Goals as goal
 
 pub returns : goal.returns
 returns g c = let read = c.read_source.ensures in (

@@ -1,24 +1,25 @@
 //! A run: reading one source or two, the command, and the last word to standard error.
 ghost use Rattle.std.specs.Prelude.{◌≡◌, Err, IfErr, IfSome, IsTrue, is_some};
 ghost use Rattle.espresso.specs.Messages.{is_answer};
-ghost use Rattle.espresso.specs.Run.{Ends, Intake, Intakes, Says, Takes, TakesSecond, name_of, told};
-ghost use Rattle.espresso.specs.Steps.{Answers, IsReadAs, Names, Passes, Reports, Stands, StandsBehind, second_text};
+ghost use Rattle.espresso.specs.Run.{Ends, Intake, Intakes, WroteOrFailed, Takes, TakesSecond, name_of, trace};
+ghost use Rattle.espresso.specs.Steps.{Answers, IsReadAs, Passes, Reports, Stands, StandsBehind, second_text};
 ghost use Rattle.espresso.specs.Tool.{first_name, refusal_of, second_name, with_both};
 ghost use Rattle.espresso.specs.Words.{takes_two};
 
 use crate::answer::put_answer;
+use crate::failure::{Failure, Operand};
 use crate::line::{Line, LineFault};
-use crate::source::Source;
+use crate::sources::Source;
 use crate::status::Status;
-use crate::stop::{Operand, Stop};
 use pla::{Broken, Input, Output, Pla, read_pla, write_bytes};
 use std::alloc::Global;
 
-/// Says on standard error why words gave no line, and answers how the process ends: with a fault, or for
-/// want of memory. Takes no memory; a failure of standard error is ignored.
+/// Says on standard error why words gave no line, and answers how the process ends: with a fault, or
+/// out of memory. Takes no memory; a failure of standard error is ignored.
 pub fn refuse<E: Output>(fault: &LineFault, err: &mut E) -> Status
     ensures status { result ≡ (refusal_of fault.now).status }
-    ensures message { Says (told (E.taken err.old) (E.taken err.new) (E.calls err.old) (E.calls err.new))
+    ensures message { WroteOrFailed
+        (trace (E.taken err.old) (E.taken err.new) (E.calls err.old) (E.calls err.new))
         (refusal_of fault.now).message }
 {
     match fault {
@@ -36,14 +37,14 @@ pub fn refuse<E: Output>(fault: &LineFault, err: &mut E) -> Status
 
 /// Runs the line, and answers how the process ends.
 ///
-/// The first source is read to its end or its first fault, then the second where there is one, and their
+/// The first source is read to its end or its first fault, then the second if there is one, and their
 /// comments and unknown keyword lines go out as their lines end; then the sizes of two files are compared,
 /// the command's text is printed, and the output is flushed, once and last. The first that stops the run
-/// ends it: it is said in one line on `err`, whose own failures are ignored, and what comes behind it is
-/// left alone. Behind a write that failed nothing more is written, and behind a read that failed nothing more
+/// ends it: it is said in one line on `err`, whose own failures are ignored, and what comes after it is
+/// left alone. After a write that failed nothing more is written, and after a read that failed nothing more
 /// is read. No input is asked for more than a piece beyond the line that ends its description or has a fault.
 ///
-/// A second source is there where the command takes two files. The sources have the names of the line's
+/// A second source is there if the command takes two files. The sources have the names of the line's
 /// files, `(stdin)` for none or `-`, and keep them.
 ///
 /// A run costs what reading, the command and printing cost: each input once, in pieces of 4,096 bytes, and
@@ -62,8 +63,8 @@ pub fn run<R: Input, W: Output, E: Output>(
     ensures ends { (taken : Intakes) × Takes R.left R.calls first.old first.new taken.first
         × TakesSecond R.left R.calls taken.first second.old second.new taken.second
         × Ends line.now taken
-        (told (W.taken out.old) (W.taken out.new) (W.calls out.old) (W.calls out.new))
-        (told (E.taken err.old) (E.taken err.new) (E.calls err.old) (E.calls err.new)) result }
+        (trace (W.taken out.old) (W.taken out.new) (W.calls out.old) (W.calls out.new))
+        (trace (E.taken err.old) (E.taken err.new) (E.calls err.old) (E.calls err.new)) result }
     ensures silent { IsTrue (is_answer result) → err.new ≡ err.old }
 {
     let done = carried_out(alloc, line, first, second, out);
@@ -71,7 +72,7 @@ pub fn run<R: Input, W: Output, E: Output>(
     report(done, first.name().as_bytes(), second_bytes(second), err)
 }
 
-// The name of a second source, where there is one.
+// The name of a second source, if there is one.
 fn second_bytes<R>(second: &Option<Source<R>>) -> &[u8]
     ensures { result.now ≡ second_text second.now }
 {
@@ -88,13 +89,14 @@ fn carried_out<R: Input, W: Output>(
     first: &mut Source<R>,
     second: &mut Option<Source<R>>,
     out: &mut W,
-) -> Result<Status, Stop>
+) -> Result<Status, Failure>
     requires first_name { name_of first.old ≡ first_name line.now.files }
     requires second_name { IfSome second.old (λ s. name_of s ≡ second_name line.now.files) }
     ensures { (taken : Intakes) × Takes R.left R.calls first.old first.new taken.first
         × TakesSecond R.left R.calls taken.first second.old second.new taken.second
-        × Stands line.now taken (record { first = name_of first.old; second = second_text second.old })
-        (told (W.taken out.old) (W.taken out.new) (W.calls out.old) (W.calls out.new)) result }
+        × Stands line.now taken
+        (record { first = name_of first.old; second = second_text second.old })
+        (trace (W.taken out.old) (W.taken out.new) (W.calls out.old) (W.calls out.new)) result }
 {
     let pla = read_source(alloc, line, Operand::First, first, out)?;
     match second {
@@ -110,10 +112,10 @@ pub(crate) fn go_on<R: Input, W: Output>(
     pla: &Pla,
     source: &mut Source<R>,
     out: &mut W,
-) -> Result<Status, Stop>
+) -> Result<Status, Failure>
     ensures { (taken : Intake) × Takes R.left R.calls source.old source.new taken
         × StandsBehind line.now pla.now taken (name_of source.old)
-        (told (W.taken out.old) (W.taken out.new) (W.calls out.old) (W.calls out.new)) result }
+        (trace (W.taken out.old) (W.taken out.new) (W.calls out.old) (W.calls out.new)) result }
 {
     let other = read_source(alloc, line, Operand::Second, source, out)?;
     put_together(alloc, line, pla, &other, out)
@@ -126,16 +128,16 @@ fn put_together<W: Output>(
     pla: &Pla,
     other: &Pla,
     out: &mut W,
-) -> Result<Status, Stop>
+) -> Result<Status, Failure>
     ensures { Answers (with_both line.now pla.now other.now)
-        (told (W.taken out.old) (W.taken out.new) (W.calls out.old) (W.calls out.new)) result }
+        (trace (W.taken out.old) (W.taken out.new) (W.calls out.old) (W.calls out.new)) result }
 {
     let size = pla.shape();
     let other_size = other.shape();
     if size.inputs() == other_size.inputs() && size.outputs() == other_size.outputs() {
         put_answer(alloc, line, pla, other, out)
     } else {
-        Err(Stop::SizesDiffer)
+        Err(Failure::SizesDiffer)
     }
 }
 
@@ -146,53 +148,58 @@ pub(crate) fn read_source<R: Input, W: Output>(
     operand: Operand,
     source: &mut Source<R>,
     out: &mut W,
-) -> Result<Pla, Stop>
+) -> Result<Pla, Failure>
     ensures { (taken : Intake) × Takes R.left R.calls source.old source.new taken
         × IsReadAs line.now operand (name_of source.old) taken
-        (told (W.taken out.old) (W.taken out.new) (W.calls out.old) (W.calls out.new)) result }
+        (trace (W.taken out.old) (W.taken out.new) (W.calls out.old) (W.calls out.new)) result }
 {
     match source {
         Source::Open { name: _, input } => match read_pla(alloc, input, out, line.echo()) {
             Ok(pla) => Ok(pla),
-            Err(fault) => Err(Stop::by(operand, fault)),
+            Err(fault) => Err(Failure::by(operand, fault)),
         },
-        Source::Closed { name: _ } => Err(Stop::NotOpened(operand)),
+        Source::Closed { name: _ } => Err(Failure::NotOpened(operand)),
     }
 }
 
 // Flushes the output, once and last. A failure stops a run that was not stopped yet.
-pub(crate) fn flushed<W: Output>(out: &mut W, done: Result<Status, Stop>) -> Result<Status, Stop>
-    ensures stopped { IfErr done (λ stop. result ≡ Err stop) }
-    ensures passes { Passes (W.taken out.old) (W.taken out.new) (W.calls out.old) (W.calls out.new) done result }
+pub(crate) fn flushed<W: Output>(
+    out: &mut W,
+    done: Result<Status, Failure>,
+) -> Result<Status, Failure>
+    ensures stopped { IfErr done (λ failure. result ≡ Err failure) }
+    ensures passes { Passes (W.taken out.old) (W.taken out.new) (W.calls out.old)
+        (W.calls out.new) done result }
 {
     match done {
         Ok(status) => match out.flush() {
             Ok(()) => Ok(status),
-            Err(Broken) => Err(Stop::WriteFailed),
+            Err(Broken) => Err(Failure::WriteFailed),
         },
-        Err(stop) => {
+        Err(failure) => {
             let _ = out.flush();
-            Err(stop)
+            Err(failure)
         }
     }
 }
 
 // Says what stopped the run, if anything did.
 pub(crate) fn report<E: Output>(
-    done: Result<Status, Stop>,
+    done: Result<Status, Failure>,
     first: &[u8],
     second: &[u8],
     err: &mut E,
 ) -> Status
     ensures said { Reports (record { first = first.now; second = second.now })
-        (told (E.taken err.old) (E.taken err.new) (E.calls err.old) (E.calls err.new)) done result }
+        (trace (E.taken err.old) (E.taken err.new) (E.calls err.old) (E.calls err.new))
+        done result }
     ensures silent { IsTrue (is_answer result) → err.new ≡ err.old }
 {
     match done {
         Ok(status) => status,
-        Err(stop) => {
-            stop.say(first, second, err);
-            stop.status()
+        Err(failure) => {
+            failure.say(first, second, err);
+            failure.status()
         }
     }
 }
