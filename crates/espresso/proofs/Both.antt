@@ -4,12 +4,12 @@ use Rattle.std.specs.Prelude.{string_bytes}
 use Rattle.pla.specs.declared.calls.ReadCalls.{ReadCalls}
 use Rattle.pla.specs.declared.calls.WriteCalls.{WriteCalls}
 use Rattle.pla.specs.Description.{Description}
-use Rattle.espresso.specs.declared.source.Source.{Source}
-use Rattle.espresso.specs.declared.source.Source.TheVariants.{Open, Closed}
+use Rattle.espresso.specs.declared.sources.Source.{Source}
+use Rattle.espresso.specs.declared.sources.Source.TheVariants.{Open, Closed}
 use Rattle.espresso.specs.declared.status.Status.{Status}
-use Rattle.espresso.specs.declared.stop.Operand.TheVariants.{First, Second}
-use Rattle.espresso.specs.declared.stop.Stop.{Stop}
-use Rattle.espresso.specs.Run.{Absent, Asked, Bytes, Intake, Intakes, IsSecondOf, Nothing, SecondIntake, Takes, TakesSecond, Told, Untouched, echoes_due, name_of, second_due, told}
+use Rattle.espresso.specs.declared.failure.Operand.TheVariants.{First, Second}
+use Rattle.espresso.specs.declared.failure.Failure.{Failure}
+use Rattle.espresso.specs.Run.{Absent, Asked, Bytes, Intake, Intakes, IsSecondOf, Nothing, SecondIntake, Takes, TakesSecond, Trace, Untouched, echoes_due, name_of, second_due, trace}
 use Rattle.espresso.specs.Steps.{Answers, FileOf, FilesOf, IsReadAs, Names, PutsOut, Reports, Stands, StandsAt, StandsBehind, second_text}
 use Rattle.espresso.specs.Answer.{Answer, answer_of}
 use Rattle.espresso.specs.Tool.{File, answered, first_name, reading_then, second_name, with_both, with_first}
@@ -30,40 +30,35 @@ takes_untouched R left calls first (Some source) = refl
 -- ---- behind the second
 
 module _ (line : Meaning) (pla : Description) (name : Text) (taken : Intake) (old mid : Option (List ℕ)) (before count : WriteCalls) where
-  no_more : (names : Names) (out : Told) (result : Result Status Stop)
+  no_more : (names : Names) (out : Trace) (result : Result Status Failure)
       → StandsAt (FileOf taken) (λ second. reading_then line name second.file (with_both line pla)) (echoes_due line taken ++ []) names out result
       → StandsAt (FileOf taken) (λ second. reading_then line name second.file (with_both line pla)) (echoes_due line taken) names out result
   no_more names out result h = subst (λ t. StandsAt (FileOf taken) (λ second. reading_then line name second.file (with_both line pla)) t names out result)
       (append-nil (echoes_due line taken)) h
 
-  pub second_stopped : (s : Stop) → IsReadAs line Second name taken (told old mid before count) (Err s)
-      → StandsBehind line pla taken name (told old mid before count) (Err s)
-  second_stopped s h first = let names : Names = record { first = first; second = name } in no_more names _ (Err s)
-      (stopped_there line Second name taken (FileOf taken) (λ x. x.file) (λ x. x.is_file) (λ _. with_both line pla) [] names old mid before count s refl h)
-
-  pub both_answered : (other : Description) (new : Option (List ℕ)) (after : WriteCalls) (result : Result Status Stop)
-      → IsReadAs line Second name taken (told old mid before count) (Ok other)
-      → Answers (with_both line pla other) (told mid new count after) result
-      → StandsBehind line pla taken name (told old new before after) result
+  pub both_answered : (other : Description) (new : Option (List ℕ)) (after : WriteCalls) (result : Result Status Failure)
+      → IsReadAs line Second name taken (trace old mid before count) (Ok other)
+      → Answers (with_both line pla other) (trace mid new count after) result
+      → StandsBehind line pla taken name (trace old new before after) result
   both_answered other new after result read h first = let names : Names = record { first = first; second = name } in no_more names _ result
       (went_on line Second name taken (FileOf taken) (λ x. x.file) (λ x. x.is_file) (λ _. with_both line pla) [] names old mid before count other new after read result
-      (answers_stand (FileOf taken) (with_both line pla other) [] names (told mid new count after) result h))
+      (answers_stand (FileOf taken) (with_both line pla other) [] names (trace mid new count after) result h))
 
 -- ---- behind the first
 
 module _ (line : Meaning) (taken : Intakes) (names : Names) (named : names.first ≡ first_name line.files) (old mid : Option (List ℕ)) (before count : WriteCalls) where
-  by_name : (r : Result Description Stop) → IsReadAs line First names.first taken.first (told old mid before count) r
-      → IsReadAs line First (first_name line.files) taken.first (told old mid before count) r
-  by_name r h = subst (λ name. IsReadAs line First name taken.first (told old mid before count) r) named h
+  by_name : (r : Result Description Failure) → IsReadAs line First names.first taken.first (trace old mid before count) r
+      → IsReadAs line First (first_name line.files) taken.first (trace old mid before count) r
+  by_name r h = subst (λ name. IsReadAs line First name taken.first (trace old mid before count) r) named h
 
-  pub first_stopped : (s : Stop) → IsReadAs line First names.first taken.first (told old mid before count) (Err s)
-      → Stands line taken names (told old mid before count) (Err s)
+  pub first_stopped : (s : Failure) → IsReadAs line First names.first taken.first (trace old mid before count) (Err s)
+      → Stands line taken names (trace old mid before count) (Err s)
   first_stopped s h = stopped_there line First (first_name line.files) taken.first (FilesOf taken) (λ x. x.first) (λ x. x.is_first) (λ x. with_first line x.second)
       (second_due line taken.second) names old mid before count s named (by_name (Err s) h)
 
-  module _ (pla : Description) (new : Option (List ℕ)) (after : WriteCalls) (result : Result Status Stop) (read : IsReadAs line First names.first taken.first (told old mid before count) (Ok pla)) where
-    first_read : StandsAt (FilesOf taken) (λ x. with_first line x.second pla) (second_due line taken.second) names (told mid new count after) result
-        → Stands line taken names (told old new before after) result
+  module _ (pla : Description) (new : Option (List ℕ)) (after : WriteCalls) (result : Result Status Failure) (read : IsReadAs line First names.first taken.first (trace old mid before count) (Ok pla)) where
+    first_read : StandsAt (FilesOf taken) (λ x. with_first line x.second pla) (second_due line taken.second) names (trace mid new count after) result
+        → Stands line taken names (trace old new before after) result
     first_read h = went_on line First (first_name line.files) taken.first (FilesOf taken) (λ x. x.first) (λ x. x.is_first) (λ x. with_first line x.second)
         (second_due line taken.second) names old mid before count pla new after (by_name (Ok pla) read) result h
 
@@ -71,11 +66,11 @@ module _ (line : Meaning) (taken : Intakes) (names : Names) (named : names.first
     said = answer_of line.command line.out line.choice pla pla
 
     -- one file
-    pub one_answered : taken.second ≡ Absent → PutsOut said (told mid new count after) result → Stands line taken names (told old new before after) result
+    pub one_answered : taken.second ≡ Absent → PutsOut said (trace mid new count after) result → Stands line taken names (trace old new before after) result
     one_answered absent h = first_read (stands_same (FilesOf taken) (FilesOf taken) (λ x. x) (λ x. with_first line x.second pla) (λ _. answered said)
         (λ x. sym (alone x.second (subst (λ t. IsSecondOf t x.second) absent x.is_second)))
-        (second_due line taken.second) names (told mid new count after) result
-        (answers_stand (FilesOf taken) (answered said) (second_due line taken.second) names (told mid new count after) result (put_answers said (told mid new count after) result h)))
+        (second_due line taken.second) names (trace mid new count after) result
+        (answers_stand (FilesOf taken) (answered said) (second_due line taken.second) names (trace mid new count after) result (put_answers said (trace mid new count after) result h)))
       where
         alone : (second : Option File) → IsSecondOf Absent second → with_first line second pla ≡ answered said
         alone None is = refl
@@ -83,12 +78,12 @@ module _ (line : Meaning) (taken : Intakes) (names : Names) (named : names.first
 
     -- two files
     pub two_answered : (intake : Intake) → taken.second ≡ Asked intake → names.second ≡ second_name line.files
-        → StandsBehind line pla intake names.second (told mid new count after) result → Stands line taken names (told old new before after) result
-    two_answered intake asked is h = first_read (subst (λ t. StandsAt (FilesOf taken) (λ x. with_first line x.second pla) (second_due line t) names (told mid new count after) result) (sym asked)
+        → StandsBehind line pla intake names.second (trace mid new count after) result → Stands line taken names (trace old new before after) result
+    two_answered intake asked is h = first_read (subst (λ t. StandsAt (FilesOf taken) (λ x. with_first line x.second pla) (second_due line t) names (trace mid new count after) result) (sym asked)
         (stands_same (FilesOf taken) (FileOf intake) (λ x. behind_first x.second (subst (λ t. IsSecondOf t x.second) asked x.is_second))
         (λ x. with_first line x.second pla) (λ y. reading_then line names.second y.file (with_both line pla))
         (λ x. same x.second (subst (λ t. IsSecondOf t x.second) asked x.is_second))
-        (echoes_due line intake) names (told mid new count after) result (h names.first)))
+        (echoes_due line intake) names (trace mid new count after) result (h names.first)))
       where
         behind_first : (second : Option File) → IsSecondOf (Asked intake) second → FileOf intake
         behind_first None fits = absurd fits
@@ -123,7 +118,7 @@ second_kept R left calls first (Some source) None (Asked intake) h = absurd h
 second_kept R left calls first (Some source) (Some after) (Asked intake) h = takes_name R left calls source after intake h.1
 
 -- the last word, by names that are the same
-pub reports_by : (names others : Names) (err : Told) (done : Result Status Stop) (status : Status) → names.first ≡ others.first → names.second ≡ others.second
+pub reports_by : (names others : Names) (err : Trace) (done : Result Status Failure) (status : Status) → names.first ≡ others.first → names.second ≡ others.second
     → Reports names err done status → Reports others err done status
 reports_by names others err done status e f h = subst (λ second. Reports (record { first = others.first; second = second }) err done status) f
     (subst (λ first. Reports (record { first = first; second = names.second }) err done status) e h)

@@ -116,10 +116,6 @@ unfolding defaults_fault
 defaults_more rows a rules none e = ap (λ k. or_else k (defaults_fault (with_default rows a) rules)) (fault_at rows a a.defaults none)
     ∙ ap (λ rs. defaults_fault rs rules) (default_none rows a none) ∙ e
 
-defaults_end : (rows : List Row) → defaults_fault rows [] ≡ []
-unfolding defaults_fault
-defaults_end rows = refl
-
 choice_default : (rows : List Row) → defaults_fault rows (choice_rule ∷ []) ≡ []
 unfolding defaults_fault
 choice_default rows = go (has_row choice_id rows)
@@ -141,7 +137,7 @@ or_else-nil (x ∷ xs) = refl
 pub fault_is : (words : List Text) → fault_of espresso_app words ≡ faults (walk_from nothing_held) words
 fault_is words = ap (λ a. built_fault a nothing_held words) built_is ∙ go (walk our_rules [] nothing_held words).stopped ∙ level
   where
-    go : (stop : Option (Text × List Text)) → level_fault our_shape [] nothing_held words (is_some (entered our_built stop)) (entered_fault our_built stop)
+    go : (failure : Option (Text × List Text)) → level_fault our_shape [] nothing_held words (is_some (entered our_built failure)) (entered_fault our_built failure)
         ≡ level_fault our_shape [] nothing_held words false []
     go None = refl
     go (Some p) = refl

@@ -5,11 +5,11 @@ use Rattle.pla.specs.declared.calls.ReadCalls.{ReadCalls}
 use Rattle.espresso.specs.declared.line.LineFault.{LineFault}
 use Rattle.espresso.specs.declared.status.Status.{Status}
 use Rattle.espresso.specs.Program.{Executes, RunsLine, RunsOn, line_said, tool_on}
-use Rattle.espresso.specs.Run.{Told}
+use Rattle.espresso.specs.Run.{Trace}
 use Rattle.espresso.specs.Tool.{File, Outcome, outcome_of, refused}
 use Rattle.espresso.specs.Words.{Meaning, Text, line_of}
 
-pub executes : {D : Type 0} (file : Text → Option D → Type 0) (input : D → Type 0) (left : D → Option (List ℕ)) (calls : D → ReadCalls) (words : Result (List Text) LineFault) (texts : List Text) (line : Meaning) (out err : Told) (status : Status)
+pub executes : {D : Type 0} (file : Text → Option D → Type 0) (input : D → Type 0) (left : D → Option (List ℕ)) (calls : D → ReadCalls) (words : Result (List Text) LineFault) (texts : List Text) (line : Meaning) (out err : Trace) (status : Status)
     → words ≡ Ok texts → line_of texts ≡ Some line → RunsLine file input left calls line (outcome_of line) out err status → Executes file input left calls words out err status
 executes file input left calls words texts line out err status is said (inl h) = inr (inl (texts, is, h))
 executes file input left calls words texts line out err status is said (inr h) =

@@ -4,7 +4,6 @@ use Rattle.std.proofs.lemmas.List.{length-append}
 use Rattle.std.specs.Option.{unwrap_or}
 use Rattle.std.specs.Str.{bytes_eq}
 use Rattle.clap.specs.Walk.{Row, Text, all_of, used}
-use Rattle.clap.specs.Faults.{use_fault}
 use Rattle.std.proofs.Common.{◌+◌, ℕ, zero, suc}
 use Rattle.std.specs.Prelude.{codes}
 use Rattle.espresso.specs.Words.{chosen, choices_of, fewest, Item, Letter, command_letter, type_letter, eat_letter, option, file, same_letter, values_of, files_of, said, meaning, meaning_of, command_named, type_named, eat_named}
@@ -192,9 +191,6 @@ choice_not type_letter = refl
 choice_not eat_letter = refl
 
 -- ---- one more item
-
-pub file_fault_none : (f : Text) (rows : List Row) → use_fault false files_rule (f ∷ []) rows ≡ []
-file_fault_none f rows = refl
 
 pub file_shown : (items : List Item) (rows : List Row) (f : Text) → Shows items rows → Shows (items ++ file f ∷ []) (used files_rule (f ∷ []) rows)
 file_shown items rows f s = record {

@@ -1,5 +1,5 @@
 -- What an output took, from one step to the next.
-use Rattle.std.proofs.Common.{◌∙◌, ℕ, refl, sym, ap, List, [], ◌++◌, Option, Some, None, append_assoc, append-nil}
+use Rattle.std.proofs.Common.{◌∙◌, ℕ, sym, ap, List, [], ◌++◌, Option, Some, None, append_assoc, append-nil}
 use Rattle.std.specs.Io.KnownBytes.{Appends, Keeps}
 use Rattle.pla.specs.declared.calls.WriteCalls.{WriteCalls}
 use Rattle.pla.specs.Device.{AllWritten, AppendsFront, LastUnwritten, one_failed}
@@ -22,10 +22,6 @@ appends_kept (Some xs) (Some ys) (Some zs) a h k = k ∙ h
 pub appends_nothing : (old : Option (List ℕ)) → Appends old old []
 appends_nothing None = tt
 appends_nothing (Some xs) = sym (append-nil xs)
-
--- and so a beginning of any text
-pub front_nothing : (old : Option (List ℕ)) (a : List ℕ) → AppendsFront old old a
-front_nothing old a = ([], a, refl, appends_nothing old)
 
 -- the whole of a text is a beginning of it
 pub front_whole : (old new : Option (List ℕ)) (a : List ℕ) → Appends old new a → AppendsFront old new a

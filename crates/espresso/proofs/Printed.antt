@@ -4,12 +4,12 @@ use Rattle.cube.specs.Cube.{Cube}
 use Rattle.pla.specs.declared.out_type.OutType.TheVariants.{F}
 use Rattle.pla.specs.Description.{Description}
 use Rattle.espresso.specs.declared.status.Status.{Status}
-use Rattle.espresso.specs.declared.stop.Stop.{Stop}
+use Rattle.espresso.specs.declared.failure.Failure.{Failure}
 use Rattle.espresso.specs.Answer.{printed_with}
-use Rattle.espresso.specs.Run.{Told}
+use Rattle.espresso.specs.Run.{Trace}
 use Rattle.espresso.specs.Steps.{PutsOut}
 
 -- the list may be written in another way
-pub printed_list : (d : Description) (on others : List Cube) (out : Told) (result : Result Status Stop) → on ≡ others
+pub printed_list : (d : Description) (on others : List Cube) (out : Trace) (result : Result Status Failure) → on ≡ others
     → PutsOut (printed_with d F on) out result → PutsOut (printed_with d F others) out result
 printed_list d on others out result e h = subst (λ cubes. PutsOut (printed_with d F cubes) out result) e h

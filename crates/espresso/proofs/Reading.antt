@@ -174,9 +174,9 @@ faults-step w after word ws clean next =
     ap (λ k. or_else (or_else k (walk_fault our_shape [] (walk_on w word) ws)) (settle_fault our_rules false (fold walk_on (walk_on w word) ws).held)) clean
     ∙ ap (λ v. faults v ws) next
 
-faults-stop : (w : Walk) (word : Text) (ws : List Text) → is_clean (turn w word) ≡ false → is_clean (faults w (word ∷ ws)) ≡ false
+faults-failure : (w : Walk) (word : Text) (ws : List Text) → is_clean (turn w word) ≡ false → is_clean (faults w (word ∷ ws)) ≡ false
 unfolding walk_fault
-faults-stop w word ws e = clean-or_else (or_else (turn w word) (walk_fault our_shape [] (walk_on w word) ws)) _ (clean-or_else (turn w word) _ e)
+faults-failure w word ws e = clean-or_else (or_else (turn w word) (walk_fault our_shape [] (walk_on w word) ws)) _ (clean-or_else (turn w word) _ e)
 
 -- a word that the walk takes
 moves_on : (items : List Item) (w after : Walk) (word : Text) (rest : Option (List Item)) (ws : List Text) → turn w word ≡ [] → walk_on w word ≡ after
@@ -207,7 +207,7 @@ adds_item items i w rest ws (inr r) = inr (record { fault = r.fault; none = line
 -- a word that the walk refuses
 stops_at : (items : List Item) (w : Walk) (word : Text) (rest : Option (List Item)) (ws : List Text) → is_clean (turn w word) ≡ false → line_from items rest ≡ None
     → Ends items w rest (word ∷ ws)
-stops_at items w word rest ws e none = inr (record { fault = faults-stop w word ws e; none = none })
+stops_at items w word rest ws e none = inr (record { fault = faults-failure w word ws e; none = none })
 
 -- no word is left
 ends_here : (items : List Item) (rows : List Row) (p : Option (Text × List Text)) (q : Waiting) (t : Bool) → Stands items (hold rows p) → Ends items (at (hold rows p) q t) (Some []) []
@@ -235,7 +235,7 @@ trails (w ∷ ws) items rows p q (inl (clean, s)) =
 never_given : (ws : List Text) (rows : List Row) (l : Letter) (q : Waiting) → is_clean (faults (at (hold rows (Some (id_of l, []))) q true) ws) ≡ false
 unfolding walk_fault
 never_given [] rows l q = unsettled rows l
-never_given (w ∷ ws) rows l q = faults-stop (at (hold rows (Some (id_of l, []))) q true) w ws (doomed rows l q w)
+never_given (w ∷ ws) rows l q = faults-failure (at (hold rows (Some (id_of l, []))) q true) w ws (doomed rows l q w)
 
 -- ---- the kinds of words
 

@@ -15,11 +15,11 @@ use Rattle.pla.specs.Keywords.{looked_at}
 use Rattle.pla.specs.Lines.{lines_of}
 use Rattle.pla.specs.Reads.{MatchCause, MayEnd}
 use Rattle.std.specs.Io.KnownBytes.{Appends}
-use Rattle.espresso.specs.declared.stop.Operand.{Operand}
+use Rattle.espresso.specs.declared.failure.Operand.{Operand}
 use Rattle.espresso.specs.Messages.{fault_message}
-use Rattle.espresso.specs.Run.{Bytes, IsFileOf, told}
-use Rattle.espresso.specs.Steps.{IsReadAs, PassesOn, stop_by}
-use Rattle.espresso.specs.Tool.{File, echo_by, passed_on, unless_faulty}
+use Rattle.espresso.specs.Run.{Bytes, IsFileOf, trace}
+use Rattle.espresso.specs.Steps.{IsReadAs, PassesOn, failure_by}
+use Rattle.espresso.specs.Tool.{File, echo_by, unless_faulty}
 use Rattle.espresso.specs.Tool as tool
 use Rattle.espresso.specs.Words.{Meaning, Text}
 
@@ -41,9 +41,9 @@ module _ (line : Meaning) (operand : Operand) (name : Text) (bytes : List ℕ) (
 
   faulty_passes : (fault : ReadFault) → ((e : Ending) → MayEnd met e → fault_of format_limits e bytes ≡ Some fault)
       → ((e : Ending) → MayEnd met e → due_at e ≡ echoes) → Appends old mid echoes
-      → PassesOn line name (Bytes bytes met) (told old mid before count) (Err (fault_message name fault))
+      → PassesOn line name (Bytes bytes met) (trace old mid before count) (Err (fault_message name fault))
   faulty_passes fault faulty same written = record {
-    took = written;
+    wrote = written;
     passed = each_file bytes met _ same;
     comes_to = each_file bytes met _ (λ e may. ap (λ f. unless_faulty name f (described e)) (faulty e may));
   }
@@ -54,7 +54,7 @@ module _ (line : Meaning) (operand : Operand) (name : Text) (bytes : List ℕ) (
       → ((e : Ending) → MayEnd met e → MatchCause kind ⊤ ⊤ (due_at e ≡ echoes))
       → MatchCause kind (AppendsFront old mid echoes) (AppendsFront old mid echoes) (Appends old mid echoes)
       → MatchCause kind (LastUnwritten before count) (AllWritten before count) (AllWritten before count)
-      → IsReadAs line operand name (Bytes bytes met) (told old mid before count) (Err (stop_by operand fault kind))
+      → IsReadAs line operand name (Bytes bytes met) (trace old mid before count) (Err (failure_by operand fault kind))
   stopped_reading fault WriteFailed faulty same written counted = (written, counted)
   stopped_reading fault OutOfMemory faulty same written counted = (written, counted)
   stopped_reading fault _ faulty same written counted = (faulty_passes fault faulty same written, refl, counted)
@@ -62,10 +62,10 @@ module _ (line : Meaning) (operand : Operand) (name : Text) (bytes : List ℕ) (
   -- a reading that came to a description
   pub whole_reading : (pla : Description) → ((e : Ending) → MayEnd met e → (fault_of format_limits e bytes ≡ None) × (pla ≡ described e))
       → ((e : Ending) → MayEnd met e → due_at e ≡ echoes) → Appends old mid echoes → AllWritten before count
-      → IsReadAs line operand name (Bytes bytes met) (told old mid before count) (Ok pla)
+      → IsReadAs line operand name (Bytes bytes met) (trace old mid before count) (Ok pla)
   whole_reading pla answer same written counted = (
     record {
-      took = written;
+      wrote = written;
       passed = each_file bytes met _ same;
       comes_to = each_file bytes met _ (λ e may. ap (λ f. unless_faulty name f (described e)) (answer e may).0 ∙ ap (λ d. Ok d) (sym (answer e may).1));
     },

@@ -51,9 +51,6 @@ trailing_walk h q w = ap (λ b. at (pushed files_id w (cond b h (settled our_rul
 
 -- ---- an option with its value
 
-abbrev pub attached : ℕ → Text → Text
-attached z rest = cond (z == 61) rest (z ∷ rest)
-
 module _ (z : ℕ) (rest : Text) (rows : List Row) (p : Option (Text × List Text)) where
   pub attached_fault : (b : Bool) (l : Letter) (f : Free) → (z == 61) ≡ b
       → turn (at (hold rows p) (waiting f) false) (45 ∷ code_of l ∷ z ∷ rest) ≡ react_fault our_rules false (rule_for l) (cond b rest (z ∷ rest) ∷ []) (hold rows p)

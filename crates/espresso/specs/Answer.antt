@@ -61,7 +61,8 @@ checked flaws = judged (not (has_flaw flaws)) partition_text (flaws_text flaws)
 
 -- each place that is in neither file's DC-set is in both files' ON-sets or in neither
 abbrev pub agree : Description → Description → Bool
-agree d e = agree_outside d.size (places d.on) (places e.on) (places ((three_sets d).dc ++ (three_sets e).dc))
+agree d e = agree_outside d.size (places d.on) (places e.on)
+    (places ((three_sets d).dc ++ (three_sets e).dc))
 
 -- the PLA of type f with the complete sum of these places
 abbrev pub printed_sum : Description → (Place → Bool) → Answer
@@ -73,11 +74,13 @@ answer_of command.Echo out choice d e = printed_with d out d.on
 answer_of command.Check out choice d e = checked (flaws_of (three_sets d))
 answer_of command.Contain out choice d e = printed_with d out (contained d.size d.on)
 answer_of command.Primes out choice d e = printed_with d out (primes_of (three_sets d))
-answer_of command.Essen out choice d e = printed_with d out (essential_of (three_sets d) (primes_of (three_sets d)))
+answer_of command.Essen out choice d e =
+    printed_with d out (essential_of (three_sets d) (primes_of (three_sets d)))
 answer_of command.Exact out choice d e = printed_with d out (exact_of choice (three_sets d))
 answer_of command.Tautology out choice d e = judged (holds_all d.size (places d.on))
     (codes "ON-set is a tautology\n") (codes "ON-set is not a tautology\n")
 answer_of command.Verify out choice d e = judged (agree d e)
     (codes "PLAs compared equal\n") (codes "PLA comparison failed; the PLAs are not equivalent\n")
-answer_of command.Intersect out choice d e = printed_sum d (intersection (places d.on) (places e.on))
+answer_of command.Intersect out choice d e =
+    printed_sum d (intersection (places d.on) (places e.on))
 answer_of command.Sharp out choice d e = printed_sum d (difference (places d.on) (places e.on))

@@ -17,7 +17,7 @@ flaws_of sets = record {
 abbrev pub has_flaw : Flaws → Bool
 has_flaw flaws = flaws.on_dc || flaws.on_off || flaws.dc_off || flaws.gap
 
--- the line where the condition holds
+-- the line if the condition holds
 abbrev pub line_if : Bool → List ℕ → List ℕ
 line_if condition line = if condition then line else []
 
@@ -29,6 +29,6 @@ flaws_text flaws =
     ++ line_if flaws.dc_off (codes "DC-set and OFF-set intersect\n")
     ++ line_if flaws.gap (codes "ON-set, OFF-set and DC-set do not cover the space\n")
 
--- what is said where there is none
+-- what is said if there is none
 abbrev pub partition_text : List ℕ
 partition_text = codes "ON-set, OFF-set and DC-set partition the space\n"

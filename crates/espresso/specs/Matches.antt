@@ -18,12 +18,15 @@ abbrev pub choice_by : Bool → Choice
 choice_by true = Literals
 choice_by false = First
 
--- the choice that the parse found: its flag has the word `true` where it stands
+-- the choice that the parse found: its flag has the word `true` if it stands
 abbrev pub choice_in : Found → Choice
-choice_in f = choice_by (option_map_or (λ t. bytes_eq t (codes "true")) (first_value f (codes "literals")) false)
+choice_in f =
+    choice_by
+    (option_map_or (λ t. bytes_eq t (codes "true")) (first_value f (codes "literals")) false)
 
 -- the line that the parse found, by the values of its options and its files
 abbrev pub meaning_in : Found → Option Meaning
 meaning_in f = meaning (option_and_then command_named (first_value f (codes "command")))
     (option_map_or type_named (first_value f (codes "type")) (Some F))
-    (option_map_or eat_named (first_value f (codes "eat")) (Some false)) (Some (choice_in f)) (files_in f)
+    (option_map_or eat_named (first_value f (codes "eat")) (Some false))
+    (Some (choice_in f)) (files_in f)

@@ -18,7 +18,8 @@ pub record Faults : Type 0 where
   pub keyword_repeated : said KeywordRepeated ≡ codes "espresso: f:12: keyword repeated\n"
   pub bad_number : said BadNumber ≡ codes "espresso: f:12: bad number\n"
   pub names_before_shape : said NamesBeforeShape ≡ codes "espresso: f:12: names before .i and .o\n"
-  pub wrong_number_of_names : said WrongNumberOfNames ≡ codes "espresso: f:12: wrong number of names\n"
+  pub wrong_number_of_names : said WrongNumberOfNames
+      ≡ codes "espresso: f:12: wrong number of names\n"
   pub type_after_row : said TypeAfterRow ≡ codes "espresso: f:12: type after a row\n"
   pub bad_type : said BadType ≡ codes "espresso: f:12: bad type\n"
   pub row_before_shape : said RowBeforeShape ≡ codes "espresso: f:12: row before .i and .o\n"

@@ -7,22 +7,23 @@ use Rattle.pla.specs.declared.ending.Ending.{Ending}
 use Rattle.pla.specs.Fault.{fault_of}
 use Rattle.pla.specs.Reads.{MayEnd}
 use Rattle.espresso.specs.declared.line.LineFault.{LineFault}
-use Rattle.espresso.specs.declared.source.Source.{Source}
-use Rattle.espresso.specs.declared.source.Source.TheVariants.{Open, Closed}
+use Rattle.espresso.specs.declared.sources.Source.{Source}
+use Rattle.espresso.specs.declared.sources.Source.TheVariants.{Open, Closed}
 use Rattle.espresso.specs.declared.status.Status.{Status}
 use Rattle.espresso.specs.declared.status.Status.TheVariants.{Memory}
-use Rattle.espresso.specs.declared.stop.Stop.{Stop}
-use Rattle.espresso.specs.declared.stop.Stop.TheVariants as stop
+use Rattle.espresso.specs.declared.failure.Failure.{Failure}
+use Rattle.espresso.specs.declared.failure.Failure.TheVariants as failure
 use Rattle.espresso.specs.Messages.{memory_message}
-use Rattle.espresso.specs.Run.{Absent, Asked, Bytes, CouldNotWrite, EndsAs, HasOutcome, Intake, Intakes, Nothing, RanOut, Says, SecondIntake, Takes, TakesSecond, Told, Untouched, all_due}
+use Rattle.espresso.specs.Run.{Absent, Asked, Bytes, CouldNotWrite, EndsAs, HasOutcome, Intake, Intakes, Nothing, RanOut, WroteOrFailed, SecondIntake, Takes, TakesSecond, Trace, Untouched, all_due}
 use Rattle.espresso.specs.Steps.{Names}
 use Rattle.espresso.specs.Tool.{File, Outcome, first_name, refusal_of, second_name, tool}
 use Rattle.espresso.specs.Words.{Meaning, Text, line_of, takes_two}
 
 -- ---- the words
 
--- the words of a process, the program's name first: what stands behind it, or why there are none
-abbrev pub words_behind : {V : Type 0} → (V → List Text) → Result V LineFault → Result (List Text) LineFault
+-- the words of a process, the program's name first: what stands after it, or why there are none
+abbrev pub words_behind : {V : Type 0} → (V → List Text) → Result V LineFault
+    → Result (List Text) LineFault
 words_behind texts (Ok given) = Ok (drop 1 (texts given))
 words_behind texts (Err fault) = Err fault
 
@@ -31,20 +32,23 @@ abbrev pub line_said : Result (List Text) LineFault → Option Meaning
 line_said (Ok words) = line_of words
 line_said (Err fault) = None
 
--- what the tool answers on them: words that are no text are refused, and want of memory is said
+-- what the tool answers on them: words that are no text are refused, and out of memory is said
 abbrev pub tool_on : Result (List Text) LineFault → File → Option File → Outcome
 tool_on (Ok words) first second = tool words first second
 tool_on (Err fault) first second = refusal_of fault
 
 -- ---- the sources
 
--- the file that the first of these words names: none for standard input, which is `-` or no word at all
+-- the file that the first of these words names: none for standard input, which is `-` or no word at
+-- all
 abbrev pub named_file : List Text → Option Text
 named_file [] = None
 named_file (file ∷ files) = if bytes_eq file (codes "-") then None else Some file
 
--- a source of standard input, or of the file of that name: what it was opened as, or closed where it could not be
-abbrev pub IsOpenedAs : {D : Type 0} → (Text → Option D → Type 0) → (D → Type 0) → Option Text → Source D → Type 0
+-- a source of standard input, or of the file of that name: what it was opened as, or closed if it
+-- could not be
+abbrev pub IsOpenedAs : {D : Type 0} → (Text → Option D → Type 0) → (D → Type 0)
+    → Option Text → Source D → Type 0
 IsOpenedAs file input None (Open name device) = input device
 IsOpenedAs file input None (Closed name) = ⊥
 IsOpenedAs file input (Some word) (Open name device) = file word (Some device)
@@ -57,23 +61,31 @@ names_said line = record { first = first_name line.files; second = second_name l
 -- what was taken of a first source that stops the run: it was closed, or has a fault
 abbrev pub Stops : Intake → Type 0
 Stops Nothing = ⊤
-Stops (Bytes bytes met) = (ending : Ending) → MayEnd met ending → is_some (fault_of format_limits ending bytes) ≡ true
+Stops (Bytes bytes met) =
+    (ending : Ending) → MayEnd met ending → is_some (fault_of format_limits ending bytes) ≡ true
 
--- what stopped a run before its second source: the first, a write that failed, or want of memory
-abbrev pub StoppedBefore : Intake → Result Status Stop → Type 0
+-- what stopped a run before its second source: the first, a write that failed, or out of memory
+abbrev pub StoppedBefore : Intake → Result Status Failure → Type 0
 StoppedBefore first (Ok status) = ⊥
-StoppedBefore first (Err (stop.NotOpened operand)) = Stops first
-StoppedBefore first (Err (stop.Faulty operand fault)) = Stops first
-StoppedBefore first (Err stop.SizesDiffer) = ⊥
-StoppedBefore first (Err stop.WriteFailed) = ⊤
-StoppedBefore first (Err stop.OutOfMemory) = ⊤
+StoppedBefore first (Err (failure.NotOpened operand)) = Stops first
+StoppedBefore first (Err (failure.Faulty operand fault)) = Stops first
+StoppedBefore first (Err failure.SizesDiffer) = ⊥
+StoppedBefore first (Err failure.WriteFailed) = ⊤
+StoppedBefore first (Err failure.OutOfMemory) = ⊤
 
--- the second source, as it was opened and as it was left, and what was taken of it: the command takes none; or none was opened,
--- since the run was stopped before; or the first was read whole and has no fault, and then it was opened and read
-abbrev pub OpensSecond : {D : Type 0} → (Text → Option D → Type 0) → (D → Type 0) → (D → Option (List ℕ)) → (D → ReadCalls) → Meaning → Intake → Type 0 → Option (Source D) → Option (Source D) → SecondIntake → Type 0
-OpensSecond file input left calls line first Stopped None None Absent = takes_two line.command ≡ false
-OpensSecond file input left calls line first Stopped None None Untouched = (takes_two line.command ≡ true) × Stopped
-OpensSecond file input left calls line first Stopped (Some source) (Some after) (Asked intake) = (takes_two line.command ≡ true)
+-- the second source, as it was opened and as it was left, and what was taken of it: the command
+-- takes none; or none was opened,
+-- since the run was stopped before; or the first was read whole and has no fault, and then it was
+-- opened and read
+abbrev pub OpensSecond : {D : Type 0} → (Text → Option D → Type 0) → (D → Type 0)
+    → (D → Option (List ℕ)) → (D → ReadCalls) → Meaning → Intake → Type 0
+    → Option (Source D) → Option (Source D) → SecondIntake → Type 0
+OpensSecond file input left calls line first Stopped None None Absent =
+    takes_two line.command ≡ false
+OpensSecond file input left calls line first Stopped None None Untouched =
+    (takes_two line.command ≡ true) × Stopped
+OpensSecond file input left calls line first Stopped (Some source) (Some after) (Asked intake) =
+    (takes_two line.command ≡ true)
     × IsOpenedAs file input (named_file (drop 1 line.files)) source
     × TakesSecond left calls first (Some source) (Some after) (Asked intake)
 OpensSecond file input left calls line first Stopped _ _ _ = ⊥
@@ -81,24 +93,31 @@ OpensSecond file input left calls line first Stopped _ _ _ = ⊥
 -- ---- how it ends
 
 -- the words say no line: nothing is printed, not even a flush is asked for, and that is said
-pub record Refuses (words : Result (List Text) LineFault) (out err : Told) (status : Status) : Type 0 where
+pub record Refuses (words : Result (List Text) LineFault) (out err : Trace)
+    (status : Status) : Type 0 where
   pub refused : line_said words ≡ None
-  pub outcome : (first : File) (second : Option File) → HasOutcome (tool_on words first second) out err status
+  pub outcome : (first : File) (second : Option File)
+      → HasOutcome (tool_on words first second) out err status
   pub untouched : out.calls_after ≡ out.calls
 
 -- memory was refused before the first source was read: the output was not called, and that is said
-pub record GivesUp (out err : Told) (status : Status) : Type 0 where
+pub record GivesUp (out err : Trace) (status : Status) : Type 0 where
   pub nothing : out.taken_after ≡ out.taken
   pub untouched : out.calls_after ≡ out.calls
-  pub message : Says err memory_message
+  pub message : WroteOrFailed err memory_message
   pub same_status : status ≡ Memory
 
 -- memory was refused on the way, or the output failed
-abbrev pub IsCutShort : (File → Option File → Outcome) → List ℕ → Intakes → Told → Told → Status → Type 0
-IsCutShort answer echoes taken out err status = RanOut answer echoes taken out err status ⊎ CouldNotWrite answer echoes taken out err status
+abbrev pub IsCutShort : (File → Option File → Outcome) → List ℕ → Intakes → Trace
+    → Trace → Status → Type 0
+IsCutShort answer echoes taken out err status =
+    RanOut answer echoes taken out err status ⊎ CouldNotWrite answer echoes taken out err status
 
--- a line is run on its files, the second of which is opened behind the first; this is the tool's answer on files
-pub record RunsOn {D : Type 0} (file : Text → Option D → Type 0) (input : D → Type 0) (left : D → Option (List ℕ)) (calls : D → ReadCalls) (line : Meaning) (answer : File → Option File → Outcome) (out err : Told) (status : Status) : Type 0 where
+-- a line is run on its files, the second of which is opened after the first; this is the tool's
+-- answer on files
+pub record RunsOn {D : Type 0} (file : Text → Option D → Type 0) (input : D → Type 0)
+    (left : D → Option (List ℕ)) (calls : D → ReadCalls) (line : Meaning)
+    (answer : File → Option File → Outcome) (out err : Trace) (status : Status) : Type 0 where
   pub first : Source D
   pub first_after : Source D
   pub second : Option (Source D)
@@ -107,16 +126,24 @@ pub record RunsOn {D : Type 0} (file : Text → Option D → Type 0) (input : D 
   pub taken : Intakes
   pub first_taken : Takes left calls first first_after taken.first
   pub second_opened : OpensSecond file input left calls line taken.first
-      (Stops taken.first ⊎ IsCutShort answer (all_due line taken) taken out err status) second second_after taken.second
+      (Stops taken.first ⊎ IsCutShort answer (all_due line taken) taken out err status)
+      second second_after taken.second
   pub ends : EndsAs answer (all_due line taken) taken out err status
 
 -- a line is run, unless memory is refused before
-abbrev pub RunsLine : {D : Type 0} → (Text → Option D → Type 0) → (D → Type 0) → (D → Option (List ℕ)) → (D → ReadCalls) → Meaning → (File → Option File → Outcome) → Told → Told → Status → Type 0
-RunsLine file input left calls line answer out err status = GivesUp out err status ⊎ RunsOn file input left calls line answer out err status
+abbrev pub RunsLine : {D : Type 0} → (Text → Option D → Type 0) → (D → Type 0)
+    → (D → Option (List ℕ)) → (D → ReadCalls) → Meaning → (File → Option File → Outcome)
+    → Trace → Trace → Status → Type 0
+RunsLine file input left calls line answer out err status =
+    GivesUp out err status ⊎ RunsOn file input left calls line answer out err status
 
--- what a process does with these words: it refuses them, or there are words and memory is refused before a run, or they
+-- what a process does with these words: it refuses them, or there are words and memory is refused
+-- before a run, or they
 -- say a line, which is run
-abbrev pub Executes : {D : Type 0} → (Text → Option D → Type 0) → (D → Type 0) → (D → Option (List ℕ)) → (D → ReadCalls) → Result (List Text) LineFault → Told → Told → Status → Type 0
+abbrev pub Executes : {D : Type 0} → (Text → Option D → Type 0) → (D → Type 0)
+    → (D → Option (List ℕ)) → (D → ReadCalls) → Result (List Text) LineFault → Trace
+    → Trace → Status → Type 0
 Executes file input left calls words out err status = Refuses words out err status
     ⊎ (((texts : List Text) × (words ≡ Ok texts) × GivesUp out err status)
-    ⊎ ((line : Meaning) × (line_said words ≡ Some line) × RunsOn file input left calls line (tool_on words) out err status))
+    ⊎ ((line : Meaning) × (line_said words ≡ Some line)
+    × RunsOn file input left calls line (tool_on words) out err status))

@@ -1,4 +1,5 @@
--- What a run takes from its sources, which files a process opens, and what it says where it has no line: on small runs.
+-- What a run takes from its sources, which files a process opens, and what it says if it has no
+-- line: on small runs.
 use Rattle.std.specs.Prelude.{◌≡◌, ℕ, true, false, List, [], ◌∷◌, Option, None, Some, Ok, Err, ⊤, String, codes, refl}
 use Rattle.std.specs.Global.{Global}
 use Rattle.minimum.specs.declared.choice.Choice.TheVariants.{First}
@@ -11,11 +12,11 @@ use Rattle.pla.specs.Fault.{fault_in, is_past_limit, is_too_long, is_refused, is
 use Rattle.espresso.specs.declared.command.Command.{Command}
 use Rattle.espresso.specs.declared.command.Command.TheVariants.{Echo, Verify}
 use Rattle.espresso.specs.declared.line.LineFault.TheVariants as line_fault
-use Rattle.espresso.specs.declared.source.Source.{Source}
-use Rattle.espresso.specs.declared.source.Source.TheVariants.{Open, Closed}
+use Rattle.espresso.specs.declared.sources.Source.{Source}
+use Rattle.espresso.specs.declared.sources.Source.TheVariants.{Open, Closed}
 use Rattle.espresso.specs.declared.status.Status.TheVariants.{Fault, Memory}
 use Rattle.espresso.specs.Program.{IsOpenedAs, GivesUp, OpensSecond, Stops, line_said, named_file, names_said, tool_on, words_behind}
-use Rattle.espresso.specs.Run.{Absent, Asked, Bytes, CouldNotWrite, FlushBroke, FlushedLast, FlushWent, Intake, Intakes, IsFaultless, IsFileOf, IsSecondOf, LastWriteBroke, Nothing, RanOut, Takes, TakesSecond, Told, Untouched, WritesWent, all_due, told}
+use Rattle.espresso.specs.Run.{Absent, Asked, Bytes, CouldNotWrite, FlushBroke, FlushedLast, FlushWent, Intake, Intakes, IsFaultless, IsFileOf, IsSecondOf, LastWriteBroke, Nothing, RanOut, Takes, TakesSecond, Trace, Untouched, WritesWent, all_due, trace}
 use Rattle.espresso.specs.Tool.{File, Outcome}
 use Rattle.espresso.specs.Tool as tool
 use Rattle.espresso.specs.Words.{Meaning, Text, meaning_by}
@@ -56,11 +57,15 @@ files = record {
 
 -- no call so far
 abbrev fresh : WriteCalls
-fresh = record { counts = record { failures = 0; flushes = 0; failed_flushes = 0 }; broken = false; flushed = false }
+fresh = record {
+  counts = record { failures = 0; flushes = 0; failed_flushes = 0 };
+  broken = false;
+  flushed = false;
+}
 
--- what an output tells of these calls
-abbrev called : WriteCalls → Told
-called calls = told None None fresh calls
+-- what an output reports of these calls
+abbrev called : WriteCalls → Trace
+called calls = trace None None fresh calls
 
 pub record Calls : Type 0 where
   pub flushed_last : FlushedLast (called (flush_went (write_went fresh)))
@@ -94,13 +99,19 @@ pub record Named : Type 0 where
   pub no_word : named_file [] ≡ None
   pub a_hyphen : named_file (codes "-" ∷ []) ≡ None
   pub a_name : named_file (codes "a" ∷ codes "-" ∷ []) ≡ Some (codes "a")
-  pub behind_the_program : words_behind (λ texts. texts) (Ok (codes "espresso" ∷ codes "a" ∷ codes "b" ∷ [])) ≡ Ok (codes "a" ∷ codes "b" ∷ [])
+  pub behind_the_program : words_behind (λ texts. texts)
+      (Ok (codes "espresso" ∷ codes "a" ∷ codes "b" ∷ [])) ≡ Ok (codes "a" ∷ codes "b" ∷ [])
   pub no_text : line_said (Err line_fault.Usage) ≡ None
   pub no_line : line_said (Ok (codes "a" ∷ [])) ≡ None
   pub a_line : line_said (Ok (codes "-Dverify" ∷ codes "a" ∷ codes "b" ∷ [])) ≡ Some (on_two Verify)
   pub refused : tool_on (Err line_fault.Usage) tool.Closed None
-      ≡ record { output = []; message = codes "usage: espresso -Dcommand [-o type] [-e eat] [file [file]]\n"; status = Fault }
-  pub no_memory : tool_on (Err line_fault.Memory) tool.Closed None ≡ record { output = []; message = codes "espresso: out of memory\n"; status = Memory }
+      ≡ record {
+        output = [];
+        message = codes "usage: espresso -Dcommand [-o type] [-e eat] [file [file]]\n";
+        status = Fault;
+      }
+  pub no_memory : tool_on (Err line_fault.Memory) tool.Closed None
+      ≡ record { output = []; message = codes "espresso: out of memory\n"; status = Memory }
   pub first_name : (names_said (on_two Verify)).first ≡ codes "a"
   pub second_name : (names_said (on_two Verify)).second ≡ codes "b"
 
@@ -120,8 +131,12 @@ named = record {
 }
 
 -- the echoes of the first file come before those of the second
-echoes_in_order : all_due (on_two Verify) (record { first = Bytes (codes "#a\n") (Some End); second = Asked (Bytes (codes "#b\n") None) }) ≡ codes "#a\n#b\n"
-unfolding fault_in is_past_limit is_too_long is_refused is_inside_row is_repeated is_bad_number is_name_too_early is_wrong_count is_type_too_late is_bad_type is_row_too_early is_bad_symbol
+echoes_in_order : all_due (on_two Verify)
+    (record { first = Bytes (codes "#a\n") (Some End); second = Asked (Bytes (codes "#b\n") None) })
+    ≡ codes "#a\n#b\n"
+unfolding fault_in is_past_limit is_too_long is_refused is_inside_row is_repeated
+    is_bad_number is_name_too_early is_wrong_count is_type_too_late is_bad_type
+    is_row_too_early is_bad_symbol
 echoes_in_order = refl
 
 -- ---- the sources, which are numbers here
@@ -153,17 +168,26 @@ pub record Opened (name : String Global) : Type 0 where
   pub closed_then : Takes untold uncalled (Open name 0) (Closed name) (Bytes [] None) → ⊥
   -- of the second source
   pub no_second : TakesSecond untold uncalled Nothing None None Absent
-  pub not_asked : TakesSecond untold uncalled Nothing (Some (Closed name)) (Some (Closed name)) Untouched
+  pub not_asked : TakesSecond untold uncalled Nothing (Some (Closed name))
+      (Some (Closed name)) Untouched
   pub lost : TakesSecond untold uncalled Nothing (Some (Closed name)) None Untouched → ⊥
-  pub unsaid : TakesSecond untold uncalled Nothing (Some (Closed name)) (Some (Closed name)) Absent → ⊥
-  pub behind_closed : TakesSecond untold uncalled Nothing (Some (Closed name)) (Some (Closed name)) (Asked Nothing) → ⊥
+  pub unsaid : TakesSecond untold uncalled Nothing (Some (Closed name)) (Some (Closed name)) Absent
+      → ⊥
+  pub behind_closed : TakesSecond untold uncalled Nothing (Some (Closed name))
+      (Some (Closed name)) (Asked Nothing) → ⊥
   -- and when it is opened
-  pub takes_one : OpensSecond (opens (codes "b")) is_input untold uncalled (on_two Echo) Nothing ⊥ None None Absent
-  pub takes_two : OpensSecond (opens (codes "b")) is_input untold uncalled (on_two Verify) Nothing ⊤ None None Absent → ⊥
-  pub stopped : OpensSecond (opens (codes "b")) is_input untold uncalled (on_two Verify) Nothing ⊤ None None Untouched
-  pub not_stopped : OpensSecond (opens (codes "b")) is_input untold uncalled (on_two Verify) Nothing ⊥ None None Untouched → ⊥
-  pub stopped_one : OpensSecond (opens (codes "b")) is_input untold uncalled (on_two Echo) Nothing ⊤ None None Untouched → ⊥
-  pub unasked : OpensSecond (opens (codes "b")) is_input untold uncalled (on_two Verify) Nothing ⊤ (Some (Open name 1)) (Some (Open name 1)) Untouched → ⊥
+  pub takes_one : OpensSecond (opens (codes "b")) is_input untold uncalled
+      (on_two Echo) Nothing ⊥ None None Absent
+  pub takes_two : OpensSecond (opens (codes "b")) is_input untold uncalled
+      (on_two Verify) Nothing ⊤ None None Absent → ⊥
+  pub stopped : OpensSecond (opens (codes "b")) is_input untold uncalled
+      (on_two Verify) Nothing ⊤ None None Untouched
+  pub not_stopped : OpensSecond (opens (codes "b")) is_input untold uncalled
+      (on_two Verify) Nothing ⊥ None None Untouched → ⊥
+  pub stopped_one : OpensSecond (opens (codes "b")) is_input untold uncalled
+      (on_two Echo) Nothing ⊤ None None Untouched → ⊥
+  pub unasked : OpensSecond (opens (codes "b")) is_input untold uncalled
+      (on_two Verify) Nothing ⊤ (Some (Open name 1)) (Some (Open name 1)) Untouched → ⊥
 
 opened : (name : String Global) → Opened name
 opened name = record {
@@ -179,7 +203,8 @@ opened name = record {
   closed_then = λ h. h;
   no_second = tt;
   not_asked = refl;
-  lost = λ h. let none : (let gone : Option (Source ℕ) = None in gone) ≡ Some (Closed name) = h in cc;
+  lost = λ h. let none : (let gone : Option (Source ℕ) = None in gone)
+      ≡ Some (Closed name) = h in cc;
   unsaid = λ h. h;
   behind_closed = λ h. h.0;
   takes_one = refl;
@@ -198,15 +223,21 @@ abbrev faulty : Intake
 faulty = Bytes (codes "1\n") (Some End)
 
 it_goes_on : IsFaultless faultless
-unfolding fault_in is_past_limit is_too_long is_refused is_inside_row is_repeated is_bad_number is_name_too_early is_wrong_count is_type_too_late is_bad_type is_row_too_early is_bad_symbol
+unfolding fault_in is_past_limit is_too_long is_refused is_inside_row is_repeated
+    is_bad_number is_name_too_early is_wrong_count is_type_too_late is_bad_type
+    is_row_too_early is_bad_symbol
 it_goes_on ending met = rw met refl
 
 it_does_not_stop : Stops faultless → ⊥
-unfolding fault_in is_past_limit is_too_long is_refused is_inside_row is_repeated is_bad_number is_name_too_early is_wrong_count is_type_too_late is_bad_type is_row_too_early is_bad_symbol
+unfolding fault_in is_past_limit is_too_long is_refused is_inside_row is_repeated
+    is_bad_number is_name_too_early is_wrong_count is_type_too_late is_bad_type
+    is_row_too_early is_bad_symbol
 it_does_not_stop stops = let said : false ≡ true = stops End refl in cc
 
 it_stops : Stops faulty
-unfolding fault_in is_past_limit is_too_long is_refused is_inside_row is_repeated is_bad_number is_name_too_early is_wrong_count is_type_too_late is_bad_type is_row_too_early is_bad_symbol
+unfolding fault_in is_past_limit is_too_long is_refused is_inside_row is_repeated
+    is_bad_number is_name_too_early is_wrong_count is_type_too_late is_bad_type
+    is_row_too_early is_bad_symbol
 it_stops ending met = rw met refl
 
 a_closed_one_stops : Stops Nothing
@@ -215,19 +246,22 @@ a_closed_one_stops = tt
 a_closed_one_has_no_text : IsFaultless Nothing → ⊥
 a_closed_one_has_no_text h = h
 
--- the second file is opened behind it
+-- the second file is opened after it
 opened_behind : (name : String Global)
-    → OpensSecond (λ word device. (word ≡ codes "b") × (device ≡ None)) is_input untold uncalled (on_two Verify) faultless ⊥ (Some (Closed name)) (Some (Closed name)) (Asked Nothing)
+    → OpensSecond (λ word device. (word ≡ codes "b") × (device ≡ None)) is_input untold uncalled
+    (on_two Verify) faultless ⊥ (Some (Closed name)) (Some (Closed name)) (Asked Nothing)
 opened_behind name = (refl, (refl, refl), (it_goes_on, refl))
 
 -- ---- the statuses of the ways to end
 
-pub record Ends (answer : File → Option File → Outcome) (echoes : List ℕ) (taken : Intakes) (out err : Told) : Type 0 where
+pub record Ends (answer : File → Option File → Outcome) (echoes : List ℕ)
+    (taken : Intakes) (out err : Trace) : Type 0 where
   pub ran_out : RanOut answer echoes taken out err Fault → ⊥
   pub could_not_write : CouldNotWrite answer echoes taken out err Memory → ⊥
   pub gave_up : GivesUp out err Fault → ⊥
 
-ends : (answer : File → Option File → Outcome) (echoes : List ℕ) (taken : Intakes) (out err : Told) → Ends answer echoes taken out err
+ends : (answer : File → Option File → Outcome) (echoes : List ℕ) (taken : Intakes) (out err : Trace)
+    → Ends answer echoes taken out err
 ends answer echoes taken out err = record {
   ran_out = λ h. let other : Fault ≡ Memory = h.same_status in cc;
   could_not_write = λ h. let other : Memory ≡ Fault = h.same_status in cc;

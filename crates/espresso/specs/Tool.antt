@@ -44,7 +44,7 @@ abbrev pub first_name : List Text → Text
 first_name [] = codes "(stdin)"
 first_name (file ∷ files) = source_name file
 
--- the name of the second source, by the words behind the first
+-- the name of the second source, by the words after the first
 abbrev pub second_name : List Text → Text
 second_name files = first_name (drop 1 files)
 
@@ -75,23 +75,25 @@ abbrev pub unless_faulty : Text → Option ReadFault → Description → Result 
 unless_faulty name (Some fault) d = Err (fault_message name fault)
 unless_faulty name None d = Ok d
 
--- what a file describes, or what is said of it where it stops the run
+-- what a file describes, or what is said of it if it stops the run
 abbrev pub reading_of : Text → File → Result Description (List ℕ)
 reading_of name Closed = Err (closed_message name)
-reading_of name (Delivered bytes ending) = unless_faulty name (fault_of format_limits ending bytes) (described format_limits ending bytes)
+reading_of name (Delivered bytes ending) =
+    unless_faulty name (fault_of format_limits ending bytes) (described format_limits ending bytes)
 
 -- a run that goes on with a description, or is stopped with a message
 abbrev pub unless_stopped : (Description → Outcome) → Result Description (List ℕ) → Outcome
 unless_stopped next (Ok d) = next d
 unless_stopped next (Err message) = stopped message
 
--- an outcome, behind a text that was printed before
+-- an outcome, after a text that was printed before
 abbrev pub behind : List ℕ → Outcome → Outcome
 behind text outcome = record outcome { output = text ++ outcome.output }
 
 -- a file is read, which passes its echoes on, and then the run is stopped, or goes on
 abbrev pub reading_then : Meaning → Text → File → (Description → Outcome) → Outcome
-reading_then line name file next = behind (passed_on line file) (unless_stopped next (reading_of name file))
+reading_then line name file next =
+    behind (passed_on line file) (unless_stopped next (reading_of name file))
 
 -- the command's answer
 abbrev pub answered : Answer → Outcome
@@ -99,18 +101,21 @@ answered answer = record { output = answer.text; message = []; status = answer.s
 
 -- two files were read: their sizes are compared, and then the command answers
 abbrev pub with_both : Meaning → Description → Description → Outcome
-with_both line d e = if same_size d.size e.size then answered (answer_of line.command line.out line.choice d e)
+with_both line d e = if same_size d.size e.size
+    then answered (answer_of line.command line.out line.choice d e)
     else stopped sizes_message
 
--- the first file was read: now the second is, where there is one, or the command answers
+-- the first file was read: now the second is, if there is one, or the command answers
 abbrev pub with_first : Meaning → Option File → Description → Outcome
 with_first line None d = answered (answer_of line.command line.out line.choice d d)
 with_first line (Some file) d = reading_then line (second_name line.files) file (with_both line d)
 
 -- what a line answers on its files: the first is read, and then what follows
 abbrev pub outcome_of : Meaning → File → Option File → Outcome
-outcome_of line first second = reading_then line (first_name line.files) first (with_first line second)
+outcome_of line first second =
+    reading_then line (first_name line.files) first (with_first line second)
 
 -- what the tool answers on words and the files that they name
 abbrev pub tool : List Text → File → Option File → Outcome
-tool words first second = option_map_or (λ line. outcome_of line first second) (line_of words) refused
+tool words first second =
+    option_map_or (λ line. outcome_of line first second) (line_of words) refused

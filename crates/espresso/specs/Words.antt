@@ -33,7 +33,8 @@ pub data Item : Type 0 where
   fewest : Item
   file : Text → Item
 
--- what a word before `--` is: no option, an option with what follows its letter, `--`, `--literals`,
+-- what a word before `--` is: no option, an option with what follows its letter, `--`,
+-- `--literals`,
 -- or an option that is not known
 pub data Word : Type 0 where
   plain : Word
@@ -58,7 +59,7 @@ abbrev pub word_of : Text → Word
 word_of [] = plain
 word_of (x ∷ rest) = if x == 45 then hyphen_word rest else plain
 
--- an option's value in its own word, with one `=` (61) at its front taken off
+-- an option's value in its own word, without one `=` (61) before it
 abbrev pub own_value : Text → Option Text
 own_value [] = None
 own_value (x ∷ rest) = Some (if x == 61 then rest else x ∷ rest)
@@ -78,15 +79,16 @@ items_at dashes word after next waits = Some (map file after)
 items_at fewest_word word after next waits = with_item fewest next
 items_at unknown word after next waits = None
 
--- the items of the words from left to right, where an option may wait for its value
+-- the items of the words from left to right, if an option may wait for its value
 abbrev pub items_from : Option Letter → List Text → Option (List Item)
 items_from None [] = Some []
 items_from (Some letter) [] = None
 items_from None (word ∷ after) =
-    items_at (word_of word) word after (items_from None after) (λ letter. items_from (Some letter) after)
+    items_at (word_of word) word after (items_from None after)
+    (λ letter. items_from (Some letter) after)
 items_from (Some letter) (word ∷ after) = with_item (option letter word) (items_from None after)
 
--- the options are the same
+-- the options are equal
 abbrev pub same_letter : Letter → Letter → Bool
 same_letter command_letter command_letter = true
 same_letter type_letter type_letter = true
@@ -115,7 +117,7 @@ choices_of (option l v ∷ items) = choices_of items
 choices_of (fewest ∷ items) = suc (choices_of items)
 choices_of (file f ∷ items) = choices_of items
 
--- the choice that `--literals` makes where it stands so often: it stands once at most
+-- the choice that `--literals` makes if it stands so often: it stands once at most
 abbrev pub chosen : ℕ → Option Choice
 chosen zero = Some First
 chosen (suc zero) = Some Literals
@@ -145,7 +147,7 @@ type_named name = if bytes_eq name (codes "f") then Some F
 abbrev pub eat_named : Text → Option Bool
 eat_named name = if bytes_eq name (codes "eat") then Some true else None
 
--- what an option with these values says: `missing` where it is not given; it stands once at most
+-- what an option with these values says: `missing` if it is not given; it stands once at most
 abbrev pub said : {X : Type 0} → (Text → Option X) → Option X → List Text → Option X
 said named missing [] = missing
 said named missing (v ∷ []) = named v
@@ -179,10 +181,12 @@ abbrev pub is_first : Choice → Bool
 is_first First = true
 is_first Literals = false
 
--- a type that the command prints, a choice that it makes, and as many files as it takes, with standard
+-- a type that the command prints, a choice that it makes, and as many files as it takes, with
+-- standard
 -- input once at most
 abbrev pub fits : Command → OutType → Choice → List Text → Bool
-fits command out choice files = (is_f out || not (prints_only_f command)) && (is_first choice || chooses command)
+fits command out choice files =
+    (is_f out || not (prints_only_f command)) && (is_first choice || chooses command)
     && ((if takes_two command then length files == 2 else nat_le (length files) 1)
     && nat_le (count_by (λ f. bytes_eq f (codes "-")) files) 1)
 
@@ -199,8 +203,9 @@ abbrev pub meaning_by : Command → OutType → Bool → Choice → List Text �
 meaning_by command out eat choice files =
     record { command = command; out = out; eat = eat; choice = choice; files = files }
 
--- the meaning of these parts, where each is given and they fit each other
-abbrev pub meaning : Option Command → Option OutType → Option Bool → Option Choice → List Text → Option Meaning
+-- the meaning of these parts, if each is given and they fit each other
+abbrev pub meaning : Option Command → Option OutType → Option Bool → Option Choice
+    → List Text → Option Meaning
 meaning (Some command) (Some out) (Some eat) (Some choice) files =
     if fits command out choice files then Some (meaning_by command out eat choice files) else None
 meaning _ _ _ _ _ = None
@@ -209,8 +214,9 @@ meaning _ _ _ _ _ = None
 abbrev pub meaning_of : List Item → Option Meaning
 meaning_of items = meaning (said command_named None (values_of command_letter items))
     (said type_named (Some F) (values_of type_letter items))
-    (said eat_named (Some false) (values_of eat_letter items)) (chosen (choices_of items)) (files_of items)
+    (said eat_named (Some false) (values_of eat_letter items)) (chosen (choices_of items))
+    (files_of items)
 
--- the line that the words say, or none where they are refused
+-- the line that the words say, or none if they are refused
 abbrev pub line_of : List Text → Option Meaning
 line_of words = option_and_then meaning_of (items_from None words)

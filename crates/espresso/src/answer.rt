@@ -6,15 +6,15 @@ ghost use Rattle.pla.specs.Completed.{dc_list, off_list, sets_of};
 ghost use Rattle.pla.specs.Sets.{lists_of};
 ghost use Rattle.pla.specs.Text.{text_of};
 ghost use Rattle.espresso.specs.Answer.{answer_of, judged, printed, printed_with, prints_dc, prints_off, three_sets};
-ghost use Rattle.espresso.specs.Run.{told};
+ghost use Rattle.espresso.specs.Run.{trace};
 ghost use Rattle.espresso.specs.Steps.{PutsOut};
 
 use crate::check::{flaws_in, put_flaws};
 use crate::command::Command;
+use crate::failure::Failure;
 use crate::line::Line;
-use crate::pair::{put_comparison, put_difference, put_intersection};
 use crate::status::Status;
-use crate::stop::Stop;
+use crate::two_files::{put_comparison, put_difference, put_intersection};
 use cover::{Cover, contain};
 use minimum::{Choice, essential, exact, primes};
 use pla::{OutType, Output, Pla, Sets, WriteFault, open_dc, open_off, write_bytes, write_covers};
@@ -27,10 +27,10 @@ pub(crate) fn put_answer<W: Output>(
     pla: &Pla,
     other: &Pla,
     out: &mut W,
-) -> Result<Status, Stop>
+) -> Result<Status, Failure>
     requires { other.now.size ≡ pla.now.size }
     ensures { PutsOut (answer_of line.now.command line.now.out line.now.choice pla.now other.now)
-        (told (W.taken out.old) (W.taken out.new) (W.calls out.old) (W.calls out.new)) result }
+        (trace (W.taken out.old) (W.taken out.new) (W.calls out.old) (W.calls out.new)) result }
 {
     match line.command() {
         Command::Echo => put_lists(alloc, pla, line.out(), pla.on(), out),
@@ -53,10 +53,10 @@ pub(crate) fn put_lists<W: Output>(
     out_type: OutType,
     on: &Cover,
     out: &mut W,
-) -> Result<Status, Stop>
+) -> Result<Status, Failure>
     requires { on.now.size ≡ pla.now.size }
     ensures { PutsOut (printed_with pla.now out_type on.now.cubes)
-        (told (W.taken out.old) (W.taken out.new) (W.calls out.old) (W.calls out.new)) result }
+        (trace (W.taken out.old) (W.taken out.new) (W.calls out.old) (W.calls out.new)) result }
 {
     match open_lists(alloc, pla, out_type) {
         Ok(open) => {
@@ -64,7 +64,7 @@ pub(crate) fn put_lists<W: Output>(
             let off = lent(&open.off, pla.off());
             put_covers(pla, out_type, on, dc, off, out)
         }
-        Err(_) => Err(Stop::OutOfMemory),
+        Err(_) => Err(Failure::OutOfMemory),
     }
 }
 
@@ -77,10 +77,18 @@ struct Open {
 
 // Those that are printed and not the description's own.
 fn open_lists(alloc: Global, pla: &Pla, out_type: OutType) -> Result<Open, AllocError>
-    ensures dc { IfOk result (λ lists. unwrap_or lists.dc (record { size = pla.now.size; cubes = pla.now.dc })
-        ≡ record { size = pla.now.size; cubes = dc_list pla.now.file_type (prints_dc out_type) pla.now }) }
-    ensures off { IfOk result (λ lists. unwrap_or lists.off (record { size = pla.now.size; cubes = pla.now.off })
-        ≡ record { size = pla.now.size; cubes = off_list pla.now.file_type (prints_off out_type) pla.now }) }
+    ensures dc { IfOk result
+        (λ lists. unwrap_or lists.dc (record { size = pla.now.size; cubes = pla.now.dc })
+        ≡ record {
+          size = pla.now.size;
+          cubes = dc_list pla.now.file_type (prints_dc out_type) pla.now;
+        }) }
+    ensures off { IfOk result
+        (λ lists. unwrap_or lists.off (record { size = pla.now.size; cubes = pla.now.off })
+        ≡ record {
+          size = pla.now.size;
+          cubes = off_list pla.now.file_type (prints_off out_type) pla.now;
+        }) }
 {
     let dc = open_dc(alloc, pla, is_dc_printed(out_type))?;
     let off = open_off(alloc, pla, is_off_printed(out_type))?;
@@ -95,16 +103,16 @@ fn put_covers<W: Output>(
     dc: &Cover,
     off: &Cover,
     out: &mut W,
-) -> Result<Status, Stop>
+) -> Result<Status, Failure>
     requires on_size { on.now.size ≡ pla.now.size }
     requires dc_size { dc.now.size ≡ pla.now.size }
     requires off_size { off.now.size ≡ pla.now.size }
     ensures { PutsOut (printed (text_of pla.now out_type (lists_of on.now dc.now off.now)))
-        (told (W.taken out.old) (W.taken out.new) (W.calls out.old) (W.calls out.new)) result }
+        (trace (W.taken out.old) (W.taken out.new) (W.calls out.old) (W.calls out.new)) result }
 {
     match write_covers(pla, out_type, on, dc, off, out) {
         Ok(()) => Ok(Status::Done),
-        Err(WriteFault) => Err(Stop::WriteFailed),
+        Err(WriteFault) => Err(Failure::WriteFailed),
     }
 }
 
@@ -128,7 +136,7 @@ fn is_off_printed(out_type: OutType) -> bool
     }
 }
 
-// The list that was computed, or the given one where none was.
+// The list that was computed, or the given one if none was.
 pub(crate) fn lent<'a>(computed: &'a Option<Cover>, given: &'a Cover) -> &'a Cover
     ensures { result.now ≡ unwrap_or computed.now given.now }
 {
@@ -144,13 +152,13 @@ fn put_contained<W: Output>(
     pla: &Pla,
     out_type: OutType,
     out: &mut W,
-) -> Result<Status, Stop>
+) -> Result<Status, Failure>
     ensures { PutsOut (printed_with pla.now out_type (contained pla.now.size pla.now.on))
-        (told (W.taken out.old) (W.taken out.new) (W.calls out.old) (W.calls out.new)) result }
+        (trace (W.taken out.old) (W.taken out.new) (W.calls out.old) (W.calls out.new)) result }
 {
     match contain(pla.on()) {
         Ok(on) => put_lists(alloc, pla, out_type, &on, out),
-        Err(_) => Err(Stop::OutOfMemory),
+        Err(_) => Err(Failure::OutOfMemory),
     }
 }
 
@@ -160,19 +168,20 @@ fn put_primes<W: Output>(
     pla: &Pla,
     out_type: OutType,
     out: &mut W,
-) -> Result<Status, Stop>
+) -> Result<Status, Failure>
     ensures { PutsOut (answer_of Command.Primes out_type Choice.First pla.now pla.now)
-        (told (W.taken out.old) (W.taken out.new) (W.calls out.old) (W.calls out.new)) result }
+        (trace (W.taken out.old) (W.taken out.new) (W.calls out.old) (W.calls out.new)) result }
 {
     match with_primes(alloc, pla, is_off_printed(out_type)) {
         Ok(sets) => put_covers(pla, out_type, sets.on(), sets.dc(), sets.off(), out),
-        Err(_) => Err(Stop::OutOfMemory),
+        Err(_) => Err(Failure::OutOfMemory),
     }
 }
 
-// The three sets with the primes in place of the ON list; the OFF list where it is asked for.
+// The three sets with the primes in place of the ON list; the OFF list if it is asked for.
 fn with_primes(alloc: Global, pla: &Pla, off: bool) -> Result<Sets, AllocError>
-    ensures { IfOk result (λ sets. sets ≡ record (sets_of pla.now true off) { on = primes_of (three_sets pla.now) }) }
+    ensures { IfOk result
+        (λ sets. sets ≡ record (sets_of pla.now true off) { on = primes_of (three_sets pla.now) }) }
 {
     let sets = Sets::of(alloc, pla, true, off)?;
     let on = primes(&sets)?;
@@ -185,13 +194,13 @@ fn put_essential<W: Output>(
     pla: &Pla,
     out_type: OutType,
     out: &mut W,
-) -> Result<Status, Stop>
+) -> Result<Status, Failure>
     ensures { PutsOut (answer_of Command.Essen out_type Choice.First pla.now pla.now)
-        (told (W.taken out.old) (W.taken out.new) (W.calls out.old) (W.calls out.new)) result }
+        (trace (W.taken out.old) (W.taken out.new) (W.calls out.old) (W.calls out.new)) result }
 {
     match with_essential(alloc, pla, is_off_printed(out_type)) {
         Ok(sets) => put_covers(pla, out_type, sets.on(), sets.dc(), sets.off(), out),
-        Err(_) => Err(Stop::OutOfMemory),
+        Err(_) => Err(Failure::OutOfMemory),
     }
 }
 
@@ -213,19 +222,21 @@ fn put_least<W: Output>(
     choice: Choice,
     out_type: OutType,
     out: &mut W,
-) -> Result<Status, Stop>
+) -> Result<Status, Failure>
     ensures { PutsOut (answer_of Command.Exact out_type choice pla.now pla.now)
-        (told (W.taken out.old) (W.taken out.new) (W.calls out.old) (W.calls out.new)) result }
+        (trace (W.taken out.old) (W.taken out.new) (W.calls out.old) (W.calls out.new)) result }
 {
     match with_least(alloc, pla, choice, is_off_printed(out_type)) {
         Ok(sets) => put_covers(pla, out_type, sets.on(), sets.dc(), sets.off(), out),
-        Err(_) => Err(Stop::OutOfMemory),
+        Err(_) => Err(Failure::OutOfMemory),
     }
 }
 
 // The three sets with the least cover in place of the ON list, likewise.
 fn with_least(alloc: Global, pla: &Pla, choice: Choice, off: bool) -> Result<Sets, AllocError>
-    ensures { IfOk result (λ sets. sets ≡ record (sets_of pla.now true off) { on = exact_of choice (three_sets pla.now) }) }
+    ensures { IfOk result
+        (λ sets. sets
+        ≡ record (sets_of pla.now true off) { on = exact_of choice (three_sets pla.now) }) }
 {
     let sets = Sets::of(alloc, pla, true, off)?;
     let on = exact(alloc, &sets, choice)?;
@@ -233,20 +244,20 @@ fn with_least(alloc: Global, pla: &Pla, choice: Choice, off: bool) -> Result<Set
 }
 
 // Whether the three sets part the space.
-fn put_check<W: Output>(pla: &Pla, out: &mut W) -> Result<Status, Stop>
+fn put_check<W: Output>(pla: &Pla, out: &mut W) -> Result<Status, Failure>
     ensures { PutsOut (answer_of Command.Check OutType.F Choice.First pla.now pla.now)
-        (told (W.taken out.old) (W.taken out.new) (W.calls out.old) (W.calls out.new)) result }
+        (trace (W.taken out.old) (W.taken out.new) (W.calls out.old) (W.calls out.new)) result }
 {
     match flaws_in(pla) {
         Ok(flaws) => put_flaws(flaws, out),
-        Err(_) => Err(Stop::OutOfMemory),
+        Err(_) => Err(Failure::OutOfMemory),
     }
 }
 
 // Whether the ON-set is everything.
-fn put_tautology<W: Output>(pla: &Pla, out: &mut W) -> Result<Status, Stop>
+fn put_tautology<W: Output>(pla: &Pla, out: &mut W) -> Result<Status, Failure>
     ensures { PutsOut (answer_of Command.Tautology OutType.F Choice.First pla.now pla.now)
-        (told (W.taken out.old) (W.taken out.new) (W.calls out.old) (W.calls out.new)) result }
+        (trace (W.taken out.old) (W.taken out.new) (W.calls out.old) (W.calls out.new)) result }
 {
     match pla.on().tautology() {
         Ok(holds) => {
@@ -254,7 +265,7 @@ fn put_tautology<W: Output>(pla: &Pla, out: &mut W) -> Result<Status, Stop>
             let no = b"ON-set is not a tautology\n";
             put_judgement(holds, yes, no, out)
         }
-        Err(_) => Err(Stop::OutOfMemory),
+        Err(_) => Err(Failure::OutOfMemory),
     }
 }
 
@@ -264,19 +275,19 @@ pub(crate) fn put_judgement<W: Output>(
     yes: &[u8],
     no: &[u8],
     out: &mut W,
-) -> Result<Status, Stop>
+) -> Result<Status, Failure>
     ensures { PutsOut (judged holds yes.now no.now)
-        (told (W.taken out.old) (W.taken out.new) (W.calls out.old) (W.calls out.new)) result }
+        (trace (W.taken out.old) (W.taken out.new) (W.calls out.old) (W.calls out.new)) result }
 {
     if holds {
         match write_bytes(out, yes) {
             Ok(()) => Ok(Status::Done),
-            Err(WriteFault) => Err(Stop::WriteFailed),
+            Err(WriteFault) => Err(Failure::WriteFailed),
         }
     } else {
         match write_bytes(out, no) {
             Ok(()) => Ok(Status::No),
-            Err(WriteFault) => Err(Stop::WriteFailed),
+            Err(WriteFault) => Err(Failure::WriteFailed),
         }
     }
 }

@@ -7,12 +7,12 @@ ghost use Rattle.cover.specs.Places.{holds_all, places, share_place};
 ghost use Rattle.pla.specs.Device.{TellsFailure, Writes};
 ghost use Rattle.espresso.specs.Answer.{checked, three_sets};
 ghost use Rattle.espresso.specs.Check.{flaws_of, flaws_text, has_flaw, line_if as line_if_of};
-ghost use Rattle.espresso.specs.Run.{told};
+ghost use Rattle.espresso.specs.Run.{trace};
 ghost use Rattle.espresso.specs.Steps.{PutsOut};
 
+use crate::failure::Failure;
 use crate::status::Status;
-use crate::stop::Stop;
-use pla::{FileType, Output, Pla, WriteFault, then, write_bytes};
+use pla::{FileType, Output, Pla, WriteFault, write_bytes, write_next};
 use std::alloc::AllocError;
 
 // Which of the three sets share a place, and whether there is a place outside of all.
@@ -58,21 +58,24 @@ pub(crate) fn flaws_in(pla: &Pla) -> Result<Flaws, AllocError>
 
 // Whether the given lists for the ON-set and the DC-set share a place.
 fn on_meets_dc(pla: &Pla) -> Result<bool, AllocError>
-    ensures { IfOk result (λ some. some ≡ share_place pla.now.size (places pla.now.on) (places pla.now.dc)) }
+    ensures { IfOk result
+        (λ some. some ≡ share_place pla.now.size (places pla.now.on) (places pla.now.dc)) }
 {
     pla.on().intersects(pla.dc())
 }
 
 // Those for the ON-set and the OFF-set, likewise.
 fn on_meets_off(pla: &Pla) -> Result<bool, AllocError>
-    ensures { IfOk result (λ some. some ≡ share_place pla.now.size (places pla.now.on) (places pla.now.off)) }
+    ensures { IfOk result
+        (λ some. some ≡ share_place pla.now.size (places pla.now.on) (places pla.now.off)) }
 {
     pla.on().intersects(pla.off())
 }
 
 // Those for the DC-set and the OFF-set, likewise.
 fn dc_meets_off(pla: &Pla) -> Result<bool, AllocError>
-    ensures { IfOk result (λ some. some ≡ share_place pla.now.size (places pla.now.dc) (places pla.now.off)) }
+    ensures { IfOk result
+        (λ some. some ≡ share_place pla.now.size (places pla.now.dc) (places pla.now.off)) }
 {
     pla.dc().intersects(pla.off())
 }
@@ -97,19 +100,19 @@ impl Flaws {
 }
 
 // A line for each flaw, or the one that says that there is none.
-pub(crate) fn put_flaws<W: Output>(flaws: Flaws, out: &mut W) -> Result<Status, Stop>
+pub(crate) fn put_flaws<W: Output>(flaws: Flaws, out: &mut W) -> Result<Status, Failure>
     ensures { PutsOut (checked flaws)
-        (told (W.taken out.old) (W.taken out.new) (W.calls out.old) (W.calls out.new)) result }
+        (trace (W.taken out.old) (W.taken out.new) (W.calls out.old) (W.calls out.new)) result }
 {
     if flaws.some() {
         match write_flaws(flaws, out) {
             Ok(()) => Ok(Status::No),
-            Err(WriteFault) => Err(Stop::WriteFailed),
+            Err(WriteFault) => Err(Failure::WriteFailed),
         }
     } else {
         match write_bytes(out, b"ON-set, OFF-set and DC-set partition the space\n") {
             Ok(()) => Ok(Status::Done),
-            Err(WriteFault) => Err(Stop::WriteFailed),
+            Err(WriteFault) => Err(Failure::WriteFailed),
         }
     }
 }
@@ -121,14 +124,14 @@ fn write_flaws<W: Output>(flaws: Flaws, out: &mut W) -> Result<(), WriteFault>
     let line = line_if(flaws.on_dc, b"ON-set and DC-set intersect\n");
     let done = write_bytes(out, line);
     let line = line_if(flaws.on_off, b"ON-set and OFF-set intersect\n");
-    let done = then(out, done, line);
+    let done = write_next(out, done, line);
     let line = line_if(flaws.dc_off, b"DC-set and OFF-set intersect\n");
-    let done = then(out, done, line);
+    let done = write_next(out, done, line);
     let gap = b"ON-set, OFF-set and DC-set do not cover the space\n";
-    then(out, done, line_if(flaws.gap, gap))
+    write_next(out, done, line_if(flaws.gap, gap))
 }
 
-// The line, where the condition holds.
+// The line, if the condition holds.
 fn line_if(condition: bool, line: &[u8]) -> &[u8]
     ensures { result.now ≡ line_if_of condition line.now }
 {

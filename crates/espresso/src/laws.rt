@@ -6,11 +6,13 @@ ghost use Rattle.espresso.specs.Words.{Meaning, Text, line_of};
 use crate::line::LineFault;
 
 /// What [`Line::read`](crate::Line::read), [`run`](crate::run) and [`refuse`](crate::refuse) promise one
-/// by one is together what the tool answers: where the words say a line, its outcome on the files,
+/// by one is together what the tool answers: if the words say a line, its outcome on the files,
 /// and otherwise the usage.
 pub fn tool_in_parts()
     ensures lines { (words : List Text) (line : Meaning) → line_of words ≡ Some line
-        → (first : File) (second : Option File) → tool words first second ≡ outcome_of line first second }
+        → (first : File) (second : Option File)
+        → tool words first second ≡ outcome_of line first second }
     ensures refusals { (words : List Text) → line_of words ≡ None
-        → (first : File) (second : Option File) → tool words first second ≡ refusal_of LineFault.Usage }
+        → (first : File) (second : Option File)
+        → tool words first second ≡ refusal_of LineFault.Usage }
 {}

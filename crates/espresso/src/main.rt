@@ -1,8 +1,8 @@
 //! espresso: a two-level logic tool on PLA files.
 //!
-//! A command line names a command and a file, or two files that are read one behind the other.
+//! A command line names a command and a file, or two files that are read one after the other.
 //! [`Line::read`] takes the words after the program's name, and [`run`] reads the files, passes their
-//! comments on, and prints what the command answers; where the words say no line, [`refuse`] says so.
+//! comments on, and prints what the command answers; if the words say no line, [`refuse`] says so.
 //! [`execute`] is all of it, with the files opened: it answers what `specs/Tool.antt` defines as `tool`: what
 //! goes to standard output, the one line that may go to standard error, and the exit status.
 //!
@@ -17,7 +17,7 @@
 //! - `intersect`, with the places in both files' ON-sets;
 //! - `sharp`, with the places in the first file's ON-set and not in the second's.
 //!
-//! The others say yes or no, and a no is told by the status too:
+//! The others say yes or no, and a no is reported by the status too:
 //!
 //! - `check`, whether the three sets part the space, with a line for each flaw;
 //! - `tautology`, whether the ON-set is everything;
@@ -51,31 +51,28 @@
 mod answer;
 mod check;
 mod command;
-mod content;
+mod failure;
 mod laws;
 mod line;
-mod opener;
-mod pair;
 mod parser;
 mod program;
-mod source;
+mod run;
+mod sources;
 mod status;
-mod stop;
 #[cfg(test)]
 mod tests;
-mod tool;
+mod two_files;
 
 pub use command::Command;
-use content::words_of;
 pub use laws::tool_in_parts;
 pub use line::{Line, LineFault};
-pub use opener::Opener;
 use pla::Writing;
 pub use program::execute;
-pub use source::Source;
+pub use run::{refuse, run};
+use sources::words_of;
+pub use sources::{Opener, Source};
 pub use status::Status;
 use std::process::ExitCode;
-pub use tool::{refuse, run};
 
 // The words of the process, its files and its streams.
 fn main(rt: HostRuntime) -> ExitCode {

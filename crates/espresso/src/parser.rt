@@ -38,7 +38,7 @@ pub(crate) fn espresso_command<'a>(alloc: Global) -> Result<clap::Command<'a>, A
         .arg(literals)
 }
 
-// Want of memory where that is what the parse wanted, and else a usage fault.
+// Out of memory if the parse was, and else a usage fault.
 pub(crate) fn fault_from(error: &Error) -> LineFault
     ensures { result ≡ LineFault.Usage → kind_of error.now ≡ ErrorKind.OutOfMemory → ⊥ }
 {
@@ -64,7 +64,8 @@ pub(crate) fn line_in(alloc: Global, matches: &ArgMatches<'_>) -> Result<Line, L
 }
 
 fn given_command(matches: &ArgMatches<'_>) -> Option<Command>
-    ensures { result ≡ option_and_then command_named (first_value (found_of matches.now) (codes "command")) }
+    ensures { result
+        ≡ option_and_then command_named (first_value (found_of matches.now) (codes "command")) }
 {
     match matches.get_str("command") {
         Some(name) => command_of(name),
@@ -73,7 +74,9 @@ fn given_command(matches: &ArgMatches<'_>) -> Option<Command>
 }
 
 fn given_type(matches: &ArgMatches<'_>) -> Option<OutType>
-    ensures { result ≡ option_map_or type_named (first_value (found_of matches.now) (codes "type")) (Some OutType.F) }
+    ensures { result
+        ≡ option_map_or type_named (first_value (found_of matches.now) (codes "type"))
+        (Some OutType.F) }
 {
     match matches.get_str("type") {
         Some(name) => out_type_of(name),
@@ -82,7 +85,8 @@ fn given_type(matches: &ArgMatches<'_>) -> Option<OutType>
 }
 
 fn given_eat(matches: &ArgMatches<'_>) -> Option<bool>
-    ensures { result ≡ option_map_or eat_named (first_value (found_of matches.now) (codes "eat")) (Some false) }
+    ensures { result
+        ≡ option_map_or eat_named (first_value (found_of matches.now) (codes "eat")) (Some false) }
 {
     match matches.get_str("eat") {
         Some(name) => eat_of(name),
@@ -99,7 +103,7 @@ fn given_choice(matches: &ArgMatches<'_>) -> Choice
     }
 }
 
-// The line of these values, where they make one.
+// The line of these values, if they make one.
 fn line_with(
     alloc: Global,
     command: Option<Command>,
@@ -108,7 +112,8 @@ fn line_with(
     choice: Choice,
     names: &[&str],
 ) -> Result<Line, LineFault>
-    ensures ok { IfOk result (λ l. meaning command out eat (Some choice) (map (λ s. s.now) names.now) ≡ Some l) }
+    ensures ok { IfOk result
+        (λ l. meaning command out eat (Some choice) (map (λ s. s.now) names.now) ≡ Some l) }
     ensures usage { result ≡ Err LineFault.Usage
         → meaning command out eat (Some choice) (map (λ s. s.now) names.now) ≡ None }
 {

@@ -2,27 +2,25 @@
 ghost use Rattle.std.specs.Prelude.{◌≡◌, IfOk, IsTrue, Option, map, string_bytes};
 ghost use Rattle.espresso.specs.Messages.{is_answer};
 ghost use Rattle.espresso.specs.Program.{Executes, IsOpenedAs, OpensSecond, RunsLine, StoppedBefore, named_file, names_said, words_behind};
-ghost use Rattle.espresso.specs.Run.{Intakes, Takes, name_of, told};
+ghost use Rattle.espresso.specs.Run.{Intakes, Takes, name_of, trace};
 ghost use Rattle.espresso.specs.Steps.{Stands};
 ghost use Rattle.espresso.specs.Tool.{first_name, outcome_of};
 
 use crate::answer::put_answer;
-use crate::content::{after_first, name_in_messages, source_name};
+use crate::failure::{Failure, Operand};
 use crate::line::{Line, LineFault};
-use crate::opener::Opener;
-use crate::source::Source;
+use crate::run::{flushed, go_on, read_source, refuse, report};
+use crate::sources::{Opener, Source, after_first, name_in_messages, source_name};
 use crate::status::Status;
-use crate::stop::{Operand, Stop};
-use crate::tool::{flushed, go_on, read_source, refuse, report};
 use pla::Output;
 use std::alloc::{AllocError, Global};
 
 /// Answers the words that a process was started with, the program's name first, and answers how it ends:
-/// where they say a line, it is run on its files, and otherwise it is said why not. So output, message and
-/// status are those of `tool`, but for want of memory and an output that fails.
+/// if they say a line, it is run on its files, and otherwise it is said why not. So output, message and
+/// status are those of `tool`, unless memory runs out or an output fails.
 ///
 /// No file word, or `-`, is standard input; any other word is the file of that name, or a closed source
-/// where it cannot be opened. Where the command takes two files, the second source is opened once the first
+/// if it cannot be opened. If the command takes two files, the second source is opened once the first
 /// was read whole and without a fault; a process that was stopped before leaves it unopened.
 pub fn execute<O: Opener, W: Output, E: Output>(
     alloc: Global,
@@ -33,8 +31,8 @@ pub fn execute<O: Opener, W: Output, E: Output>(
 ) -> Status
     ensures ends { Executes (O.file opener.now) (O.input opener.now) O.Device.left O.Device.calls
         (words_behind (λ given. map string_bytes given.items) words)
-        (told (W.taken out.old) (W.taken out.new) (W.calls out.old) (W.calls out.new))
-        (told (E.taken err.old) (E.taken err.new) (E.calls err.old) (E.calls err.new)) result }
+        (trace (W.taken out.old) (W.taken out.new) (W.calls out.old) (W.calls out.new))
+        (trace (E.taken err.old) (E.taken err.new) (E.calls err.old) (E.calls err.new)) result }
     ensures silent { IsTrue (is_answer result) → err.new ≡ err.old }
 {
     let line = match words {
@@ -47,7 +45,7 @@ pub fn execute<O: Opener, W: Output, E: Output>(
     }
 }
 
-// Opens the files of the line, the second behind the first, and runs it on them.
+// Opens the files of the line, the second after the first, and runs it on them.
 fn run_line<O: Opener, W: Output, E: Output>(
     alloc: Global,
     line: &Line,
@@ -55,9 +53,10 @@ fn run_line<O: Opener, W: Output, E: Output>(
     out: &mut W,
     err: &mut E,
 ) -> Status
-    ensures ends { RunsLine (O.file opener.now) (O.input opener.now) O.Device.left O.Device.calls line.now (outcome_of line.now)
-        (told (W.taken out.old) (W.taken out.new) (W.calls out.old) (W.calls out.new))
-        (told (E.taken err.old) (E.taken err.new) (E.calls err.old) (E.calls err.new)) result }
+    ensures ends { RunsLine (O.file opener.now) (O.input opener.now) O.Device.left O.Device.calls
+        line.now (outcome_of line.now)
+        (trace (W.taken out.old) (W.taken out.new) (W.calls out.old) (W.calls out.new))
+        (trace (E.taken err.old) (E.taken err.new) (E.calls err.old) (E.calls err.new)) result }
     ensures silent { IsTrue (is_answer result) → err.new ≡ err.old }
 {
     let files = line.files();
@@ -75,7 +74,7 @@ fn run_line<O: Opener, W: Output, E: Output>(
     )
 }
 
-// Reads the first source, and opens the second once that was read without a fault, where there is one;
+// Reads the first source, and opens the second once that was read without a fault, if there is one;
 // then reads it too, and prints what the command answers.
 fn carry_out<O: Opener, W: Output>(
     alloc: Global,
@@ -83,14 +82,15 @@ fn carry_out<O: Opener, W: Output>(
     first: &mut Source<O::Device>,
     opener: &O,
     out: &mut W,
-) -> Result<Status, Stop>
+) -> Result<Status, Failure>
     requires first_name { name_of first.old ≡ first_name line.now.files }
     ensures { (taken : Intakes) × Takes O.Device.left O.Device.calls first.old first.new taken.first
         × ((second : Option (Source O.Device)) × (second_after : Option (Source O.Device))
-        × OpensSecond (O.file opener.now) (O.input opener.now) O.Device.left O.Device.calls line.now taken.first
+        × OpensSecond (O.file opener.now) (O.input opener.now) O.Device.left O.Device.calls
+        line.now taken.first
         (StoppedBefore taken.first result) second second_after taken.second)
         × Stands line.now taken (names_said line.now)
-        (told (W.taken out.old) (W.taken out.new) (W.calls out.old) (W.calls out.new)) result }
+        (trace (W.taken out.old) (W.taken out.new) (W.calls out.old) (W.calls out.new)) result }
 {
     let pla = read_source(alloc, line, Operand::First, first, out)?;
     if !line.pair() {
@@ -98,18 +98,20 @@ fn carry_out<O: Opener, W: Output>(
     }
     match opened(alloc, opener, after_first(line.files())) {
         Ok(mut second) => go_on(alloc, line, &pla, &mut second, out),
-        Err(AllocError) => Err(Stop::OutOfMemory),
+        Err(AllocError) => Err(Failure::OutOfMemory),
     }
 }
 
-// The first of these files, opened, or standard input where there is none or it is `-`.
+// The first of these files, opened, or standard input if there is none or it is `-`.
 fn opened<O: Opener>(
     alloc: Global,
     opener: &O,
     files: &[String],
 ) -> Result<Source<O::Device>, AllocError>
     ensures name { IfOk result (λ s. name_of s ≡ first_name (map string_bytes files.now)) }
-    ensures source { IfOk result (IsOpenedAs (O.file opener.now) (O.input opener.now) (named_file (map string_bytes files.now))) }
+    ensures source { IfOk result
+        (IsOpenedAs (O.file opener.now) (O.input opener.now)
+        (named_file (map string_bytes files.now))) }
 {
     let name = source_name(alloc, files)?;
     let input = match files.first() {

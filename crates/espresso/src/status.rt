@@ -1,4 +1,4 @@
-//! How a run ended, as the process tells it.
+//! How a run ended, as the process reports it.
 ghost use Rattle.std.specs.Prelude.{◌≡◌};
 ghost use Rattle.espresso.specs.Messages.{status_code};
 

@@ -7,7 +7,7 @@ ghost use Rattle.espresso.specs.Words.{takes_two};
 
 mod program;
 
-use crate::content::{after_first, source_name};
+use crate::sources::{after_first, source_name};
 use crate::{Line, LineFault, Source, Status, refuse, run, tool_in_parts};
 use pla::{Ending, Given, Taken};
 use std::alloc::Global;
@@ -20,7 +20,7 @@ const PRINTED: &[u8] = b"# a\n.i 2\n.o 1\n.p 1\n11 1\n.e\n";
 
 const WRITE_FAILED: &[u8] = b"espresso: write failed\n";
 
-// What a run left behind, and how many bytes of its files it has asked for.
+// What a run left, and how many bytes of its files it has asked for.
 #[derive(Drop)]
 struct Ran {
     output: Taken,
@@ -42,10 +42,11 @@ fn given(alloc: Global, text: &[u8], ending: Ending) -> Result<Given, Fail> {
     Ok(Given::new(text.to_vec(alloc)?, 3, ending))
 }
 
-// The second source of the line, where its command takes two.
+// The second source of the line, if its command takes two.
 fn second_source(alloc: Global, line: &Line, input: Given) -> Result<Option<Source<Given>>, Fail>
     ensures pair { IfOk result (λ source. is_some source ≡ takes_two line.now.command) }
-    ensures name { IfOk result (λ source. IfSome source (λ s. name_of s ≡ second_name line.now.files)) }
+    ensures name { IfOk result
+        (λ source. IfSome source (λ s. name_of s ≡ second_name line.now.files)) }
 {
     if !line.pair() {
         return Ok(None);

@@ -1,19 +1,13 @@
 -- What holds of a fault by its cause.
-use Rattle.std.proofs.Common.{◌≡◌, ℕ, Bool, true, false, cond, not, List, [], ◌∷◌, Some, None, refl, ap, sym, ◌∙◌, find}
-use Rattle.std.specs.Prelude.{◌&&◌, option_map, is_none, nat_lt, nat_le, length}
+use Rattle.std.proofs.Common.{◌≡◌, ℕ, Bool, true, false, cond, List, [], ◌∷◌, Some, None, refl, ap, sym, ◌∙◌, find}
+use Rattle.std.specs.Prelude.{◌&&◌, option_map, is_none, nat_lt}
 use Rattle.std.specs.List.{list_all}
 use Rattle.cube.specs.Limits.{Limits}
 use Rattle.pla.specs.declared.fault.ReadKind.{ReadKind}
-use Rattle.pla.specs.declared.fault.ReadKind.TheVariants.{TooManyLines, LineTooLong, ShapeMissing, UnfinishedRow, WriteFailed, OutOfMemory}
+use Rattle.pla.specs.declared.fault.ReadKind.TheVariants.{ShapeMissing, UnfinishedRow, WriteFailed, OutOfMemory}
 use Rattle.pla.specs.Header.{Header, size_in}
-use Rattle.pla.specs.Lines.{is_empty}
-use Rattle.pla.specs.Fault.{tests, fault_in, end_kind, rest_kind}
+use Rattle.pla.specs.Fault.{tests, fault_in, end_kind}
 use Rattle.pla.specs.Reads.{MatchCause}
-
-pub cause_both : {W M T W' M' T' W'' M'' T'' : Type 0} (kind : ReadKind) → (W → W' → W'') → (M → M' → M'') → (T → T' → T'') → MatchCause kind W M T → MatchCause kind W' M' T' → MatchCause kind W'' M'' T''
-cause_both WriteFailed w m t h k = w h k
-cause_both OutOfMemory w m t h k = m h k
-cause_both _ w m t h k = t h k
 
 pub cause_map : {W M T W' M' T' : Type 0} (kind : ReadKind) → (W → W') → (M → M') → (T → T') → MatchCause kind W M T → MatchCause kind W' M' T'
 cause_map WriteFailed w m t h = w h
@@ -54,6 +48,3 @@ picked_own false false j k kind hj hk e = cc
 -- the faults of the end of the description and of a rest are the text's own
 pub end_own : (h : Header) (kind : ReadKind) → end_kind h ≡ Some kind → is_own kind ≡ true
 end_own h kind e = picked_own (is_none (size_in h)) (nat_lt 0 h.unfinished) ShapeMissing UnfinishedRow kind refl refl e
-
-pub rest_own : (limits : Limits) (count : ℕ) (rest : List ℕ) (kind : ReadKind) → rest_kind limits count rest ≡ Some kind → is_own kind ≡ true
-rest_own limits count rest kind e = picked_own (not (is_empty rest) && nat_le limits.lines count) (nat_lt limits.line_bytes (length rest)) TooManyLines LineTooLong kind refl refl e

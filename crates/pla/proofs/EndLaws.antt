@@ -15,7 +15,7 @@ use Rattle.pla.specs.Keywords.{looked_at, is_ending}
 use Rattle.pla.specs.Fault.{sound, fault_on, line_fault, rest_fault, last_fault, end_fault, end_kind, has_ending, at_line, fault_of}
 use Rattle.pla.specs.Echoes.{due, delivered_lines, echo_all, echo_of}
 use Rattle.pla.specs.Description.{Description, description_of}
-use Rattle.pla.specs.State.{Parsed, State, StandsForLines, StandsFor}
+use Rattle.pla.specs.Scan.{Parsed, Scan, StandsForLines, StandsFor}
 use Rattle.pla.specs.declared.calls.WriteCalls.{WriteCalls}
 use Rattle.pla.specs.Device.{AllWritten}
 use Rattle.pla.specs.Reads.{MatchCause, IsTold, WritesDue, WritesGrowth, CountsWrites, Answers}
@@ -39,12 +39,12 @@ lines_last text c some =
     ap (λ r. ended_lines text ++ cond (is_empty r) [] (r ∷ [])) (rest_cut text c) ∙ ap (λ b. ended_lines text ++ cond b [] (c.rest ∷ [])) some ∙ ap (λ ls. ls ++ c.rest ∷ []) (ended_cut text c)
 
 -- the text ends with its last line feed
-pub empty_takes : (state : State) (text : List ℕ) → StandsFor format_limits state text → state.parsed.header.ended ≡ false → state.rest ≡ [] → StandsForLines format_limits state.parsed (lines_of End text)
+pub empty_takes : (state : Scan) (text : List ℕ) → StandsFor format_limits state text → state.parsed.header.ended ≡ false → state.rest ≡ [] → StandsForLines format_limits state.parsed (lines_of End text)
 empty_takes state text st going empty =
     let g = going_of format_limits state text st going in
     subst (StandsForLines format_limits state.parsed) (sym (lines_empty text g.cut (sym g.kept ∙ empty))) g.stands
 
-pub empty_written : (state : State) (text : List ℕ) (taken : Option (List ℕ)) → StandsFor format_limits state text → state.parsed.header.ended ≡ false → state.rest ≡ []
+pub empty_written : (state : Scan) (text : List ℕ) (taken : Option (List ℕ)) → StandsFor format_limits state text → state.parsed.header.ended ≡ false → state.rest ≡ []
     → (w : List ℕ) × (due format_limits state.echo (Some End) text ≡ due format_limits state.echo None text ++ w) × Appends taken taken w
 empty_written state text taken st going empty =
     let g = going_of format_limits state text st going in
@@ -52,14 +52,14 @@ empty_written state text taken st going empty =
 
 -- ---- a last line without a line feed
 
-pub last_takes : {T : Type 0} (r : Result T ReadFault) (old : State) (new : Parsed) (text line : List ℕ) → StandsFor format_limits old text → old.parsed.header.ended ≡ false → line ≡ old.rest → is_empty old.rest ≡ false
+pub last_takes : {T : Type 0} (r : Result T ReadFault) (old : Scan) (new : Parsed) (text line : List ℕ) → StandsFor format_limits old text → old.parsed.header.ended ≡ false → line ≡ old.rest → is_empty old.rest ≡ false
     → ((before : List (List ℕ)) → StandsForLines format_limits old.parsed before → TakesLine format_limits before line new r) → OnOk r (StandsForLines format_limits new (lines_of End text))
 last_takes (Ok x) old new text line st going is some takes =
     let g = going_of format_limits old text st going in
     subst (StandsForLines format_limits new) (ap (λ l. g.cut.lines ++ l ∷ []) (is ∙ g.kept) ∙ sym (lines_last text g.cut (ap is_empty (sym g.kept) ∙ some))) (takes g.cut.lines g.stands)
 last_takes (Err f) old new text line st going is some takes = tt
 
-pub last_told : {T : Type 0} (r : Result T ReadFault) (old : State) (new : Parsed) (text line : List ℕ) → StandsFor format_limits old text → old.parsed.header.ended ≡ false → line ≡ old.rest → is_empty old.rest ≡ false
+pub last_told : {T : Type 0} (r : Result T ReadFault) (old : Scan) (new : Parsed) (text line : List ℕ) → StandsFor format_limits old text → old.parsed.header.ended ≡ false → line ≡ old.rest → is_empty old.rest ≡ false
     → ((before : List (List ℕ)) → StandsForLines format_limits old.parsed before → TakesLine format_limits before line new r) → IfErr r (IsTold (fault_of format_limits End text))
 last_told (Ok x) old new text line st going is some takes = tt
 last_told (Err f) old new text line st going is some takes =
@@ -74,13 +74,13 @@ last_told (Err f) old new text line st going is some takes =
     ∙ ap (λ o. option_or o (end_fault format_limits (lines ++ line ∷ after))) (fault_here format_limits lines after line k.0 g.stands.faultless k.1) ∙ ap Some k.2)
     (takes lines g.stands)
 
-last_lines : (old : State) (text line : List ℕ) (g : Going format_limits old text) → line ≡ old.rest → is_empty old.rest ≡ false → lines_of End text ≡ g.cut.lines ++ line ∷ []
+last_lines : (old : Scan) (text line : List ℕ) (g : Going format_limits old text) → line ≡ old.rest → is_empty old.rest ≡ false → lines_of End text ≡ g.cut.lines ++ line ∷ []
 last_lines old text line g is some = lines_last text g.cut (ap is_empty (sym g.kept) ∙ some) ∙ ap (λ l. g.cut.lines ++ l ∷ []) (sym (is ∙ g.kept))
 
-last_due : (old : State) (text line : List ℕ) (lines : List (List ℕ)) → lines_of End text ≡ lines ++ line ∷ [] → due format_limits old.echo (Some End) text ≡ echo_all old.echo (sound format_limits (looked_at (lines ++ line ∷ [])))
+last_due : (old : Scan) (text line : List ℕ) (lines : List (List ℕ)) → lines_of End text ≡ lines ++ line ∷ [] → due format_limits old.echo (Some End) text ≡ echo_all old.echo (sound format_limits (looked_at (lines ++ line ∷ [])))
 last_due old text line lines e = ap (λ ls. echo_all old.echo (sound format_limits (looked_at ls))) e
 
-pub last_written : {T : Type 0} (r : Result T ReadFault) (old : State) (new : Parsed) (text line : List ℕ) (taken taken_after : Option (List ℕ)) → StandsFor format_limits old text → old.parsed.header.ended ≡ false → line ≡ old.rest → is_empty old.rest ≡ false
+pub last_written : {T : Type 0} (r : Result T ReadFault) (old : Scan) (new : Parsed) (text line : List ℕ) (taken taken_after : Option (List ℕ)) → StandsFor format_limits old text → old.parsed.header.ended ≡ false → line ≡ old.rest → is_empty old.rest ≡ false
     → ((before : List (List ℕ)) → StandsForLines format_limits old.parsed before → TakesLine format_limits before line new r) → WritesLine taken taken_after r old.echo line
     → WritesGrowth taken taken_after r (due format_limits old.echo None text) (due format_limits old.echo (Some End) text)
 last_written (Ok x) old new text line taken taken_after st going is some takes writes =
@@ -126,7 +126,7 @@ described limits parsed lines number kind st count e =
     (ap (λ p. option_map (at_line (length lines)) (end_kind p.header)) (sym st.given) ∙ ap (option_map (at_line (length lines))) e ∙ ap (λ n. Some (at_line n kind)) (sym (count ∙ ap (λ p. p.header.lines) st.given)))
 
 -- after the description has ended
-pub ended_lines_stand : (state : State) (text : List ℕ) → StandsFor format_limits state text → state.parsed.header.ended ≡ true → StandsForLines format_limits state.parsed (looked_at (ended_lines text))
+pub ended_lines_stand : (state : Scan) (text : List ℕ) → StandsFor format_limits state text → state.parsed.header.ended ≡ true → StandsForLines format_limits state.parsed (looked_at (ended_lines text))
 ended_lines_stand state text st ended =
     let lines = looked_at (ended_lines text) in
     record {
@@ -135,19 +135,19 @@ ended_lines_stand state text st ended =
       given = ap (λ s. s.parsed) st.given;
     }
 
-has_ended : (state : State) (text : List ℕ) → StandsFor format_limits state text → state.parsed.header.ended ≡ true → has_ending (looked_at (ended_lines text)) ≡ true
+has_ended : (state : Scan) (text : List ℕ) → StandsFor format_limits state text → state.parsed.header.ended ≡ true → has_ending (looked_at (ended_lines text)) ≡ true
 has_ended state text st ended = ap (λ s. s.parsed.header.ended) (sym st.given) ∙ ended
 
-ended_looked : (state : State) (text : List ℕ) (ending : Option Ending) → StandsFor format_limits state text → state.parsed.header.ended ≡ true → looked_at (delivered_lines ending text) ≡ looked_at (ended_lines text)
+ended_looked : (state : Scan) (text : List ℕ) (ending : Option Ending) → StandsFor format_limits state text → state.parsed.header.ended ≡ true → looked_at (delivered_lines ending text) ≡ looked_at (ended_lines text)
 ended_looked state text ending st ended = ap (λ t. looked_at (delivered_lines ending t)) (sym (append-nil text)) ∙ (ended_fixed format_limits text (has_ended state text st ended)).looked ending []
 
-pub ended_fault : (state : State) (text : List ℕ) (ending : Ending) → StandsFor format_limits state text → state.parsed.header.ended ≡ true → fault_of format_limits ending text ≡ end_fault format_limits (looked_at (ended_lines text))
+pub ended_fault : (state : Scan) (text : List ℕ) (ending : Ending) → StandsFor format_limits state text → state.parsed.header.ended ≡ true → fault_of format_limits ending text ≡ end_fault format_limits (looked_at (ended_lines text))
 ended_fault state text ending st ended =
     let lines = looked_at (ended_lines text) in
     ap (fault_of format_limits ending) (sym (append-nil text)) ∙ (ended_fixed format_limits text (has_ended state text st ended)).closed ending []
     ∙ ap (λ o. option_or o (end_fault format_limits lines)) (no_fault_yet format_limits lines (ended_lines_stand state text st ended).faultless)
 
-pub ended_answer : (r : Result Description ReadFault) (state : State) (text : List ℕ) (ending : Ending) → StandsFor format_limits state text → state.parsed.header.ended ≡ true
+pub ended_answer : (r : Result Description ReadFault) (state : Scan) (text : List ℕ) (ending : Ending) → StandsFor format_limits state text → state.parsed.header.ended ≡ true
     → ((lines : List (List ℕ)) → StandsForLines format_limits state.parsed lines → Describes r (end_fault format_limits lines) (description_of format_limits lines))
     → Answers r (fault_of format_limits ending text) (description_of format_limits (looked_at (lines_of ending text)))
 ended_answer r state text ending st ended describes =
@@ -155,7 +155,7 @@ ended_answer r state text ending st ended describes =
     (subst (λ ls. Answers r (end_fault format_limits (looked_at (ended_lines text))) (description_of format_limits ls)) (sym (ended_looked state text (Some ending) st ended))
     (describes_answer r _ _ (describes (looked_at (ended_lines text)) (ended_lines_stand state text st ended))))
 
-pub ended_due : (state : State) (text : List ℕ) (ending : Option Ending) → StandsFor format_limits state text → state.parsed.header.ended ≡ true → due format_limits state.echo ending text ≡ due format_limits state.echo None text
+pub ended_due : (state : Scan) (text : List ℕ) (ending : Option Ending) → StandsFor format_limits state text → state.parsed.header.ended ≡ true → due format_limits state.echo ending text ≡ due format_limits state.echo None text
 ended_due state text ending st ended = ap (λ ls. echo_all state.echo (sound format_limits ls)) (ended_looked state text ending st ended)
 
 -- at the end of the input
@@ -169,7 +169,7 @@ last_answer r new text st describes =
     (describes_answer r _ _ (describes lines st)))
 
 -- where reading failed
-pub failed_fault : (state : State) (text : List ℕ) (number : ℕ) → StandsFor format_limits state text → state.parsed.header.ended ≡ false → number ≡ state.parsed.header.lines → fault_of format_limits Failed text ≡ Some (at_line (number + 1) ReadFailed)
+pub failed_fault : (state : Scan) (text : List ℕ) (number : ℕ) → StandsFor format_limits state text → state.parsed.header.ended ≡ false → number ≡ state.parsed.header.lines → fault_of format_limits Failed text ≡ Some (at_line (number + 1) ReadFailed)
 failed_fault state text number st going count =
     let g = going_of format_limits state text st going in
     let lines = g.cut.lines in
@@ -184,7 +184,7 @@ failed_fault state text number st going count =
 pub some_kept : (rest : List ℕ) (b : Bool) (size : ℕ) → b ≡ false → b ≡ eqb size 0 → size ≡ length rest → is_empty rest ≡ false
 some_kept rest b size h k e = ap (λ n. eqb n 0) (sym e) ∙ sym k ∙ h
 
-pub ended_counts : (r : Result Description ReadFault) (state : State) (text : List ℕ) (count : WriteCalls) → StandsFor format_limits state text → state.parsed.header.ended ≡ true
+pub ended_counts : (r : Result Description ReadFault) (state : Scan) (text : List ℕ) (count : WriteCalls) → StandsFor format_limits state text → state.parsed.header.ended ≡ true
     → ((lines : List (List ℕ)) → StandsForLines format_limits state.parsed lines → Describes r (end_fault format_limits lines) (description_of format_limits lines)) → CountsWrites count count r
 ended_counts r state text count st ended describes = described_counts r _ _ count count (describes (looked_at (ended_lines text)) (ended_lines_stand state text st ended)) refl
 

@@ -14,7 +14,7 @@ use Rattle.pla.specs.Device.{AllWritten, AppendsFront, LastUnwritten}
 use Rattle.pla.specs.Keywords.{looked_at}
 use Rattle.pla.specs.Fault.{sound, sound_after, fault_on, at_line, rest_kind, open_fault}
 use Rattle.pla.specs.Echoes.{due, delivered_lines, echo_all, echo_of}
-use Rattle.pla.specs.State.{Parsed, State, StandsForLines, StandsFor}
+use Rattle.pla.specs.Scan.{Parsed, Scan, StandsForLines, StandsFor}
 use Rattle.pla.specs.Reads.{MatchCause, IsTold, WritesGrowth, CountsWrites}
 use Rattle.pla.specs.Steps.{TakesLine, WritesLine, NoFeed, position_in}
 use Rattle.pla.proofs.Cuts.{cut_of, ended_cut}
@@ -56,12 +56,12 @@ pub mapped : {K F : Type 0} (g : K → F) (o : Option K) (f : F) → option_map 
 mapped g (Some k) f h = (k, refl, cc)
 mapped g None f h = cc
 
-pub ends_stands : {T : Type 0} (r : Result T ReadFault) (old new : State) (text bytes line : List ℕ) → StandsFor format_limits old text → old.parsed.header.ended ≡ false → NoFeed bytes → line ≡ old.rest ++ bytes
+pub ends_stands : {T : Type 0} (r : Result T ReadFault) (old new : Scan) (text bytes line : List ℕ) → StandsFor format_limits old text → old.parsed.header.ended ≡ false → NoFeed bytes → line ≡ old.rest ++ bytes
     → ((before : List (List ℕ)) → StandsForLines format_limits old.parsed before → TakesLine format_limits before line new.parsed r) → new.rest ≡ [] → OnOk r (StandsFor format_limits new (text ++ (bytes ++ 10 ∷ [])))
 ends_stands (Ok x) old new text bytes line st going none is takes empty = let g = going_of format_limits old text st going in line_taken format_limits old new text bytes line g none is (takes g.cut.lines g.stands) empty
 ends_stands (Err f) old new text bytes line st going none is takes empty = tt
 
-pub ends_fault : {T : Type 0} (r : Result T ReadFault) (old : State) (new : Parsed) (text bytes line : List ℕ) → StandsFor format_limits old text → old.parsed.header.ended ≡ false → NoFeed bytes → line ≡ old.rest ++ bytes
+pub ends_fault : {T : Type 0} (r : Result T ReadFault) (old : Scan) (new : Parsed) (text bytes line : List ℕ) → StandsFor format_limits old text → old.parsed.header.ended ≡ false → NoFeed bytes → line ≡ old.rest ++ bytes
     → ((before : List (List ℕ)) → StandsForLines format_limits old.parsed before → TakesLine format_limits before line new r) → IfErr r (IsTold (open_fault format_limits (text ++ (bytes ++ 10 ∷ []))))
 ends_fault (Ok x) old new text bytes line st going none is takes = tt
 ends_fault (Err f) old new text bytes line st going none is takes =
@@ -78,7 +78,7 @@ written_by L M WriteFailed old new before now echo fine grows bad h k = (echo, f
 written_by L M OutOfMemory old new before now echo fine grows bad h k = (grows.0, grows.1, ([], grows.0, refl, k))
 written_by L M _ old new before now echo fine grows bad h k = ([], bad h ∙ sym (append-nil before), k)
 
-pub ends_written : {T : Type 0} (r : Result T ReadFault) (old : State) (new : Parsed) (text bytes line : List ℕ) (taken taken_after : Option (List ℕ)) → StandsFor format_limits old text → old.parsed.header.ended ≡ false → NoFeed bytes → line ≡ old.rest ++ bytes
+pub ends_written : {T : Type 0} (r : Result T ReadFault) (old : Scan) (new : Parsed) (text bytes line : List ℕ) (taken taken_after : Option (List ℕ)) → StandsFor format_limits old text → old.parsed.header.ended ≡ false → NoFeed bytes → line ≡ old.rest ++ bytes
     → ((before : List (List ℕ)) → StandsForLines format_limits old.parsed before → TakesLine format_limits before line new r) → WritesLine taken taken_after r old.echo line
     → WritesGrowth taken taken_after r (due format_limits old.echo None text) (due format_limits old.echo None (text ++ (bytes ++ 10 ∷ [])))
 ends_written (Ok x) old new text bytes line taken taken_after st going none is takes writes =
@@ -99,7 +99,7 @@ appends_nothing None = tt
 appends_nothing (Some bytes) = sym (append-nil bytes)
 
 -- the text goes on by more behind the bytes that weren't kept
-pub held_fault : (f : ReadFault) (old : State) (text bytes more : List ℕ) → StandsFor format_limits old text → old.parsed.header.ended ≡ false → NoFeed bytes
+pub held_fault : (f : ReadFault) (old : Scan) (text bytes more : List ℕ) → StandsFor format_limits old text → old.parsed.header.ended ≡ false → NoFeed bytes
     → MatchCause f.kind ⊥ (f.line ≡ 0) (option_map (at_line (old.parsed.header.lines + 1)) (rest_kind format_limits old.parsed.header.lines (old.rest ++ bytes)) ≡ Some f) → IsTold (open_fault format_limits (text ++ (bytes ++ more))) f
 held_fault f old text bytes more st going none refused =
     let g = going_of format_limits old text st going in
@@ -111,7 +111,7 @@ unwritten_by M WriteFailed taken before now grows bad h = absurd h
 unwritten_by M OutOfMemory taken before now grows bad h = (grows.0, grows.1, ([], grows.0, refl, appends_nothing taken))
 unwritten_by M _ taken before now grows bad h = ([], bad h ∙ sym (append-nil before), appends_nothing taken)
 
-pub held_written : (f : ReadFault) (old : State) (text bytes more : List ℕ) (taken : Option (List ℕ)) → StandsFor format_limits old text → old.parsed.header.ended ≡ false → NoFeed bytes
+pub held_written : (f : ReadFault) (old : Scan) (text bytes more : List ℕ) (taken : Option (List ℕ)) → StandsFor format_limits old text → old.parsed.header.ended ≡ false → NoFeed bytes
     → MatchCause f.kind ⊥ (f.line ≡ 0) (option_map (at_line (old.parsed.header.lines + 1)) (rest_kind format_limits old.parsed.header.lines (old.rest ++ bytes)) ≡ Some f)
     → (w : List ℕ) × (due format_limits old.echo None (text ++ (bytes ++ more)) ≡ due format_limits old.echo None text ++ w) × MatchCause f.kind (AppendsFront taken taken w) (AppendsFront taken taken w) (Appends taken taken w)
 held_written f old text bytes more taken st going none refused =
@@ -146,11 +146,11 @@ none_kept rest b size h k e = nil_from_length rest (sym e ∙ eqb-true size 0 (s
 pub nothing_before : (rest bytes : List ℕ) → rest ≡ [] → bytes ≡ rest ++ bytes
 nothing_before rest bytes h = ap (λ r. r ++ bytes) (sym h)
 
-pub ends_counts : {T : Type 0} (r : Result T ReadFault) (old : State) (text : List ℕ) (count count_after : WriteCalls) → StandsFor format_limits old text → old.parsed.header.ended ≡ false
+pub ends_counts : {T : Type 0} (r : Result T ReadFault) (old : Scan) (text : List ℕ) (count count_after : WriteCalls) → StandsFor format_limits old text → old.parsed.header.ended ≡ false
     → ((before : List (List ℕ)) → StandsForLines format_limits old.parsed before → CountsWrites count count_after r) → CountsWrites count count_after r
 ends_counts r old text count count_after st going counts = let g = going_of format_limits old text st going in counts g.cut.lines g.stands
 
-pub ends_onward : {T : Type 0} (r : Result T ReadFault) (old : State) (new : Parsed) (rest text bytes line : List ℕ) → StandsFor format_limits old text → old.parsed.header.ended ≡ false → line ≡ old.rest ++ bytes
+pub ends_onward : {T : Type 0} (r : Result T ReadFault) (old : Scan) (new : Parsed) (rest text bytes line : List ℕ) → StandsFor format_limits old text → old.parsed.header.ended ≡ false → line ≡ old.rest ++ bytes
     → ((before : List (List ℕ)) → StandsForLines format_limits old.parsed before → TakesLine format_limits before line new r) → OnOk r (position_in old + length bytes + 1 ≤ new.header.lines * 131073 + length rest)
 ends_onward (Ok x) old new rest text bytes line st going is takes =
     let g = going_of format_limits old text st going in

@@ -18,7 +18,7 @@ use Rattle.pla.specs.Symbols.{width}
 use Rattle.pla.specs.Lists.{given_list, given_cube, part_symbols}
 use Rattle.pla.specs.Header.{Header, header_of, size_in, type_in}
 use Rattle.pla.specs.Fault.{fault_in, is_past_limit, is_too_long, is_type_too_late, keyword_tests}
-use Rattle.pla.specs.State.{StandsForLines}
+use Rattle.pla.specs.Scan.{StandsForLines}
 use Rattle.pla.specs.Reading.{RowsRead, rows_of}
 use Rattle.pla.specs.HeadView.{seen, with_keyword, keyword_fault}
 use Rattle.pla.specs.Parsing.{IsTied, unfinished_of, opened, parsed_by, rows_for}

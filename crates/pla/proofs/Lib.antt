@@ -30,7 +30,7 @@ mod PrintedSteps
 mod ReadBack
 mod GivenNames
 mod Readable
-mod HandedOn
+mod WithFlush
 mod Putting
 mod Runs
 mod Finds

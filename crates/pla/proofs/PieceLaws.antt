@@ -12,7 +12,7 @@ use Rattle.pla.specs.Lines.{ended_lines, open_rest}
 use Rattle.pla.specs.Keywords.{looked_at}
 use Rattle.pla.specs.Fault.{sound, rest_kind, open_fault, has_ending}
 use Rattle.pla.specs.Echoes.{due, echo_all}
-use Rattle.pla.specs.State.{State, parsed_of, StandsFor}
+use Rattle.pla.specs.Scan.{Scan, parsed_of, StandsFor}
 use Rattle.pla.specs.Reads.{MatchCause, IsTold}
 use Rattle.pla.specs.Steps.{NoFeed, position_in}
 use Rattle.pla.proofs.Moves.{appends_then, front_then, front_before}
@@ -22,7 +22,7 @@ use Rattle.pla.proofs.StepLaws.{going_of, rest_taken, rest_due}
 use Rattle.pla.proofs.Feeding.{due_grows, appends_nothing}
 
 -- the front of a piece was fed, and the rest comes next
-pub record Fed (old new : State) (piece rest : List ℕ) (taken taken_after : Option (List ℕ)) (writes writes_after : WriteCalls) : Type 0 where
+pub record Fed (old new : Scan) (piece rest : List ℕ) (taken taken_after : Option (List ℕ)) (writes writes_after : WriteCalls) : Type 0 where
   pub front : List ℕ
   pub whole : piece ≡ front ++ rest
   pub echo : new.echo ≡ old.echo
@@ -32,14 +32,14 @@ pub record Fed (old new : State) (piece rest : List ℕ) (taken taken_after : Op
   pub onward : (text : List ℕ) → StandsFor format_limits old text → new.parsed.header.ended ≡ false → position_in old + length front ≤ position_in new
 
 -- a piece was fed whole
-pub record FedWhole (old new : State) (piece : List ℕ) (taken taken_after : Option (List ℕ)) (writes writes_after : WriteCalls) : Type 0 where
+pub record FedWhole (old new : Scan) (piece : List ℕ) (taken taken_after : Option (List ℕ)) (writes writes_after : WriteCalls) : Type 0 where
   pub echo : new.echo ≡ old.echo
   pub stands : (text : List ℕ) → StandsFor format_limits old text → StandsFor format_limits new (text ++ piece)
   pub written : (text : List ℕ) → StandsFor format_limits old text → (w : List ℕ) × (due format_limits old.echo None (text ++ piece) ≡ due format_limits old.echo None text ++ w) × Appends taken taken_after w
   pub count : (text : List ℕ) → StandsFor format_limits old text → AllWritten writes writes_after
   pub onward : (text : List ℕ) → StandsFor format_limits old text → new.parsed.header.ended ≡ false → position_in old + length piece ≤ position_in new
 
-pub fed_nothing : (state : State) (piece : List ℕ) (taken : Option (List ℕ)) (writes : WriteCalls) → Fed state state piece piece taken taken writes writes
+pub fed_nothing : (state : Scan) (piece : List ℕ) (taken : Option (List ℕ)) (writes : WriteCalls) → Fed state state piece piece taken taken writes writes
 fed_nothing state piece taken writes = record {
   front = [];
   whole = refl;
@@ -55,7 +55,7 @@ pub line_and_rest : (front line rest : List ℕ) → front ++ (line ++ 10 ∷ re
 line_and_rest front line rest = ap (λ t. front ++ t) (sym (append_assoc line (10 ∷ []) rest)) ∙ sym (append_assoc front (line ++ 10 ∷ []) rest)
 
 -- one more line was fed
-pub fed_line : (old mid new : State) (piece rest line after : List ℕ) (taken near taken_after : Option (List ℕ)) (writes writes_near writes_after : WriteCalls)
+pub fed_line : (old mid new : Scan) (piece rest line after : List ℕ) (taken near taken_after : Option (List ℕ)) (writes writes_near writes_after : WriteCalls)
     → Fed old mid piece rest taken near writes writes_near → mid.parsed.header.ended ≡ false → rest ≡ line ++ 10 ∷ after → new.echo ≡ mid.echo
     → ((text : List ℕ) → StandsFor format_limits mid text → StandsFor format_limits new (text ++ (line ++ 10 ∷ [])))
     → ((text : List ℕ) → StandsFor format_limits mid text → (w : List ℕ) × (due format_limits mid.echo None (text ++ (line ++ 10 ∷ [])) ≡ due format_limits mid.echo None text ++ w) × Appends near taken_after w)
@@ -93,7 +93,7 @@ whole_text : (text front part after : List ℕ) → ((text ++ front) ++ part) ++
 whole_text text front part after = append_assoc (text ++ front) part after ∙ append_assoc text front (part ++ after)
 
 -- the fault stays when the rest of the piece follows
-pub fed_fault : (f : ReadFault) (old mid : State) (piece rest part after : List ℕ) (taken near : Option (List ℕ)) (writes writes_near : WriteCalls) (text : List ℕ)
+pub fed_fault : (f : ReadFault) (old mid : Scan) (piece rest part after : List ℕ) (taken near : Option (List ℕ)) (writes writes_near : WriteCalls) (text : List ℕ)
     → Fed old mid piece rest taken near writes writes_near → rest ≡ part ++ after → StandsFor format_limits old text
     → ((text : List ℕ) → StandsFor format_limits mid text → IsTold (open_fault format_limits (text ++ part)) f) → IsTold (open_fault format_limits (text ++ piece)) f
 fed_fault f old mid piece rest part after taken near writes writes_near text fed cut st told =
@@ -116,7 +116,7 @@ written_on W M OutOfMemory taken near taken_after before mid now later w v a b c
 written_on W M _ taken near taken_after before mid now later w v a b c grows same h k =
     (w ++ v, same h ∙ c ∙ ap (λ t. t ++ v) a ∙ append_assoc before w v, appends_then taken near taken_after w v b k)
 
-pub fed_written : (f : ReadFault) (old mid : State) (piece rest part after : List ℕ) (taken near taken_after : Option (List ℕ)) (writes writes_near : WriteCalls) (text : List ℕ)
+pub fed_written : (f : ReadFault) (old mid : Scan) (piece rest part after : List ℕ) (taken near taken_after : Option (List ℕ)) (writes writes_near : WriteCalls) (text : List ℕ)
     → Fed old mid piece rest taken near writes writes_near → rest ≡ part ++ after → StandsFor format_limits old text
     → ((text : List ℕ) → StandsFor format_limits mid text → IsTold (open_fault format_limits (text ++ part)) f)
     → ((text : List ℕ) → StandsFor format_limits mid text → (w : List ℕ) × (due format_limits mid.echo None (text ++ part) ≡ due format_limits mid.echo None text ++ w)
@@ -135,7 +135,7 @@ fed_written f old mid piece rest part after taken near taken_after writes writes
     (λ e. ap (due format_limits old.echo None) (sym all) ∙ (fault_fixed format_limits here f e).echoes old.echo None after)
     (told (text ++ fed.front) (fed.stands text st)) v.2
 
-pub fed_count : (f : ReadFault) (old mid : State) (piece rest : List ℕ) (taken near : Option (List ℕ)) (writes writes_near writes_after : WriteCalls) (text : List ℕ)
+pub fed_count : (f : ReadFault) (old mid : Scan) (piece rest : List ℕ) (taken near : Option (List ℕ)) (writes writes_near writes_after : WriteCalls) (text : List ℕ)
     → Fed old mid piece rest taken near writes writes_near → StandsFor format_limits old text
     → ((text : List ℕ) → StandsFor format_limits mid text → MatchCause f.kind (LastUnwritten writes_near writes_after) (AllWritten writes_near writes_after) (AllWritten writes_near writes_after))
     → MatchCause f.kind (LastUnwritten writes writes_after) (AllWritten writes writes_after) (AllWritten writes writes_after)
@@ -145,7 +145,7 @@ fed_count f old mid piece rest taken near writes writes_near writes_after text f
 -- ---- the end of a piece
 
 -- what stands behind the last line feed was kept
-pub fed_rest : (old mid new : State) (piece rest : List ℕ) (taken near : Option (List ℕ)) (writes writes_near : WriteCalls)
+pub fed_rest : (old mid new : Scan) (piece rest : List ℕ) (taken near : Option (List ℕ)) (writes writes_near : WriteCalls)
     → Fed old mid piece rest taken near writes writes_near → mid.parsed.header.ended ≡ false → NoFeed rest → new ≡ record { echo = mid.echo; parsed = mid.parsed; rest = mid.rest ++ rest }
     → rest_kind format_limits mid.parsed.header.lines (mid.rest ++ rest) ≡ None → FedWhole old new piece taken near writes writes_near
 fed_rest old mid new piece rest taken near writes writes_near fed going none kept fits = record {
@@ -165,7 +165,7 @@ fed_rest old mid new piece rest taken near writes writes_near fed going none kep
 }
 
 -- after the description has ended, the state stands for the text whatever follows
-pub stands_ended : (state : State) (text more : List ℕ) → StandsFor format_limits state text → state.parsed.header.ended ≡ true → StandsFor format_limits state (text ++ more)
+pub stands_ended : (state : Scan) (text more : List ℕ) → StandsFor format_limits state text → state.parsed.header.ended ≡ true → StandsFor format_limits state (text ++ more)
 stands_ended state text more st ended =
     let lines = looked_at (ended_lines text) in
     let has : has_ending lines ≡ true = ap (λ s. s.parsed.header.ended) (sym st.given) ∙ ended in
@@ -176,7 +176,7 @@ stands_ended state text more st ended =
           ∙ ap (λ ls. record { echo = state.echo; parsed = parsed_of format_limits ls; rest = cond (has_ending ls) [] (open_rest (text ++ more)) }) (sym same);
     }
 
-pub fed_ended : (old mid : State) (piece rest : List ℕ) (taken near : Option (List ℕ)) (writes writes_near : WriteCalls)
+pub fed_ended : (old mid : Scan) (piece rest : List ℕ) (taken near : Option (List ℕ)) (writes writes_near : WriteCalls)
     → Fed old mid piece rest taken near writes writes_near → mid.parsed.header.ended ≡ true → FedWhole old mid piece taken near writes writes_near
 fed_ended old mid piece rest taken near writes writes_near fed ended = record {
   echo = fed.echo;

@@ -19,24 +19,16 @@ pub puts_past : {T E : Type 0} (taken new : Option (List ℕ)) (pending left byt
 puts_past taken new pending left bytes done r none empty k = λ old front h. writes_puts old new left (front ++ bytes) r empty (k old front (puts_writes old taken pending front done none h))
 
 -- what was pending was written
-pub puts_handed : {T E : Type 0} (taken new : Option (List ℕ)) (pending left : List ℕ) (done r : Result T E) → left ≡ [] → OnErr done (r ≡ done) → OnErr done (new ≡ taken) → Continues taken done new r pending → PutsOn taken pending done new left r []
-puts_handed taken new pending left (Ok x) (Ok y) empty failed untouched k = λ old front h. (front, ap (λ l. front ++ l) (sym empty), subst (Appends old new) (sym h.1) (k old h.0 h.2))
-puts_handed taken new pending left (Ok x) (Err e) empty failed untouched k = λ old front h. front_before old new front [] (subst (AppendsFront old new) (sym h.1) (k old h.0 h.2))
-puts_handed taken new pending left (Err f) (Ok y) empty failed untouched k = cc
-puts_handed taken new pending left (Err f) (Err e) empty failed untouched k = λ old front h. front_before old new front [] (subst (λ t. AppendsFront old t front) (sym untouched) h)
+pub puts_flushed : {T E : Type 0} (taken new : Option (List ℕ)) (pending left : List ℕ) (done r : Result T E) → left ≡ [] → OnErr done (r ≡ done) → OnErr done (new ≡ taken) → Continues taken done new r pending → PutsOn taken pending done new left r []
+puts_flushed taken new pending left (Ok x) (Ok y) empty failed untouched k = λ old front h. (front, ap (λ l. front ++ l) (sym empty), subst (Appends old new) (sym h.1) (k old h.0 h.2))
+puts_flushed taken new pending left (Ok x) (Err e) empty failed untouched k = λ old front h. front_before old new front [] (subst (AppendsFront old new) (sym h.1) (k old h.0 h.2))
+puts_flushed taken new pending left (Err f) (Ok y) empty failed untouched k = cc
+puts_flushed taken new pending left (Err f) (Err e) empty failed untouched k = λ old front h. front_before old new front [] (subst (λ t. AppendsFront old t front) (sym untouched) h)
 
 -- a text was kept
 pub puts_kept : {T E : Type 0} (taken : Option (List ℕ)) (pending left bytes : List ℕ) (done : Result T E) → left ≡ pending ++ bytes → PutsOn taken pending done taken left done bytes
 puts_kept taken pending left bytes (Ok x) is = λ old front h. (h.0, ap (λ t. t ++ bytes) h.1 ∙ append_assoc h.0 pending bytes ∙ ap (λ t. h.0 ++ t) (sym is), h.2)
 puts_kept taken pending left bytes (Err e) is = λ old front h. front_before old taken front bytes h
-
--- nothing was done
-pub puts_nothing : {T E : Type 0} (taken : Option (List ℕ)) (pending : List ℕ) (done : Result T E) → PutsOn taken pending done taken pending done []
-puts_nothing taken pending done = λ old front h. subst (Puts old taken pending done) (sym (append-nil front)) h
-
--- two texts, one after the other
-pub puts_then : {T E : Type 0} (taken mid new : Option (List ℕ)) (pending near left a b : List ℕ) (done m r : Result T E) → PutsOn taken pending done mid near m a → PutsOn mid near m new left r b → PutsOn taken pending done new left r (a ++ b)
-puts_then taken mid new pending near left a b done m r h k = λ old front w. subst (Puts old new left r) (append_assoc front a b) (k old (front ++ a) (h old front w))
 
 -- before anything was put
 pub puts_first : {T E : Type 0} (taken : Option (List ℕ)) (pending : List ℕ) (done : Result T E) (x : T) → done ≡ Ok x → pending ≡ [] → Puts taken taken pending done []

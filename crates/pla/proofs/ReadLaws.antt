@@ -19,7 +19,7 @@ use Rattle.pla.specs.Keywords.{looked_at}
 use Rattle.pla.specs.Fault.{sound, fault_of, open_fault, has_ending}
 use Rattle.pla.specs.Echoes.{due, echo_all, delivered_lines}
 use Rattle.pla.specs.Description.{Description, description_of}
-use Rattle.pla.specs.State.{State, StandsFor}
+use Rattle.pla.specs.Scan.{Scan, StandsFor}
 use Rattle.pla.specs.Reads.{MatchCause, IsTold, WritesDue, WritesGrowth, CountsWrites, Answers, GoesOn, OnWhole, Meets, Reads}
 use Rattle.pla.specs.Steps.{position_in, room_in}
 use Rattle.pla.proofs.Moves.{appends_then, consumes_then, front_then}
@@ -30,7 +30,7 @@ use Rattle.pla.proofs.Overlong.{rest_length, sound_count}
 use Rattle.pla.proofs.StepLaws.{going_of}
 
 -- what was read so far, and what stands for it
-pub record ReadsOn (echo : Echo) (scan : State) (left left_after : Option (List ℕ)) (reads reads_after : ReadCalls) (taken taken_after : Option (List ℕ)) (writes writes_after : WriteCalls) : Type 0 where
+pub record ReadsOn (echo : Echo) (scan : Scan) (left left_after : Option (List ℕ)) (reads reads_after : ReadCalls) (taken taken_after : Option (List ℕ)) (writes writes_after : WriteCalls) : Type 0 where
   pub bytes : List ℕ
   pub consumed : Consumes left left_after bytes
   pub stands : StandsFor format_limits scan bytes
@@ -42,7 +42,7 @@ pub record ReadsOn (echo : Echo) (scan : State) (left left_after : Option (List 
   pub piece : List ℕ
   pub bounded : (bytes ≡ front ++ piece) × (length piece ≤ 4096) × GoesOn front
 
-goes_on : (state : State) (text : List ℕ) → StandsFor format_limits state text → state.parsed.header.ended ≡ false → GoesOn text
+goes_on : (state : Scan) (text : List ℕ) → StandsFor format_limits state text → state.parsed.header.ended ≡ false → GoesOn text
 goes_on state text st going = record { open_lines = ap (λ s. s.parsed.header.ended) (sym st.given) ∙ going; faultless = st.faultless }
 
 consumes_nothing : (left : Option (List ℕ)) → Consumes left left []
@@ -58,7 +58,7 @@ keeps_consumes (Some xs) (Some ys) h = sym h
 consumes_same : (left mid left_after : Option (List ℕ)) (bytes : List ℕ) → Consumes left mid bytes → Consumes mid left_after [] → Consumes left left_after bytes
 consumes_same left mid left_after bytes h k = subst (Consumes left left_after) (append-nil bytes) (consumes_then left mid left_after bytes [] h k)
 
-pub reads_nothing : (echo : Echo) (scan : State) (left : Option (List ℕ)) (reads : ReadCalls) (taken : Option (List ℕ)) (writes : WriteCalls) → StandsFor format_limits scan [] → scan.echo ≡ echo → ReadsOn echo scan left left reads reads taken taken writes writes
+pub reads_nothing : (echo : Echo) (scan : Scan) (left : Option (List ℕ)) (reads : ReadCalls) (taken : Option (List ℕ)) (writes : WriteCalls) → StandsFor format_limits scan [] → scan.echo ≡ echo → ReadsOn echo scan left left reads reads taken taken writes writes
 reads_nothing echo scan left reads taken writes st same = record {
   bytes = [];
   consumed = consumes_nothing left;
@@ -73,7 +73,7 @@ reads_nothing echo scan left reads taken writes st same = record {
 }
 
 -- one more piece
-pub reads_piece : (echo : Echo) (scan new : State) (left near left_after : Option (List ℕ)) (reads reads_near reads_after : ReadCalls) (taken mid taken_after : Option (List ℕ)) (writes writes_near writes_after : WriteCalls) (piece : List ℕ)
+pub reads_piece : (echo : Echo) (scan new : Scan) (left near left_after : Option (List ℕ)) (reads reads_near reads_after : ReadCalls) (taken mid taken_after : Option (List ℕ)) (writes writes_near writes_after : WriteCalls) (piece : List ℕ)
     → ReadsOn echo scan left near reads reads_near taken mid writes writes_near → scan.parsed.header.ended ≡ false → Consumes near left_after piece → NoneFailed reads_near reads_after → length piece ≤ 4096
     → new.echo ≡ scan.echo → ((text : List ℕ) → StandsFor format_limits scan text → StandsFor format_limits new (text ++ piece))
     → ((text : List ℕ) → StandsFor format_limits scan text → (w : List ℕ) × (due format_limits scan.echo None (text ++ piece) ≡ due format_limits scan.echo None text ++ w) × Appends mid taken_after w)
@@ -125,7 +125,7 @@ on_whole (Err f) P h = always f.kind P h
     always _ P h = h
 
 -- reading met an ending
-pub reads_ending : (echo : Echo) (scan : State) (left near left_after : Option (List ℕ)) (reads reads_near reads_after : ReadCalls) (taken mid taken_after : Option (List ℕ)) (writes writes_near writes_after : WriteCalls) (result : Result Description ReadFault) (ending : Ending)
+pub reads_ending : (echo : Echo) (scan : Scan) (left near left_after : Option (List ℕ)) (reads reads_near reads_after : ReadCalls) (taken mid taken_after : Option (List ℕ)) (writes writes_near writes_after : WriteCalls) (result : Result Description ReadFault) (ending : Ending)
     → ReadsOn echo scan left near reads reads_near taken mid writes writes_near → scan.parsed.header.ended ≡ false → Consumes near left_after [] → (NoneFailed reads reads_near → Meets left_after reads reads_after ending)
     → ((text : List ℕ) → StandsFor format_limits scan text → Answers result (fault_of format_limits ending text) (description_of format_limits (looked_at (lines_of ending text))))
     → ((text : List ℕ) → StandsFor format_limits scan text → WritesGrowth mid taken_after result (due format_limits scan.echo None text) (due format_limits scan.echo (Some ending) text))
@@ -147,7 +147,7 @@ reads_ending echo scan left near left_after reads reads_near reads_after taken m
 }
 
 -- a line ended the description
-pub reads_done : (echo : Echo) (scan : State) (left left_after : Option (List ℕ)) (reads reads_after : ReadCalls) (taken mid taken_after : Option (List ℕ)) (writes writes_near writes_after : WriteCalls) (result : Result Description ReadFault)
+pub reads_done : (echo : Echo) (scan : Scan) (left left_after : Option (List ℕ)) (reads reads_after : ReadCalls) (taken mid taken_after : Option (List ℕ)) (writes writes_near writes_after : WriteCalls) (result : Result Description ReadFault)
     → ReadsOn echo scan left left_after reads reads_after taken mid writes writes_near → scan.parsed.header.ended ≡ true
     → ((text : List ℕ) → StandsFor format_limits scan text → Answers result (fault_of format_limits End text) (description_of format_limits (looked_at (lines_of End text))))
     → ((text : List ℕ) → StandsFor format_limits scan text → WritesGrowth mid taken_after result (due format_limits scan.echo None text) (due format_limits scan.echo (Some End) text))
@@ -178,7 +178,7 @@ reads_done echo scan left left_after reads reads_after taken mid taken_after wri
     }
 
 -- the piece had a fault, or a write or memory failed
-pub reads_fault : (echo : Echo) (scan : State) (left near left_after : Option (List ℕ)) (reads reads_near reads_after : ReadCalls) (taken mid taken_after : Option (List ℕ)) (writes writes_near writes_after : WriteCalls) (piece : List ℕ) (f : ReadFault)
+pub reads_fault : (echo : Echo) (scan : Scan) (left near left_after : Option (List ℕ)) (reads reads_near reads_after : ReadCalls) (taken mid taken_after : Option (List ℕ)) (writes writes_near writes_after : WriteCalls) (piece : List ℕ) (f : ReadFault)
     → ReadsOn echo scan left near reads reads_near taken mid writes writes_near → scan.parsed.header.ended ≡ false → Consumes near left_after piece → NoneFailed reads_near reads_after → length piece ≤ 4096
     → ((text : List ℕ) → StandsFor format_limits scan text → IsTold (open_fault format_limits (text ++ piece)) f)
     → ((text : List ℕ) → StandsFor format_limits scan text → (w : List ℕ) × (due format_limits scan.echo None (text ++ piece) ≡ due format_limits scan.echo None text ++ w)
@@ -208,7 +208,7 @@ room_left : (old new : ℕ) (ended : Bool) → old < 16777217 * 131073 + 1 → (
 room_left old new true near on = omega arith
 room_left old new false near on = let far : old + 1 ≤ new = on refl in omega arith
 
-pub room_falls : (scan new : State) (text piece : List ℕ) → StandsFor format_limits scan text → scan.parsed.header.ended ≡ false → 0 < length piece
+pub room_falls : (scan new : Scan) (text piece : List ℕ) → StandsFor format_limits scan text → scan.parsed.header.ended ≡ false → 0 < length piece
     → ((t : List ℕ) → StandsFor format_limits scan t → new.parsed.header.ended ≡ false → position_in scan + length piece ≤ position_in new) → room_in new < room_in scan
 room_falls scan new text piece st going some onward =
     let g = going_of format_limits scan text st going in

@@ -9,7 +9,7 @@ use Rattle.pla.specs.declared.header.Head.{Head}
 use Rattle.pla.specs.Lines.{kind, row_code}
 use Rattle.pla.specs.Header.{type_in}
 use Rattle.pla.specs.Fault.{fault_in, fault_on, is_past_limit, is_too_long}
-use Rattle.pla.specs.State.{Refuses}
+use Rattle.pla.specs.Scan.{Refuses}
 use Rattle.pla.specs.Reading.{RowsRead}
 use Rattle.pla.specs.HeadView.{seen}
 use Rattle.pla.specs.Parsing.{unfinished_of, IsKeywordFault, IsBadRow}

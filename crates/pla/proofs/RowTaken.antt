@@ -14,7 +14,7 @@ use Rattle.pla.specs.Keywords.{size_by}
 use Rattle.pla.specs.Symbols.{width, left_over, any_bad}
 use Rattle.pla.specs.Header.{Header, header_of, size_in, type_in}
 use Rattle.pla.specs.Fault.{fault_in, is_past_limit, is_too_long, is_row_too_early, is_bad_symbol, row_tests, first_kind}
-use Rattle.pla.specs.State.{StandsForLines}
+use Rattle.pla.specs.Scan.{StandsForLines}
 use Rattle.pla.specs.Reading.{RowsRead, rows_of}
 use Rattle.pla.specs.HeadView.{seen}
 use Rattle.pla.specs.Parsing.{unfinished_of, parsed_by, rows_for, read_row, row_kind, has_symbol, with_row_code}

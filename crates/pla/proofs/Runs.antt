@@ -64,13 +64,3 @@ read_run type r (x ∷ y ∷ ys) rest some is =
 pub read_front : (type : FileType) (r new : RowsRead) (code : List ℕ) (count : ℕ) → 0 < length (take count code) → IsRun r (take count code) → new ≡ with_run type r (take count code) → read_code type r code ≡ read_code type new (drop count code)
 read_front type r new code count some is e =
     ap (read_code type r) (sym (take-append-drop count code)) ∙ read_run type r (take count code) (drop count code) some is ∙ ap (λ s. read_code type s (drop count code)) (sym e)
-
--- a blank changes nothing
-pub read_blank : (type : FileType) (r : RowsRead) (b : ℕ) (code : List ℕ) → is_row_blank b ≡ true → read_code type r (b ∷ code) ≡ read_code type r code
-read_blank type r b code is = cond-true (is_row_blank b) (read_code type r code) _ is
-
--- any other byte is refused
-pub read_bad : (type : FileType) (r : RowsRead) (b : ℕ) (code : List ℕ) → is_row_blank b ≡ false → is_symbol_at r.size.inputs (length r.pending) b ≡ false → read_code type r (b ∷ code) ≡ None
-read_bad type r b code is other =
-    cond-false (is_row_blank b) (read_code type r code) _ is
-    ∙ cond-false (is_symbol_at r.size.inputs (length r.pending) b) (read_code type (with_symbol type r b) code) None other

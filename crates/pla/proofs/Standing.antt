@@ -12,7 +12,7 @@ use Rattle.pla.specs.Symbols.{left_over, rows, unfinished_row}
 use Rattle.pla.specs.Lists.{given_list}
 use Rattle.pla.specs.Header.{Header, header_of, size_in, type_in}
 use Rattle.pla.specs.Fault.{fault_in, fault_on, sound, sound_after, tests, is_row_too_early}
-use Rattle.pla.specs.State.{Parsed, parsed_of, StandsForLines}
+use Rattle.pla.specs.Scan.{Parsed, parsed_of, StandsForLines}
 use Rattle.pla.specs.Reading.{RowsRead, rows_of}
 use Rattle.pla.specs.Parsing.{size_of_rows, unfinished_of, parsed_by, rows_for}
 use Rattle.pla.proofs.After.{symbols_more, size_before}

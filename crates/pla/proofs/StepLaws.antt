@@ -14,14 +14,14 @@ use Rattle.pla.specs.Lines.{ended_lines, open_rest}
 use Rattle.pla.specs.Keywords.{looked_at, is_ending}
 use Rattle.pla.specs.Fault.{sound, fault_on, line_fault, rest_fault, rest_kind, has_ending, at_line, open_fault}
 use Rattle.pla.specs.Echoes.{due, echo_all, echo_of}
-use Rattle.pla.specs.State.{Parsed, parsed_of, State, StandsForLines, StandsFor}
+use Rattle.pla.specs.Scan.{Parsed, parsed_of, Scan, StandsForLines, StandsFor}
 use Rattle.pla.specs.Steps.{NoFeed}
 use Rattle.pla.proofs.Cuts.{Cut, cut_of, fed, NoFeeds, ended_cut, rest_cut}
 use Rattle.pla.proofs.LookedAt.{looked_more, looked_all, has_looked}
 use Rattle.pla.proofs.FirstFaults.{sound_more, sound_here, fault_here, no_fault_yet, sound_all}
 
 -- a state of a text whose description goes on
-pub record Going (limits : Limits) (state : State) (text : List ℕ) : Type 0 where
+pub record Going (limits : Limits) (state : Scan) (text : List ℕ) : Type 0 where
   pub cut : Cut text
   pub stands : StandsForLines limits state.parsed cut.lines
   pub going : has_ending cut.lines ≡ false
@@ -32,7 +32,7 @@ pub none_first : {X : Type 0} (a b : Option X) → option_or a b ≡ None → a 
 none_first None b h = refl
 none_first (Some x) b h = cc
 
-pub going_of : (limits : Limits) (state : State) (text : List ℕ) → StandsFor limits state text → state.parsed.header.ended ≡ false → Going limits state text
+pub going_of : (limits : Limits) (state : Scan) (text : List ℕ) → StandsFor limits state text → state.parsed.header.ended ≡ false → Going limits state text
 going_of limits state text st going =
     let c = cut_of text in
     let lines = ended_lines text in
@@ -59,7 +59,7 @@ none_either true o h = refl
 none_either false o h = h
 
 -- a state of a text that is cut
-pub stands_cut : (limits : Limits) (text : List ℕ) (c : Cut text) (state : State) → StandsForLines limits state.parsed c.lines → rest_fault limits c.lines c.rest ≡ None → state.rest ≡ cond (has_ending c.lines) [] c.rest → StandsFor limits state text
+pub stands_cut : (limits : Limits) (text : List ℕ) (c : Cut text) (state : Scan) → StandsForLines limits state.parsed c.lines → rest_fault limits c.lines c.rest ≡ None → state.rest ≡ cond (has_ending c.lines) [] c.rest → StandsFor limits state text
 stands_cut limits text c state st fits kept =
     let same : looked_at (ended_lines text) ≡ c.lines = ap looked_at (ended_cut text c) ∙ st.within in
     record {
@@ -118,7 +118,7 @@ cond_same false x = refl
 -- ---- the steps
 
 -- a line was taken
-pub line_taken : (limits : Limits) (old : State) (new : State) (text bytes line : List ℕ) (g : Going limits old text) → NoFeed bytes → line ≡ old.rest ++ bytes → StandsForLines limits new.parsed (g.cut.lines ++ line ∷ []) → new.rest ≡ []
+pub line_taken : (limits : Limits) (old : Scan) (new : Scan) (text bytes line : List ℕ) (g : Going limits old text) → NoFeed bytes → line ≡ old.rest ++ bytes → StandsForLines limits new.parsed (g.cut.lines ++ line ∷ []) → new.rest ≡ []
     → StandsFor limits new (text ++ (bytes ++ 10 ∷ []))
 unfolding cut_line
 line_taken limits old new text bytes line g none is st empty =
@@ -129,7 +129,7 @@ due_more : (echo : Echo) (lines : List (List ℕ)) (line : List ℕ) → echo_al
 due_more echo lines line = flat_map-append (echo_of echo) lines (line ∷ []) ∙ ap (λ t. echo_all echo lines ++ t) (append-nil (echo_of echo line))
 
 -- a line without a fault adds its echo
-pub taken_due : (limits : Limits) (old : State) (echo : Echo) (text line : List ℕ) (g : Going limits old text) → fault_on limits g.cut.lines line ≡ None
+pub taken_due : (limits : Limits) (old : Scan) (echo : Echo) (text line : List ℕ) (g : Going limits old text) → fault_on limits g.cut.lines line ≡ None
     → echo_all echo (sound limits (looked_at (g.cut.lines ++ line ∷ []))) ≡ due limits echo None text ++ echo_of echo line
 taken_due limits old echo text line g fine =
     let lines = g.cut.lines in
@@ -139,7 +139,7 @@ taken_due limits old echo text line g fine =
     ∙ ap (λ t. t ++ echo_of echo line) (sym (due_cut limits echo text g.cut g.stands.within g.stands.faultless))
 
 -- and a line with a fault none
-pub refused_due : (limits : Limits) (old : State) (echo : Echo) (text line : List ℕ) (kind : ReadKind) (g : Going limits old text) → fault_on limits g.cut.lines line ≡ Some kind
+pub refused_due : (limits : Limits) (old : Scan) (echo : Echo) (text line : List ℕ) (kind : ReadKind) (g : Going limits old text) → fault_on limits g.cut.lines line ≡ Some kind
     → echo_all echo (sound limits (looked_at (g.cut.lines ++ line ∷ []))) ≡ due limits echo None text
 refused_due limits old echo text line kind g bad =
     let lines = g.cut.lines in
@@ -148,23 +148,23 @@ refused_due limits old echo text line kind g bad =
     ∙ sym (due_cut limits echo text g.cut g.stands.within g.stands.faultless)
 
 -- the lines when a line feed ends the rest
-ended_line : (limits : Limits) (old : State) (text bytes line : List ℕ) (g : Going limits old text) → NoFeed bytes → line ≡ old.rest ++ bytes → ended_lines (text ++ (bytes ++ 10 ∷ [])) ≡ g.cut.lines ++ line ∷ []
+ended_line : (limits : Limits) (old : Scan) (text bytes line : List ℕ) (g : Going limits old text) → NoFeed bytes → line ≡ old.rest ++ bytes → ended_lines (text ++ (bytes ++ 10 ∷ [])) ≡ g.cut.lines ++ line ∷ []
 unfolding cut_line
 ended_line limits old text bytes line g none is =
     ended_cut (text ++ (bytes ++ 10 ∷ [])) (cut_line text bytes g.cut none) ∙ ap (λ l. g.cut.lines ++ l ∷ []) (sym (is ∙ ap (λ r. r ++ bytes) g.kept))
 
-pub line_due : (limits : Limits) (old : State) (echo : Echo) (text bytes line : List ℕ) (g : Going limits old text) → NoFeed bytes → line ≡ old.rest ++ bytes → fault_on limits g.cut.lines line ≡ None
+pub line_due : (limits : Limits) (old : Scan) (echo : Echo) (text bytes line : List ℕ) (g : Going limits old text) → NoFeed bytes → line ≡ old.rest ++ bytes → fault_on limits g.cut.lines line ≡ None
     → due limits echo None (text ++ (bytes ++ 10 ∷ [])) ≡ due limits echo None text ++ echo_of echo line
 line_due limits old echo text bytes line g none is fine =
     ap (λ ls. echo_all echo (sound limits (looked_at ls))) (ended_line limits old text bytes line g none is) ∙ taken_due limits old echo text line g fine
 
-pub line_bad_due : (limits : Limits) (old : State) (echo : Echo) (text bytes line : List ℕ) (kind : ReadKind) (g : Going limits old text) → NoFeed bytes → line ≡ old.rest ++ bytes → fault_on limits g.cut.lines line ≡ Some kind
+pub line_bad_due : (limits : Limits) (old : Scan) (echo : Echo) (text bytes line : List ℕ) (kind : ReadKind) (g : Going limits old text) → NoFeed bytes → line ≡ old.rest ++ bytes → fault_on limits g.cut.lines line ≡ Some kind
     → due limits echo None (text ++ (bytes ++ 10 ∷ [])) ≡ due limits echo None text
 line_bad_due limits old echo text bytes line kind g none is bad =
     ap (λ ls. echo_all echo (sound limits (looked_at ls))) (ended_line limits old text bytes line g none is) ∙ refused_due limits old echo text line kind g bad
 
 -- a line with a fault
-pub line_refused : (limits : Limits) (old : State) (text bytes line : List ℕ) (kind : ReadKind) (g : Going limits old text) → NoFeed bytes → line ≡ old.rest ++ bytes → fault_on limits g.cut.lines line ≡ Some kind
+pub line_refused : (limits : Limits) (old : Scan) (text bytes line : List ℕ) (kind : ReadKind) (g : Going limits old text) → NoFeed bytes → line ≡ old.rest ++ bytes → fault_on limits g.cut.lines line ≡ Some kind
     → open_fault limits (text ++ (bytes ++ 10 ∷ [])) ≡ Some (at_line (length g.cut.lines + 1) kind)
 line_refused limits old text bytes line kind g none is bad =
     let lines = g.cut.lines in
@@ -174,7 +174,7 @@ line_refused limits old text bytes line kind g none is bad =
     ∙ ap (λ o. option_or o (cond (has_ending (lines ++ line ∷ after)) None (rest_fault limits (lines ++ line ∷ after) rest))) (fault_here limits lines after line kind g.stands.faultless bad)
 
 -- bytes behind the rest, which can still be a line
-pub rest_taken : (limits : Limits) (old new : State) (text bytes : List ℕ) (g : Going limits old text) → NoFeed bytes → new.parsed ≡ old.parsed → new.rest ≡ old.rest ++ bytes → rest_kind limits old.parsed.header.lines (old.rest ++ bytes) ≡ None
+pub rest_taken : (limits : Limits) (old new : Scan) (text bytes : List ℕ) (g : Going limits old text) → NoFeed bytes → new.parsed ≡ old.parsed → new.rest ≡ old.rest ++ bytes → rest_kind limits old.parsed.header.lines (old.rest ++ bytes) ≡ None
     → StandsFor limits new (text ++ bytes)
 unfolding cut_bytes
 rest_taken limits old new text bytes g none parsed rest fits =
@@ -185,7 +185,7 @@ rest_taken limits old new text bytes g none parsed rest fits =
     (rest ∙ ap (λ r. r ++ bytes) g.kept ∙ ap (λ b. cond b [] c.rest) (sym g.going))
 
 -- and which can't
-pub rest_refused : (limits : Limits) (old : State) (text bytes : List ℕ) (f : ReadFault) (g : Going limits old text) → NoFeed bytes → option_map (at_line (old.parsed.header.lines + 1)) (rest_kind limits old.parsed.header.lines (old.rest ++ bytes)) ≡ Some f
+pub rest_refused : (limits : Limits) (old : Scan) (text bytes : List ℕ) (f : ReadFault) (g : Going limits old text) → NoFeed bytes → option_map (at_line (old.parsed.header.lines + 1)) (rest_kind limits old.parsed.header.lines (old.rest ++ bytes)) ≡ Some f
     → open_fault limits (text ++ bytes) ≡ Some f
 unfolding cut_bytes
 rest_refused limits old text bytes f g none bad =
@@ -200,7 +200,7 @@ rest_refused limits old text bytes f g none bad =
     ∙ ap (λ n. option_map (at_line (n + 1)) (rest_kind limits n (old.rest ++ bytes))) count ∙ bad
 
 -- bytes without a line feed add no echo
-pub rest_due : (limits : Limits) (old : State) (echo : Echo) (text bytes : List ℕ) (g : Going limits old text) → NoFeed bytes → due limits echo None (text ++ bytes) ≡ due limits echo None text
+pub rest_due : (limits : Limits) (old : Scan) (echo : Echo) (text bytes : List ℕ) (g : Going limits old text) → NoFeed bytes → due limits echo None (text ++ bytes) ≡ due limits echo None text
 unfolding cut_bytes
 rest_due limits old echo text bytes g none =
     due_cut limits echo (text ++ bytes) (cut_bytes text bytes g.cut none) g.stands.within g.stands.faultless ∙ sym (due_cut limits echo text g.cut g.stands.within g.stands.faultless)

@@ -1,4 +1,4 @@
--- The lists of the three sets of a description: the given ones, and those that its type leaves open.
+-- The lists of a description's three sets: the given ones, and those that its type leaves open.
 use Rattle.std.specs.Prelude.{◌≡◌, Bool, true, false, not, List, [], ◌∷◌, ◌++◌, if◌then◌else◌, None, refl}
 use Rattle.cube.specs.declared.symbol.Symbol.TheVariants.{Dash, Zero, One}
 use Rattle.cube.specs.Size.{Size}
@@ -28,14 +28,16 @@ gives_off Fd = false
 gives_off Fr = true
 gives_off Fdr = true
 
--- the DC list: as given under fd and fdr, nothing under f, and under fr what ON and OFF leave, where it is asked for
+-- the DC list: as given under fd and fdr, nothing under f, and under fr what ON and OFF leave, if
+-- asked for
 abbrev pub dc_list : FileType → Bool → Description → List Cube
 dc_list F asked d = []
 dc_list Fd asked d = d.dc
 dc_list Fr asked d = if asked then outside d.size (d.on ++ d.off) else []
 dc_list Fdr asked d = d.dc
 
--- the OFF list: as given under fr and fdr, and else what ON leaves, under fd what ON and DC leave, where it is asked for
+-- the OFF list: as given under fr and fdr, and else what ON leaves, under fd what ON and DC leave,
+-- if asked for
 abbrev pub off_list : FileType → Bool → Description → List Cube
 off_list F asked d = if asked then outside d.size d.on else []
 off_list Fd asked d = if asked then outside d.size (d.on ++ d.dc) else []
@@ -44,36 +46,62 @@ off_list Fdr asked d = d.off
 
 -- the lists of the three sets: the flags ask for the DC list and for the OFF list
 abbrev pub sets_of : Description → Bool → Bool → SetLists
-sets_of d dc off = record { size = d.size; on = d.on; dc = dc_list d.file_type dc d; off = off_list d.file_type off d }
+sets_of d dc off =
+    record {
+      size = d.size;
+      on = d.on;
+      dc = dc_list d.file_type dc d;
+      off = off_list d.file_type off d;
+    }
 
 -- a description of one output without names
 abbrev of_type : FileType → Size → List Cube → List Cube → List Cube → Description
-of_type type size on dc off = record { size = size; input_names = None; output_names = None; file_type = type; on = on; dc = dc; off = off }
+of_type type size on dc off =
+    record {
+      size = size;
+      input_names = None;
+      output_names = None;
+      file_type = type;
+      on = on;
+      dc = dc;
+      off = off;
+    }
 
 -- under f a row 11 leaves the rows -0 and 0-, and no DC list
-example_f : sets_of (of_type F (record { inputs = 2; outputs = 1 }) (record { symbols = One ∷ One ∷ []; outputs = true ∷ [] } ∷ []) [] []) true true
+example_f : sets_of
+    (of_type F (record { inputs = 2; outputs = 1 })
+    (record { symbols = One ∷ One ∷ []; outputs = true ∷ [] } ∷ []) [] []) true true
     ≡ record {
       size = record { inputs = 2; outputs = 1 };
       on = record { symbols = One ∷ One ∷ []; outputs = true ∷ [] } ∷ [];
       dc = [];
-      off = record { symbols = Dash ∷ Zero ∷ []; outputs = true ∷ [] } ∷ record { symbols = Zero ∷ Dash ∷ []; outputs = true ∷ [] } ∷ [];
+      off = record { symbols = Dash ∷ Zero ∷ []; outputs = true ∷ [] }
+          ∷ record { symbols = Zero ∷ Dash ∷ []; outputs = true ∷ [] } ∷ [];
     }
 example_f = refl
 
 -- under fd the OFF list lies outside the DC list too
-example_fd : off_list Fd true (of_type Fd (record { inputs = 1; outputs = 1 }) (record { symbols = One ∷ []; outputs = true ∷ [] } ∷ [])
+example_fd : off_list Fd true
+    (of_type Fd (record { inputs = 1; outputs = 1 })
+    (record { symbols = One ∷ []; outputs = true ∷ [] } ∷ [])
     (record { symbols = Zero ∷ []; outputs = true ∷ [] } ∷ []) []) ≡ []
 example_fd = refl
 
--- under fr a row - of ON and a row 0 of OFF leave nothing, and without the row of ON the DC list is 1
-example_fr : dc_list Fr true (of_type Fr (record { inputs = 1; outputs = 1 }) (record { symbols = Dash ∷ []; outputs = true ∷ [] } ∷ []) []
+-- under fr a row - of ON and a row 0 of OFF leave nothing, and without the row of ON the DC list
+-- is 1
+example_fr : dc_list Fr true
+    (of_type Fr (record { inputs = 1; outputs = 1 })
+    (record { symbols = Dash ∷ []; outputs = true ∷ [] } ∷ []) []
     (record { symbols = Zero ∷ []; outputs = true ∷ [] } ∷ [])) ≡ []
 example_fr = refl
 
-example_fr_open : dc_list Fr true (of_type Fr (record { inputs = 1; outputs = 1 }) [] [] (record { symbols = Zero ∷ []; outputs = true ∷ [] } ∷ []))
+example_fr_open : dc_list Fr true
+    (of_type Fr (record { inputs = 1; outputs = 1 }) [] []
+    (record { symbols = Zero ∷ []; outputs = true ∷ [] } ∷ []))
     ≡ record { symbols = One ∷ []; outputs = true ∷ [] } ∷ []
 example_fr_open = refl
 
 -- a list that is not asked for stays empty
-example_not_asked : off_list Fd false (of_type Fd (record { inputs = 1; outputs = 1 }) [] [] []) ≡ []
+example_not_asked : off_list Fd false (of_type Fd (record { inputs = 1; outputs = 1 }) [] [] [])
+    ≡ []
 example_not_asked = refl

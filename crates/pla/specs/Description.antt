@@ -23,15 +23,16 @@ pub record Description : Type 0 where
 
 -- the description that lines without a fault give
 abbrev pub description_of : Limits → List (List ℕ) → Description
-description_of limits lines = let h = header_of limits lines in let symbols = all_symbols lines in record {
-  size = unwrap_or (size_in h) (record { inputs = 0; outputs = 0 });
-  input_names = h.input_names;
-  output_names = h.output_names;
-  file_type = type_in h;
-  on = given_list (type_in h) On (size_in h) symbols;
-  dc = given_list (type_in h) DontCare (size_in h) symbols;
-  off = given_list (type_in h) Off (size_in h) symbols;
-}
+description_of limits lines =
+    let h = header_of limits lines in let symbols = all_symbols lines in record {
+      size = unwrap_or (size_in h) (record { inputs = 0; outputs = 0 });
+      input_names = h.input_names;
+      output_names = h.output_names;
+      file_type = type_in h;
+      on = given_list (type_in h) On (size_in h) symbols;
+      dc = given_list (type_in h) DontCare (size_in h) symbols;
+      off = given_list (type_in h) Off (size_in h) symbols;
+    }
 
 -- what a file describes that has no fault, by the lines that are looked at
 abbrev pub described : Limits → Ending → List ℕ → Description

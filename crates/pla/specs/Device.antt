@@ -1,4 +1,5 @@
--- What a device tells: the bytes that it has left or has taken, and what came of the calls that were made to it.
+-- What a device reports: the bytes that it has left or has taken, and what came of the calls that
+-- were made to it.
 use Rattle.std.specs.Prelude.{◌≡◌, ℕ, ◌+◌, ◌-◌, ◌^◌, true, false, min, List, ◌++◌, Option, Result, MatchResult}
 use Rattle.std.specs.Io.KnownBytes.{Appends}
 use Rattle.pla.specs.declared.calls.Counts.{Counts}
@@ -27,7 +28,10 @@ abbrev pub one_flushed : Counts → Counts
 one_flushed counts = record counts { flushes = one_more counts.flushes }
 
 abbrev pub one_unflushed : Counts → Counts
-one_unflushed counts = record counts { flushes = one_more counts.flushes; failed_flushes = one_more counts.failed_flushes }
+one_unflushed counts = record counts {
+  flushes = one_more counts.flushes;
+  failed_flushes = one_more counts.failed_flushes;
+}
 
 -- a write that went well, and one that was Broken
 abbrev pub write_went : WriteCalls → WriteCalls
@@ -43,15 +47,18 @@ flush_went calls = record calls { counts = one_flushed calls.counts; flushed = t
 abbrev pub flush_broke : WriteCalls → WriteCalls
 flush_broke calls = record calls { counts = one_unflushed calls.counts; flushed = true }
 
--- what a device tells of a call, by its result
+-- what a device reports of a call, by its result
 abbrev pub TellsRead : {T E : Type 0} → ReadCalls → ReadCalls → Result T E → Type 0
-TellsRead before after r = MatchResult r (λ _. after ≡ read_went before) (λ _. after ≡ read_broke before)
+TellsRead before after r =
+    MatchResult r (λ _. after ≡ read_went before) (λ _. after ≡ read_broke before)
 
 abbrev pub TellsWrite : {T E : Type 0} → WriteCalls → WriteCalls → Result T E → Type 0
-TellsWrite before after r = MatchResult r (λ _. after ≡ write_went before) (λ _. after ≡ write_broke before)
+TellsWrite before after r =
+    MatchResult r (λ _. after ≡ write_went before) (λ _. after ≡ write_broke before)
 
 abbrev pub TellsFlush : {T E : Type 0} → WriteCalls → WriteCalls → Result T E → Type 0
-TellsFlush before after r = MatchResult r (λ _. after ≡ flush_went before) (λ _. after ≡ flush_broke before)
+TellsFlush before after r =
+    MatchResult r (λ _. after ≡ flush_went before) (λ _. after ≡ flush_broke before)
 
 -- ---- calls in a row
 
@@ -59,7 +66,7 @@ TellsFlush before after r = MatchResult r (λ _. after ≡ flush_went before) (�
 abbrev pub NoneFailed : ReadCalls → ReadCalls → Type 0
 NoneFailed before after = after.failures ≡ before.failures
 
--- one read failed, and none came behind it
+-- one read failed, and none came after it
 abbrev pub LastFailed : ReadCalls → ReadCalls → Type 0
 LastFailed before after = (after.failures ≡ one_more before.failures) × (after.broken ≡ true)
 
@@ -67,34 +74,46 @@ LastFailed before after = (after.failures ≡ one_more before.failures) × (afte
 abbrev pub AllWritten : WriteCalls → WriteCalls → Type 0
 AllWritten before after = after.counts ≡ before.counts
 
--- one write failed, and none came behind it; no flush was asked for
+-- one write failed, and none came after it; no flush was asked for
 abbrev pub LastUnwritten : WriteCalls → WriteCalls → Type 0
 LastUnwritten before after = (after.counts ≡ one_failed before.counts) × (after.broken ≡ true)
 
--- known bytes grow by a front of the text
+-- known bytes grow by a prefix of the text
 abbrev pub AppendsFront : Option (List ℕ) → Option (List ℕ) → List ℕ → Type 0
-AppendsFront old new text = (front : List ℕ) × (rest : List ℕ) × (text ≡ front ++ rest) × Appends old new front
+AppendsFront old new text = (front : List ℕ) × (rest : List ℕ) × (text ≡ front ++ rest)
+    × Appends old new front
 
--- the whole text was taken at `Ok`, and a front of it at `Err`
-abbrev pub Writes : {T E : Type 0} → Option (List ℕ) → Option (List ℕ) → Result T E → List ℕ → Type 0
+-- the whole text was taken at `Ok`, and a prefix of it at `Err`
+abbrev pub Writes : {T E : Type 0} → Option (List ℕ) → Option (List ℕ) → Result T E
+    → List ℕ → Type 0
 Writes old new r text = MatchResult r (λ _. Appends old new text) (λ _. AppendsFront old new text)
 
 -- at `Ok` no write failed, and at `Err` the last one did; no flush was asked for
 abbrev pub TellsFailure : {T E : Type 0} → WriteCalls → WriteCalls → Result T E → Type 0
-TellsFailure before after r = MatchResult r (λ _. AllWritten before after) (λ _. LastUnwritten before after)
+TellsFailure before after r =
+    MatchResult r (λ _. AllWritten before after) (λ _. LastUnwritten before after)
 
--- whatever was being written comes out with the text behind it
-abbrev pub Continues : {T E : Type 0} → Option (List ℕ) → Result T E → Option (List ℕ) → Result T E → List ℕ → Type 0
-Continues taken done new r text = (old : Option (List ℕ)) (front : List ℕ) → Writes old taken done front → Writes old new r (front ++ text)
+-- whatever was being written comes out with the text after it
+abbrev pub Continues : {T E : Type 0} → Option (List ℕ) → Result T E → Option (List ℕ)
+    → Result T E → List ℕ → Type 0
+Continues taken done new r text = (old : Option (List ℕ)) (front : List ℕ)
+    → Writes old taken done front → Writes old new r (front ++ text)
 
--- whether a write failed since any earlier call is told on
+-- whether a write failed since any earlier call is passed on
 abbrev pub CountsOn : {T E : Type 0} → WriteCalls → Result T E → WriteCalls → Result T E → Type 0
-CountsOn calls done new r = (before : WriteCalls) → TellsFailure before calls done → TellsFailure before new r
+CountsOn calls done new r = (before : WriteCalls) → TellsFailure before calls done
+    → TellsFailure before new r
 
--- a text was put together: at `Ok` all of it was taken but for what is pending, and at `Err` a front of it
-abbrev pub Puts : {T E : Type 0} → Option (List ℕ) → Option (List ℕ) → List ℕ → Result T E → List ℕ → Type 0
-Puts old taken pending done text = MatchResult done (λ _. (sent : List ℕ) × (text ≡ sent ++ pending) × Appends old taken sent) (λ _. AppendsFront old taken text)
+-- a text was put together: at `Ok` all of it was taken but for what is pending, and at `Err` a
+-- front of it
+abbrev pub Puts : {T E : Type 0} → Option (List ℕ) → Option (List ℕ) → List ℕ
+    → Result T E → List ℕ → Type 0
+Puts old taken pending done text =
+    MatchResult done (λ _. (sent : List ℕ) × (text ≡ sent ++ pending) × Appends old taken sent)
+    (λ _. AppendsFront old taken text)
 
--- whatever was being put together comes out with the text behind it
-abbrev pub PutsOn : {T E : Type 0} → Option (List ℕ) → List ℕ → Result T E → Option (List ℕ) → List ℕ → Result T E → List ℕ → Type 0
-PutsOn taken pending done new left r text = (old : Option (List ℕ)) (front : List ℕ) → Puts old taken pending done front → Puts old new left r (front ++ text)
+-- whatever was being put together comes out with the text after it
+abbrev pub PutsOn : {T E : Type 0} → Option (List ℕ) → List ℕ → Result T E
+    → Option (List ℕ) → List ℕ → Result T E → List ℕ → Type 0
+PutsOn taken pending done new left r text = (old : Option (List ℕ)) (front : List ℕ)
+    → Puts old taken pending done front → Puts old new left r (front ++ text)

@@ -32,4 +32,5 @@ delivered_lines (Some ending) bytes = lines_of ending bytes
 
 -- the echoes of the lines looked at, up to the first with a fault
 abbrev pub due : Limits → Echo → Option Ending → List ℕ → List ℕ
-due limits echo ending bytes = echo_all echo (sound limits (looked_at (delivered_lines ending bytes)))
+due limits echo ending bytes =
+    echo_all echo (sound limits (looked_at (delivered_lines ending bytes)))

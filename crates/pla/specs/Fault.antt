@@ -34,18 +34,22 @@ is_inside_row h line = is_keyword_line line && not (is_ending line) && nat_lt 0 
 
 -- a setting that is given already
 unfoldable pub is_repeated : Header → List ℕ → Bool
-is_repeated h line = (has (codes ".i") line && is_some h.inputs) || (has (codes ".o") line && is_some h.outputs)
-    || (has (codes ".ilb") line && is_some h.input_names) || (has (codes ".ob") line && is_some h.output_names)
+is_repeated h line =
+    (has (codes ".i") line && is_some h.inputs) || (has (codes ".o") line && is_some h.outputs)
+    || (has (codes ".ilb") line && is_some h.input_names)
+    || (has (codes ".ob") line && is_some h.output_names)
     || (has (codes ".type") line && is_some h.file_type)
 
 -- .i or .o without exactly one number in its range
 unfoldable pub is_bad_number : Limits → Header → List ℕ → Bool
-is_bad_number limits h line = (has (codes ".i") line && is_none (number_within 0 limits.inputs (arguments line)))
+is_bad_number limits h line =
+    (has (codes ".i") line && is_none (number_within 0 limits.inputs (arguments line)))
     || (has (codes ".o") line && is_none (number_within 1 limits.outputs (arguments line)))
 
 -- names while the size isn't given
 unfoldable pub is_name_too_early : Header → List ℕ → Bool
-is_name_too_early h line = (has (codes ".ilb") line || has (codes ".ob") line) && is_none (size_in h)
+is_name_too_early h line =
+    (has (codes ".ilb") line || has (codes ".ob") line) && is_none (size_in h)
 
 -- whether there aren't as many as wanted
 abbrev pub differs_count : ℕ → Option ℕ → Bool
@@ -54,7 +58,8 @@ differs_count count (Some wanted) = not (count == wanted)
 
 -- another number of names than of inputs or outputs
 unfoldable pub is_wrong_count : Header → List ℕ → Bool
-is_wrong_count h line = (has (codes ".ilb") line && differs_count (length (arguments line)) h.inputs)
+is_wrong_count h line =
+    (has (codes ".ilb") line && differs_count (length (arguments line)) h.inputs)
     || (has (codes ".ob") line && differs_count (length (arguments line)) h.outputs)
 
 -- a type after a symbol
@@ -119,9 +124,11 @@ fault_on limits before line = fault_in limits (header_of limits before) line
 -- ---- the lines before the first with a fault
 
 -- of the lines that follow these, the ones before the first that has a fault
-abbrev pub sound_after : {K : Type 0} → (List (List ℕ) → List ℕ → Option K) → List (List ℕ) → List (List ℕ) → List (List ℕ)
+abbrev pub sound_after : {K : Type 0} → (List (List ℕ) → List ℕ → Option K)
+    → List (List ℕ) → List (List ℕ) → List (List ℕ)
 sound_after fault before [] = []
-sound_after fault before (line ∷ lines) = if is_some (fault before line) then [] else line ∷ sound_after fault (before ++ line ∷ []) lines
+sound_after fault before (line ∷ lines) = if is_some (fault before line) then []
+    else line ∷ sound_after fault (before ++ line ∷ []) lines
 
 -- the lines before the first with a fault
 abbrev pub sound : Limits → List (List ℕ) → List (List ℕ)
@@ -134,13 +141,15 @@ at_line number which = record { line = number; kind = which }
 -- the fault of the first line that has one
 abbrev pub line_fault : Limits → List (List ℕ) → Option ReadFault
 line_fault limits lines = let before = sound limits lines in
-    option_and_then (λ line. option_map (at_line (length before + 1)) (fault_on limits before line)) (slice_get lines (length before))
+    option_and_then (λ line. option_map (at_line (length before + 1)) (fault_on limits before line))
+    (slice_get lines (length before))
 
 -- ---- once all lines are known
 
 -- what is asked of the header at the end of the description
 abbrev pub end_kind : Header → Option ReadKind
-end_kind h = if is_none (size_in h) then Some ShapeMissing else if nat_lt 0 h.unfinished then Some UnfinishedRow else None
+end_kind h = if is_none (size_in h) then Some ShapeMissing
+    else if nat_lt 0 h.unfinished then Some UnfinishedRow else None
 
 -- the fault of the whole, on its last line
 abbrev pub end_fault : Limits → List (List ℕ) → Option ReadFault
@@ -148,18 +157,20 @@ end_fault limits lines = option_map (at_line (length lines)) (end_kind (header_o
 
 -- what is asked of a rest after so many lines, which no line feed ended
 abbrev pub rest_kind : Limits → ℕ → List ℕ → Option ReadKind
-rest_kind limits count rest = if not (is_empty rest) && nat_le limits.lines count then Some TooManyLines
+rest_kind limits count rest = if not (is_empty rest) && nat_le limits.lines count
+    then Some TooManyLines
     else if nat_lt limits.line_bytes (length rest) then Some LineTooLong else None
 
 -- the fault of a rest, on the line after these
 abbrev pub rest_fault : Limits → List (List ℕ) → List ℕ → Option ReadFault
-rest_fault limits lines rest = option_map (at_line (length lines + 1)) (rest_kind limits (length lines) rest)
+rest_fault limits lines rest =
+    option_map (at_line (length lines + 1)) (rest_kind limits (length lines) rest)
 
 -- whether one of the lines ends the description
 abbrev pub has_ending : List (List ℕ) → Bool
 has_ending lines = list_any is_ending lines
 
--- the fault where no line has one
+-- the fault if no line has one
 abbrev pub last_fault : Limits → Ending → List ℕ → List (List ℕ) → Option ReadFault
 last_fault limits End rest lines = end_fault limits lines
 last_fault limits Failed rest lines = if has_ending lines then end_fault limits lines
@@ -173,4 +184,5 @@ fault_of limits ending bytes = let lines = looked_at (lines_of ending bytes) in
 -- the fault of a text whose ending is open
 abbrev pub open_fault : Limits → List ℕ → Option ReadFault
 open_fault limits text = let lines = looked_at (ended_lines text) in
-    option_or (line_fault limits lines) (if has_ending lines then None else rest_fault limits lines (open_rest text))
+    option_or (line_fault limits lines) (if has_ending lines then None
+    else rest_fault limits lines (open_rest text))

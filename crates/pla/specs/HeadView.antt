@@ -9,7 +9,7 @@ use Rattle.pla.specs.Names.{owned_names}
 use Rattle.pla.specs.Header.{Header}
 use Rattle.pla.specs.Fault.{keyword_tests, first_kind}
 
--- the header, where so many symbols stand in an unfinished row
+-- the header, if so many symbols stand in an unfinished row
 abbrev pub seen : Head → ℕ → Header
 seen head unfinished = record {
   lines = head.lines;
@@ -30,8 +30,10 @@ keyword_fault limits h line = first_kind (keyword_tests limits h line)
 -- what a keyword line sets
 abbrev pub with_keyword : Limits → Header → List ℕ → Header
 with_keyword limits h line =
-    if has (codes ".i") line then record h { inputs = number_within 0 limits.inputs (arguments line) }
-    else if has (codes ".o") line then record h { outputs = number_within 1 limits.outputs (arguments line) }
+    if has (codes ".i") line
+    then record h { inputs = number_within 0 limits.inputs (arguments line) }
+    else if has (codes ".o") line
+    then record h { outputs = number_within 1 limits.outputs (arguments line) }
     else if has (codes ".ilb") line then record h { input_names = Some (arguments line) }
     else if has (codes ".ob") line then record h { output_names = Some (arguments line) }
     else if has (codes ".type") line then record h { file_type = type_by (arguments line) }

@@ -42,6 +42,6 @@ header_of limits lines = record {
 abbrev pub size_in : Header → Option Size
 size_in h = size_by h.inputs h.outputs
 
--- the type: fd where none is given
+-- the type: fd if none is given
 abbrev pub type_in : Header → FileType
 type_in h = unwrap_or h.file_type Fd

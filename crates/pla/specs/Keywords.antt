@@ -31,7 +31,8 @@ endings = codes ".e" ∷ codes ".end" ∷ []
 
 -- what espresso knows and this format leaves out
 abbrev pub refused_keywords : List (List ℕ)
-refused_keywords = codes ".mv" ∷ codes ".label" ∷ codes ".phase" ∷ codes ".pair" ∷ codes ".symbolic" ∷ codes ".symbolic-output" ∷ codes ".kiss" ∷ []
+refused_keywords = codes ".mv" ∷ codes ".label" ∷ codes ".phase" ∷ codes ".pair"
+    ∷ codes ".symbolic" ∷ codes ".symbolic-output" ∷ codes ".kiss" ∷ []
 
 -- whether the line has a keyword
 abbrev pub is_keyword_line : List ℕ → Bool
@@ -47,7 +48,8 @@ is_ending line = is_one_of endings (keyword line)
 
 -- whether the line's keyword means nothing here: the line is passed on
 abbrev pub is_unknown : List ℕ → Bool
-is_unknown line = is_keyword_line line && not (is_one_of (settings ++ endings ++ refused_keywords ++ codes ".p" ∷ []) (keyword line))
+is_unknown line = is_keyword_line line
+    && not (is_one_of (settings ++ endings ++ refused_keywords ++ codes ".p" ∷ []) (keyword line))
 
 -- the lines up to and with the first that ends the description
 abbrev pub looked_at : List (List ℕ) → List (List ℕ)
@@ -62,13 +64,16 @@ number digits = fold (λ n digit. 10 * n + (digit - 48)) 0 digits
 
 -- one word that is a number in the range
 abbrev pub number_within : ℕ → ℕ → List (List ℕ) → Option ℕ
-number_within low high (word ∷ []) = if list_all is_ascii_digit word && nat_le low (number word) && nat_le (number word) high then Some (number word) else None
+number_within low high (word ∷ []) = if list_all is_ascii_digit word
+    && nat_le low (number word) && nat_le (number word) high then Some (number word) else None
 number_within low high _ = None
 
 -- the type of this name
 abbrev pub type_named : List ℕ → Option FileType
-type_named word = if bytes_eq word (codes "f") then Some F else if bytes_eq word (codes "fd") then Some Fd
-    else if bytes_eq word (codes "fr") then Some Fr else if bytes_eq word (codes "fdr") then Some Fdr else None
+type_named word = if bytes_eq word (codes "f") then Some F
+    else if bytes_eq word (codes "fd") then Some Fd
+    else if bytes_eq word (codes "fr") then Some Fr
+    else if bytes_eq word (codes "fdr") then Some Fdr else None
 
 -- one word that names a type
 abbrev pub type_by : List (List ℕ) → Option FileType
@@ -77,11 +82,13 @@ type_by _ = None
 
 -- the number of inputs that the line gives
 abbrev pub inputs_on : Limits → List ℕ → Option ℕ
-inputs_on limits line = if has (codes ".i") line then number_within 0 limits.inputs (arguments line) else None
+inputs_on limits line = if has (codes ".i") line then number_within 0 limits.inputs (arguments line)
+    else None
 
 -- the number of outputs that the line gives
 abbrev pub outputs_on : Limits → List ℕ → Option ℕ
-outputs_on limits line = if has (codes ".o") line then number_within 1 limits.outputs (arguments line) else None
+outputs_on limits line = if has (codes ".o") line
+    then number_within 1 limits.outputs (arguments line) else None
 
 -- the names that the line gives by this keyword
 abbrev pub names_on : List ℕ → List ℕ → Option (List (List ℕ))
@@ -105,4 +112,5 @@ size_by _ _ = None
 
 -- the size that the lines give
 abbrev pub size_given : Limits → List (List ℕ) → Option Size
-size_given limits lines = size_by (first_given (inputs_on limits) lines) (first_given (outputs_on limits) lines)
+size_given limits lines =
+    size_by (first_given (inputs_on limits) lines) (first_given (outputs_on limits) lines)

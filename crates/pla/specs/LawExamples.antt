@@ -21,11 +21,15 @@ abbrev many_inputs : List ℕ
 many_inputs = text (codes ".i 257" ∷ codes ".o 1" ∷ [])
 
 too_many_before : fault_of older_limits End many_inputs ≡ Some (at_line 1 BadNumber)
-unfolding fault_in is_past_limit is_too_long is_refused is_inside_row is_repeated is_bad_number is_name_too_early is_wrong_count is_type_too_late is_bad_type is_row_too_early is_bad_symbol
+unfolding fault_in is_past_limit is_too_long is_refused is_inside_row is_repeated
+    is_bad_number is_name_too_early is_wrong_count is_type_too_late is_bad_type
+    is_row_too_early is_bad_symbol
 too_many_before = refl
 
 within_limits_now : fault_of format_limits End many_inputs ≡ None
-unfolding fault_in is_past_limit is_too_long is_refused is_inside_row is_repeated is_bad_number is_name_too_early is_wrong_count is_type_too_late is_bad_type is_row_too_early is_bad_symbol
+unfolding fault_in is_past_limit is_too_long is_refused is_inside_row is_repeated
+    is_bad_number is_name_too_early is_wrong_count is_type_too_late is_bad_type
+    is_row_too_early is_bad_symbol
 within_limits_now = refl
 
 -- which limits a fault can come from
@@ -33,7 +37,8 @@ abbrev ones : Limits
 ones = record { inputs = 1; outputs = 1; line_bytes = 1; lines = 1 }
 
 pub record Older : Type 0 where
-  pub limits : older_limits ≡ record { inputs = 256; outputs = 256; line_bytes = 65536; lines = 16777216 }
+  pub limits : older_limits
+      ≡ record { inputs = 256; outputs = 256; line_bytes = 65536; lines = 16777216 }
   pub more_lines : SameLimitsOf ones (record ones { lines = 2 }) TooManyLines → ⊥
   pub longer_lines : SameLimitsOf ones (record ones { line_bytes = 2 }) LineTooLong → ⊥
   pub more_inputs : SameLimitsOf ones (record ones { inputs = 2 }) BadNumber → ⊥
@@ -55,7 +60,13 @@ abbrev one_cube : Symbol → Cube
 one_cube symbol = record { symbols = symbol ∷ []; outputs = true ∷ [] }
 
 abbrev three_lists : SetLists
-three_lists = record { size = record { inputs = 1; outputs = 1 }; on = one_cube One ∷ []; dc = one_cube Zero ∷ []; off = one_cube Dash ∷ [] }
+three_lists =
+    record {
+      size = record { inputs = 1; outputs = 1 };
+      on = one_cube One ∷ [];
+      dc = one_cube Zero ∷ [];
+      off = one_cube Dash ∷ [];
+    }
 
 abbrev three_described : Description
 three_described = record {
@@ -69,11 +80,16 @@ three_described = record {
 }
 
 -- each list is read again as itself
-lists_read_again : described format_limits End (text_of three_described Fdr three_lists) ≡ three_described
-unfolding digits fault_in is_past_limit is_too_long is_refused is_inside_row is_repeated is_bad_number is_name_too_early is_wrong_count is_type_too_late is_bad_type is_row_too_early is_bad_symbol
+lists_read_again : described format_limits End (text_of three_described Fdr three_lists)
+    ≡ three_described
+unfolding digits fault_in is_past_limit is_too_long is_refused is_inside_row
+    is_repeated is_bad_number is_name_too_early is_wrong_count is_type_too_late
+    is_bad_type is_row_too_early is_bad_symbol
 lists_read_again = refl
 
 -- a name that begins a comment is not read again
 commented_name : HasFault (codes ".i 1" ∷ codes ".o 1" ∷ codes ".ilb #a" ∷ []) 3 WrongNumberOfNames
-unfolding fault_in is_past_limit is_too_long is_refused is_inside_row is_repeated is_bad_number is_name_too_early is_wrong_count is_type_too_late is_bad_type is_row_too_early is_bad_symbol
+unfolding fault_in is_past_limit is_too_long is_refused is_inside_row is_repeated
+    is_bad_number is_name_too_early is_wrong_count is_type_too_late is_bad_type
+    is_row_too_early is_bad_symbol
 commented_name = refl

@@ -1,6 +1,6 @@
 pub mod Device
 pub mod OverStd
-pub mod Fakes
+pub mod Memory
 pub mod Names
 pub mod Sets
 pub mod Completed
@@ -18,7 +18,7 @@ pub mod Lists
 pub mod Reading
 pub mod HeadView
 pub mod Description
-pub mod State
+pub mod Scan
 pub mod Parsing
 pub mod Vectors
 pub mod FormatExamples

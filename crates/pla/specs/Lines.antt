@@ -25,7 +25,8 @@ is_empty bytes = length bytes == 0
 
 -- the lines of a file: at the end of the input a last line needs no line feed
 abbrev pub lines_of : Ending → List ℕ → List (List ℕ)
-lines_of End bytes = ended_lines bytes ++ (if is_empty (open_rest bytes) then [] else open_rest bytes ∷ [])
+lines_of End bytes =
+    ended_lines bytes ++ (if is_empty (open_rest bytes) then [] else open_rest bytes ∷ [])
 lines_of Failed bytes = ended_lines bytes
 
 -- ---- blanks and words
@@ -63,7 +64,8 @@ row_code line = before_first (λ b. b == 35) line
 abbrev pub keyword_code : List ℕ → List ℕ
 keyword_code [] = []
 keyword_code (b ∷ []) = b ∷ []
-keyword_code (b ∷ c ∷ bytes) = if is_blank b && c == 35 then b ∷ [] else b ∷ keyword_code (c ∷ bytes)
+keyword_code (b ∷ c ∷ bytes) = if is_blank b && c == 35 then b ∷ []
+    else b ∷ keyword_code (c ∷ bytes)
 
 -- a line's code by its kind
 abbrev pub code_at : LineKind → List ℕ → List ℕ
@@ -103,7 +105,7 @@ keyword_words_at _ line = []
 abbrev pub keyword_words : List ℕ → List (List ℕ)
 keyword_words line = keyword_words_at (kind line) line
 
--- the keyword with its dot: empty where the line is no keyword line
+-- the keyword with its dot: empty if the line is no keyword line
 abbrev pub keyword : List ℕ → List ℕ
 keyword line = slice_index_or (keyword_words line) 0 []
 

@@ -24,13 +24,15 @@ part_symbols _ _ = []
 abbrev pub input_symbol : ℕ → Symbol
 input_symbol b = if b == 48 then Zero else if b == 49 then One else Dash
 
--- the cube of these inputs and outputs, where it has an output
+-- the cube of these inputs and outputs, if it has an output
 abbrev pub cube_by : List Symbol → List Bool → Option Cube
-cube_by symbols outputs = if list_any (λ out. out) outputs then Some (record { symbols = symbols; outputs = outputs }) else None
+cube_by symbols outputs = if list_any (λ out. out) outputs
+    then Some (record { symbols = symbols; outputs = outputs }) else None
 
 -- a row's cube in a list: its inputs, and the outputs that have one of the list's symbols
 abbrev pub given_cube : ℕ → List ℕ → List ℕ → Option Cube
-given_cube n letters row = cube_by (map input_symbol (take n row)) (map (is_byte_of letters) (drop n row))
+given_cube n letters row =
+    cube_by (map input_symbol (take n row)) (map (is_byte_of letters) (drop n row))
 
 -- the cubes of whole rows in a list
 abbrev pub cubes_of_rows : FileType → Part → ℕ → List (List ℕ) → List Cube

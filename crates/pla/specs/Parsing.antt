@@ -14,7 +14,7 @@ use Rattle.pla.specs.Lines.{is_row_blank}
 use Rattle.pla.specs.Header.{Header, size_in, type_in}
 use Rattle.pla.specs.HeadView.{keyword_fault}
 use Rattle.pla.specs.Reading.{RowsRead, rows_of, read_code}
-use Rattle.pla.specs.State.{Parsed}
+use Rattle.pla.specs.Scan.{Parsed}
 
 -- the size of the rows
 abbrev pub size_of_rows : Option RowsRead → Option Size
@@ -69,12 +69,12 @@ abbrev pub row_kind : Option RowsRead → ReadKind
 row_kind None = RowBeforeShape
 row_kind (Some r) = BadSymbol
 
--- a row line was refused for want of memory, or for its symbols
+-- a row line was refused, out of memory or for its symbols
 abbrev pub IsBadRow : FileType → Option RowsRead → List ℕ → LineError → Type 0
 IsBadRow type rows code Memory = ⊤
 IsBadRow type rows code (Fault kind) = (kind ≡ row_kind rows) × (read_row type rows code ≡ None)
 
--- a keyword line was refused for want of memory, or has this first kind
+-- a keyword line was refused, out of memory, or has this first kind
 abbrev pub IsKeywordFault : Limits → Header → List ℕ → LineError → Type 0
 IsKeywordFault limits h line Memory = ⊤
 IsKeywordFault limits h line (Fault kind) = keyword_fault limits h line ≡ Some kind

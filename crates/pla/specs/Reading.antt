@@ -43,14 +43,16 @@ with_row type r row = record {
 -- one more symbol
 abbrev pub with_symbol : FileType → RowsRead → ℕ → RowsRead
 with_symbol type r b = let pending = r.pending ++ b ∷ [] in
-    if length pending == width r.size then with_row type r pending else record r { pending = pending }
+    if length pending == width r.size then with_row type r pending
+    else record r { pending = pending }
 
 -- a run of symbols
 abbrev pub with_run : FileType → RowsRead → List ℕ → RowsRead
 with_run type r run = let pending = r.pending ++ run in
-    if length pending == width r.size then with_row type r pending else record r { pending = pending }
+    if length pending == width r.size then with_row type r pending
+    else record r { pending = pending }
 
--- the bytes are symbols of their places, within the inputs or within what is behind them
+-- the bytes are symbols of their places, within the inputs or within what comes after them
 pub record IsRun (r : RowsRead) (run : List ℕ) : Type 0 where
   pub each : list_all (λ b. is_symbol_at r.size.inputs (length r.pending) b) run ≡ true
   pub part : length r.pending < r.size.inputs → length r.pending + length run ≤ r.size.inputs
@@ -59,15 +61,17 @@ pub record IsRun (r : RowsRead) (run : List ℕ) : Type 0 where
 -- more symbols, unless one isn't of its place
 abbrev pub read_symbols : FileType → RowsRead → List ℕ → Option RowsRead
 read_symbols type r [] = Some r
-read_symbols type r (b ∷ bytes) = if is_symbol_at r.size.inputs (length r.pending) b then read_symbols type (with_symbol type r b) bytes else None
+read_symbols type r (b ∷ bytes) = if is_symbol_at r.size.inputs (length r.pending) b
+    then read_symbols type (with_symbol type r b) bytes else None
 
 -- the symbols of a row line's code
 abbrev pub read_code : FileType → RowsRead → List ℕ → Option RowsRead
 read_code type r [] = Some r
 read_code type r (b ∷ bytes) = if is_row_blank b then read_code type r bytes
-    else if is_symbol_at r.size.inputs (length r.pending) b then read_code type (with_symbol type r b) bytes else None
+    else if is_symbol_at r.size.inputs (length r.pending) b
+    then read_code type (with_symbol type r b) bytes else None
 
--- the code was refused for want of memory, or a byte isn't a symbol of its place
+-- the code was refused, out of memory, or a byte isn't a symbol of its place
 abbrev pub IsBadCode : FileType → RowsRead → List ℕ → LineError → Type 0
 IsBadCode type r code Memory = ⊤
 IsBadCode type r code (Fault kind) = (kind ≡ BadSymbol) × (read_code type r code ≡ None)

@@ -10,7 +10,8 @@ is_byte_of bytes b = list_any (λ s. b == s) bytes
 
 -- whether a byte is a symbol of this place of a row: the inputs come first
 abbrev pub is_symbol_at : ℕ → ℕ → ℕ → Bool
-is_symbol_at n place b = if nat_lt place n then is_byte_of (codes "012-") b else is_byte_of (codes "01234-~") b
+is_symbol_at n place b = if nat_lt place n then is_byte_of (codes "012-") b
+    else is_byte_of (codes "01234-~") b
 
 -- how many symbols a row has
 abbrev pub width : Size → ℕ
@@ -24,7 +25,9 @@ left_over (Some size) count = count % width size
 -- whether one of these symbols, which go on a row that has so many, isn't of its place
 abbrev pub any_bad : Option Size → ℕ → List ℕ → Bool
 any_bad None unfinished symbols = false
-any_bad (Some size) unfinished symbols = list_any (λ e. not (is_symbol_at size.inputs ((unfinished + e.0) % width size) e.1)) (enumerate_from 0 symbols)
+any_bad (Some size) unfinished symbols =
+    list_any (λ e. not (is_symbol_at size.inputs ((unfinished + e.0) % width size) e.1))
+    (enumerate_from 0 symbols)
 
 -- how many whole rows the symbols make
 abbrev pub row_count : Size → List ℕ → ℕ

@@ -1,4 +1,5 @@
--- The printed text: a description's shape and names with three lists of cubes, under an output type.
+-- The printed text: a description's shape and names with three lists of cubes, under an output
+-- type.
 use Rattle.std.specs.Prelude.{ℕ, List, [], ◌∷◌, ◌++◌, Option, None, Some, map, flat_map, sum_by, length, codes, decimal, if◌then◌else◌}
 use Rattle.cube.specs.declared.symbol.Symbol.{Symbol}
 use Rattle.cube.specs.declared.symbol.Symbol.TheVariants.{Dash, Zero, One}
@@ -8,7 +9,7 @@ use Rattle.pla.specs.declared.out_type.OutType.TheVariants.{F, Fd, Fr, Fdr}
 use Rattle.pla.specs.Description.{Description}
 use Rattle.pla.specs.Sets.{SetLists}
 
--- where names were given, the keyword with each name behind a space
+-- if names were given, the keyword, and each name after a space
 abbrev pub names_text : List ℕ → Option (List (List ℕ)) → List ℕ
 names_text keyword None = []
 names_text keyword (Some names) = keyword ++ flat_map (λ name. 32 ∷ name) names ++ codes "\n"
@@ -56,7 +57,8 @@ symbol_byte One = 49
 
 -- a row: the inputs, a space and the outputs
 abbrev pub row_text : ℕ → ℕ → Cube → List ℕ
-row_text mark other c = map symbol_byte c.symbols ++ 32 ∷ map (λ b. if b then mark else other) c.outputs ++ codes "\n"
+row_text mark other c =
+    map symbol_byte c.symbols ++ 32 ∷ map (λ b. if b then mark else other) c.outputs ++ codes "\n"
 
 -- the rows of a list
 abbrev pub rows_text : ℕ → Section → List ℕ
@@ -66,6 +68,8 @@ rows_text other section = flat_map (row_text section.mark other) section.cubes
 abbrev pub text_of : Description → OutType → SetLists → List ℕ
 text_of d out_type lists =
     codes ".i " ++ decimal d.size.inputs ++ codes "\n.o " ++ decimal d.size.outputs ++ codes "\n"
-    ++ names_text (codes ".ilb") d.input_names ++ names_text (codes ".ob") d.output_names ++ type_text out_type
-    ++ codes ".p " ++ decimal (sum_by (λ section. length section.cubes) (sections out_type lists)) ++ codes "\n"
+    ++ names_text (codes ".ilb") d.input_names ++ names_text (codes ".ob") d.output_names
+    ++ type_text out_type
+    ++ codes ".p " ++ decimal (sum_by (λ section. length section.cubes) (sections out_type lists))
+    ++ codes "\n"
     ++ flat_map (rows_text (elsewhere out_type)) (sections out_type lists) ++ codes ".e\n"

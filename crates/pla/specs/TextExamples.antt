@@ -27,10 +27,12 @@ one_row = refl
 -- with its complement as the OFF-set
 abbrev both_sides : SetLists
 both_sides = record (given_lists conjunction) {
-  off = record { symbols = Dash ∷ Zero ∷ []; outputs = true ∷ [] } ∷ record { symbols = Zero ∷ Dash ∷ []; outputs = true ∷ [] } ∷ [];
+  off = record { symbols = Dash ∷ Zero ∷ []; outputs = true ∷ [] }
+      ∷ record { symbols = Zero ∷ Dash ∷ []; outputs = true ∷ [] } ∷ [];
 }
 
-two_lists : text_of conjunction Fr both_sides ≡ codes ".i 2\n.o 1\n.type fr\n.p 3\n11 1\n-0 0\n0- 0\n.e\n"
+two_lists : text_of conjunction Fr both_sides
+    ≡ codes ".i 2\n.o 1\n.type fr\n.p 3\n11 1\n-0 0\n0- 0\n.e\n"
 unfolding digits
 two_lists = refl
 

@@ -1,4 +1,4 @@
-//! What a device tells of the calls that were made to it.
+//! What a device reports of the calls that were made to it.
 ghost use Rattle.std.specs.Prelude.{◌≡◌, false};
 ghost use Rattle.pla.specs.Device.{flush_broke, flush_went, read_broke, read_went, write_broke, write_went};
 
@@ -11,8 +11,8 @@ pub struct ReadCalls {
     pub broken: bool,
 }
 
-/// How many writes to an output failed, how many flushes were asked for, and how many of these failed:
-/// each up to the last value of a u64, at which it stays.
+/// How many writes to an output failed, how many flushes were asked for, and how many of these
+/// failed: each up to the last value of a u64, at which it stays.
 #[derive(Clone, Copy, Debug, PartialEq, Eq)]
 pub struct Counts {
     /// Writes that failed.

@@ -7,7 +7,7 @@ use cover::Cover;
 use cube::Shape;
 use std::marker::Model;
 
-/// The description that a file gives: the numbers of inputs and outputs, names where it has them, the
+/// The description that a file gives: the numbers of inputs and outputs, names if it has them, the
 /// type of its rows, and the three lists as the rows gave them, in their order and with repeats.
 #[derive(Drop)]
 pub struct Pla {
@@ -82,7 +82,7 @@ impl Pla {
         self.shape
     }
 
-    /// The names of the inputs, in their order, where the file gives them. They are bytes, and may repeat.
+    /// The names of the inputs, in their order, if the file gives them. They are bytes, and may repeat.
     pub fn input_names(&self) -> Option<&[Vec<u8>]>
         ensures { lent_names result ≡ self.now.input_names }
     {
@@ -96,7 +96,7 @@ impl Pla {
         lend(&self.output_names)
     }
 
-    /// The type of the file's rows; fd where the file does not say.
+    /// The type of the file's rows; fd if the file does not say.
     pub fn file_type(&self) -> FileType
         ensures { result ≡ self.now.file_type }
     {
@@ -125,7 +125,7 @@ impl Pla {
     }
 }
 
-// The names behind an option.
+// The names in an option, lent.
 fn lend(names: &Option<Vec<Vec<u8>>>) -> Option<&[Vec<u8>]>
     ensures { lent_names result ≡ owned_names names.now }
 {

@@ -1,5 +1,5 @@
 //! What a reader reads from and a writer writes to.
-ghost use Rattle.std.specs.Prelude.{◌≡◌, ℕ, List, Option, ◌≤◌, ◌<◌, length, IfOk};
+ghost use Rattle.std.specs.Prelude.{ℕ, List, Option, ◌≤◌, ◌<◌, length, IfOk};
 ghost use Rattle.std.specs.Io.KnownBytes.{Keeps, ReadConsumes, WriteAppends};
 ghost use Rattle.pla.specs.declared.calls.ReadCalls.{ReadCalls};
 ghost use Rattle.pla.specs.declared.calls.WriteCalls.{WriteCalls};
@@ -9,10 +9,10 @@ ghost use Rattle.pla.specs.Device.{TellsFlush, TellsRead, TellsWrite};
 #[derive(Clone, Copy, Debug, PartialEq, Eq)]
 pub struct Broken;
 
-/// Where bytes come from. A contract sees the bytes that are left, where the device tells them, how many
-/// reads failed, and whether the last one did.
+/// Where bytes come from. A contract sees the bytes that are left, if the device reports them, how
+/// many reads failed, and whether the last one did.
 pub trait Input {
-    /// The bytes that reads will deliver from here on, where the device tells them. A device tells
+    /// The bytes that reads will deliver from here on, if the device reports them. A device reports
     /// them throughout or not at all.
     ghost left: { Self → Option (List ℕ) };
 
@@ -24,28 +24,28 @@ pub trait Input {
     ///
     /// # Errors
     ///
-    /// `Broken` where the device fails; nothing was delivered then.
+    /// `Broken` if the device fails; nothing was delivered then.
     fn read(&mut self, buffer: &mut [u8]) -> Result<usize, Broken>
         ensures bound { IfOk result (λ n. n ≤ length buffer.new) }
         ensures bytes { ReadConsumes (left self.old) (left self.new) result buffer.new }
         ensures count { TellsRead (calls self.old) (calls self.new) result };
 }
 
-/// Where bytes go. A contract sees the bytes that were taken, where the device tells them, how many writes
-/// and flushes failed, how many flushes were asked for, and what the last call was.
+/// Where bytes go. A contract sees the bytes that were taken, if the device reports them, how many
+/// writes and flushes failed, how many flushes were asked for, and what the last call was.
 pub trait Output {
-    /// The bytes that were taken so far, where the device tells them. A device tells them throughout
+    /// The bytes that were taken so far, if the device reports them. A device reports them throughout
     /// or not at all.
     ghost taken: { Self → Option (List ℕ) };
 
     /// What came of the writes and flushes.
     ghost calls: { Self → WriteCalls };
 
-    /// Takes bytes from the front, and answers how many: at least one, where there is one.
+    /// Takes bytes from the front, and answers how many: at least one, if there is one.
     ///
     /// # Errors
     ///
-    /// `Broken` where the device fails or takes nothing; nothing was taken then.
+    /// `Broken` if the device fails or takes nothing; nothing was taken then.
     fn write(&mut self, bytes: &[u8]) -> Result<usize, Broken>
         ensures bound { IfOk result (λ n. n ≤ length bytes.now) }
         ensures some { IfOk result (λ n. 0 < length bytes.now → 0 < n) }
@@ -56,7 +56,7 @@ pub trait Output {
     ///
     /// # Errors
     ///
-    /// `Broken` where the device fails; what was taken stays taken.
+    /// `Broken` if the device fails; what was taken stays taken.
     fn flush(&mut self) -> Result<(), Broken>
         ensures bytes { Keeps (taken self.old) (taken self.new) }
         ensures count { TellsFlush (calls self.old) (calls self.new) result };

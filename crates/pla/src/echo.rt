@@ -9,7 +9,7 @@ use crate::device::Output;
 use crate::fault::Echo;
 use crate::header::{is_end, is_outside_profile};
 use crate::line::{LineKind, keyword_code_of, keyword_of, kind_of};
-use crate::writing::{WriteFault, then, write_bytes};
+use crate::writing::{WriteFault, write_bytes, write_next};
 
 /// What stands before the comment: the code, if it is a row line.
 fn code_of<'a>(line: &'a [u8], code: &'a [u8]) -> &'a [u8]
@@ -23,7 +23,7 @@ fn code_of<'a>(line: &'a [u8], code: &'a [u8]) -> &'a [u8]
     }
 }
 
-/// The comment, from its `#` to the line's end: empty where the line has none.
+/// The comment, from its `#` to the line's end: empty if the line has none.
 fn comment_of<'a>(line: &'a [u8], code: &'a [u8]) -> &'a [u8]
     requires { code.now ≡ row_code line.now }
     ensures { result.now ≡ comment line.now }
@@ -42,7 +42,8 @@ fn is_unknown(line: &[u8]) -> bool
 
 /// Whether the keyword is one of this format or one that it refuses.
 fn is_known(keyword: &[u8]) -> bool
-    ensures { result ≡ is_one_of (settings ++ endings ++ refused_keywords ++ codes ".p" ∷ []) keyword.now }
+    ensures { result
+        ≡ is_one_of (settings ++ endings ++ refused_keywords ++ codes ".p" ∷ []) keyword.now }
 {
     keyword == b".i".as_slice()
         || keyword == b".o".as_slice()
@@ -57,7 +58,8 @@ fn is_known(keyword: &[u8]) -> bool
 /// What is passed on of a line, without a line feed.
 fn echo_text<'a>(echo: Echo, line: &'a [u8], code: &'a [u8]) -> &'a [u8]
     requires { code.now ≡ row_code line.now }
-    ensures { result.now ≡ (if is_unknown_line line.now then line.now else kept_comment echo line.now) }
+    ensures { result.now
+        ≡ (if is_unknown_line line.now then line.now else kept_comment echo line.now) }
 {
     if is_unknown(line) {
         return line;
@@ -68,8 +70,8 @@ fn echo_text<'a>(echo: Echo, line: &'a [u8], code: &'a [u8]) -> &'a [u8]
     }
 }
 
-/// Writes the echo of a line: the whole line where its keyword is unknown, otherwise its comment
-/// where it has one and comments are kept, with a line feed. The code is that of a row line. Takes no memory.
+/// Writes the echo of a line: the whole line if its keyword is unknown, otherwise its comment if it
+/// has one and comments are kept, with a line feed. The code is that of a row line. Takes no memory.
 pub fn write_echo<W: Output>(
     echo: Echo,
     line: &[u8],
@@ -77,7 +79,8 @@ pub fn write_echo<W: Output>(
     output: &mut W,
 ) -> Result<(), WriteFault>
     requires { code.now ≡ row_code line.now }
-    ensures bytes { Writes (W.taken output.old) (W.taken output.new) result (echo_of echo line.now) }
+    ensures bytes { Writes (W.taken output.old) (W.taken output.new) result
+        (echo_of echo line.now) }
     ensures count { TellsFailure (W.calls output.old) (W.calls output.new) result }
 {
     let text = echo_text(echo, line, code);
@@ -85,5 +88,5 @@ pub fn write_echo<W: Output>(
         return Ok(());
     }
     let done = write_bytes(output, text);
-    then(output, done, b"\n")
+    write_next(output, done, b"\n")
 }

@@ -12,7 +12,7 @@ pub enum ReadKind {
     LineTooLong,
     /// A keyword of espresso that this format leaves out, as `.mv`.
     RefusedKeyword,
-    /// A keyword line while a row is unfinished.
+    /// A keyword line other than `.e` and `.end` while a row is unfinished.
     KeywordInsideRow,
     /// `.i`, `.o`, `.ilb`, `.ob` or `.type` a second time.
     KeywordRepeated,
@@ -42,8 +42,8 @@ pub enum ReadKind {
     OutOfMemory,
 }
 
-/// The fault of a file, with the number of its line, from 1: 0 for the whole of an empty file, for a
-/// failed write and for want of memory.
+/// The fault of a file, with the number of its line, from 1; 0 for the whole of an empty file, for
+/// a failed write and for out of memory.
 #[derive(Clone, Copy, Debug, PartialEq, Eq)]
 pub struct ReadFault {
     pub line: u64,

@@ -1,5 +1,5 @@
 //! What the lines so far have given, and the tests of a line under it.
-ghost use Rattle.std.specs.Prelude.{◌≡◌, ℕ, ◌+◌, ◌<◌, ◌≤◌, ◌^◌, [], IfOk, OnOk, OnErr, Some, None, slice_index_or, drop, length, true, false};
+ghost use Rattle.std.specs.Prelude.{◌≡◌, ℕ, ◌<◌, ◌≤◌, [], IfOk, OnOk, OnErr, Some, None, slice_index_or, drop, false};
 ghost use Rattle.std.specs.Option.{ForSome};
 ghost use Rattle.cube.specs.Limits.{format_limits};
 ghost use Rattle.pla.specs.Keywords.{texts, is_one_of, endings, refused_keywords, type_named, type_by};
@@ -144,7 +144,7 @@ impl Head {
         }
     }
 
-    /// The type of the rows: fd where none is given.
+    /// The type of the rows: fd if none is given.
     pub fn rows_type(&self) -> FileType
         ensures { (unfinished : ℕ) → result ≡ type_in (seen self.now unfinished) }
     {
@@ -153,7 +153,8 @@ impl Head {
 
     #[tactic(auto, unfolding(crate::specs::Fault::is_past_limit))]
     pub fn past_limit(&self, line: &[u8]) -> bool
-        ensures value { (unfinished : ℕ) → result ≡ is_past_limit format_limits (seen self.now unfinished) line.now }
+        ensures value { (unfinished : ℕ)
+            → result ≡ is_past_limit format_limits (seen self.now unfinished) line.now }
         ensures room { result ≡ false → self.now.lines < 16777216 }
     {
         self.lines >= LINES
@@ -161,7 +162,8 @@ impl Head {
 
     #[tactic(auto, unfolding(crate::specs::Fault::is_too_long))]
     pub fn too_long(&self, line: &[u8]) -> bool
-        ensures { (unfinished : ℕ) → result ≡ is_too_long format_limits (seen self.now unfinished) line.now }
+        ensures { (unfinished : ℕ)
+            → result ≡ is_too_long format_limits (seen self.now unfinished) line.now }
     {
         line.len() > LINE_BYTES
     }
@@ -291,8 +293,12 @@ impl Head {
     /// Takes what a keyword line of these words gives.
     pub fn set(&mut self, alloc: Global, line: &[u8], words: &[&[u8]]) -> Result<(), AllocError>
         requires { texts words.now ≡ keyword_words line.now }
-        ensures ok { OnOk result ((unfinished : ℕ) → seen self.new unfinished ≡ with_keyword format_limits (seen self.old unfinished) line.now) }
-        ensures err { OnErr result ((unfinished : ℕ) → seen self.new unfinished ≡ seen self.old unfinished) }
+        ensures ok { OnOk result
+            ((unfinished : ℕ)
+            → seen self.new unfinished
+            ≡ with_keyword format_limits (seen self.old unfinished) line.now) }
+        ensures err { OnErr result
+            ((unfinished : ℕ) → seen self.new unfinished ≡ seen self.old unfinished) }
         ensures lines { self.new.lines ≡ self.old.lines }
     {
         let keyword = first(words);

@@ -1,7 +1,7 @@
 //! What a line is and holds.
-ghost use Rattle.std.specs.Prelude.{◌≡◌, [], slice_index_or, ◌++◌, ◌<◌, ◌^◌, IfOk, map, drop, find, position, ◌==◌, not, filter, OnErr};
+ghost use Rattle.std.specs.Prelude.{◌≡◌, [], slice_index_or, ◌<◌, ◌^◌, IfOk, find, position, ◌==◌, not, filter};
 ghost use Rattle.std.specs.List.{list_any};
-ghost use Rattle.pla.specs.Lines.{is_blank, is_row_blank, kind, words, is_empty, row_code, keyword_code, keyword_words, keyword};
+ghost use Rattle.pla.specs.Lines.{is_blank, is_row_blank, kind, words, is_empty, row_code, keyword_code, keyword};
 ghost use Rattle.pla.specs.Keywords.{texts, number_within};
 
 use memchr::memchr;
@@ -107,7 +107,7 @@ pub fn keyword_code_of(line: &[u8]) -> &[u8]
     line
 }
 
-/// The first word, or nothing where there is none.
+/// The first word, or nothing if there is none.
 fn first_word(code: &[u8]) -> &[u8]
     ensures { result.now ≡ slice_index_or (words code.now) 0 [] }
 {
@@ -117,7 +117,7 @@ fn first_word(code: &[u8]) -> &[u8]
     }
 }
 
-/// The keyword with its dot: empty where the line has none.
+/// The keyword with its dot: empty if the line has none.
 pub fn keyword_of(line: &[u8]) -> &[u8]
     ensures { result.now ≡ keyword line.now }
 {

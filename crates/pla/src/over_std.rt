@@ -62,7 +62,8 @@ impl<W> Writing<W> {
     /// The writer as a device that has not failed.
     pub fn new(inner: W) -> Writing<W>
         ensures writer { writer_of result ≡ inner }
-        ensures counts { (write_calls result).counts ≡ record { failures = 0; flushes = 0; failed_flushes = 0 } }
+        ensures counts { (write_calls result).counts
+            ≡ record { failures = 0; flushes = 0; failed_flushes = 0 } }
         ensures broken { (write_calls result).broken ≡ false }
         ensures flushed { (write_calls result).flushed ≡ false }
     {

@@ -4,7 +4,7 @@ ghost use Rattle.std.specs.Option.{option_or};
 ghost use Rattle.cube.specs.Limits.{format_limits};
 ghost use Rattle.pla.specs.declared.line.LineKind.TheVariants.{Keyword};
 ghost use Rattle.pla.specs.Lines.{kind, row_code};
-ghost use Rattle.pla.specs.State.{StandsForLines, Refuses};
+ghost use Rattle.pla.specs.Scan.{StandsForLines, Refuses};
 ghost use Rattle.pla.specs.Header.{header_of, type_in};
 ghost use Rattle.pla.specs.HeadView.{seen, keyword_fault, with_keyword};
 ghost use Rattle.pla.specs.Reading.{rows_of};
@@ -30,7 +30,7 @@ pub struct Parser {
 }
 
 impl Model for Parser {
-    ghost use Rattle.pla.specs.State.{Parsed};
+    ghost use Rattle.pla.specs.Scan.{Parsed};
 
     ghost Value = { Parsed };
 
@@ -52,10 +52,15 @@ fn take_keyword(
     requires { kind line.now ≡ Keyword }
     ensures lines { head.new.lines ≡ head.old.lines }
     ensures tied { IsTied (seen head.old 0) rows.old → IsTied (seen head.new 0) rows.new }
-    ensures faultless { OnOk result (keyword_fault format_limits (seen head.old (unfinished_of rows.old)) line.now ≡ None) }
-    ensures head { OnOk result ((unfinished : ℕ) → seen head.new unfinished ≡ with_keyword format_limits (seen head.old unfinished) line.now) }
+    ensures faultless { OnOk result
+        (keyword_fault format_limits (seen head.old (unfinished_of rows.old)) line.now ≡ None) }
+    ensures head { OnOk result
+        ((unfinished : ℕ)
+        → seen head.new unfinished
+        ≡ with_keyword format_limits (seen head.old unfinished) line.now) }
     ensures rows { OnOk result (rows.new ≡ opened rows.old (seen head.new 0)) }
-    ensures fault { IfErr result (IsKeywordFault format_limits (seen head.old (unfinished_of rows.old)) line.now) }
+    ensures fault { IfErr result
+        (IsKeywordFault format_limits (seen head.old (unfinished_of rows.old)) line.now) }
 {
     let words = words_of(alloc, keyword_code_of(line))?;
     let unfinished = unfinished_in(rows);
@@ -79,7 +84,8 @@ fn unfinished_in(rows: &Option<Rows>) -> usize
 
 /// Makes room for rows, once the shape is given.
 fn open_rows(rows: &mut Option<Rows>, alloc: Global, shape: Option<Shape>)
-    ensures { rows.new ≡ option_or rows.old (option_map (λ size. rows_of FileType.Fd size []) shape) }
+    ensures { rows.new
+        ≡ option_or rows.old (option_map (λ size. rows_of FileType.Fd size []) shape) }
 {
     if let (None, Some(shape)) = (&rows, shape) {
         *rows = Some(Rows::new(alloc, shape));
@@ -90,8 +96,11 @@ fn open_rows(rows: &mut Option<Rows>, alloc: Global, shape: Option<Shape>)
 fn take_row(head: &mut Head, rows: &mut Option<Rows>, code: &[u8]) -> Result<(), LineError>
     ensures lines { head.new.lines ≡ head.old.lines }
     ensures tied { IsTied (seen head.old 0) rows.old → IsTied (seen head.new 0) rows.new }
-    ensures head { OnOk result ((unfinished : ℕ) → seen head.new unfinished ≡ with_row_code (seen head.old unfinished) code.now) }
-    ensures rows { OnOk result (read_row (type_in (seen head.old 0)) rows.old code.now ≡ Some rows.new) }
+    ensures head { OnOk result
+        ((unfinished : ℕ)
+        → seen head.new unfinished ≡ with_row_code (seen head.old unfinished) code.now) }
+    ensures rows { OnOk result
+        (read_row (type_in (seen head.old 0)) rows.old code.now ≡ Some rows.new) }
     ensures fault { IfErr result (IsBadRow (type_in (seen head.old 0)) rows.old code.now) }
 {
     let has_symbols = has_symbol(code);
@@ -136,8 +145,12 @@ impl Parser {
         requires open { self.old.header.ended ≡ false }
         requires code { code.now ≡ row_code line.now }
         ensures stands { (before : List (List ℕ)) → StandsForLines format_limits self.old before →
-            MatchResult result (λ _. StandsForLines format_limits self.new (before ++ line.now ∷ [])) (Refuses format_limits before line.now) }
-        ensures onward { OnOk result ((self.new.header.lines ≡ self.old.header.lines + 1) × (self.old.header.lines < 16777216)) }
+            MatchResult result
+            (λ _. StandsForLines format_limits self.new (before ++ line.now ∷ []))
+            (Refuses format_limits before line.now) }
+        ensures onward { OnOk result
+            ((self.new.header.lines ≡ self.old.header.lines + 1)
+            × (self.old.header.lines < 16777216)) }
     {
         if self.head.past_limit(line) {
             return Err(LineError::Fault(ReadKind::TooManyLines));
@@ -158,7 +171,8 @@ impl Parser {
     pub fn finish(self) -> Result<Pla, ReadKind>
         ensures { (lines : List (List ℕ)) → StandsForLines format_limits self lines →
             MatchResult result
-            (λ pla. (end_kind (header_of format_limits lines) ≡ None) × (pla ≡ description_of format_limits lines))
+            (λ pla. (end_kind (header_of format_limits lines) ≡ None)
+            × (pla ≡ description_of format_limits lines))
             (λ kind. end_kind (header_of format_limits lines) ≡ Some kind) }
     {
         let Parser { head, rows, .. } = self;

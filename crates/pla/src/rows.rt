@@ -26,7 +26,7 @@ pub enum Part {
     Off,
 }
 
-// What each byte is in a row: bit 4 where it is a symbol of an input, and else the list that it puts an output
+// What each byte is in a row: bit 4 if it is a symbol of an input, and else the list that it puts an output
 // into: bit 0 the OFF list, bit 1 the ON list, bit 2 the DC list, bit 3 none.
 static MARKS: [u8; 256] = [
     0, 0, 0, 0, 0, 0, 0, 0, 0, 0, 0, 0, 0, 0, 0, 0, 0, 0, 0, 0, 0, 0, 0, 0, 0, 0, 0, 0, 0, 0, 0, 0,
@@ -46,7 +46,8 @@ const OUTPUT_MARKS: u8 = 15;
 
 /// The marks of the bytes that put an output into a list, under the type of the rows.
 fn marks_of(file_type: FileType, part: Part) -> u8
-    ensures { (b : ℕ) → b < 256 → has_mark MARKS result b ≡ is_byte_of (part_symbols file_type part) b }
+    ensures { (b : ℕ) → b < 256
+        → has_mark MARKS result b ≡ is_byte_of (part_symbols file_type part) b }
 {
     match (part, file_type) {
         (Part::On, _) => 2,
@@ -106,12 +107,18 @@ impl Model for Rows {
 
     ghost Value = { RowsRead };
 
-    ghost view = { λ r. record { size = r.shape; pending = r.pending.items; on = r.on.cubes; dc = r.dc.cubes; off = r.off.cubes } };
+    ghost view = { λ r. record {
+      size = r.shape;
+      pending = r.pending.items;
+      on = r.on.cubes;
+      dc = r.dc.cubes;
+      off = r.off.cubes;
+    } };
 
     ghost invariant = { λ r. (r.on.size ≡ r.shape) × (r.dc.size ≡ r.shape) × (r.off.size ≡ r.shape) };
 }
 
-/// Adds the cube that a row's bytes put into a list, where it has an output.
+/// Adds the cube that a row's bytes put into a list, if it has an output.
 fn push_cube(
     list: &mut Cover,
     alloc: Global,
@@ -124,7 +131,9 @@ fn push_cube(
     requires outputs { length outputs.now ≡ list.old.size.outputs }
     ensures size { list.new.size ≡ list.old.size }
     ensures cubes { OnOk result (list.new.cubes ≡ list.old.cubes
-        ++ option_to_list (cube_by (map symbol_of inputs.now) (map (is_byte_of (part_symbols file_type part)) outputs.now))) }
+        ++ option_to_list
+        (cube_by (map symbol_of inputs.now)
+        (map (is_byte_of (part_symbols file_type part)) outputs.now))) }
 {
     let shape = list.shape();
     let mask = marks_of(file_type, part);
@@ -192,7 +201,9 @@ impl Rows {
     fn run(&self, code: &[u8]) -> usize
         ensures fits { result ≤ length code.now }
         ensures run { IsRun self.now (take result code.now) }
-        ensures none { result ≡ 0 → 0 < length code.now → is_symbol_at self.now.size.inputs (length self.now.pending) (slice_index code.now 0) ≡ false }
+        ensures none { result ≡ 0 → 0 < length code.now
+            → is_symbol_at self.now.size.inputs (length self.now.pending) (slice_index code.now 0)
+            ≡ false }
     {
         let (inputs, place) = (self.shape.inputs(), self.pending.len());
         let most = (run_end(self.shape, place) - place).min(code.len());

@@ -1,11 +1,11 @@
 //! Reading of a text that comes in pieces.
 //!
 //! A line goes to the parser at its line feed, straight from the piece where it began there, and its
-//! echo is written before the next line is taken. Only what stands behind the last line feed is kept
-//! between pieces; it is refused where it is too long to be a line, before it is kept.
-ghost use Rattle.std.specs.Prelude.{◌≡◌, ◌++◌, ◌∷◌, [], List, ℕ, Some, None, false, ◌≤◌, ◌<◌, ◌+◌, ◌*◌, MatchResult, MatchOption, OnOk, IfOk, IfErr, length, take, drop, vec_len, ⊤, option_map};
+//! echo is written before the next line is taken. Only what stands after the last line feed is kept
+//! between pieces; it is refused if it is too long to be a line, before it is kept.
+ghost use Rattle.std.specs.Prelude.{◌≡◌, ◌++◌, ◌∷◌, [], List, ℕ, Some, None, false, ◌≤◌, ◌<◌, ◌+◌, MatchOption, OnOk, IfOk, IfErr, length, take, drop, vec_len, option_map};
 ghost use Rattle.cube.specs.Limits.{format_limits};
-ghost use Rattle.pla.specs.State.{State, StandsFor, StandsForLines};
+ghost use Rattle.pla.specs.Scan.{StandsFor, StandsForLines};
 ghost use Rattle.pla.specs.Reads.{MatchCause, IsTold, CountsWrites, WritesGrowth, Answers};
 ghost use Rattle.pla.specs.Steps.{Describes, TakesLine, WritesLine, NoFeed, position_in};
 ghost use Rattle.pla.specs.Fault.{at_line, rest_kind as kind_of_rest, open_fault, fault_of, end_fault};
@@ -26,17 +26,19 @@ use memchr::memchr;
 use std::alloc::Global;
 use std::marker::Model;
 
-/// The end of the line that begins the bytes, where one ends there.
+/// The end of the line that begins the bytes, if one ends there.
 fn line_end(bytes: &[u8]) -> Option<usize>
     ensures { MatchOption result (NoFeed bytes.now)
-        (λ end. (end < length bytes.now) × NoFeed (take end bytes.now) × (bytes.now ≡ take end bytes.now ++ 10 ∷ drop (end + 1) bytes.now)) }
+        (λ end. (end < length bytes.now) × NoFeed (take end bytes.now)
+        × (bytes.now ≡ take end bytes.now ++ 10 ∷ drop (end + 1) bytes.now)) }
 {
     memchr(b'\n', bytes)
 }
 
-/// What is wrong with so many bytes behind so many lines, whatever they are.
+/// What is wrong with so many bytes after so many lines, whatever they are.
 fn rest_kind(lines: u64, size: usize) -> Option<ReadKind>
-    ensures { (rest : List ℕ) → size ≡ length rest → result ≡ kind_of_rest format_limits lines rest }
+    ensures { (rest : List ℕ) → size ≡ length rest
+        → result ≡ kind_of_rest format_limits lines rest }
 {
     if size > 0 && lines >= LINES {
         return Some(ReadKind::TooManyLines);
@@ -88,6 +90,9 @@ pub struct Scan {
 }
 
 impl Model for Scan {
+    ghost use Rattle.std.specs.Prelude.{◌≤◌, vec_len};
+    ghost use Rattle.pla.specs.Scan.{Scan as State};
+
     ghost Value = { State };
 
     ghost view = { λ s. record { echo = s.echo; parsed = s.parser; rest = s.rest.items } };
@@ -117,10 +122,15 @@ impl Scan {
 
     /// Keeps bytes of a line that no line feed has ended yet.
     fn hold(&mut self, bytes: &[u8]) -> Result<(), ReadFault>
-        ensures kept { OnOk result (self.new ≡ record self.old { rest = self.old.rest ++ bytes.now }) }
-        ensures fits { OnOk result (kind_of_rest format_limits self.old.parsed.header.lines (self.old.rest ++ bytes.now) ≡ None) }
+        ensures kept { OnOk result
+            (self.new ≡ record self.old { rest = self.old.rest ++ bytes.now }) }
+        ensures fits { OnOk result
+            (kind_of_rest format_limits self.old.parsed.header.lines (self.old.rest ++ bytes.now)
+            ≡ None) }
         ensures fault { IfErr result (λ fault. MatchCause fault.kind ⊥ (fault.line ≡ 0)
-            (option_map (at_line (self.old.parsed.header.lines + 1)) (kind_of_rest format_limits self.old.parsed.header.lines (self.old.rest ++ bytes.now)) ≡ Some fault)) }
+            (option_map (at_line (self.old.parsed.header.lines + 1))
+            (kind_of_rest format_limits self.old.parsed.header.lines
+            (self.old.rest ++ bytes.now)) ≡ Some fault)) }
     {
         let lines = self.parser.lines();
         if let Some(kind) = rest_kind(lines, self.rest.len() + bytes.len()) {
@@ -149,7 +159,8 @@ impl Scan {
             IfErr result (IsTold (open_fault format_limits (text ++ (bytes.now ++ 10 ∷ [])))) }
         ensures written { (text : List ℕ) → StandsFor format_limits self.old text →
             WritesGrowth (W.taken output.old) (W.taken output.new) result
-            (due format_limits self.old.echo None text) (due format_limits self.old.echo None (text ++ (bytes.now ++ 10 ∷ []))) }
+            (due format_limits self.old.echo None text)
+            (due format_limits self.old.echo None (text ++ (bytes.now ++ 10 ∷ []))) }
         ensures count { (text : List ℕ) → StandsFor format_limits self.old text →
             CountsWrites (W.calls output.old) (W.calls output.new) result }
         ensures onward { (text : List ℕ) → StandsFor format_limits self.old text →
@@ -167,8 +178,10 @@ impl Scan {
     /// Takes the next piece, cut anywhere, and writes the echoes of the lines that it ends.
     ///
     /// Answers what stands for the text with the piece, or the first fault of that text, which stays
-    /// whatever follows. Line 0 tells of a failed write or of want of memory. A fault consumes the state.
-    /// Costs a pass over the piece, and memory for rows and names alone.
+    /// whatever follows. Two faults are not of the text and have line 0: a failed write and out of
+    /// memory. A fault consumes the state. Costs a pass over the piece, and memory for the cubes and
+    /// the names, for the line that the piece leaves open and its unfinished row, and for the words of
+    /// a keyword line while that is taken.
     pub fn feed<W: Output>(mut self, piece: &[u8], output: &mut W) -> Result<Scan, ReadFault>
         ensures echo { IfOk result (λ scan. scan.echo ≡ self.echo) }
         ensures stands { (text : List ℕ) → StandsFor format_limits self text →
@@ -177,11 +190,14 @@ impl Scan {
             IfErr result (IsTold (open_fault format_limits (text ++ piece.now))) }
         ensures written { (text : List ℕ) → StandsFor format_limits self text →
             WritesGrowth (W.taken output.old) (W.taken output.new) result
-            (due format_limits self.echo None text) (due format_limits self.echo None (text ++ piece.now)) }
+            (due format_limits self.echo None text)
+            (due format_limits self.echo None (text ++ piece.now)) }
         ensures count { (text : List ℕ) → StandsFor format_limits self text →
             CountsWrites (W.calls output.old) (W.calls output.new) result }
         ensures onward { (text : List ℕ) → StandsFor format_limits self text →
-            IfOk result (λ scan. scan.parsed.header.ended ≡ false → position_in self + length piece.now ≤ position_in scan) }
+            IfOk result
+            (λ scan. scan.parsed.header.ended ≡ false
+            → position_in self + length piece.now ≤ position_in scan) }
     {
         let mut rest = piece;
         while !self.done() {
@@ -199,7 +215,7 @@ impl Scan {
         Ok(self)
     }
 
-    /// Takes a last line that no line feed ended, where there is one.
+    /// Takes a last line that no line feed ended, if there is one.
     fn last_line<W: Output>(&mut self, output: &mut W) -> Result<(), ReadFault>
         requires { self.old.parsed.header.ended ≡ false }
         ensures takes { (text : List ℕ) → StandsFor format_limits self.old text →
@@ -208,7 +224,8 @@ impl Scan {
             IfErr result (IsTold (fault_of format_limits Ending.End text)) }
         ensures written { (text : List ℕ) → StandsFor format_limits self.old text →
             WritesGrowth (W.taken output.old) (W.taken output.new) result
-            (due format_limits self.old.echo None text) (due format_limits self.old.echo (Some Ending.End) text) }
+            (due format_limits self.old.echo None text)
+            (due format_limits self.old.echo (Some Ending.End) text) }
         ensures count { (text : List ℕ) → StandsFor format_limits self.old text →
             CountsWrites (W.calls output.old) (W.calls output.new) result }
     {
@@ -231,14 +248,16 @@ impl Scan {
     }
 
     /// Takes how reading ended and answers the description, or the fault of the text with that
-    /// ending; a failed read is one only where no line had ended the description. Writes the echo of a
+    /// ending; a failed read is one only if no line had ended the description. Writes the echo of a
     /// last line that no line feed ended.
     pub fn finish<W: Output>(mut self, ending: Ending, output: &mut W) -> Result<Pla, ReadFault>
         ensures answer { (text : List ℕ) → StandsFor format_limits self text →
-            Answers result (fault_of format_limits ending text) (described format_limits ending text) }
+            Answers result (fault_of format_limits ending text)
+            (described format_limits ending text) }
         ensures written { (text : List ℕ) → StandsFor format_limits self text →
             WritesGrowth (W.taken output.old) (W.taken output.new) result
-            (due format_limits self.echo None text) (due format_limits self.echo (Some ending) text) }
+            (due format_limits self.echo None text)
+            (due format_limits self.echo (Some ending) text) }
         ensures count { (text : List ℕ) → StandsFor format_limits self text →
             CountsWrites (W.calls output.old) (W.calls output.new) result }
     {

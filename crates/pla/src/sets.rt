@@ -38,16 +38,16 @@ impl Sets {
         Sets { on, dc, off }
     }
 
-    /// The lists of a description's three sets. Those that its type gives are copied as they stand. Of
-    /// the others, `dc` asks under fr for what neither ON nor OFF holds, and `off` under f and fd for
-    /// what neither ON nor DC holds; they are empty where not asked for, and DC is empty under f.
+    /// The lists of a description's three sets. Those that its type gives are copied as they stand.
+    /// Of the others, `dc` asks under fr for what neither ON nor OFF holds, and `off` under f and fd
+    /// for what neither ON nor DC holds; they are empty if not asked for, and DC is empty under f.
     ///
     /// A computed list is a complete sum, in row order: it may have exponentially many cubes in the
     /// inputs. The types are those of espresso(5).
     ///
     /// # Errors
     ///
-    /// `AllocError` where memory was refused.
+    /// `AllocError` if memory was refused.
     pub fn of(alloc: Global, pla: &Pla, dc: bool, off: bool) -> Result<Sets, AllocError>
         ensures { IfOk result (λ sets. sets ≡ sets_of pla.now dc off) }
     {
@@ -78,7 +78,7 @@ impl Sets {
         &self.off
     }
 
-    /// The same lists with another for the ON-set.
+    /// These lists with another for the ON-set.
     pub fn with_on(self, on: Cover) -> Sets
         requires { on.size ≡ self.size }
         ensures { result ≡ record self { on = on.cubes } }
@@ -91,9 +91,12 @@ impl Sets {
     }
 }
 
-// A copy of the DC list of a description; one that its type leaves open is computed where it is asked for.
+// A copy of the DC list of a description; one that its type leaves open is computed if asked for.
 fn dc_of(alloc: Global, pla: &Pla, asked: bool) -> Result<Cover, AllocError>
-    ensures { IfOk result (λ list. list ≡ record { size = pla.now.size; cubes = dc_list pla.now.file_type asked pla.now }) }
+    ensures { IfOk result (λ list. list ≡ record {
+      size = pla.now.size;
+      cubes = dc_list pla.now.file_type asked pla.now;
+    }) }
 {
     match open_dc(alloc, pla, asked)? {
         Some(list) => Ok(list),
@@ -103,7 +106,10 @@ fn dc_of(alloc: Global, pla: &Pla, asked: bool) -> Result<Cover, AllocError>
 
 // A copy of the OFF list of a description, likewise.
 fn off_of(alloc: Global, pla: &Pla, asked: bool) -> Result<Cover, AllocError>
-    ensures { IfOk result (λ list. list ≡ record { size = pla.now.size; cubes = off_list pla.now.file_type asked pla.now }) }
+    ensures { IfOk result (λ list. list ≡ record {
+      size = pla.now.size;
+      cubes = off_list pla.now.file_type asked pla.now;
+    }) }
 {
     match open_off(alloc, pla, asked)? {
         Some(list) => Ok(list),
@@ -111,15 +117,16 @@ fn off_of(alloc: Global, pla: &Pla, asked: bool) -> Result<Cover, AllocError>
     }
 }
 
-/// The DC list that [`Sets::of`] gives, where it is not the description's own; `None` where it is, under
-/// fd and fdr. Under fr it is computed where it is asked for.
+/// The DC list that [`Sets::of`] gives, if it is not the description's own; `None` if it is, under fd
+/// and fdr. Under fr it is computed if asked for.
 ///
 /// # Errors
 ///
-/// `AllocError` where memory was refused.
+/// `AllocError` if memory was refused.
 pub fn open_dc(alloc: Global, pla: &Pla, asked: bool) -> Result<Option<Cover>, AllocError>
     ensures own { IfOk result (λ list. is_some list ≡ not (gives_dc pla.now.file_type)) }
-    ensures list { IfOk result (λ list. unwrap_or list (record { size = pla.now.size; cubes = pla.now.dc })
+    ensures list { IfOk result
+        (λ list. unwrap_or list (record { size = pla.now.size; cubes = pla.now.dc })
         ≡ record { size = pla.now.size; cubes = dc_list pla.now.file_type asked pla.now }) }
 {
     match pla.file_type() {
@@ -129,15 +136,16 @@ pub fn open_dc(alloc: Global, pla: &Pla, asked: bool) -> Result<Option<Cover>, A
     }
 }
 
-/// The OFF list that [`Sets::of`] gives, where it is not the description's own; `None` where it is, under
-/// fr and fdr. Under f and fd it is computed where it is asked for.
+/// The OFF list that [`Sets::of`] gives, if it is not the description's own; `None` if it is, under
+/// fr and fdr. Under f and fd it is computed if asked for.
 ///
 /// # Errors
 ///
-/// `AllocError` where memory was refused.
+/// `AllocError` if memory was refused.
 pub fn open_off(alloc: Global, pla: &Pla, asked: bool) -> Result<Option<Cover>, AllocError>
     ensures own { IfOk result (λ list. is_some list ≡ not (gives_off pla.now.file_type)) }
-    ensures list { IfOk result (λ list. unwrap_or list (record { size = pla.now.size; cubes = pla.now.off })
+    ensures list { IfOk result
+        (λ list. unwrap_or list (record { size = pla.now.size; cubes = pla.now.off })
         ≡ record { size = pla.now.size; cubes = off_list pla.now.file_type asked pla.now }) }
 {
     match pla.file_type() {
@@ -151,7 +159,10 @@ pub fn open_off(alloc: Global, pla: &Pla, asked: bool) -> Result<Option<Cover>, 
 // The complete sum of the places that are in neither list.
 fn outside_both(list: &Cover, other: &Cover) -> Result<Cover, AllocError>
     requires { other.now.size ≡ list.now.size }
-    ensures { IfOk result (λ sum. sum ≡ record { size = list.now.size; cubes = outside list.now.size (list.now.cubes ++ other.now.cubes) }) }
+    ensures { IfOk result (λ sum. sum ≡ record {
+      size = list.now.size;
+      cubes = outside list.now.size (list.now.cubes ++ other.now.cubes);
+    }) }
 {
     let mut both = list.try_clone()?;
     for cube in other.as_slice() {

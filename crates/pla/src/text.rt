@@ -7,12 +7,12 @@ ghost use Rattle.std.specs.Prelude.{◌≡◌, ◌∷◌, length, flat_map, sum_
 ghost use Rattle.pla.specs.Device.{CountsOn, PutsOn, TellsFailure, Writes};
 ghost use Rattle.pla.specs.Names.{lent_names, name_bytes};
 ghost use Rattle.pla.specs.Sets.{lists_of};
-ghost use Rattle.pla.specs.Text.{Section, elsewhere, names_text, rows_text, sections, text_of, type_text};
+ghost use Rattle.pla.specs.Text.{elsewhere, names_text, rows_text, sections, text_of, type_text};
 
-use crate::batch::Batch;
 use crate::description::Pla;
 use crate::device::Output;
 use crate::out_type::OutType;
+use crate::print_buffer::PrintBuffer;
 use crate::sets::Sets;
 use crate::writing::WriteFault;
 use cover::Cover;
@@ -23,7 +23,7 @@ use itoa::Buffer;
 ///
 /// # Errors
 ///
-/// `WriteFault` where the output fails; it took a beginning of the text then.
+/// `WriteFault` if the output fails; it took a prefix of the text then.
 pub fn write_pla<W: Output>(
     pla: &Pla,
     sets: &Sets,
@@ -31,7 +31,8 @@ pub fn write_pla<W: Output>(
     out: &mut W,
 ) -> Result<(), WriteFault>
     requires { sets.now.size ≡ pla.now.size }
-    ensures bytes { Writes (W.taken out.old) (W.taken out.new) result (text_of pla.now out_type sets.now) }
+    ensures bytes { Writes (W.taken out.old) (W.taken out.new) result
+        (text_of pla.now out_type sets.now) }
     ensures count { TellsFailure (W.calls out.old) (W.calls out.new) result }
 {
     write_covers(pla, out_type, sets.on(), sets.dc(), sets.off(), out)
@@ -42,7 +43,7 @@ pub fn write_pla<W: Output>(
 ///
 /// # Errors
 ///
-/// `WriteFault` where the output fails; it took a beginning of the text then.
+/// `WriteFault` if the output fails; it took a prefix of the text then.
 pub fn write_covers<W: Output>(
     pla: &Pla,
     out_type: OutType,
@@ -54,30 +55,31 @@ pub fn write_covers<W: Output>(
     requires on_size { on.now.size ≡ pla.now.size }
     requires dc_size { dc.now.size ≡ pla.now.size }
     requires off_size { off.now.size ≡ pla.now.size }
-    ensures bytes { Writes (W.taken out.old) (W.taken out.new) result (text_of pla.now out_type (lists_of on.now dc.now off.now)) }
+    ensures bytes { Writes (W.taken out.old) (W.taken out.new) result
+        (text_of pla.now out_type (lists_of on.now dc.now off.now)) }
     ensures count { TellsFailure (W.calls out.old) (W.calls out.new) result }
 {
     let shape = pla.shape();
     let mut digits = Buffer::new();
-    let mut batch = Batch::new();
-    let done = batch.then(out, Ok(()), b".i ");
-    let done = batch.then(out, done, digits.format(shape.inputs()).as_bytes());
-    let done = batch.then(out, done, b"\n.o ");
-    let done = batch.then(out, done, digits.format(shape.outputs()).as_bytes());
-    let done = batch.then(out, done, b"\n");
-    let done = write_names(&mut batch, out, done, b".ilb", pla.input_names());
-    let done = write_names(&mut batch, out, done, b".ob", pla.output_names());
-    let done = batch.then(out, done, type_line(out_type));
-    let done = batch.then(out, done, b".p ");
+    let mut buffer = PrintBuffer::new();
+    let done = buffer.write_next(out, Ok(()), b".i ");
+    let done = buffer.write_next(out, done, digits.format(shape.inputs()).as_bytes());
+    let done = buffer.write_next(out, done, b"\n.o ");
+    let done = buffer.write_next(out, done, digits.format(shape.outputs()).as_bytes());
+    let done = buffer.write_next(out, done, b"\n");
+    let done = write_names(&mut buffer, out, done, b".ilb", pla.input_names());
+    let done = write_names(&mut buffer, out, done, b".ob", pla.output_names());
+    let done = buffer.write_next(out, done, type_line(out_type));
+    let done = buffer.write_next(out, done, b".p ");
     let rows = row_count(out_type, on, dc, off);
-    let done = batch.then(out, done, digits.format(rows).as_bytes());
-    let done = batch.then(out, done, b"\n");
-    let done = write_sections(&mut batch, out, done, out_type, on, dc, off);
-    let done = batch.then(out, done, b".e\n");
-    batch.hand_on(out, done)
+    let done = buffer.write_next(out, done, digits.format(rows).as_bytes());
+    let done = buffer.write_next(out, done, b"\n");
+    let done = write_sections(&mut buffer, out, done, out_type, on, dc, off);
+    let done = buffer.write_next(out, done, b".e\n");
+    buffer.flush_to(out, done)
 }
 
-// The line that says the type, where there is one.
+// The line that says the type, if there is one.
 fn type_line(out_type: OutType) -> &'static [u8]
     ensures { result.now ≡ type_text out_type }
 {
@@ -91,7 +93,9 @@ fn type_line(out_type: OutType) -> &'static [u8]
 
 // How many rows are printed. Three counts may pass the last value of a u64.
 fn row_count(out_type: OutType, on: &Cover, dc: &Cover, off: &Cover) -> u128
-    ensures { result ≡ sum_by (λ section. length section.cubes) (sections out_type (lists_of on.now dc.now off.now)) }
+    ensures { result
+        ≡ sum_by (λ section. length section.cubes)
+        (sections out_type (lists_of on.now dc.now off.now)) }
 {
     let on = on.len() as u128;
     let dc = dc.len() as u128;
@@ -104,48 +108,50 @@ fn row_count(out_type: OutType, on: &Cover, dc: &Cover, off: &Cover) -> u128
     }
 }
 
-// The keyword with each name behind a space, where there are names.
+// The keyword, and each name after a space, if there are names.
 fn write_names<W: Output>(
-    batch: &mut Batch,
+    buffer: &mut PrintBuffer,
     out: &mut W,
     done: Result<(), WriteFault>,
     keyword: &[u8],
     names: Option<&[Vec<u8>]>,
 ) -> Result<(), WriteFault>
-    ensures bytes { PutsOn (W.taken out.old) batch.old done (W.taken out.new) batch.new result (names_text keyword.now (lent_names names.entry)) }
+    ensures bytes { PutsOn (W.taken out.old) buffer.old done (W.taken out.new) buffer.new result
+        (names_text keyword.now (lent_names names.entry)) }
     ensures count { CountsOn (W.calls out.old) done (W.calls out.new) result }
 {
     match names {
         Some(names) => {
-            let done = batch.then(out, done, keyword);
-            let done = write_each(batch, out, done, names);
-            batch.then(out, done, b"\n")
+            let done = buffer.write_next(out, done, keyword);
+            let done = write_each(buffer, out, done, names);
+            buffer.write_next(out, done, b"\n")
         }
         None => done,
     }
 }
 
-// Each name behind a space.
+// Each name after a space.
 fn write_each<W: Output>(
-    batch: &mut Batch,
+    buffer: &mut PrintBuffer,
     out: &mut W,
     done: Result<(), WriteFault>,
     names: &[Vec<u8>],
 ) -> Result<(), WriteFault>
-    ensures bytes { PutsOn (W.taken out.old) batch.old done (W.taken out.new) batch.new result (flat_map (λ name. 32 ∷ name) (name_bytes names.now)) }
+    ensures bytes { PutsOn (W.taken out.old) buffer.old done (W.taken out.new) buffer.new result
+        (flat_map (λ name. 32 ∷ name) (name_bytes names.now)) }
     ensures count { CountsOn (W.calls out.old) done (W.calls out.new) result }
 {
     let mut done = done;
     for name in names {
-        done = batch.then(out, done, b" ");
-        done = batch.then(out, done, name);
+        done = buffer.write_next(out, done, b" ");
+        done = buffer.write_next(out, done, name);
     }
     done
 }
 
 // The rows of each list that the type prints.
 fn write_sections<W: Output>(
-    batch: &mut Batch,
+    buffer: &mut PrintBuffer,
     out: &mut W,
     done: Result<(), WriteFault>,
     out_type: OutType,
@@ -153,38 +159,39 @@ fn write_sections<W: Output>(
     dc: &Cover,
     off: &Cover,
 ) -> Result<(), WriteFault>
-    ensures bytes { PutsOn (W.taken out.old) batch.old done (W.taken out.new) batch.new result
-        (flat_map (rows_text (elsewhere out_type)) (sections out_type (lists_of on.now dc.now off.now))) }
+    ensures bytes { PutsOn (W.taken out.old) buffer.old done (W.taken out.new) buffer.new result
+        (flat_map (rows_text (elsewhere out_type))
+        (sections out_type (lists_of on.now dc.now off.now))) }
     ensures count { CountsOn (W.calls out.old) done (W.calls out.new) result }
 {
     match out_type {
-        OutType::F => write_rows(batch, out, done, on, b'1', b'0'),
+        OutType::F => write_rows(buffer, out, done, on, b'1', b'0'),
         OutType::Fd => {
-            let done = write_rows(batch, out, done, on, b'1', b'~');
-            write_rows(batch, out, done, dc, b'-', b'~')
+            let done = write_rows(buffer, out, done, on, b'1', b'~');
+            write_rows(buffer, out, done, dc, b'-', b'~')
         }
         OutType::Fr => {
-            let done = write_rows(batch, out, done, on, b'1', b'~');
-            write_rows(batch, out, done, off, b'0', b'~')
+            let done = write_rows(buffer, out, done, on, b'1', b'~');
+            write_rows(buffer, out, done, off, b'0', b'~')
         }
         OutType::Fdr => {
-            let done = write_rows(batch, out, done, on, b'1', b'~');
-            let done = write_rows(batch, out, done, dc, b'-', b'~');
-            write_rows(batch, out, done, off, b'0', b'~')
+            let done = write_rows(buffer, out, done, on, b'1', b'~');
+            let done = write_rows(buffer, out, done, dc, b'-', b'~');
+            write_rows(buffer, out, done, off, b'0', b'~')
         }
     }
 }
 
 // The rows of a list: `mark` for an output in the cube, `other` for any other output.
 fn write_rows<W: Output>(
-    batch: &mut Batch,
+    buffer: &mut PrintBuffer,
     out: &mut W,
     done: Result<(), WriteFault>,
     list: &Cover,
     mark: u8,
     other: u8,
 ) -> Result<(), WriteFault>
-    ensures bytes { PutsOn (W.taken out.old) batch.old done (W.taken out.new) batch.new result
+    ensures bytes { PutsOn (W.taken out.old) buffer.old done (W.taken out.new) buffer.new result
         (rows_text other (record { mark = mark; cubes = list.now.cubes })) }
     ensures count { CountsOn (W.calls out.old) done (W.calls out.new) result }
 {
@@ -193,7 +200,7 @@ fn write_rows<W: Output>(
         if done.is_err() {
             return done;
         }
-        done = batch.then_row(out, done, cube, mark, other);
+        done = buffer.write_next_row(out, done, cube, mark, other);
     }
     done
 }

@@ -1,8 +1,8 @@
 //! Texts to an output.
 //!
-//! A text is written part by part: [`write_bytes`] writes the first, and [`then`] each further one, only
-//! while all went well. So what the output took is always a beginning of the text, nothing is
-//! written after a failure, and the last answer tells whether there was one.
+//! A text is written part by part: [`write_bytes`] writes the first, and [`write_next`] each further
+//! one, only while all went well. So what the output took is always a prefix of the text, nothing is
+//! written after a failure, and the last answer says whether there was one.
 ghost use Rattle.std.specs.Prelude.{◌≡◌, OnErr};
 ghost use Rattle.pla.specs.Device.{Continues, CountsOn, TellsFailure, Writes};
 
@@ -16,7 +16,7 @@ pub struct WriteFault;
 ///
 /// # Errors
 ///
-/// `WriteFault` where the output fails; it took a beginning of the bytes then.
+/// `WriteFault` if the output fails; it took a prefix of the bytes then.
 pub fn write_bytes<W: Output>(out: &mut W, bytes: &[u8]) -> Result<(), WriteFault>
     ensures bytes { Writes (W.taken out.old) (W.taken out.new) result bytes.now }
     ensures count { TellsFailure (W.calls out.old) (W.calls out.new) result }
@@ -31,12 +31,12 @@ pub fn write_bytes<W: Output>(out: &mut W, bytes: &[u8]) -> Result<(), WriteFaul
     Ok(())
 }
 
-/// Writes the bytes behind what was written before, unless that has failed.
+/// Writes the bytes after what was written before, unless that has failed.
 ///
 /// # Errors
 ///
-/// The fault of what was written before, or `WriteFault` where the output fails now.
-pub fn then<W: Output>(
+/// The fault of what was written before, or `WriteFault` if the output fails now.
+pub fn write_next<W: Output>(
     out: &mut W,
     done: Result<(), WriteFault>,
     bytes: &[u8],

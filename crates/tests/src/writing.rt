@@ -1,13 +1,13 @@
 //! Texts on an output that takes them and on one that fails.
 
-use pla::{Taken, WriteFault, then, write_bytes};
+use pla::{Taken, WriteFault, write_bytes, write_next};
 use std::test::Fail;
 
 #[test]
 fn parts_are_written_one_behind_another(rt: HostRuntime) -> Result<(), Fail> {
     let mut out = Taken::new(rt.alloc(), 10, 2, false)?;
     let done = write_bytes(&mut out, b"abc");
-    let done = then(&mut out, done, b"de");
+    let done = write_next(&mut out, done, b"de");
     assert_eq!(rt; done, Ok(()));
     assert_eq!(rt; out.bytes(), b"abcde".as_slice());
     Ok(())
@@ -18,7 +18,7 @@ fn nothing_is_written_behind_a_failure(rt: HostRuntime) -> Result<(), Fail> {
     let mut out = Taken::new(rt.alloc(), 2, 2, false)?;
     let done = write_bytes(&mut out, b"abc");
     assert_eq!(rt; done, Err(WriteFault));
-    let done = then(&mut out, done, b"de");
+    let done = write_next(&mut out, done, b"de");
     assert_eq!(rt; done, Err(WriteFault));
     assert_eq!(rt; out.bytes(), b"ab".as_slice());
     Ok(())

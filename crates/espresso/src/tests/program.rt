@@ -50,7 +50,7 @@ impl Opener for Shelf {
     }
 }
 
-// What a process left behind.
+// What a process left.
 #[derive(Drop)]
 struct Left {
     output: Taken,
@@ -181,9 +181,9 @@ fn words_that_are_none_are_told(rt: HostRuntime) -> Result<(), Fail> {
     Ok(())
 }
 
-// A slate with a digit for each call, the last behind the others: 1 for a write of the first output, 2 for
-// its flush, 3 for a write of the second, and for what is opened 4 where it is `a`, 5 where it is `b`, 6
-// where it is another file, and 7 where it is standard input.
+// A slate with a digit for each call, the last after the others: 1 for a write of the first output, 2 for
+// its flush, 3 for a write of the second, and for what is opened 4 if it is `a`, 5 if it is `b`, 6
+// if it is another file, and 7 if it is standard input.
 fn put(slate: &Cell<u64>, mark: u64) {
     slate.set(slate.get().wrapping_mul(10).wrapping_add(mark));
 }

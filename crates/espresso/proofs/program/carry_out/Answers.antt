@@ -1,8 +1,8 @@
 use Rattle.std.proofs.Common.{◌≡◌, ◌∙◌, refl, sym, ap, subst, drop, map, string_bytes, Some, None, Ok, Err}
 use Rattle.std.proofs.lemmas.Result.{err_from_is_err_and}
-use Rattle.espresso.specs.declared.stop.Operand.TheVariants.{First}
+use Rattle.espresso.specs.declared.failure.Operand.TheVariants.{First}
 use Rattle.espresso.specs.Program.{IsOpenedAs, named_file, names_said}
-use Rattle.espresso.specs.Run.{Absent, Asked, Intakes, Untouched, name_of, told}
+use Rattle.espresso.specs.Run.{Absent, Asked, Intakes, Untouched, name_of, trace}
 use Rattle.espresso.specs.Steps.{StandsBehind}
 use Rattle.espresso.specs.Tool.{first_name}
 use Rattle.espresso.specs.Words.{takes_two}
@@ -14,7 +14,7 @@ pub returns-in_err-pla : goal.returns-in_err-pla
 returns-in_err-pla g c = let read = c.read_source.ensures in
     let p = err_from_is_err_and c.from_residual.result c.from_residual.ensures.1 in
     let line = c.args.line.now in
-    let out = told (g.W.Output.taken c.args.out.now) (g.W.Output.taken c.read_source.new.out) (g.W.Output.calls c.args.out.now) (g.W.Output.calls c.read_source.new.out) in
+    let out = trace (g.W.Output.taken c.args.out.now) (g.W.Output.taken c.read_source.new.out) (g.W.Output.calls c.args.out.now) (g.W.Output.calls c.read_source.new.out) in
     let taken : Intakes = record { first = read.0; second = unopened (takes_two line.command) } in
     let fault = c.in_err-pla.field-0.0 in
     let stopped = named line (name_of c.args.first.now) (first_name line.files) read.0 out (Err fault) c.requires.first_name (rw c.in_err-pla.was at read.2) in (
@@ -32,7 +32,7 @@ returns-in_err-pla g c = let read = c.read_source.ensures in
 pub returns-then-not-pair : goal.returns-then-not-pair
 returns-then-not-pair g c = let read = c.read_source.ensures in
     let line = c.args.line.now in
-    let out = told (g.W.Output.taken c.args.out.now) (g.W.Output.taken c.read_source.new.out) (g.W.Output.calls c.args.out.now) (g.W.Output.calls c.read_source.new.out) in
+    let out = trace (g.W.Output.taken c.args.out.now) (g.W.Output.taken c.read_source.new.out) (g.W.Output.calls c.args.out.now) (g.W.Output.calls c.read_source.new.out) in
     let taken : Intakes = record { first = read.0; second = Absent } in (
       taken,
       read.1,
@@ -44,10 +44,10 @@ returns-then-not-pair g c = let read = c.read_source.ensures in
 pub returns-in-Ok : goal.returns-in-Ok
 returns-in-Ok g c = let read = c.read_source.ensures in let rest = c.go_on.ensures in
     let line = c.args.line.now in
-    let out = told (g.W.Output.taken c.args.out.now) (g.W.Output.taken c.read_source.new.out) (g.W.Output.calls c.args.out.now) (g.W.Output.calls c.read_source.new.out) in
+    let out = trace (g.W.Output.taken c.args.out.now) (g.W.Output.taken c.read_source.new.out) (g.W.Output.calls c.args.out.now) (g.W.Output.calls c.read_source.new.out) in
     let taken : Intakes = record { first = read.0; second = Asked rest.0 } in
     let whole = rw c.in_ok-pla.was at read.2 in
-    let behind = told (g.W.Output.taken c.read_source.new.out) (g.W.Output.taken c.go_on.new.out) (g.W.Output.calls c.read_source.new.out) (g.W.Output.calls c.go_on.new.out) in
+    let behind = trace (g.W.Output.taken c.read_source.new.out) (g.W.Output.taken c.go_on.new.out) (g.W.Output.calls c.read_source.new.out) (g.W.Output.calls c.go_on.new.out) in
     let words : map string_bytes c.after_first.result.now ≡ drop 1 line.files = c.after_first.ensures ∙ ap (drop 1) c.files.ensures in (
       taken,
       read.1,
@@ -67,7 +67,7 @@ returns-in-Ok g c = let read = c.read_source.ensures in let rest = c.go_on.ensur
 pub returns : goal.returns
 returns g c = let read = c.read_source.ensures in
     let line = c.args.line.now in
-    let out = told (g.W.Output.taken c.args.out.now) (g.W.Output.taken c.read_source.new.out) (g.W.Output.calls c.args.out.now) (g.W.Output.calls c.read_source.new.out) in
+    let out = trace (g.W.Output.taken c.args.out.now) (g.W.Output.taken c.read_source.new.out) (g.W.Output.calls c.args.out.now) (g.W.Output.calls c.read_source.new.out) in
     let taken : Intakes = record { first = read.0; second = Untouched } in (
       taken,
       read.1,

@@ -1,6 +1,6 @@
 use Rattle.std.proofs.Common.{◌∙◌, ap, drop, inr}
 use Rattle.espresso.specs.Program.{names_said}
-use Rattle.espresso.specs.Run.{told}
+use Rattle.espresso.specs.Run.{trace}
 use Rattle.espresso.specs.Tool.{first_name}
 use Rattle.espresso.proofs.Both.{reports_by}
 use Rattle.espresso.proofs.Opening.{opens_since, stopped_over, why_unopened}
@@ -14,7 +14,7 @@ returns-clause-ends g c = let ran = c.carry_out-done.ensures in
     let done = c.flushed-done.result in
     let closes = c.flushed-done.ensures.passes line taken (names_said line) _ _ ran.3 in
     let reports = reports_by _ (names_said line)
-    (told (g.E.Output.taken c.args.err.now) (g.E.Output.taken c.report.new.err) (g.E.Output.calls c.args.err.now) (g.E.Output.calls c.report.new.err))
+    (trace (g.E.Output.taken c.args.err.now) (g.E.Output.taken c.report.new.err) (g.E.Output.calls c.args.err.now) (g.E.Output.calls c.report.new.err))
     _ _ (c.as_bytes.ensures.value ∙ c.name_in_messages.ensures ∙ ap first_name c.files-files.ensures)
     (c.as_bytes-2.ensures.value ∙ c.name_in_messages-second_name.ensures ∙ ap first_name (c.after_first.ensures ∙ ap (drop 1) c.files-files.ensures)) c.report.ensures.said in
     inr (record {

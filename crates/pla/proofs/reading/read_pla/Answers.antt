@@ -6,7 +6,7 @@ use Rattle.pla.specs.declared.ending.Ending.TheVariants.{End, Failed}
 use Rattle.pla.proofs.reading.read_pla.Goals as goal
 
 pub loop-buffer-init : goal.loop-buffer-init
-loop-buffer-init g c = record { on = reads_nothing c.args.echo c.new-scan.result _ _ _ _ c.new-scan.ensures.stands c.new-scan.ensures.echo; size = length-replicate {A = ℕ} 4096 0; empty = c.new-held.ensures }
+loop-buffer-init g c = record { on = reads_nothing c.args.echo c.new-scan.result _ _ _ _ c.new-scan.ensures.stands c.new-scan.ensures.echo; size = length-replicate {A = ℕ} 4096 0; empty = c.new-echoes.ensures }
 
 pub loop-buffer-preserved : goal.loop-buffer-preserved
 loop-buffer-preserved g c =

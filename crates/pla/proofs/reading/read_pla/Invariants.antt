@@ -8,7 +8,7 @@ invariant-loop-buffer g l = record {
   on : ReadsOn l.fn.echo l.scan (g.R.Input.left l.fn.input) (g.R.Input.left l.input) (g.R.Input.calls l.fn.input) (g.R.Input.calls l.input)
       (g.W.Output.taken l.fn.output) (g.W.Output.taken l.output) (g.W.Output.calls l.fn.output) (g.W.Output.calls l.output);
   size : length l.buffer ≡ 4096;
-  empty : l.held.bytes.items ≡ [];
+  empty : l.echoes.bytes.items ≡ [];
 }
 
 abbrev pub decreases-loop-buffer : goal.decreases-loop-buffer

@@ -1,4 +1,4 @@
-use Rattle.std.proofs.Common.{◌≡◌, ℕ, List, codes, refl, ap, sym, ◌∙◌}
+use Rattle.std.proofs.Common.{◌≡◌, codes, refl, ap, sym, ◌∙◌}
 use Rattle.pla.specs.declared.fault.FileType.{FileType}
 use Rattle.pla.specs.declared.fault.FileType.TheVariants.{F, Fd, Fr, Fdr}
 use Rattle.pla.specs.declared.rows.Part.{Part}

@@ -1,4 +1,4 @@
-use Rattle.std.proofs.Common.{◌≡◌, ◌↔◌, ◌++◌, ◌∷◌, [], ℕ, Bool, true, List, map, Option, Some, None, false, cond, ap, sym, ◌∙◌, append-nil, refl, subst, rules}
+use Rattle.std.proofs.Common.{◌≡◌, ◌++◌, Bool, true, List, map, Option, Some, None, false, cond, ap, sym, ◌∙◌, append-nil, refl, subst, rules}
 use Rattle.std.specs.Prelude.{IsSome, IfSome, IsTrue, option_to_list}
 use Rattle.std.specs.List.{list_any}
 use Rattle.std.proofs.lemmas.Bool.{cond-true}

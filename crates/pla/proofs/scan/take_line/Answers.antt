@@ -2,7 +2,7 @@ use Rattle.std.proofs.Common.{◌≡◌, ◌+◌, None, Some, length, option_map
 use Rattle.cube.specs.Limits.{format_limits}
 use Rattle.pla.specs.Device.{AllWritten, LastUnwritten}
 use Rattle.pla.specs.Fault.{fault_on, at_line}
-use Rattle.pla.specs.State.{Refuses}
+use Rattle.pla.specs.Scan.{Refuses}
 use Rattle.pla.specs.Reads.{MatchCause}
 use Rattle.pla.proofs.StepLaws.{taken_fine}
 use Rattle.pla.proofs.Feeding.{fault_takes, fault_counts}

@@ -28,11 +28,11 @@ returns-clause-bytes g c =
     c.as_bytes-2.ensures.value ∙ c.format-2.ensures.text ∙ ap decimal (c.outputs.ensures.value ∙ ap (λ s. s.outputs) shape) in
     let count = c.as_bytes-3.ensures.value ∙ c.format-3.ensures.text ∙ ap decimal c.row_count-rows.ensures in
     let first : Result (Unit {0}) WriteFault = Ok tt in
-    let start = puts_first (g.W.Output.taken c.args.out.now) c.new-batch.result first tt refl c.new-batch.ensures in
-    let whole = c.then-done-10.ensures.bytes _ _ (c.write_sections-done.ensures.bytes _ _ (c.then-done-9.ensures.bytes _ _ (c.then-done-8.ensures.bytes _ _
-    (c.then-done-7.ensures.bytes _ _ (c.then-done-6.ensures.bytes _ _ (c.write_names-done-2.ensures.bytes _ _ (c.write_names-done.ensures.bytes _ _
-    (c.then-done-5.ensures.bytes _ _ (c.then-done-4.ensures.bytes _ _ (c.then-done-3.ensures.bytes _ _ (c.then-done-2.ensures.bytes _ _ (c.then-done.ensures.bytes _ _ start)))))))))))) in
-    subst (Writes (g.W.Output.taken c.args.out.now) (g.W.Output.taken c.hand_on.new.out) c.hand_on.result)
+    let start = puts_first (g.W.Output.taken c.args.out.now) c.new-buffer.result first tt refl c.new-buffer.ensures in
+    let whole = c.write_next-done-10.ensures.bytes _ _ (c.write_sections-done.ensures.bytes _ _ (c.write_next-done-9.ensures.bytes _ _ (c.write_next-done-8.ensures.bytes _ _
+    (c.write_next-done-7.ensures.bytes _ _ (c.write_next-done-6.ensures.bytes _ _ (c.write_names-done-2.ensures.bytes _ _ (c.write_names-done.ensures.bytes _ _
+    (c.write_next-done-5.ensures.bytes _ _ (c.write_next-done-4.ensures.bytes _ _ (c.write_next-done-3.ensures.bytes _ _ (c.write_next-done-2.ensures.bytes _ _ (c.write_next-done.ensures.bytes _ _ start)))))))))))) in
+    subst (Writes (g.W.Output.taken c.args.out.now) (g.W.Output.taken c.flush_to.new.out) c.flush_to.result)
     (append-nil _ ∙ text_parts pla c.args.out_type lists _ _ _ _ _ _ inputs outputs
     (ap (names_text (codes ".ilb")) c.input_names.ensures) (ap (names_text (codes ".ob")) c.output_names.ensures) c.type_line.ensures count)
-    (puts_writes _ _ _ _ c.hand_on.result c.hand_on.ensures.empty (c.hand_on.ensures.bytes _ _ whole))
+    (puts_writes _ _ _ _ c.flush_to.result c.flush_to.ensures.empty (c.flush_to.ensures.bytes _ _ whole))

@@ -12,5 +12,5 @@ returns-then-is_err-clause-bytes g c =
     let at = c.loop-cube.cube-index in
     let whole : flat_map row (take at cubes) ++ flat_map row (drop at cubes) ≡ flat_map row c.args.list.now.cubes =
     sym (flat_map_split row cubes at) ∙ ap (flat_map row) c.as_slice-cube-items.ensures.value in
-    subst (PutsOn (g.W.Output.taken c.args.out.now) c.args.batch.now c.args.done (g.W.Output.taken c.loop-cube.out) c.loop-cube.batch c.loop-cube.done) whole
+    subst (PutsOn (g.W.Output.taken c.args.out.now) c.args.buffer.now c.args.done (g.W.Output.taken c.loop-cube.out) c.loop-cube.buffer c.loop-cube.done) whole
     (puts_failed _ _ _ _ _ c.loop-cube.done (flat_map row (take at cubes)) (flat_map row (drop at cubes)) (search rules) c.loop-cube.invariant.bytes)

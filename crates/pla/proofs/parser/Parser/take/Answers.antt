@@ -5,7 +5,7 @@ use Rattle.pla.specs.declared.parser.Parser.TheInside.{Inside}
 use Rattle.pla.specs.Lines.{row_code}
 use Rattle.pla.specs.Header.{Header, type_in}
 use Rattle.pla.specs.Fault.{is_past_limit, is_too_long}
-use Rattle.pla.specs.State.{Parsed, StandsForLines}
+use Rattle.pla.specs.Scan.{Parsed, StandsForLines}
 use Rattle.pla.specs.HeadView.{seen, with_keyword}
 use Rattle.pla.specs.Parsing.{IsBadRow, IsTied, parsed_by, read_row, unfinished_of, with_row_code}
 use Rattle.pla.proofs.KeywordTaken.{Before, keyword_taken}

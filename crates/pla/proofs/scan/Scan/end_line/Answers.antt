@@ -1,7 +1,7 @@
 use Rattle.std.proofs.Common.{◌≡◌, ◌∷◌, [], Ok, Err, sym, ap, ◌∙◌, subst}
 use Rattle.std.proofs.lemmas.Result.{err_from_is_err_and}
 use Rattle.cube.specs.Limits.{format_limits}
-use Rattle.pla.specs.State.{StandsForLines}
+use Rattle.pla.specs.Scan.{StandsForLines}
 use Rattle.pla.specs.Steps.{WritesLine}
 use Rattle.pla.proofs.Feeding.{ends_stands, ends_fault, ends_written, ends_counts, ends_onward, held_fault, held_written, held_counts, none_kept, nothing_before}
 use Rattle.pla.proofs.scan.Scan.end_line.Goals as goal
