@@ -18,6 +18,10 @@ fn reads_back(rt: HostRuntime) -> Result<(), Fail> {
 #[test]
 fn puts_bytes(rt: HostRuntime) -> Result<(), Fail> {
     let c = cube_of(rt.alloc(), ("-01-0", "101"))?;
+    let shape = c.shape();
+    if shape.inputs() != 5 || shape.outputs() != 3 {
+        return Err("shape")?;
+    }
     let mut row = *b"........";
     c.put_symbols(&mut row, b'd', b'z', b'o');
     assert!(rt; row == *b"dzodz...");
