@@ -17,7 +17,7 @@ fn a_file_is_read_in_pieces(rt: HostRuntime) -> Result<(), Fail> {
     let mut input = Given::new(TEXT.to_vec(alloc)?, 3, Ending::Failed);
     let mut output = Taken::new(alloc, 100, 3, false)?;
     let read = read_pla(alloc, &mut input, &mut output, Echo::Keep);
-    let pla = read.map_err(|_| "the file has no fault")?;
+    let pla = read.ok().ok_or("the file has no fault")?;
     assert_eq!(rt; (pla.shape().inputs(), pla.shape().outputs()), (2, 2));
     assert!(rt; pla.file_type() == FileType::Fd);
     assert!(rt; pla.input_names().is_some_and(|names| names.len() == 2));
@@ -74,14 +74,16 @@ fn a_scan_takes_pieces(rt: HostRuntime) -> Result<(), Fail> {
     let alloc = rt.alloc();
     let mut output = Taken::new(alloc, 100, 100, false)?;
     let scan = Scan::new(alloc, Echo::Keep).feed(b".i 1\n.o 1\n1 ", &mut output);
-    let scan = scan.map_err(|_| "the piece has no fault")?;
+    let scan = scan.ok().ok_or("the piece has no fault")?;
     assert!(rt; !scan.done());
     let scan = scan
         .feed(b"1 # a", &mut output)
-        .map_err(|_| "the piece has no fault")?;
+        .ok()
+        .ok_or("the piece has no fault")?;
     let pla = scan
         .finish(Ending::End, &mut output)
-        .map_err(|_| "the file has no fault")?;
+        .ok()
+        .ok_or("the file has no fault")?;
     assert_eq!(rt; pla.on().len(), 1);
     assert_eq!(rt; output.bytes(), b"# a\n".as_slice());
     let scan = Scan::new(alloc, Echo::Eat).feed(b".i 1\n.o 1\n.e\n", &mut output);

@@ -1,5 +1,5 @@
 //! Tautology and containment against the plain definition, and on wide lists.
-use crate::covers::push;
+use crate::rows::{packed, push, same_shape};
 use cover::Cover;
 use cube::{Cube, Shape, Symbol};
 use std::alloc::Global;
@@ -29,12 +29,7 @@ fn small_cube(alloc: Global, number: usize) -> Result<Cube, Fail> {
         1 => [false, true],
         _ => [true, true],
     };
-    let shape = Shape::new(2, 2).ok_or("limits")?;
-    if shape.inputs() != 2 || shape.outputs() != 2 {
-        return Err("lengths")?;
-    }
-    let made = Cube::from_symbols(alloc, shape, &symbols, &outputs)?;
-    Ok(made.ok_or("empty")?)
+    Ok(packed(alloc, &symbols, &outputs)?.ok_or("empty")?)
 }
 
 // Whether it holds one of the eight places, by the definition.
@@ -50,10 +45,20 @@ fn holds(number: usize, place: usize) -> bool {
         && agrees(symbol(number / 3), place / 2 % 2 == 1)
 }
 
+// Whether one of those with these numbers holds the place.
+fn one_holds(numbers: &[usize], place: usize) -> bool {
+    for number in numbers {
+        if holds(*number, place) {
+            return true;
+        }
+    }
+    false
+}
+
 // Whether each place of a cube is in one of those with these numbers.
 fn hold_all(numbers: &[usize], of: usize) -> bool {
     for place in 0..8usize {
-        if holds(of, place) && !numbers.iter().any(|number| holds(*number, place)) {
+        if holds(of, place) && !one_holds(numbers, place) {
             return false;
         }
     }
@@ -72,13 +77,9 @@ fn small_cover(alloc: Global, numbers: &[usize]) -> Result<Cover, Fail> {
 // Whether each cube is held where the definition says so.
 fn holds_as_defined(alloc: Global, numbers: &[usize]) -> Result<bool, Fail> {
     let list = small_cover(alloc, numbers)?;
-    let shape = list.shape();
     for number in 0..27usize {
         let cube = small_cube(alloc, number)?;
-        let theirs = cube.shape();
-        if theirs.inputs() != shape.inputs() || theirs.outputs() != shape.outputs() {
-            return Err("shape")?;
-        }
+        same_shape(list.shape(), cube.shape())?;
         if list.holds_cube(&cube)? != hold_all(numbers, number) {
             return Ok(false);
         }
@@ -113,12 +114,7 @@ fn step(alloc: Global, inputs: usize, i: usize, outputs: &[bool]) -> Result<Cube
             Symbol::Dash
         })?;
     }
-    let shape = Shape::new(inputs, outputs.len()).ok_or("limits")?;
-    if shape.inputs() != symbols.len() || shape.outputs() != outputs.len() {
-        return Err("lengths")?;
-    }
-    let made = Cube::from_symbols(alloc, shape, symbols.as_slice(), outputs)?;
-    Ok(made.ok_or("empty")?)
+    Ok(packed(alloc, symbols.as_slice(), outputs)?.ok_or("empty")?)
 }
 
 // Cubes of seven words and three outputs that hold everything, each step in two rows, but for the rows left out.

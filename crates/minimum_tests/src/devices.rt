@@ -1,5 +1,5 @@
 //! Reads and writes of the devices for tests.
-use pla::{Broken, Ending, Given, Input, Output, Taken};
+use pla::{Ending, Given, Input, Output, Taken};
 use std::test::Fail;
 
 #[test]
@@ -23,7 +23,7 @@ fn fails_behind_its_bytes(rt: HostRuntime) -> Result<(), Fail> {
     let mut given = Given::new(bytes, 8, Ending::Failed);
     let mut buffer = [0; 3];
     assert_eq!(rt; given.read(&mut buffer)?, 1);
-    assert_eq!(rt; given.read(&mut buffer), Err(Broken));
+    assert!(rt; given.read(&mut buffer).is_err());
     assert_eq!(rt; given.delivered(), 1);
     Ok(())
 }
@@ -33,9 +33,9 @@ fn takes_up_to_its_room(rt: HostRuntime) -> Result<(), Fail> {
     let mut taken = Taken::new(rt.alloc(), 5, 3, true)?;
     assert_eq!(rt; taken.write(b"abcd")?, 3);
     assert_eq!(rt; taken.write(b"efgh")?, 2);
-    assert_eq!(rt; taken.write(b"i"), Err(Broken));
+    assert!(rt; taken.write(b"i").is_err());
     assert_eq!(rt; taken.write(b"")?, 0);
-    assert_eq!(rt; taken.flush(), Err(Broken));
+    assert!(rt; taken.flush().is_err());
     assert_eq!(rt; taken.bytes(), b"abcef".as_slice());
     Ok(())
 }
@@ -46,7 +46,7 @@ fn one_read_fails_alone(rt: HostRuntime) -> Result<(), Fail> {
     let mut given = Given::new(bytes, 2, Ending::End).failing_after(1);
     let mut buffer = [0; 3];
     assert_eq!(rt; given.read(&mut buffer)?, 2);
-    assert_eq!(rt; given.read(&mut buffer), Err(Broken));
+    assert!(rt; given.read(&mut buffer).is_err());
     assert_eq!(rt; given.delivered(), 2);
     assert_eq!(rt; given.read(&mut buffer)?, 2);
     assert_eq!(rt; given.read(&mut buffer)?, 1);
@@ -58,7 +58,7 @@ fn one_read_fails_alone(rt: HostRuntime) -> Result<(), Fail> {
 fn one_write_fails_alone(rt: HostRuntime) -> Result<(), Fail> {
     let mut taken = Taken::new(rt.alloc(), 5, 3, false)?.failing_after(1);
     assert_eq!(rt; taken.write(b"ab")?, 2);
-    assert_eq!(rt; taken.write(b"cd"), Err(Broken));
+    assert!(rt; taken.write(b"cd").is_err());
     assert!(rt; taken.calls().broken);
     assert_eq!(rt; taken.write(b"cd")?, 2);
     assert_eq!(rt; taken.calls().counts.failures, 1);

@@ -1,11 +1,11 @@
 //! Lists beside one another, by hand.
-use crate::covers::{Rows, cover_of, same_shape, text};
+use crate::rows::{Row, are_written, cover_of, same_shape};
 use cover::agree_outside;
 use std::alloc::Global;
 use std::test::Fail;
 
 // Whether the lists of these rows have a place in common.
-fn intersecting(alloc: Global, rows: Rows, others: Rows) -> Result<bool, Fail> {
+fn intersecting(alloc: Global, rows: &[Row], others: &[Row]) -> Result<bool, Fail> {
     let list = cover_of(alloc, 2, 2, rows)?;
     let other = cover_of(alloc, 2, 2, others)?;
     same_shape(list.shape(), other.shape())?;
@@ -13,7 +13,7 @@ fn intersecting(alloc: Global, rows: Rows, others: Rows) -> Result<bool, Fail> {
 }
 
 // Whether the lists of these rows agree outside the third.
-fn agreeing(alloc: Global, rows: Rows, others: Rows, free: Rows) -> Result<bool, Fail> {
+fn agreeing(alloc: Global, rows: &[Row], others: &[Row], free: &[Row]) -> Result<bool, Fail> {
     let list = cover_of(alloc, 2, 1, rows)?;
     let other = cover_of(alloc, 2, 1, others)?;
     let free = cover_of(alloc, 2, 1, free)?;
@@ -29,7 +29,7 @@ fn appends(rt: HostRuntime) -> Result<(), Fail> {
     let other = cover_of(alloc, 2, 1, &[("0-", "1"), ("11", "1")])?;
     same_shape(list.shape(), other.shape())?;
     list.append(&other)?;
-    assert_eq!(rt; text(alloc, &list)?.as_str(), "11 1\n0- 1\n11 1\n");
+    assert!(rt; are_written(alloc, list.as_slice(), "11 1\n0- 1\n11 1\n")?);
     Ok(())
 }
 

@@ -9,7 +9,7 @@ pub(crate) fn read(alloc: Global, text: &[u8]) -> Result<Pla, Fail> {
     let mut input = Given::new(text.to_vec(alloc)?, 4096, Ending::End);
     let mut output = Taken::new(alloc, 0, 1, false)?;
     let read = read_pla(alloc, &mut input, &mut output, Echo::Eat);
-    Ok(read.map_err(|_| "the file has a fault")?)
+    Ok(read.ok().ok_or("the file has a fault")?)
 }
 
 /// The table of these rows; `None` where they aren't rows.

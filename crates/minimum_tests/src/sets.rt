@@ -1,0 +1,81 @@
+//! The lists of the four types, asked for and not.
+use crate::tables::read;
+use cover::Cover;
+use pla::{OutType, Sets, Taken, open_dc, open_off, write_pla};
+use std::alloc::Global;
+use std::test::Fail;
+
+// Whether the lists of the text, computed where they are asked for, are printed so behind the head.
+fn prints(alloc: Global, text: &[u8], dc: bool, off: bool, rows: &[u8]) -> Result<bool, Fail> {
+    let pla = read(alloc, text)?;
+    let sets = Sets::of(alloc, &pla, dc, off)?;
+    let mut out = Taken::new(alloc, 200, 200, false)?;
+    write_pla(&pla, &sets, OutType::Fdr, &mut out)?;
+    let head = b".i 2\n.o 1\n.type fdr\n".len();
+    Ok(out.bytes().get(head..) == Some(rows))
+}
+
+#[test]
+fn lists_are_computed_where_they_are_asked_for(rt: HostRuntime) -> Result<(), Fail> {
+    let alloc = rt.alloc();
+    let text = b".i 2\n.o 1\n11 1\n0- -\n";
+    assert!(rt; prints(alloc, text, true, true, b".p 3\n11 1\n0- -\n10 0\n.e\n")?);
+    let text = b".i 2\n.o 1\n.type fr\n11 1\n0- 0\n";
+    assert!(rt; prints(alloc, text, true, true, b".p 3\n11 1\n10 -\n0- 0\n.e\n")?);
+    Ok(())
+}
+
+#[test]
+fn lists_are_left_out_where_they_are_not_asked_for(rt: HostRuntime) -> Result<(), Fail> {
+    let alloc = rt.alloc();
+    let text = b".i 1\n.o 1\n.type fr\n1 1\n";
+    assert!(rt; prints(alloc, text, false, true, b".p 1\n1 1\n.e\n")?);
+    assert!(rt; prints(alloc, b".i 1\n.o 1\n1 1\n", true, false, b".p 1\n1 1\n.e\n")?);
+    Ok(())
+}
+
+fn row_count(list: &Option<Cover>) -> Option<usize> {
+    match list {
+        Some(list) => Some(list.len()),
+        None => None,
+    }
+}
+
+// How many rows the lists have that the type of the file leaves open, DC and OFF.
+fn open_rows(alloc: Global, text: &[u8]) -> Result<(Option<usize>, Option<usize>), Fail> {
+    let pla = read(alloc, text)?;
+    let dc = open_dc(alloc, &pla, true)?;
+    let off = open_off(alloc, &pla, true)?;
+    Ok((row_count(&dc), row_count(&off)))
+}
+
+#[test]
+fn lists_that_the_type_leaves_open(rt: HostRuntime) -> Result<(), Fail> {
+    let alloc = rt.alloc();
+    assert!(rt; open_rows(alloc, b".i 1\n.o 1\n.type f\n1 1\n")? == (Some(0), Some(1)));
+    assert!(rt; open_rows(alloc, b".i 1\n.o 1\n.type fd\n1 1\n")? == (None, Some(1)));
+    assert!(rt; open_rows(alloc, b".i 1\n.o 1\n.type fr\n1 1\n")? == (Some(1), None));
+    assert!(rt; open_rows(alloc, b".i 1\n.o 1\n.type fdr\n1 1\n")? == (None, None));
+    Ok(())
+}
+
+#[test]
+fn lists_are_put_together(rt: HostRuntime) -> Result<(), Fail> {
+    let alloc = rt.alloc();
+    let pla = read(
+        alloc,
+        b".i 1\n.o 1\n.type fdr\n1 1\n1 1\n1 1\n1 -\n1 -\n0 0\n",
+    )?;
+    let off = pla.off().try_clone()?;
+    let sets = Sets::new(off, pla.dc().try_clone()?, pla.off().try_clone()?);
+    assert_eq!(rt;
+        (sets.on().len(), sets.dc().len(), sets.off().len()),
+        (1, 2, 1)
+    );
+    let sets = sets.with_on(pla.on().try_clone()?);
+    assert_eq!(rt;
+        (sets.on().len(), sets.dc().len(), sets.off().len()),
+        (3, 2, 1)
+    );
+    Ok(())
+}
