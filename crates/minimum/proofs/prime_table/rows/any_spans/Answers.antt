@@ -1,5 +1,5 @@
 use Rattle.minimum.specs.PrimeRows.{spans}
-use Rattle.minimum.proofs.Candidates.{any-next, any-here}
+use Rattle.minimum.proofs.RegionCandidates.{any-next, any-here}
 use Rattle.minimum.proofs.prime_table.rows.any_spans.Goals as goal
 
 pub returns-then-spans : goal.returns-then-spans

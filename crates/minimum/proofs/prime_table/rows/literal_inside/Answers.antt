@@ -1,6 +1,6 @@
 use Rattle.std.proofs.Common.{rules, sym, ◌∙◌}
 use Rattle.std.proofs.lemmas.Bool.{true≢false}
-use Rattle.minimum.proofs.Candidates.{none_inside_next}
+use Rattle.minimum.proofs.RegionCandidates.{none_inside_next}
 use Rattle.minimum.proofs.prime_table.rows.literal_inside.Goals as goal
 
 pub overflow_add-from : goal.overflow_add-from

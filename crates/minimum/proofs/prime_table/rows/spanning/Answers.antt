@@ -1,6 +1,6 @@
 use Rattle.std.proofs.Common.{ap, ◌∙◌}
 use Rattle.minimum.specs.PrimeRows.{spans}
-use Rattle.minimum.proofs.Candidates.{filter-kept, filter-skipped}
+use Rattle.minimum.proofs.RegionCandidates.{filter-kept, filter-skipped}
 use Rattle.minimum.proofs.prime_table.rows.spanning.Goals as goal
 use Rattle.minimum.proofs.prime_table.rows.spanning.Goals.{then-spans+in_ok-push, else-spans}
 

@@ -1,4 +1,4 @@
-use Rattle.minimum.proofs.Candidates.{spans-from_answer}
+use Rattle.minimum.proofs.RegionCandidates.{spans-from_answer}
 use Rattle.minimum.proofs.prime_table.rows.spans.Goals as goal
 
 pub returns : goal.returns

@@ -1,4 +1,4 @@
-use Rattle.minimum.proofs.Candidates.{touches-from_answer}
+use Rattle.minimum.proofs.RegionCandidates.{touches-from_answer}
 use Rattle.minimum.proofs.prime_table.rows.touches.Goals as goal
 
 pub returns : goal.returns
