@@ -1,4 +1,4 @@
--- What the plain search goes through.
+-- What the exhaustive search goes through.
 use Rattle.std.specs.Prelude.{ℕ, zero, suc, List, [], ◌∷◌, ◌++◌, map, Bool, cond, nat_lt, Option, Some, None}
 use Rattle.std.specs.List.{list_all}
 use Rattle.minimum.specs.declared.choice.Choice.{Choice}
@@ -17,7 +17,7 @@ abbrev pub join : List ℕ → List ℕ → List ℕ
 join ts [] = ts
 join ts (x ∷ xs) = put x (join ts xs)
 
--- the better of the best so far and one more that passes: the earlier where they count the same
+-- the better of the best so far and one more that passes: the earlier if they count alike
 abbrev pub better : (ℕ → ℕ) → Option (List ℕ) → List ℕ → Option (List ℕ)
 better count None w = Some w
 better count (Some s) w = cond (nat_lt (sum_over count w) (sum_over count s)) (Some w) (Some s)
@@ -33,4 +33,5 @@ meets_all rows s = list_all (λ row. meets s row) rows
 
 -- the best choice of so many live columns that has a column of each row
 abbrev pub best_choice : Choice → Table → ℕ → Option (List ℕ)
-best_choice choice t k = best_of (counted choice t.weights) (meets_all t.rows) None (choices k t.live)
+best_choice choice t k = best_of (counted choice t.weights) (meets_all t.rows) None
+    (choices k t.live)

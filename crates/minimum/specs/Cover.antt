@@ -12,7 +12,8 @@ use Rattle.minimum.specs.Table.{Table, has, RisesFrom}
 abbrev pub meets : List ℕ → List ℕ → Bool
 meets s row = list_any (λ c. has c s) row
 
--- a rising list of columns with each taken one, otherwise only live ones, and some column of each row
+-- a rising list of columns with each taken one, otherwise only live ones, and some column of each
+-- row
 pub record IsCover (t : Table) (s : List ℕ) : Type 0 where
   pub rises : RisesFrom 0 s
   pub taken : (n : ℕ) → has n t.taken ≡ true → has n s ≡ true
@@ -29,9 +30,11 @@ abbrev pub sum_over : (ℕ → ℕ) → List ℕ → ℕ
 sum_over count [] = 0
 sum_over count (c ∷ cs) = count c + sum_over count cs
 
--- s comes before x, which is as long: it counts less, or as much and is first where they are compared number by number
+-- s comes before x, which is as long: it counts less, or as much and is first if
+-- they are compared number by number
 abbrev pub IsBefore : (ℕ → ℕ) → List ℕ → List ℕ → Type 0
-IsBefore count s x = (sum_over count s < sum_over count x) ⊎ ((sum_over count s ≡ sum_over count x) × (slice_cmp nat_cmp s x ≡ Less))
+IsBefore count s x = (sum_over count s < sum_over count x)
+    ⊎ ((sum_over count s ≡ sum_over count x) × (slice_cmp nat_cmp s x ≡ Less))
 
 -- s is shorter, or as long and before x
 abbrev pub Precedes : (ℕ → ℕ) → List ℕ → List ℕ → Type 0

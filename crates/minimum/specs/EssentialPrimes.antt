@@ -1,4 +1,5 @@
--- The cubes that may hold places of a prime beside it. No public clause cites this module.
+-- Which primes are essential: the cubes that may hold places of a prime beside it, and the
+-- candidates. No public clause cites this module.
 use Rattle.std.specs.Prelude.{◌≡◌, ◌≢◌, ℕ, ◌<◌, Bool, true, not, ◌&&◌, List, length}
 use Rattle.std.specs.Ordering.{is_eq}
 use Rattle.cube.specs.Cube.{Cube, holds, size_of}
@@ -12,7 +13,7 @@ use Rattle.minimum.specs.PrimeRows.{spans}
 abbrev pub touches_cube : Cube → Cube → Bool
 touches_cube c d = not (is_disjoint (size_of c) (holds d) (holds c))
 
--- the same of another cube
+-- whether d is another cube with a place of c
 abbrev pub is_rival : Cube → Cube → Bool
 is_rival c d = touches_cube c d && not (is_eq (row_cmp d c))
 
@@ -26,8 +27,11 @@ pub record HasOther (primes : List Cube) (cube : Cube) (n : ℕ) : Type 0 where
 -- the prime that alone holds the cube has lost its mark
 pub record UnmarksCandidate (primes : List Cube) (cube : Cube) (old new : List Bool) : Type 0 where
   pub falls : (n : ℕ) → marked new n ≡ true → marked old n ≡ true
-  pub others : (n : ℕ) → n < length primes → marked new n ≡ true → spans primes cube n ≡ true → HasOther primes cube n
+  pub others : (n : ℕ) → n < length primes → marked new n ≡ true → spans primes cube n ≡ true
+      → HasOther primes cube n
 
 -- each of the first so many cubes that lies in a marked prime lies in another too
 abbrev pub AreNonCandidates : List Cube → List Cube → ℕ → List Bool → Type 0
-AreNonCandidates primes on count marks = (k : ℕ) → k < count → (n : ℕ) → n < length primes → marked marks n ≡ true → spans primes (cube_at on k) n ≡ true → HasOther primes (cube_at on k) n
+AreNonCandidates primes on count marks = (k : ℕ) → k < count → (n : ℕ) → n < length primes
+    → marked marks n ≡ true → spans primes (cube_at on k) n ≡ true
+    → HasOther primes (cube_at on k) n

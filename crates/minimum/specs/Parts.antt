@@ -9,7 +9,8 @@ use Rattle.minimum.specs.Search.{marked}
 
 -- the live columns that pass the test, and the rows of these alone, under some taken columns
 abbrev pub part_of : (ℕ → Bool) → List ℕ → Table → Table
-part_of test taken t = table_of t.columns taken (filter test t.live) (filter (list_all test) t.rows) t.weights
+part_of test taken t = table_of t.columns taken (filter test t.live) (filter (list_all test) t.rows)
+    t.weights
 
 -- whether all columns of the row have marks of the one list, or all of the other
 abbrev pub is_on_one_side : List Bool → List Bool → List ℕ → Bool
@@ -17,7 +18,8 @@ is_on_one_side marks others row = list_all (marked marks) row || list_all (marke
 
 -- tables with fewer rows, of which the least covers together are the least cover of the first
 pub record AreParts (t one other : Table) : Type 0 where
-  pub least : (choice : Choice) (s x : List ℕ) → IsLeast choice one s → IsLeast choice other x → IsLeast choice t (join s x)
+  pub least : (choice : Choice) (s x : List ℕ) → IsLeast choice one s → IsLeast choice other x
+      → IsLeast choice t (join s x)
   pub fewer : length one.rows < length t.rows
   pub other_fewer : length other.rows < length t.rows
 
@@ -25,7 +27,9 @@ pub record AreParts (t one other : Table) : Type 0 where
 abbrev pub pick : List ℕ → ℕ → ℕ
 pick live i = slice_index_or live i 0
 
--- a table in numbers of its own: its least cover stands for the least cover of the first, beside the taken columns
+-- a table in numbers of its own: its least cover stands for the least cover of the first, beside
+-- the taken columns
 pub record IsRenumbered (t u : Table) : Type 0 where
-  pub least : (choice : Choice) (s : List ℕ) → IsLeast choice u s → IsLeast choice t (join t.taken (map (pick t.live) s))
+  pub least : (choice : Choice) (s : List ℕ) → IsLeast choice u s
+      → IsLeast choice t (join t.taken (map (pick t.live) s))
   pub as_many : length u.rows ≡ length t.rows

@@ -26,7 +26,8 @@ spans cubes region i = is_subset (size_of region) (holds region) (holds (cube_at
 pub record AreCandidates (cubes : List Cube) (region : Cube) (numbers : List ℕ) : Type 0 where
   pub rises : RisesFrom 0 numbers
   pub below : All (λ i. i < length cubes) numbers
-  pub all : (i : ℕ) (p : Place) → holds region p ≡ true → holds_at cubes i p ≡ true → has i numbers ≡ true
+  pub all : (i : ℕ) (p : Place) → holds region p ≡ true → holds_at cubes i p ≡ true
+      → has i numbers ≡ true
 
 -- each of the cubes has a place of the region
 abbrev pub AreTouching : List Cube → Cube → List ℕ → Type 0
@@ -34,14 +35,17 @@ AreTouching cubes region numbers = (i : ℕ) → has i numbers ≡ true → touc
 
 -- at most one output
 abbrev pub HasOneOutput : Cube → Type 0
-HasOneOutput region = (j k : ℕ) → slice_index_or region.outputs j false ≡ true → slice_index_or region.outputs k false ≡ true → j ≡ k
+HasOneOutput region = (j k : ℕ) → slice_index_or region.outputs j false ≡ true
+    → slice_index_or region.outputs k false ≡ true → j ≡ k
 
 -- each wanted place is in one of the primes
 abbrev pub AreEnough : List Cube → List Cube → List Cube → Type 0
-AreEnough primes on dc = (p : Place) → difference (places on) (places dc) p ≡ true → (i : ℕ) × (holds_at primes i p ≡ true)
+AreEnough primes on dc = (p : Place) → difference (places on) (places dc) p ≡ true → (i : ℕ)
+    × (holds_at primes i p ≡ true)
 
--- a region of one output, and the cubes near it
-pub record IsSplit (primes on dc : List Cube) (region : Cube) (candidate_primes candidate_on candidate_dc : List ℕ) : Type 0 where
+-- a region of one output, and the cubes that are candidates for it
+pub record IsSplit (primes on dc : List Cube) (region : Cube)
+    (candidate_primes candidate_on candidate_dc : List ℕ) : Type 0 where
   pub one : HasOneOutput region
   pub enough : AreEnough primes on dc
   pub primes_size : All (λ d. SameSize d region) primes
@@ -51,8 +55,9 @@ pub record IsSplit (primes on dc : List Cube) (region : Cube) (candidate_primes 
   pub on_candidates : AreCandidates on region candidate_on
   pub dc_candidates : AreCandidates dc region candidate_dc
 
--- the same, where each of the cubes has a place of the region
-pub record IsTouched (primes on dc : List Cube) (region : Cube) (candidate_primes candidate_on candidate_dc : List ℕ) : Type 0 where
+-- such a region, of which each of the candidates has a place
+pub record IsTouched (primes on dc : List Cube) (region : Cube)
+    (candidate_primes candidate_on candidate_dc : List ℕ) : Type 0 where
   pub split : IsSplit primes on dc region candidate_primes candidate_on candidate_dc
   pub primes_touch : AreTouching primes region candidate_primes
   pub on_touch : AreTouching on region candidate_on
@@ -64,19 +69,25 @@ AllHold primes row p = (i : ℕ) → has i row ≡ true → holds_at primes i p 
 
 -- each wanted place of the region has a row whose primes all hold it
 abbrev pub HasRowsFor : List Cube → List Cube → List Cube → (Place → Bool) → List (List ℕ) → Type 0
-HasRowsFor primes on dc region rows = (p : Place) → region p ≡ true → difference (places on) (places dc) p ≡ true → (row : List ℕ) × HasRow row rows × AllHold primes row p
+HasRowsFor primes on dc region rows = (p : Place) → region p ≡ true
+    → difference (places on) (places dc) p ≡ true → (row : List ℕ) × HasRow row rows
+    × AllHold primes row p
 
 -- some prime of the list holds each wanted place
 abbrev pub IsHolding : List Cube → List Cube → List Cube → List ℕ → Type 0
-IsHolding primes on dc s = (p : Place) → difference (places on) (places dc) p ≡ true → (i : ℕ) × (has i s ≡ true) × (holds_at primes i p ≡ true)
+IsHolding primes on dc s = (p : Place) → difference (places on) (places dc) p ≡ true → (i : ℕ)
+    × (has i s ≡ true) × (holds_at primes i p ≡ true)
 
 -- no place of the region is in the DC-set, and each of the primes holds each wanted place of it
-pub record IsSettled (primes on dc : List Cube) (region : Cube) (candidate_primes : List ℕ) : Type 0 where
+pub record IsSettled (primes on dc : List Cube) (region : Cube)
+    (candidate_primes : List ℕ) : Type 0 where
   pub no_dc : (p : Place) → holds region p ≡ true → places dc p ≡ false
-  pub hold : (p : Place) → holds region p ≡ true → difference (places on) (places dc) p ≡ true → AllHold primes candidate_primes p
+  pub hold : (p : Place) → holds region p ≡ true → difference (places on) (places dc) p ≡ true
+      → AllHold primes candidate_primes p
 
--- some ON cube is near the region, and no DC cube near it holds it
-pub record IsOpen (dc : List Cube) (region : Cube) (candidate_on candidate_dc : List ℕ) : Type 0 where
+-- some ON cube is a candidate, and no DC cube that is one holds the region
+pub record IsOpen (dc : List Cube) (region : Cube)
+    (candidate_on candidate_dc : List ℕ) : Type 0 where
   pub some_on : candidate_on ≢ []
   pub no_span : list_any (spans dc region) candidate_dc ≡ false
 
@@ -88,14 +99,17 @@ pub record IsDemand (primes on dc : List Cube) (row : List ℕ) : Type 0 where
   pub met : (s : List ℕ) → IsHolding primes on dc s → meets s row ≡ true
 
 -- what the rows so far become by the places of a region
-pub record AddsRows (primes on dc : List Cube) (region : Place → Bool) (old new : List (List ℕ)) : Type 0 where
+pub record AddsRows (primes on dc : List Cube) (region : Place → Bool)
+    (old new : List (List ℕ)) : Type 0 where
   pub kept : (row : List ℕ) → HasRow row old → HasRow row new
-  pub demands : AllByRecursion (IsDemand primes on dc) old → AllByRecursion (IsDemand primes on dc) new
+  pub demands : AllByRecursion (IsDemand primes on dc) old
+      → AllByRecursion (IsDemand primes on dc) new
   pub has_rows : HasRowsFor primes on dc region new
 
 -- the cube has no literal at the dashes of the region
 abbrev pub HasNoneInside : Cube → Cube → Type 0
-HasNoneInside cube region = (k : ℕ) → slice_index_or region.symbols k Dash ≡ Dash → slice_index_or cube.symbols k Dash ≡ Dash
+HasNoneInside cube region = (k : ℕ) → slice_index_or region.symbols k Dash ≡ Dash
+    → slice_index_or cube.symbols k Dash ≡ Dash
 
 -- an input at which the region has a dash
 abbrev pub IsFree : Cube → ℕ → Type 0
@@ -106,7 +120,7 @@ pub record AreRowsOf (primes on dc : List Cube) (rows : List (List ℕ)) : Type 
   pub demands : AllByRecursion (IsDemand primes on dc) rows
   pub has_rows : HasRowsFor primes on dc (λ p. true) rows
 
--- the same where the places of the first outputs are looked at
+-- such rows, as far as the places of the first outputs are looked at
 pub record RowsSoFar (primes on dc : List Cube) (outputs : ℕ) (rows : List (List ℕ)) : Type 0 where
   pub demands : AllByRecursion (IsDemand primes on dc) rows
   pub has_rows : HasRowsFor primes on dc (λ p. nat_lt p.output outputs) rows

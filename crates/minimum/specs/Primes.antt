@@ -19,7 +19,7 @@ use Rattle.minimum.specs.Cover.{counted, sum_over}
 abbrev pub primes_of : SetLists → List Cube
 primes_of sets = complete_sum sets.size (λ p. places sets.on p || places sets.dc p)
 
--- the places that a cover has to hold: the ON-set without the DC-set
+-- the wanted places, which a cover has to hold: the ON-set without the DC-set
 abbrev pub care_on : SetLists → Place → Bool
 care_on sets = difference (places sets.on) (places sets.dc)
 
@@ -29,7 +29,8 @@ others c cubes = filter (λ d. not (is_eq (row_cmp d c))) cubes
 
 -- whether c holds a wanted place that no other of the primes holds
 abbrev pub is_essential : SetLists → List Cube → Cube → Bool
-is_essential sets primes c = not (is_subset sets.size (intersection (care_on sets) (holds c)) (places (others c primes)))
+is_essential sets primes c = not (is_subset sets.size (intersection (care_on sets) (holds c))
+    (places (others c primes)))
 
 -- the essential ones among the primes, in their order
 abbrev pub essential_of : SetLists → List Cube → List Cube
@@ -41,20 +42,23 @@ chosen cubes numbers = filter_map (slice_get cubes) numbers
 
 -- whether the primes with these numbers hold each wanted place
 abbrev pub is_prime_cover : SetLists → List ℕ → Bool
-is_prime_cover sets numbers = is_subset sets.size (care_on sets) (places (chosen (primes_of sets) numbers))
+is_prime_cover sets numbers = is_subset sets.size (care_on sets)
+    (places (chosen (primes_of sets) numbers))
 
--- the lists that are left where any of the numbers are left out
+-- the lists that are left if any of the numbers are left out
 abbrev pub sublists : List ℕ → List (List ℕ)
 sublists [] = [] ∷ []
 sublists (x ∷ xs) = map (λ s. x ∷ s) (sublists xs) ++ sublists xs
 
 -- the covers by primes, as rising lists of their numbers
 abbrev pub prime_covers : SetLists → List (List ℕ)
-prime_covers sets = filter (is_prime_cover sets) (sublists (range_with_len 0 (length (primes_of sets))))
+prime_covers sets = filter (is_prime_cover sets)
+    (sublists (range_with_len 0 (length (primes_of sets))))
 
 -- covers compare by their length, then by what they count, and then number by number
 abbrev pub cover_cmp : (ℕ → ℕ) → List ℕ → List ℕ → Ordering
-cover_cmp count s x = ordering_then (nat_cmp (length s) (length x)) (ordering_then (nat_cmp (sum_over count s) (sum_over count x)) (slice_cmp nat_cmp s x))
+cover_cmp count s x = ordering_then (nat_cmp (length s) (length x))
+    (ordering_then (nat_cmp (sum_over count s) (sum_over count x)) (slice_cmp nat_cmp s x))
 
 -- what the number of a prime counts under a choice: nothing, or the prime's literals
 abbrev pub prime_count : Choice → SetLists → ℕ → ℕ
@@ -62,7 +66,9 @@ prime_count choice sets = counted choice (map literals (primes_of sets))
 
 -- the least cover by primes
 abbrev pub least_prime_cover : Choice → SetLists → List ℕ
-least_prime_cover choice sets = unwrap_or (reduce (λ s x. min_by_ordering (cover_cmp (prime_count choice sets) s x) s x) (prime_covers sets)) []
+least_prime_cover choice sets = unwrap_or
+    (reduce (λ s x. min_by_ordering (cover_cmp (prime_count choice sets) s x) s x)
+    (prime_covers sets)) []
 
 -- its cubes, in row order
 abbrev pub exact_of : Choice → SetLists → List Cube
@@ -73,7 +79,8 @@ abbrev corner : SetLists
 corner = record {
   size = record { inputs = 2; outputs = 1 };
   on = record { symbols = One ∷ One ∷ []; outputs = true ∷ [] } ∷ [];
-  dc = record { symbols = Zero ∷ One ∷ []; outputs = true ∷ [] } ∷ record { symbols = One ∷ Zero ∷ []; outputs = true ∷ [] } ∷ [];
+  dc = record { symbols = Zero ∷ One ∷ []; outputs = true ∷ [] }
+      ∷ record { symbols = One ∷ Zero ∷ []; outputs = true ∷ [] } ∷ [];
   off = [];
 }
 
@@ -81,5 +88,6 @@ corner = record {
 example_essential : essential_of corner (primes_of corner) ≡ []
 example_essential = refl
 
-example_exact : exact_of First corner ≡ record { symbols = Dash ∷ One ∷ []; outputs = true ∷ [] } ∷ []
+example_exact : exact_of First corner ≡ record { symbols = Dash ∷ One ∷ []; outputs = true ∷ [] }
+    ∷ []
 example_exact = refl

@@ -15,7 +15,8 @@ NoneWithin choice t k w = (x : List ℕ) → IsCover t x → IsBeyond (counted c
 
 -- every cover has at least k columns, and if it has k they count at least w
 abbrev pub NoneBelow : Choice → Table → ℕ → ℕ → Type 0
-NoneBelow choice t k w = (x : List ℕ) → IsCover t x → (k < length x) ⊎ ((length x ≡ k) × (w ≤ sum_over (counted choice t.weights) x))
+NoneBelow choice t k w = (x : List ℕ) → IsCover t x → (k < length x)
+    ⊎ ((length x ≡ k) × (w ≤ sum_over (counted choice t.weights) x))
 
 -- a cover within the budget
 pub record IsAnswer (choice : Choice) (t : Table) (k w : ℕ) (s : List ℕ) : Type 0 where
@@ -34,11 +35,18 @@ Leads choice k w t u = (o : Option (List ℕ)) → Answers choice u k w o → An
 
 -- every cover with the column is beyond the budget
 abbrev pub IsOutside : Choice → Table → ℕ → ℕ → ℕ → Type 0
-IsOutside choice t k w c = (x : List ℕ) → IsCover t x → has c x ≡ true → IsBeyond (counted choice t.weights) k w x
+IsOutside choice t k w c = (x : List ℕ) → IsCover t x → has c x ≡ true
+    → IsBeyond (counted choice t.weights) k w x
 
 -- the table with no columns left but those that the test passes
 abbrev pub keep_columns : (ℕ → Bool) → Table → Table
-keep_columns test t = record { columns = t.columns; taken = t.taken; live = filter test t.live; rows = map (filter test) t.rows; weights = t.weights }
+keep_columns test t = record {
+  columns = t.columns;
+  taken = t.taken;
+  live = filter test t.live;
+  rows = map (filter test) t.rows;
+  weights = t.weights;
+}
 
 -- whether the row has no column
 abbrev pub is_blank : List ℕ → Bool
@@ -68,7 +76,8 @@ pub record HasShorter (t : Table) (k : ℕ) (s : List ℕ) : Type 0 where
 
 -- every cover has more columns, or as many literals
 abbrev pub IsFewest : Table → ℕ → ℕ → Type 0
-IsFewest t k w = (x : List ℕ) → IsCover t x → (k < length x) ⊎ (w ≤ sum_over (counted Literals t.weights) x)
+IsFewest t k w = (x : List ℕ) → IsCover t x → (k < length x)
+    ⊎ (w ≤ sum_over (counted Literals t.weights) x)
 
 -- a cover of no more columns with fewer literals
 pub record HasFewer (t : Table) (k w : ℕ) (s : List ℕ) : Type 0 where
@@ -83,14 +92,17 @@ pub record IsBest (choice : Choice) (t : Table) (s : List ℕ) : Type 0 where
 
 -- for each cover there is one without unmarked live columns which is no longer and counts no more
 abbrev pub IsServed : Choice → Table → List Bool → Type 0
-IsServed choice t keep = (x : List ℕ) → IsCover t x → (y : List ℕ) × IsCover t y × ((c : ℕ) → has c y ≡ true → has c t.live ≡ true → marked keep c ≡ true) × (length y ≤ length x) × (sum_over (counted choice t.weights) y ≤ sum_over (counted choice t.weights) x)
+IsServed choice t keep = (x : List ℕ) → IsCover t x → (y : List ℕ) × IsCover t y
+    × ((c : ℕ) → has c y ≡ true → has c t.live ≡ true → marked keep c ≡ true)
+    × (length y ≤ length x) × (sum_over (counted choice t.weights) y
+    ≤ sum_over (counted choice t.weights) x)
 
 -- a table in which to search instead, whatever the budget, with no more live columns
 pub record IsLightened (choice : Choice) (t u : Table) : Type 0 where
   pub leads : (k w : ℕ) → Leads choice k w t u
   pub live : length u.live ≤ length t.live
 
--- the same with fewer rows or live columns
+-- such a table with fewer rows or live columns
 pub record IsLighter (choice : Choice) (t u : Table) : Type 0 where
   pub is : IsLightened choice t u
   pub smaller : length u.live + length u.rows < length t.live + length t.rows

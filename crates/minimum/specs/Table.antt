@@ -2,7 +2,8 @@
 use Rattle.std.specs.Prelude.{◌≡◌, ◌≢◌, ℕ, suc, ◌+◌, ◌<◌, ◌≤◌, Bool, true, false, ◌==◌, ◌&&◌, not, nat_le, nat_lt, List, [], ◌∷◌, length, map, Vec}
 use Rattle.std.specs.List.{AllByRecursion, list_any, range_with_len}
 
--- the number of columns, the columns taken, those live, each row as its live columns, and each column's literals
+-- the number of columns, the columns taken, those live, each row as its live columns, and each
+-- column's literals
 pub record Table : Type 0 where
   pub columns : ℕ
   pub taken : List ℕ
@@ -23,7 +24,9 @@ RisesFrom low (x ∷ xs) = (low ≤ x) × RisesFrom (suc x) xs
 abbrev pub IsWithin : List ℕ → List ℕ → Type 0
 IsWithin row other = (n : ℕ) → has n row ≡ true → has n other ≡ true
 
--- what every table keeps: rising lists of columns, none both taken and live, and each row rising, not empty and of live columns
+-- what every table keeps: rising lists of columns, none both taken and live, and each row rising,
+-- not empty
+-- and of live columns
 pub record IsTable (t : Table) : Type 0 where
   pub taken_rises : RisesFrom 0 t.taken
   pub live_rises : RisesFrom 0 t.live
@@ -48,12 +51,20 @@ is_row end row = not (length row == 0) && is_rising end 0 row
 
 -- each row rises, has a column, and has none but the first n
 abbrev pub AreRows : ℕ → List (List ℕ) → Type 0
-AreRows n rows = AllByRecursion (λ row. (row ≢ []) × RisesFrom 0 row × ((c : ℕ) → has c row ≡ true → c < n)) rows
+AreRows n rows = AllByRecursion (λ row. (row ≢ []) × RisesFrom 0 row
+    × ((c : ℕ) → has c row ≡ true → c < n)) rows
 
 -- a table of which no column is taken and each is live
 abbrev pub fresh : List (List ℕ) → List ℕ → Table
-fresh rows weights = record { columns = length weights; taken = []; live = range_with_len 0 (length weights); rows = rows; weights = weights }
+fresh rows weights = record {
+  columns = length weights;
+  taken = [];
+  live = range_with_len 0 (length weights);
+  rows = rows;
+  weights = weights;
+}
 
 -- the table of these fields
 abbrev pub table_of : ℕ → List ℕ → List ℕ → List (List ℕ) → List ℕ → Table
-table_of columns taken live rows weights = record { columns = columns; taken = taken; live = live; rows = rows; weights = weights }
+table_of columns taken live rows weights = record
+    { columns = columns; taken = taken; live = live; rows = rows; weights = weights }

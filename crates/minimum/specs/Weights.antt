@@ -13,6 +13,6 @@ abbrev pub total : List ℕ → ℕ
 total [] = 0
 total (y ∷ ys) = y + total ys
 
--- the number for the column, 0 where there is none
+-- the number for the column, 0 if there is none
 abbrev pub at : List ℕ → ℕ → ℕ
 at scaled_costs c = slice_index_or scaled_costs c 0

@@ -3,7 +3,7 @@
 /// Which of the shortest covers is the least.
 #[derive(Clone, Copy, Debug, PartialEq, Eq)]
 pub enum Choice {
-    /// The first where the lists of columns are compared number by number.
+    /// The first, if the lists of columns are compared number by number.
     First,
     /// Of those with the fewest literals, the first.
     Literals,

@@ -37,7 +37,7 @@ fn touches_cube(prime: &Cube, cube: &Cube) -> bool
     !cube.disjoint(prime)
 }
 
-/// The same of another cube.
+/// Whether it is another cube with a place of the prime.
 fn is_rival(prime: &Cube, cube: &Cube) -> bool
     requires { SameSize cube.now prime.now }
     ensures { result ≡ is_rival prime.now cube.now }
@@ -71,8 +71,8 @@ fn rivals(alloc: Global, cubes: &[Cube], prime: &Cube) -> Result<Vec<Cube>, Allo
     Ok(kept)
 }
 
-/// Whether other primes and the DC-set together leave out a place of the prime: such a place is wanted, as the prime lies
-/// in the ON-set with the DC-set.
+/// Whether other primes and the DC-set together leave out a place of the prime: such a place is wanted, as the prime
+/// lies in the ON-set with the DC-set.
 fn is_essential(
     alloc: Global,
     sets: &Sets,
@@ -81,7 +81,8 @@ fn is_essential(
 ) -> Result<bool, AllocError>
     requires size { primes.now.size ≡ sets.now.size }
     requires is_cube { IsCube sets.now.size prime.now }
-    requires within { IsSubset (holds prime.now) (λ p. places sets.now.on p || places sets.now.dc p) }
+    requires within { IsSubset (holds prime.now) (λ p. places sets.now.on p
+        || places sets.now.dc p) }
     ensures { IfOk result (λ b. b ≡ is_essential sets.now primes.now.cubes prime.now) }
 {
     let mut rest = rivals(alloc, primes.as_slice(), prime)?;
@@ -91,7 +92,8 @@ fn is_essential(
     Ok(!held)
 }
 
-/// The same where it is marked which primes hold no cube of the ON-set alone: those aren't essential.
+/// Whether the prime with this number is essential; one that is marked, as it holds no cube of the ON-set alone, is
+/// not.
 fn is_essential_at(
     alloc: Global,
     sets: &Sets,
@@ -104,7 +106,8 @@ fn is_essential_at(
     requires on { AreCubes sets.now.size sets.now.on }
     requires below { number < length (primes_of sets.now) }
     requires at { prime.now ≡ cube_at (primes_of sets.now) number }
-    requires non_candidates { AreNonCandidates (primes_of sets.now) sets.now.on (length sets.now.on) non_candidates.now }
+    requires non_candidates { AreNonCandidates (primes_of sets.now) sets.now.on (length sets.now.on)
+        non_candidates.now }
     ensures { IfOk result (λ b. b ≡ is_essential sets.now (primes_of sets.now) prime.now) }
 {
     if is_marked(non_candidates, number) {
@@ -116,12 +119,13 @@ fn is_essential_at(
 /// The essential primes among the primes, as [`primes`] answers them, in their order: those that hold a place of the
 /// ON-set that is neither in the DC-set nor in another prime (Brayton et al. 1984).
 ///
-/// Where the ON-set has fewer cubes than there are primes, it first finds the primes that hold one of its cubes alone, as
-/// no other is essential. Each of them is compared with all primes; whether those that have a place of it hold all of it
-/// is asked by cofactors.
+/// If the ON-set has fewer cubes than there are primes, it first finds the primes that hold one of its cubes alone, as
+/// no other is essential. Each of them is compared with all primes; whether those that have a place of it hold all of
+/// it is asked by cofactors.
 pub fn essential(alloc: Global, sets: &Sets, primes: &Cover) -> Result<Cover, AllocError>
     requires { primes.now ≡ record { size = sets.now.size; cubes = primes_of sets.now } }
-    ensures { IfOk result (λ list. list ≡ record { size = sets.now.size; cubes = essential_of sets.now (primes_of sets.now) }) }
+    ensures { IfOk result (λ list. list ≡ record
+        { size = sets.now.size; cubes = essential_of sets.now (primes_of sets.now) }) }
 {
     let non_candidates = non_candidates(alloc, primes.as_slice(), sets.on().as_slice())?;
     let mut list = Cover::new(alloc, primes.shape());

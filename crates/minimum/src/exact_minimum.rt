@@ -14,7 +14,10 @@ use std::alloc::{AllocError, Global};
 
 /// The cubes with these numbers.
 fn chosen(alloc: Global, list: &Cover, numbers: &[usize]) -> Result<Cover, AllocError>
-    ensures { IfOk result (λ l. l ≡ record { size = list.now.size; cubes = chosen list.now.cubes numbers.now }) }
+    ensures { IfOk result (λ l. l ≡ record {
+      size = list.now.size;
+      cubes = chosen list.now.cubes numbers.now;
+    }) }
 {
     let mut picked = Cover::new(alloc, list.shape());
     for number in numbers {
@@ -31,7 +34,8 @@ fn chosen(alloc: Global, list: &Cover, numbers: &[usize]) -> Result<Cover, Alloc
 /// Its cost is that of [`primes`], of [`Table::build`] and of [`Table::least_cover`] on the reduced table, whose number
 /// of branches has no small bound.
 pub fn exact(alloc: Global, sets: &Sets, choice: Choice) -> Result<Cover, AllocError>
-    ensures { IfOk result (λ list. list ≡ record { size = sets.now.size; cubes = exact_of choice sets.now }) }
+    ensures { IfOk result (λ list. list ≡ record
+        { size = sets.now.size; cubes = exact_of choice sets.now }) }
 {
     let primes = primes(sets)?;
     let table = Table::build(alloc, &primes, sets)?;

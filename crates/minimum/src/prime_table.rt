@@ -24,7 +24,10 @@ use std::alloc::{AllocError, Global};
 /// The cube of all places with this output.
 fn one_output(alloc: Global, shape: Shape, j: usize) -> Result<Cube, AllocError>
     requires { j < shape.outputs }
-    ensures { IfOk result (λ c. c ≡ record { symbols = replicate shape.inputs Symbol.Dash; outputs = slice_set (replicate shape.outputs false) j true }) }
+    ensures { IfOk result (λ c. c ≡ record {
+      symbols = replicate shape.inputs Symbol.Dash;
+      outputs = slice_set (replicate shape.outputs false) j true;
+    }) }
 {
     let symbols = vec![in alloc; Symbol::Dash; shape.inputs()]?;
     let mut outputs = vec![in alloc; false; shape.outputs()]?;
@@ -55,7 +58,8 @@ fn rows_of(alloc: Global, lists: &Lists, shape: Shape) -> Result<Vec<Vec<usize>>
     requires on { AreCubes shape lists.now.on.now }
     requires dc { AreCubes shape lists.now.dc.now }
     requires enough { AreEnough lists.now.primes.now lists.now.on.now lists.now.dc.now }
-    ensures { IfOk result (λ v. AreRowsOf lists.now.primes.now lists.now.on.now lists.now.dc.now (items_of v.items)) }
+    ensures { IfOk result (λ v. AreRowsOf lists.now.primes.now lists.now.on.now lists.now.dc.now
+        (items_of v.items)) }
 {
     let candidates = Candidates {
         primes: numbers(alloc, lists.primes.len())?,

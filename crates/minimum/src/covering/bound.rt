@@ -1,4 +1,4 @@
-//! Budgets, and the shares that a bound gives to columns.
+//! Budgets, the scaled costs of columns under a bound, and the columns that its gap leaves.
 
 ghost use Rattle.std.specs.Prelude.{◌≡◌, ◌<◌, ◌*◌, ◌+◌, ◌-◌, IfOk, IfSome, length, map, nat_le};
 ghost use Rattle.std.specs.List.{range_with_len};
@@ -16,7 +16,7 @@ pub(crate) struct Budget {
     pub(crate) counts: u128,
 }
 
-/// The number for the column, 0 where there is none.
+/// The number for the column, 0 if there is none.
 pub(crate) fn at(numbers: &[u64], column: usize) -> u64
     ensures { result ≡ at numbers.now column }
 {
@@ -27,7 +27,7 @@ pub(crate) fn at(numbers: &[u64], column: usize) -> u64
     }
 }
 
-/// The share of a column: one for itself, and one for each thing that it counts.
+/// The scaled cost of a column: a number for itself, and one for each thing that it counts.
 fn scaled_cost(choice: Choice, weights: &[u32], one: u32, each: u32, column: usize) -> u64
     ensures { result ≡ one + each * counted choice weights.now column }
 {
@@ -41,14 +41,15 @@ pub(crate) fn scaled_costs(
     one: u32,
     each: u32,
 ) -> Result<Vec<u64>, AllocError>
-    ensures { IfOk result (λ v. v.items ≡ map (λ c. one + each * counted choice weights.now c) (range_with_len 0 (length weights.now))) }
+    ensures { IfOk result (λ v. v.items ≡ map (λ c. one + each * counted choice weights.now c)
+        (range_with_len 0 (length weights.now))) }
 {
     (0..weights.len())
         .map(|column| scaled_cost(choice, weights, one, each, column))
         .collect(alloc)
 }
 
-/// The shares of so many columns that count so much, with what columns bear beyond theirs; `None` where that is past
+/// The scaled costs of so many columns that count so much, with what columns bear beyond theirs; `None` if that is past
 /// all numbers.
 pub(crate) fn limit_of(
     one: u32,
@@ -69,21 +70,22 @@ pub(crate) fn limit_of(
     both.checked_add(over)
 }
 
-/// Marks the columns that have no more to spare than the slack.
+/// Marks the columns whose slack is no more than the gap (fixing columns by reduced costs).
 pub(crate) fn columns_within_gap(
     alloc: Global,
     scaled_costs: &[u64],
     loads: &[u128],
     gap: u128,
 ) -> Result<Vec<bool>, AllocError>
-    ensures { IfOk result (λ v. v.items ≡ map (λ c. nat_le (at scaled_costs.now c - at loads.now c) gap) (range_with_len 0 (length scaled_costs.now))) }
+    ensures { IfOk result (λ v. v.items ≡ map (λ c. nat_le (at scaled_costs.now c - at loads.now c)
+        gap) (range_with_len 0 (length scaled_costs.now))) }
 {
     (0..scaled_costs.len())
         .map(|column| is_within_gap(scaled_costs, loads, gap, column))
         .collect(alloc)
 }
 
-/// Whether the column has no more to spare than the slack.
+/// Whether the column's slack is no more than the gap.
 fn is_within_gap(scaled_costs: &[u64], loads: &[u128], gap: u128, column: usize) -> bool
     ensures { result ≡ nat_le (at scaled_costs.now column - at loads.now column) gap }
 {

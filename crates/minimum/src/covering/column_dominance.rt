@@ -1,8 +1,8 @@
 //! Column dominance: a column leaves under one that stands in all its rows.
 //!
-//! In a reduction that one comes first: it counts less, or as much and has a smaller number. In a search within a budget,
-//! which asks for any cover, it counts no more. It stands in a shortest row of the column that leaves, so that candidates
-//! are few.
+//! In a reduction that one comes first: it counts less, or as much and has a smaller number. In a search within a
+//! budget, which asks for any cover, it counts no more. It stands in a shortest row of the column that leaves, so that
+//! candidates are few.
 
 ghost use Rattle.std.specs.Prelude.{◌≡◌, ◌<◌, ◌==◌, ◌&&◌, ◌||◌, ℕ, [], IfOk, IfSome, MatchOption, length, true};
 ghost use Rattle.std.specs.List.{list_any};
@@ -37,7 +37,8 @@ fn dominates(
     b: usize,
 ) -> bool
     requires { (c : ℕ) → RisesFrom 0 (row_at (items_of transpose.now) c) }
-    ensures { result ≡ dominates (counted choice weights.now) (items_of transpose.now) keep.now a b }
+    ensures { result ≡ dominates (counted choice weights.now) (items_of transpose.now) keep.now a
+        b }
 {
     is_marked(keep, b)
         && prefers(choice, weights, b, a)
@@ -53,7 +54,8 @@ fn any_dominates(
     among: &[usize],
 ) -> bool
     requires { (c : ℕ) → RisesFrom 0 (row_at (items_of transpose.now) c) }
-    ensures { result ≡ list_any (dominates (counted choice weights.now) (items_of transpose.now) keep.now a) among.now }
+    ensures { result ≡ list_any (dominates (counted choice weights.now) (items_of transpose.now)
+        keep.now a) among.now }
 {
     among
         .iter()
@@ -87,10 +89,12 @@ fn is_dominated(
     keep: &[bool],
     a: usize,
 ) -> bool
-    requires transpose { IsTranspose (length transpose.now) (items_of rows.now) (items_of transpose.now) }
+    requires transpose { IsTranspose (length transpose.now) (items_of rows.now)
+        (items_of transpose.now) }
     requires within { (i : ℕ) → IsWithin (row_at (items_of rows.now) i) live.now }
     requires below { (c : ℕ) → has c live.now ≡ true → c < length transpose.now }
-    ensures { result ≡ list_any (dominates (counted choice weights.now) (items_of transpose.now) keep.now a) live.now }
+    ensures { result ≡ list_any (dominates (counted choice weights.now) (items_of transpose.now)
+        keep.now a) live.now }
 {
     match shortest(rows, entry(transpose, a)) {
         None => any_dominates(choice, weights, transpose, keep, a, live),
@@ -98,7 +102,7 @@ fn is_dominated(
     }
 }
 
-/// Marks columns so that each other live column stands under a marked one, and one is unmarked if any can leave.
+/// Marks columns so that each other live column is dominated by a marked one, and one is unmarked if any can leave.
 fn column_dominance(
     alloc: Global,
     choice: Choice,
@@ -107,10 +111,12 @@ fn column_dominance(
     rows: &[Vec<usize>],
     transpose: &[Vec<usize>],
 ) -> Result<Vec<bool>, AllocError>
-    requires transpose { IsTranspose (length transpose.now) (items_of rows.now) (items_of transpose.now) }
+    requires transpose { IsTranspose (length transpose.now) (items_of rows.now)
+        (items_of transpose.now) }
     requires within { (i : ℕ) → IsWithin (row_at (items_of rows.now) i) live.now }
     requires below { (c : ℕ) → has c live.now ≡ true → c < length transpose.now }
-    ensures { IfOk result (λ v. LeavesNoDominatedColumn (counted choice weights.now) live.now (items_of transpose.now) v.items) }
+    ensures { IfOk result (λ v. LeavesNoDominatedColumn (counted choice weights.now) live.now
+        (items_of transpose.now) v.items) }
 {
     let mut keep = all_marked(alloc, transpose.len())?;
     for column in live {
@@ -131,7 +137,8 @@ fn weakly_dominates(
     b: usize,
 ) -> bool
     requires { (c : ℕ) → RisesFrom 0 (row_at (items_of transpose.now) c) }
-    ensures { result ≡ weakly_dominates (counted choice weights.now) (items_of transpose.now) keep.now a b }
+    ensures { result ≡ weakly_dominates (counted choice weights.now) (items_of transpose.now)
+        keep.now a b }
 {
     a != b
         && is_marked(keep, b)
@@ -148,12 +155,13 @@ fn any_weakly_dominates(
     among: &[usize],
 ) -> bool
     requires { (c : ℕ) → RisesFrom 0 (row_at (items_of transpose.now) c) }
-    ensures { result ≡ list_any (weakly_dominates (counted choice weights.now) (items_of transpose.now) keep.now a) among.now }
+    ensures { result ≡ list_any (weakly_dominates (counted choice weights.now)
+        (items_of transpose.now) keep.now a) among.now }
 {
     among.iter().any(|b| weakly_dominates(choice, weights, transpose, keep, a, *b))
 }
 
-/// Whether another live column stands above `a`, as far as a shortest row of `a` tells.
+/// Whether another live column weakly dominates `a`, as far as a shortest row of `a` shows.
 fn is_weakly_dominated(
     choice: Choice,
     weights: &[u32],
@@ -163,9 +171,11 @@ fn is_weakly_dominated(
     keep: &[bool],
     a: usize,
 ) -> bool
-    requires transpose { IsTranspose (length transpose.now) (items_of rows.now) (items_of transpose.now) }
+    requires transpose { IsTranspose (length transpose.now) (items_of rows.now)
+        (items_of transpose.now) }
     requires within { (i : ℕ) → IsWithin (row_at (items_of rows.now) i) live.now }
-    ensures { result ≡ true → list_any (weakly_dominates (counted choice weights.now) (items_of transpose.now) keep.now a) live.now ≡ true }
+    ensures { result ≡ true → list_any (weakly_dominates (counted choice weights.now)
+        (items_of transpose.now) keep.now a) live.now ≡ true }
 {
     match shortest(rows, entry(transpose, a)) {
         None => any_weakly_dominates(choice, weights, transpose, keep, a, live),
@@ -189,9 +199,12 @@ fn weak_column_dominance(
     rows: &[Vec<usize>],
     transpose: &[Vec<usize>],
 ) -> Result<Vec<bool>, AllocError>
-    requires transpose { IsTranspose (length transpose.now) (items_of rows.now) (items_of transpose.now) }
+    requires transpose { IsTranspose (length transpose.now) (items_of rows.now)
+        (items_of transpose.now) }
     requires within { (i : ℕ) → IsWithin (row_at (items_of rows.now) i) live.now }
-    ensures { IfOk result (λ v. (t : Matrix) → IsTable t → t.live ≡ live.now → t.rows ≡ items_of rows.now → t.weights ≡ weights.now → t.columns ≡ length transpose.now → IsServed choice t v.items) }
+    ensures { IfOk result (λ v. (t : Matrix) → IsTable t → t.live ≡ live.now
+        → t.rows ≡ items_of rows.now → t.weights ≡ weights.now → t.columns ≡ length transpose.now
+        → IsServed choice t v.items) }
 {
     let mut keep = all_marked(alloc, transpose.len())?;
     for column in live {
@@ -203,13 +216,14 @@ fn weak_column_dominance(
 }
 
 impl Table {
-    /// Lets each column leave that stands under another; `None` where there is none.
+    /// Lets each column leave that another dominates; `None` if there is none.
     pub(crate) fn drop_dominated_columns(
         &self,
         alloc: Global,
         choice: Choice,
     ) -> Result<Option<Table>, AllocError>
-        ensures { IfOk result (λ o. MatchOption o (HasNoDominatedColumn choice self.now) (Shrinks choice self.now)) }
+        ensures { IfOk result (λ o. MatchOption o (HasNoDominatedColumn choice self.now)
+            (Shrinks choice self.now)) }
     {
         let transpose = self.transpose(alloc)?;
         let keep = column_dominance(
@@ -229,8 +243,8 @@ impl Table {
         Ok(Some(self.with(alloc, taken, live, rows)?))
     }
 
-    /// Lets each column leave that stands under any other which counts no more, in a search for some cover within a
-    /// budget; `None` where none leaves.
+    /// Lets each column leave that any other dominates which counts no more, in a search for some cover within a
+    /// budget; `None` if none leaves.
     pub(crate) fn drop_weakly_dominated_columns(
         &self,
         alloc: Global,

@@ -1,6 +1,6 @@
 //! A wish: columns on two sides, such that no row has columns on both.
 //!
-//! Columns hang together where a row has both. They are joined row by row, and whole groups are then put on one side
+//! Columns hang together if a row has both. They are joined row by row, and whole groups are then put on one side
 //! until it has half of the rows. What comes out is looked at before it is used.
 
 use crate::covering::local_search::{number, set};
@@ -51,7 +51,7 @@ fn sizes(
     Ok(sizes)
 }
 
-/// Marks the columns of one side, or `None` where all rows hang together.
+/// Marks the columns of one side, or `None` if all rows hang together.
 pub(crate) fn wished_side(
     alloc: Global,
     rows: &[Vec<usize>],

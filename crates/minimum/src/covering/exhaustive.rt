@@ -1,4 +1,4 @@
-//! The plain search: every choice of live columns, in rising size.
+//! The exhaustive search: every choice of live columns, in rising size.
 
 ghost use Rattle.std.specs.Prelude.{◌≡◌, ◌<◌, ◌^◌, [], IfOk, option_map, length, Some, None};
 ghost use Rattle.std.specs.List.{list_all};
@@ -21,19 +21,21 @@ fn live_choices(
 ) -> Result<Combinations<usize, Global>, AllocError>
     ensures can { IfOk result combination_can }
     ensures pool { IfOk result (λ c. c.pool.items ≡ live.now) }
-    ensures places { IfOk result (λ c. combination_left c ≡ ways ascending_low (ascending_high (length c.pool.items) size) size []) }
+    ensures places { IfOk result (λ c. combination_left c
+        ≡ ways ascending_low (ascending_high (length c.pool.items) size) size []) }
 {
     live.iter().copied().combinations(alloc, size)
 }
 
-/// The one that counts less, and the earlier of two that count the same.
+/// The one that counts less, and the earlier of two that count alike.
 fn better_of(
     choice: Choice,
     weights: &[u32],
     best: Option<Vec<usize>>,
     chosen: Vec<usize>,
 ) -> Vec<usize>
-    ensures { better (counted choice weights.now) (option_map (λ v. v.items) best) chosen.items ≡ Some result.items }
+    ensures { better (counted choice weights.now) (option_map (λ v. v.items) best) chosen.items
+        ≡ Some result.items }
 {
     let Some(best) = best else {
         return chosen;
@@ -54,7 +56,9 @@ fn best_choice(
     rows: &[Vec<usize>],
     size: usize,
 ) -> Result<Option<Vec<usize>>, AllocError>
-    ensures { IfOk result (λ o. option_map (λ v. v.items) o ≡ best_of (counted choice weights.now) (λ s. list_all (λ row. meets s row.items) rows.now) None (choices size live.now)) }
+    ensures { IfOk result (λ o. option_map (λ v. v.items) o
+        ≡ best_of (counted choice weights.now) (λ s. list_all (λ row. meets s row.items) rows.now)
+        None (choices size live.now)) }
 {
     let mut best: Option<Vec<usize>> = None;
     for chosen in live_choices(alloc, live, size)? {
@@ -74,7 +78,8 @@ impl Table {
         choice: Choice,
         size: usize,
     ) -> Result<Option<Vec<usize>>, AllocError>
-        ensures found { IfOk result (λ o. option_map (λ v. v.items) o ≡ best_choice choice self.now size) }
+        ensures found { IfOk result (λ o. option_map (λ v. v.items) o
+            ≡ best_choice choice self.now size) }
         ensures table { IsTable self.now }
         ensures long { length self.now.live < 2 ^ 64 }
     {

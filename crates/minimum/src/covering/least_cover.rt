@@ -1,10 +1,10 @@
 //! The least cover: its length, then what it counts, and then the first such cover in list order.
 //!
 //! A cover of the least length is found by asking for shorter ones until there is none; with literals, covers with
-//! fewer are asked for in the same way. Then the columns are settled one by one, in list order. Where the witness, a
-//! cover within the budget, has the next column, so has the least cover; else it is asked whether some cover within the
-//! budget has it, which gives a new witness or drops the column. Many columns are asked for at once, by a further row of
-//! them: where no cover has one of them all are dropped.
+//! fewer are asked for in the same way. Then the columns are settled one by one, in list order. If the witness, a cover
+//! within the budget, has the next column, so has the least cover; else it is asked whether some cover within the
+//! budget has it, which gives a new witness or drops the column. Many columns are asked for at once, by a further row
+//! of them: if no cover has one of them all are dropped.
 
 ghost use Rattle.std.specs.Prelude.{◌≡◌, ◌≢◌, ◌≤◌, ◌<◌, ◌+◌, ◌++◌, ◌∷◌, [], ℕ, IfOk, MatchOption, filter, ◌==◌, true, false};
 ghost use Rattle.std.specs.List.{list_all};
@@ -82,8 +82,10 @@ impl Stage {
         keep: &[bool],
     ) -> Result<Stage, AllocError>
         requires stage { IsStage choice budget.columns budget.counts self.table self.witness.items }
-        requires outside { (c : ℕ) → has c self.table.live ≡ true → marked keep.now c ≡ false → IsOutside choice self.table budget.columns budget.counts c }
-        ensures stage { IfOk result (λ s. IsStage choice budget.columns budget.counts s.table s.witness.items) }
+        requires outside { (c : ℕ) → has c self.table.live ≡ true → marked keep.now c ≡ false
+            → IsOutside choice self.table budget.columns budget.counts c }
+        ensures stage { IfOk result (λ s. IsStage choice budget.columns budget.counts s.table
+            s.witness.items) }
         ensures next { IfOk result (λ s. Continues choice self.table s.table) }
         ensures live { IfOk result (λ s. s.table.live ≡ filter (marked keep.now) self.table.live) }
     {
@@ -94,7 +96,7 @@ impl Stage {
         }
     }
 
-    /// Drops a batch of columns where no cover within the budget has one of them; else there is a new witness.
+    /// Drops a batch of columns if no cover within the budget has one of them; else there is a new witness.
     fn ask_for_many(
         self,
         alloc: Global,
@@ -104,7 +106,8 @@ impl Stage {
         help: &mut Help,
     ) -> Result<Stage, AllocError>
         requires { IsStage choice budget.columns budget.counts self.table self.witness.items }
-        ensures stage { IfOk result (λ s. IsStage choice budget.columns budget.counts s.table s.witness.items) }
+        ensures stage { IfOk result (λ s. IsStage choice budget.columns budget.counts s.table
+            s.witness.items) }
         ensures next { IfOk result (λ s. Continues choice self.table s.table) }
     {
         let live = self.table.live_columns();
@@ -137,7 +140,7 @@ impl Stage {
         }
     }
 
-    /// Takes the first live column where some cover within the budget has it, and else drops it.
+    /// Takes the first live column if some cover within the budget has it, and else drops it.
     fn ask_for_one(
         self,
         alloc: Global,
@@ -149,7 +152,8 @@ impl Stage {
         requires stage { IsStage choice budget.columns budget.counts self.table self.witness.items }
         requires live { has column self.table.live ≡ true }
         requires first { (c : ℕ) → has c self.table.live ≡ true → column ≤ c }
-        ensures stage { IfOk result (λ s. IsStage choice budget.columns budget.counts s.table s.witness.items) }
+        ensures stage { IfOk result (λ s. IsStage choice budget.columns budget.counts s.table
+            s.witness.items) }
         ensures next { IfOk result (λ s. Continues choice self.table s.table) }
         ensures gone { IfOk result (λ s. has column s.table.live ≡ false) }
     {
@@ -177,7 +181,7 @@ impl Stage {
         }
     }
 
-    /// Drops the columns that row weights tell to be in no cover within the budget.
+    /// Drops the columns that row weights show to be in no cover within the budget.
     fn bounded(
         self,
         alloc: Global,
@@ -186,7 +190,8 @@ impl Stage {
         help: &mut Help,
     ) -> Result<Stage, AllocError>
         requires { IsStage choice budget.columns budget.counts self.table self.witness.items }
-        ensures stage { IfOk result (λ s. IsStage choice budget.columns budget.counts s.table s.witness.items) }
+        ensures stage { IfOk result (λ s. IsStage choice budget.columns budget.counts s.table
+            s.witness.items) }
         ensures next { IfOk result (λ s. Continues choice self.table s.table) }
     {
         match self
@@ -198,7 +203,7 @@ impl Stage {
         }
     }
 
-    /// Drops such columns until weights tell of no more.
+    /// Drops such columns until weights show no more.
     fn narrowed(
         self,
         alloc: Global,
@@ -207,7 +212,8 @@ impl Stage {
         help: &mut Help,
     ) -> Result<Stage, AllocError>
         requires { IsStage choice budget.columns budget.counts self.table self.witness.items }
-        ensures stage { IfOk result (λ s. IsStage choice budget.columns budget.counts s.table s.witness.items) }
+        ensures stage { IfOk result (λ s. IsStage choice budget.columns budget.counts s.table
+            s.witness.items) }
         ensures next { IfOk result (λ s. Continues choice self.table s.table) }
     {
         let mut stage = self;
@@ -231,7 +237,8 @@ impl Stage {
     ) -> Result<Stage, AllocError>
         requires stage { IsStage choice budget.columns budget.counts self.table self.witness.items }
         requires first { (c : ℕ) → has c self.table.live ≡ true → column ≤ c }
-        ensures stage { IfOk result (λ s. IsStage choice budget.columns budget.counts s.table s.witness.items) }
+        ensures stage { IfOk result (λ s. IsStage choice budget.columns budget.counts s.table
+            s.witness.items) }
         ensures next { IfOk result (λ s. Continues choice self.table s.table) }
         ensures gone { IfOk result (λ s. has column s.table.live ≡ false) }
     {
@@ -296,14 +303,15 @@ impl Table {
         copied(alloc, stage.table.taken_columns())
     }
 
-    /// A shorter cover; `None` where there is none.
+    /// A shorter cover; `None` if there is none.
     fn shorter(
         &self,
         alloc: Global,
         columns: usize,
         warm_start: &mut WarmStart,
     ) -> Result<Option<Vec<usize>>, AllocError>
-        ensures { IfOk result (λ o. MatchOption o (IsShortest self.now columns) (λ v. HasShorter self.now columns v.items)) }
+        ensures { IfOk result (λ o. MatchOption o (IsShortest self.now columns)
+            (λ v. HasShorter self.now columns v.items)) }
     {
         let Some(columns) = columns.checked_sub(1) else {
             return Ok(None);
@@ -354,7 +362,7 @@ impl Table {
         Ok(cover)
     }
 
-    /// A cover of so many columns with fewer literals; `None` where every cover is longer or has as many.
+    /// A cover of so many columns with fewer literals; `None` if every cover is longer or has as many.
     fn with_fewer(
         &self,
         alloc: Global,
@@ -362,7 +370,8 @@ impl Table {
         literals: u128,
         warm_start: &mut WarmStart,
     ) -> Result<Option<Vec<usize>>, AllocError>
-        ensures { IfOk result (λ o. MatchOption o (IsFewest self.now columns literals) (λ v. HasFewer self.now columns literals v.items)) }
+        ensures { IfOk result (λ o. MatchOption o (IsFewest self.now columns literals)
+            (λ v. HasFewer self.now columns literals v.items)) }
     {
         let Some(counts) = literals.checked_sub(1) else {
             return Ok(None);
@@ -398,7 +407,7 @@ impl Table {
         }
     }
 
-    /// Fewer literals than which covers of so many columns hardly have, as far as row weights tell: a wish.
+    /// Fewer literals than which covers of so many columns hardly have, as far as row weights show: a wish.
     fn wished(
         &self,
         alloc: Global,
@@ -422,7 +431,7 @@ impl Table {
         }
     }
 
-    /// The least cover, of all rows at once. Where all live columns count alike, size decides before what they count.
+    /// The least cover, of all rows at once. If all live columns count alike, size decides before what they count.
     pub(crate) fn least_of_whole(
         &self,
         alloc: Global,

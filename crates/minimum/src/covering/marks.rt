@@ -11,7 +11,8 @@ use std::alloc::{AllocError, Global};
 
 /// Marks what the marks leave.
 pub(crate) fn others(alloc: Global, marks: &[bool], end: usize) -> Result<Vec<bool>, AllocError>
-    ensures { IfOk result (λ v. v.items ≡ map (λ c. not (marked marks.now c)) (range_with_len 0 end)) }
+    ensures { IfOk result (λ v. v.items ≡ map (λ c. not (marked marks.now c))
+        (range_with_len 0 end)) }
 {
     (0..end).map(|c| !is_marked(marks, c)).collect(alloc)
 }
@@ -44,7 +45,8 @@ pub(crate) fn untouched_rows(
     rows: &[Vec<usize>],
     keep: &[bool],
 ) -> Result<Vec<Vec<usize>>, AllocError>
-    ensures { IfOk result (λ v. items_of v.items ≡ filter (list_all (marked keep.now)) (items_of rows.now)) }
+    ensures { IfOk result (λ v. items_of v.items
+        ≡ filter (list_all (marked keep.now)) (items_of rows.now)) }
 {
     let mut kept = Vec::new(alloc);
     for row in rows {
@@ -61,7 +63,8 @@ pub(crate) fn marked_rows(
     rows: &[Vec<usize>],
     stay: &[bool],
 ) -> Result<Vec<Vec<usize>>, AllocError>
-    ensures { IfOk result (λ v. items_of v.items ≡ rows_from (marked stay.now) 0 (items_of rows.now)) }
+    ensures { IfOk result (λ v. items_of v.items
+        ≡ rows_from (marked stay.now) 0 (items_of rows.now)) }
 {
     let mut kept = Vec::new(alloc);
     for (i, row) in rows.iter().enumerate() {
@@ -107,7 +110,8 @@ pub(crate) fn rows_of_marked(
     rows: &[Vec<usize>],
     keep: &[bool],
 ) -> Result<Vec<Vec<usize>>, AllocError>
-    ensures { IfOk result (λ v. items_of v.items ≡ map (filter (marked keep.now)) (items_of rows.now)) }
+    ensures { IfOk result (λ v. items_of v.items
+        ≡ map (filter (marked keep.now)) (items_of rows.now)) }
 {
     let mut kept = Vec::new(alloc);
     for row in rows {

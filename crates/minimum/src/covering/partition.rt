@@ -1,6 +1,6 @@
 //! The least cover, part by part.
 //!
-//! Where the rows fall into parts that share no column, a list is a cover where it has a cover of each part, and no
+//! If the rows fall into parts that share no column, a list is a cover if it has a cover of each part, and no
 //! part asks what another has. Lists compare by their length, then by what they count, and then by the least column in
 //! which they differ; so the least covers of the parts together are the least cover. Without this, the questions that
 //! find the least cover would be asked of all parts together. Which columns make a part is wished for, and it is looked
@@ -53,7 +53,7 @@ impl Table {
         self.with(alloc, taken, live, rows)
     }
 
-    /// Two tables of about half of the rows each, where the rows fall into parts that share no column.
+    /// Two tables of about half of the rows each, if the rows fall into parts that share no column.
     fn parts(&self, alloc: Global) -> Result<Option<Parts>, AllocError>
         ensures { IfOk result (λ o. IfSome o (λ p. AreParts self.now p.one p.other)) }
     {
@@ -74,7 +74,7 @@ impl Table {
         Ok(Some(Parts { one, other }))
     }
 
-    /// The least cover: of a table in numbers of its own, which is cheaper where many columns are not live.
+    /// The least cover: of a table in numbers of its own, which is cheaper if many columns are not live.
     #[cycle(parts)]
     pub(crate) fn least_by_parts(
         &self,
@@ -92,7 +92,7 @@ impl Table {
         }
     }
 
-    /// The same, of each part by itself.
+    /// The least cover, of each part by itself.
     #[cycle(parts)]
     fn least_of_parts(&self, alloc: Global, choice: Choice) -> Result<Vec<usize>, AllocError>
         ensures { IfOk result (λ v. IsLeast choice self.now v.items) }

@@ -3,7 +3,7 @@
 //! A pass first lists for each column the rows in which it stands. A row that has all columns of another stands among
 //! the rows of that row's rarest column; a column that stands in all rows of another stands in that column's shortest
 //! row. So candidates are few, and each is tested by a binary search for each number. What leaves is marked, and leaves
-//! in one go: each of it has a witness that stays, so that it could leave step by step. Where a pass marks nothing, no
+//! in one go: each of it has a witness that stays, so that it could leave step by step. If a pass marks nothing, no
 //! step of its kind applies.
 
 ghost use Rattle.std.specs.Prelude.{◌≡◌, ◌<◌, ◌==◌, ◌||◌, IfOk, IfSome, MatchOption, not, filter};
@@ -19,7 +19,7 @@ use crate::covering::marks::{all_marked, is_marked, marked_columns, unmark, unto
 use crate::covering::table::Table;
 use std::alloc::{AllocError, Global};
 
-/// Takes the mark from the only column of the row, where it has only one.
+/// Takes the mark from the only column of the row, if it has only one: an essential column.
 fn unmark_essential_column(keep: &mut Vec<bool>, row: &[usize])
     ensures { UnmarksEssentialColumn keep.old.items row.now keep.new.items }
 {
@@ -51,7 +51,8 @@ pub(crate) fn taken_with(
     columns: usize,
 ) -> Result<Vec<usize>, AllocError>
     requires { RisesFrom 0 taken.now }
-    ensures { IfOk result (λ v. v.items ≡ filter (λ n. has n taken.now || not (marked keep.now n)) (range_with_len 0 columns)) }
+    ensures { IfOk result (λ v. v.items ≡ filter (λ n. has n taken.now || not (marked keep.now n))
+        (range_with_len 0 columns)) }
 {
     (0..columns)
         .filter(|n| holds(taken, *n) || !is_marked(keep, *n))
@@ -59,13 +60,14 @@ pub(crate) fn taken_with(
 }
 
 impl Table {
-    /// Takes each column that is the only one of a row; `None` where there is no such row.
+    /// Takes each column that is the only one of a row; `None` if there is no such row.
     fn take_essential_columns(
         &self,
         alloc: Global,
         choice: Choice,
     ) -> Result<Option<Table>, AllocError>
-        ensures { IfOk result (λ o. MatchOption o (HasNoEssentialColumn self.now) (Shrinks choice self.now)) }
+        ensures { IfOk result (λ o. MatchOption o (HasNoEssentialColumn self.now)
+            (Shrinks choice self.now)) }
     {
         let keep = inessential_columns(alloc, self.row_lists(), self.columns())?;
         let live = marked_columns(alloc, self.live_columns(), &keep)?;
@@ -77,7 +79,7 @@ impl Table {
         Ok(Some(self.with(alloc, taken, live, rows)?))
     }
 
-    /// The table after one pass that changes it, in a search for some cover within a budget; `None` where none does.
+    /// The table after one pass that changes it, in a search for some cover within a budget; `None` if none does.
     fn lighter(&self, alloc: Global, choice: Choice) -> Result<Option<Table>, AllocError>
         ensures { IfOk result (λ o. IfSome o (IsLighter choice self.now)) }
     {
@@ -102,7 +104,7 @@ impl Table {
         Ok(table)
     }
 
-    /// The table after all passes.
+    /// The cyclic core: the table after all passes.
     pub(crate) fn cyclic_core(&self, alloc: Global, choice: Choice) -> Result<Table, AllocError>
         ensures steps { IfOk result (Steps choice self.now) }
         ensures table { IsTable self.now }
@@ -115,9 +117,10 @@ impl Table {
         Ok(table)
     }
 
-    /// The table after one pass that changes it; `None` where none does.
+    /// The table after one pass that changes it; `None` if none does.
     fn reduced_once(&self, alloc: Global, choice: Choice) -> Result<Option<Table>, AllocError>
-        ensures { IfOk result (λ o. MatchOption o (IsReduced choice self.now) (Shrinks choice self.now)) }
+        ensures { IfOk result (λ o. MatchOption o (IsReduced choice self.now)
+            (Shrinks choice self.now)) }
     {
         if let Some(table) = self.take_essential_columns(alloc, choice)? {
             return Ok(Some(table));
@@ -133,7 +136,7 @@ impl Table {
 /// taken and its rows leave, and a live column leaves under a live one that stands in all its rows and comes first,
 /// which with `Choice::Literals` means fewer literals, or as many and a smaller number.
 ///
-/// The least cover stays the same. Where memory is refused the table is gone.
+/// The least cover stays as it is. If memory is refused the table is gone.
 pub fn reduce(alloc: Global, table: Table, choice: Choice) -> Result<Table, AllocError>
     ensures steps { IfOk result (Steps choice table) }
     ensures reduced { IfOk result (IsReduced choice) }

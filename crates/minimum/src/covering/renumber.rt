@@ -13,7 +13,7 @@ use crate::covering::columns::{count, joined};
 use crate::covering::table::Table;
 use std::alloc::{AllocError, Global};
 
-/// The column with the number, 0 where there is none.
+/// The column with the number, 0 if there is none.
 fn column_at(live: &[usize], number: usize) -> usize
     ensures { result ≡ pick live.now number }
 {
@@ -54,13 +54,14 @@ fn numbers_of(
     Ok(Some(numbers))
 }
 
-/// The same of all rows.
+/// The numbers of the columns of each row.
 fn numbers_of_rows(
     alloc: Global,
     live: &[usize],
     rows: &[Vec<usize>],
 ) -> Result<Option<Vec<Vec<usize>>>, AllocError>
-    ensures { IfOk result (λ o. IfSome o (λ v. map (map (pick live.now)) (items_of v.items) ≡ items_of rows.now)) }
+    ensures { IfOk result (λ o. IfSome o (λ v. map (map (pick live.now)) (items_of v.items)
+        ≡ items_of rows.now)) }
 {
     let mut lists = Vec::new(alloc);
     for row in rows {
@@ -113,7 +114,8 @@ impl Table {
         alloc: Global,
         numbers: &[usize],
     ) -> Result<Vec<usize>, AllocError>
-        ensures { IfOk result (λ v. v.items ≡ join self.now.taken (map (pick self.now.live) numbers.now)) }
+        ensures { IfOk result (λ v. v.items ≡ join self.now.taken
+            (map (pick self.now.live) numbers.now)) }
     {
         let columns = columns_of(alloc, self.live_columns(), numbers)?;
         joined(alloc, self.taken_columns(), &columns)

@@ -56,8 +56,10 @@ fn row_dominance(
     transpose: &[Vec<usize>],
 ) -> Result<Vec<bool>, AllocError>
     requires rising { AreRising (items_of rows.now) }
-    requires transpose { IsTranspose (length transpose.now) (items_of rows.now) (items_of transpose.now) }
-    requires within { (i c : ℕ) → has c (row_at (items_of rows.now) i) ≡ true → c < length transpose.now }
+    requires transpose { IsTranspose (length transpose.now) (items_of rows.now)
+        (items_of transpose.now) }
+    requires within { (i c : ℕ) → has c (row_at (items_of rows.now) i) ≡ true
+        → c < length transpose.now }
     requires filled { (i : ℕ) → i < length rows.now → row_at (items_of rows.now) i ≢ [] }
     ensures { IfOk result (λ v. LeavesNoDominatingRow (items_of rows.now) v.items) }
 {
@@ -72,13 +74,14 @@ fn row_dominance(
 }
 
 impl Table {
-    /// Lets each row leave that has all columns of another; `None` where there is none.
+    /// Lets each row leave that has all columns of another; `None` if there is none.
     pub(crate) fn drop_dominating_rows(
         &self,
         alloc: Global,
         choice: Choice,
     ) -> Result<Option<Table>, AllocError>
-        ensures { IfOk result (λ o. MatchOption o (HasNoDominatingRow self.now.rows) (Shrinks choice self.now)) }
+        ensures { IfOk result (λ o. MatchOption o (HasNoDominatingRow self.now.rows)
+            (Shrinks choice self.now)) }
     {
         let transpose = self.transpose(alloc)?;
         let stay = row_dominance(alloc, self.row_lists(), &transpose)?;

@@ -1,10 +1,11 @@
 //! Whether there is a cover within a budget.
 //!
-//! A budget is a number of columns and of what they count. A search answers a cover within it, or that there is none: it
-//! narrows the table, branches on a column, taken and then dropped, and searches on. A table is narrowed by the steps of
-//! a reduction, by columns that stand under any other that counts no more, and by weights of its rows (the dual bound):
-//! where the weights are more than the budget can bear there is no cover within it, and a column that has more to spare
-//! than the slack that is left is in none. Which cover is answered is left open, so that any order of branches serves.
+//! A budget is a number of columns and of what they count. A search answers a cover within it, or that there is none:
+//! it narrows the table, branches on a column, taken and then dropped, and searches on. A table is narrowed by the
+//! steps of a reduction, by columns that stand under any other that counts no more, and by weights of its rows (the
+//! dual bound): if the weights are more than the budget can bear there is no cover within it, and a column with more
+//! slack than the gap that is left is in none. Which cover is answered is left open, so that any order of branches
+//! serves.
 
 ghost use Rattle.std.specs.Prelude.{◌≡◌, ◌≤◌, ◌<◌, ◌*◌, ◌-◌, ℕ, Vec, IfOk, IfSome, MatchOption, MatchBool, IsTrue, ◌↔◌, [], ◌==◌, ◌&&◌, ◌||◌, option_map, map, filter, not, length, true, false};
 ghost use Rattle.std.specs.List.{list_all, list_any, range_with_len};
@@ -51,7 +52,8 @@ fn rows_lacking(
     rows: &[Vec<usize>],
     column: usize,
 ) -> Result<Vec<Vec<usize>>, AllocError>
-    ensures { IfOk result (λ v. items_of v.items ≡ filter (λ row. not (has column row)) (items_of rows.now)) }
+    ensures { IfOk result (λ v. items_of v.items
+        ≡ filter (λ row. not (has column row)) (items_of rows.now)) }
 {
     let mut kept = Vec::new(alloc);
     for row in rows {
@@ -78,7 +80,8 @@ fn chosen_of(
 ) -> Result<Vec<usize>, AllocError>
     requires taken { RisesFrom 0 taken.now }
     requires live { RisesFrom 0 live.now }
-    ensures { IfOk result (λ v. v.items ≡ filter (λ n. has n taken.now || (marked marks.now n && has n live.now)) (range_with_len 0 end)) }
+    ensures { IfOk result (λ v. v.items ≡ filter
+        (λ n. has n taken.now || (marked marks.now n && has n live.now)) (range_with_len 0 end)) }
 {
     (0..end)
         .filter(|n| holds(taken, *n) || (is_marked(marks, *n) && holds(live, *n)))
@@ -192,7 +195,8 @@ impl Table {
 
     /// The table without a live column, where each row keeps one.
     fn drop_live(&self, alloc: Global, column: usize) -> Result<Option<Table>, AllocError>
-        ensures { IfOk result (λ o. MatchOption o (IsForced self.now column) (λ t. t ≡ drop_column column self.now)) }
+        ensures { IfOk result (λ o. MatchOption o (IsForced self.now column)
+            (λ t. t ≡ drop_column column self.now)) }
     {
         let rows = rows_without(alloc, self.row_lists(), column)?;
         if any_blank(&rows) {
@@ -209,7 +213,9 @@ impl Table {
         alloc: Global,
         keep: &[bool],
     ) -> Result<Option<Table>, AllocError>
-        ensures kept { IfOk result (λ o. MatchOption o (list_any is_blank (map (filter (marked keep.now)) self.now.rows) ≡ true) (λ t. t ≡ keep_columns (marked keep.now) self.now)) }
+        ensures kept { IfOk result (λ o. MatchOption o (list_any is_blank
+            (map (filter (marked keep.now)) self.now.rows) ≡ true)
+            (λ t. t ≡ keep_columns (marked keep.now) self.now)) }
         ensures table { IsTable self.now }
     {
         let rows = rows_of_marked(alloc, self.row_lists(), keep)?;
@@ -223,7 +229,9 @@ impl Table {
 
     /// Whether the taken columns alone go past the budget.
     fn is_over_budget(&self, choice: Choice, budget: Budget) -> bool
-        ensures { MatchBool result (NoneWithin choice self.now budget.columns budget.counts) ((length self.now.taken ≤ budget.columns) × (sum_over (counted choice self.now.weights) self.now.taken ≤ budget.counts)) }
+        ensures { MatchBool result (NoneWithin choice self.now budget.columns budget.counts)
+            ((length self.now.taken ≤ budget.columns)
+            × (sum_over (counted choice self.now.weights) self.now.taken ≤ budget.counts)) }
     {
         if self.taken_columns().len() > budget.columns {
             return true;
@@ -256,14 +264,15 @@ impl Table {
 
     /// All columns marked.
     fn any_marked(&self, alloc: Global) -> Result<Vec<bool>, AllocError>
-        ensures { IfOk result (λ v. (c : ℕ) → has c self.now.live ≡ true → marked v.items c ≡ true) }
+        ensures { IfOk result (λ v. (c : ℕ) → has c self.now.live ≡ true
+            → marked v.items c ≡ true) }
     {
         let _live = self.live_columns();
         all_marked(alloc, self.columns())
     }
 
-    /// Marks the columns that a cover within the budget may have, as far as these row weights and shares tell; `None`
-    /// where they tell that there is no such cover.
+    /// Marks the columns that a cover within the budget may have, as far as these multipliers show; `None` if they
+    /// show that there is no such cover.
     fn kept_by(
         &self,
         alloc: Global,
@@ -271,7 +280,9 @@ impl Table {
         budget: Budget,
         multipliers: &Multipliers,
     ) -> Result<Option<Vec<bool>>, AllocError>
-        ensures { IfOk result (λ o. MatchOption o (NoneWithin choice self.now budget.columns budget.counts) (λ v. (c : ℕ) → has c self.now.live ≡ true → marked v.items c ≡ false → IsOutside choice self.now budget.columns budget.counts c)) }
+        ensures { IfOk result (λ o. MatchOption o (NoneWithin choice self.now budget.columns
+            budget.counts) (λ v. (c : ℕ) → has c self.now.live ≡ true → marked v.items c ≡ false
+            → IsOutside choice self.now budget.columns budget.counts c)) }
     {
         let rows = self.row_lists();
         if multipliers.weights.len() != rows.len() || rows.len() >= 4611686018427387904 {
@@ -304,7 +315,7 @@ impl Table {
         Ok(Some(columns_within_gap(alloc, &scaled_costs, &loads.loads, limit - loads.total)?))
     }
 
-    /// The same for weights that are wished for.
+    /// Marks them by multipliers that are wished for.
     pub(crate) fn kept_within(
         &self,
         alloc: Global,
@@ -312,7 +323,9 @@ impl Table {
         budget: Budget,
         warm_start: &mut WarmStart,
     ) -> Result<Option<Vec<bool>>, AllocError>
-        ensures { IfOk result (λ o. MatchOption o (NoneWithin choice self.now budget.columns budget.counts) (λ v. (c : ℕ) → has c self.now.live ≡ true → marked v.items c ≡ false → IsOutside choice self.now budget.columns budget.counts c)) }
+        ensures { IfOk result (λ o. MatchOption o (NoneWithin choice self.now budget.columns
+            budget.counts) (λ v. (c : ℕ) → has c self.now.live ≡ true → marked v.items c ≡ false
+            → IsOutside choice self.now budget.columns budget.counts c)) }
     {
         let compact = self.compact(alloc, choice)?;
         let goal = self.goal(choice, budget);
@@ -327,7 +340,7 @@ impl Table {
         self.kept_by(alloc, choice, budget, &multipliers)
     }
 
-    /// The table without the columns that no cover within the budget has, as far as row weights tell.
+    /// The table without the columns that no cover within the budget has, as far as row weights show.
     fn bounded(
         &self,
         alloc: Global,
@@ -335,7 +348,8 @@ impl Table {
         budget: Budget,
         warm_start: &mut WarmStart,
     ) -> Result<Option<Table>, AllocError>
-        ensures { IfOk result (λ o. MatchOption o (NoneWithin choice self.now budget.columns budget.counts) (IsNarrowed choice budget.columns budget.counts self.now)) }
+        ensures { IfOk result (λ o. MatchOption o (NoneWithin choice self.now budget.columns
+            budget.counts) (IsNarrowed choice budget.columns budget.counts self.now)) }
     {
         let Some(keep) = self.kept_within(alloc, choice, budget, warm_start)? else {
             return Ok(None);
@@ -343,7 +357,7 @@ impl Table {
         self.keep_marked(alloc, &keep)
     }
 
-    /// The table as far as a search within the budget has to look at it; `None` where there is no cover.
+    /// The table as far as a search within the budget has to look at it; `None` if there is no cover.
     fn narrowed(
         &self,
         alloc: Global,
@@ -351,7 +365,8 @@ impl Table {
         budget: Budget,
         warm_start: &mut WarmStart,
     ) -> Result<Option<Table>, AllocError>
-        ensures { IfOk result (λ o. MatchOption o (NoneWithin choice self.now budget.columns budget.counts) (IsNarrowed choice budget.columns budget.counts self.now)) }
+        ensures { IfOk result (λ o. MatchOption o (NoneWithin choice self.now budget.columns
+            budget.counts) (IsNarrowed choice budget.columns budget.counts self.now)) }
     {
         let mut table = self.lightened(alloc, choice)?;
         loop {
@@ -367,7 +382,8 @@ impl Table {
 
     /// A live column to branch on: the likeliest one of a shortest row.
     fn likeliest(&self, alloc: Global, warm_start: &WarmStart) -> Result<Option<usize>, AllocError>
-        ensures live { IfOk result (λ o. MatchOption o (self.now.live ≡ []) (λ c. has c self.now.live ≡ true)) }
+        ensures live { IfOk result (λ o. MatchOption o (self.now.live ≡ [])
+            (λ c. has c self.now.live ≡ true)) }
         ensures table { IsTable self.now }
     {
         let numbers = entanglement(alloc, self.row_lists(), self.columns())?;
@@ -378,7 +394,7 @@ impl Table {
         Ok(self.live.first().copied())
     }
 
-    /// A cover within the budget, or none where there is none.
+    /// A cover within the budget, or none if there is none.
     #[cycle(search)]
     fn search(
         &self,
@@ -387,7 +403,8 @@ impl Table {
         budget: Budget,
         warm_start: &WarmStart,
     ) -> Result<Option<Vec<usize>>, AllocError>
-        ensures { IfOk result (λ o. Answers choice self.now budget.columns budget.counts (option_map (λ v. v.items) o)) }
+        ensures { IfOk result (λ o. Answers choice self.now budget.columns budget.counts
+            (option_map (λ v. v.items) o)) }
     {
         let mut warm_start = warm_start.copy(alloc)?;
         match self.narrowed(alloc, choice, budget, &mut warm_start)? {
@@ -396,7 +413,7 @@ impl Table {
         }
     }
 
-    /// The same, by taking a live column, and if that leads to no cover by dropping it.
+    /// A cover within the budget by taking a live column, and if that leads to none by dropping it.
     #[cycle(search)]
     fn branch(
         &self,
@@ -405,7 +422,8 @@ impl Table {
         budget: Budget,
         warm_start: &WarmStart,
     ) -> Result<Option<Vec<usize>>, AllocError>
-        ensures { IfOk result (λ o. Answers choice self.now budget.columns budget.counts (option_map (λ v. v.items) o)) }
+        ensures { IfOk result (λ o. Answers choice self.now budget.columns budget.counts
+            (option_map (λ v. v.items) o)) }
     {
         if self.is_over_budget(choice, budget) {
             return Ok(None);
@@ -434,7 +452,8 @@ impl Table {
         budget: Budget,
         marks: &[bool],
     ) -> Result<Option<Vec<usize>>, AllocError>
-        ensures { IfOk result (λ o. IfSome o (λ v. IsAnswer choice self.now budget.columns budget.counts v.items)) }
+        ensures { IfOk result (λ o. IfSome o (λ v. IsAnswer choice self.now budget.columns
+            budget.counts v.items)) }
     {
         let cover = chosen_of(
             alloc,
@@ -464,7 +483,8 @@ impl Table {
         goal: Goal,
         steps: usize,
     ) -> Result<Option<Vec<usize>>, AllocError>
-        ensures { IfOk result (λ o. IfSome o (λ v. IsAnswer choice self.now budget.columns budget.counts v.items)) }
+        ensures { IfOk result (λ o. IfSome o (λ v. IsAnswer choice self.now budget.columns
+            budget.counts v.items)) }
     {
         let compact = self.compact(alloc, choice)?;
         let steps = steps.saturating_mul(self.row_lists().len()).min(100000);
@@ -473,7 +493,7 @@ impl Table {
         self.completed(alloc, choice, budget, &marks)
     }
 
-    /// A cover within the budget, or none where there is none: a local search looks for one before the branches.
+    /// A cover within the budget, or none if there is none: a local search looks for one before the branches.
     pub(crate) fn decide(
         &self,
         alloc: Global,
@@ -481,7 +501,8 @@ impl Table {
         budget: Budget,
         warm_start: &mut WarmStart,
     ) -> Result<Option<Vec<usize>>, AllocError>
-        ensures { IfOk result (λ o. Answers choice self.now budget.columns budget.counts (option_map (λ v. v.items) o)) }
+        ensures { IfOk result (λ o. Answers choice self.now budget.columns budget.counts
+            (option_map (λ v. v.items) o)) }
     {
         let Some(table) = self.narrowed(alloc, choice, budget, warm_start)? else {
             return Ok(None);

@@ -1,18 +1,19 @@
 //! Wishes for the weights of rows: a heuristic, which owes nothing to anyone.
 //!
-//! Whole-number subgradient steps with momentum on the Lagrangian relaxation of the covering problem (Held and Karp).
-//! A column has a cap: a share for itself, and one for each thing that it counts. A step lowers the rows of columns
-//! that bear more than their caps and raises the others. From time to time the weights are polished: cut where more
-//! than one column bears too much, and raised by the least room of the row's columns. The first weights are disturbed,
-//! since with even ones all columns of a symmetric table would cross their caps together; and where the steps end just
-//! short of what is wished for, they go on from weights a quarter of the way to their mean. A search hands its weights
-//! on. The cost is that of reading all rows some times a step; whatever comes out is looked at before it is used.
+//! Whole-number subgradient steps with momentum on the Lagrangian relaxation of the covering problem (Held and Karp). A
+//! column has a scaled cost: a multiplier for itself, and one for each thing that it counts. A step lowers the rows of
+//! columns that bear more than their scaled costs and raises the others. From time to time the weights are polished:
+//! cut if more than one column bears too much, and raised by the least room of the row's columns. The first weights are
+//! disturbed, since with even ones all columns of a symmetric table would cross their scaled costs together; and if the
+//! steps end just short of what is wished for, they go on from weights a quarter of the way to their mean. A search
+//! hands its weights on. The cost is that of reading all rows some times a step; whatever comes out is looked at before
+//! it is used.
 
 use crate::choice::Choice;
 use crate::covering::columns::{copied_rows, count};
 use std::alloc::{AllocError, Global};
 
-/// The share of a column where it is not itself asked for.
+/// The multiplier of a column if it is not itself asked for.
 pub(crate) const UNIT: i64 = 16777216;
 
 /// How likely a column is thought to be at most.
@@ -144,7 +145,7 @@ impl Compact {
         })
     }
 
-    /// Whether the columns do not all cost the same.
+    /// Whether the columns do not all cost alike.
     pub(crate) fn is_uneven(&self) -> bool {
         let mut uneven = false;
         for cost in &self.costs {
@@ -161,7 +162,8 @@ pub(crate) struct Goal {
     pub(crate) counts: i64,
 }
 
-/// Weights of rows, and the shares of a column and of each thing that it counts.
+/// The multipliers of the relaxation: weights of rows, and the parts of a column's scaled cost, for itself and for each
+/// thing that it counts.
 #[derive(Drop)]
 pub(crate) struct Multipliers {
     pub(crate) weights: Vec<u64>,
@@ -169,7 +171,7 @@ pub(crate) struct Multipliers {
     pub(crate) count: u32,
 }
 
-/// The steps: the weights and the share of a column, where they go, and the best so far.
+/// The ascent: the weights and the multiplier of a column, their direction, and the best so far.
 #[derive(Drop)]
 struct Ascent {
     weights: Vec<i64>,
@@ -199,7 +201,7 @@ fn load(loads: &mut Vec<i64>, rows: &[Vec<usize>], weights: &[i64]) {
     }
 }
 
-/// What columns bear beyond their caps.
+/// What columns bear beyond their scaled costs.
 fn beyond(loads: &[i64], scaled_costs: &[i64]) -> i64 {
     let mut beyond: i64 = 0;
     for (i, load) in loads.iter().enumerate() {
@@ -208,7 +210,8 @@ fn beyond(loads: &[i64], scaled_costs: &[i64]) -> i64 {
     beyond
 }
 
-/// How much a row has to leave so that one more of its columns bears no more than its cap; nothing where one does at most.
+/// How much a row has to leave so that one more of its columns bears no more than its scaled cost; nothing if one
+/// bears more at most.
 fn excess(row: &[usize], weight: i64, loads: &[i64], scaled_costs: &[i64]) -> i64 {
     let mut number: u32 = 0;
     let mut least = weight;
@@ -231,7 +234,7 @@ fn room(row: &[usize], loads: &[i64], scaled_costs: &[i64]) -> i64 {
     if row.is_empty() { 0 } else { least.max(0) }
 }
 
-/// How far the relaxed choice falls short of one column for the row: less than nothing where it has more.
+/// How far the relaxed choice falls short of one column for the row: less than nothing if it has more.
 fn violation(row: &[usize], relaxed: &[i64]) -> i64 {
     let mut violation: i64 = 1;
     for column in row {
@@ -251,7 +254,7 @@ fn by_weight(alloc: Global, weights: &[i64]) -> Result<Vec<(i64, usize)>, AllocE
 }
 
 impl Ascent {
-    /// The caps under the share of a column.
+    /// The scaled costs under the multiplier of a column.
     fn set_scaled_costs(&mut self, costs: &[i64], column: i64) {
         let count = self.count;
         for (i, scaled_cost) in self.scaled_costs.iter_mut().enumerate() {
@@ -259,7 +262,7 @@ impl Ascent {
         }
     }
 
-    /// What weights say of a cover: more than nothing where no cover reaches the goal.
+    /// What weights say of a cover: more than nothing if no cover reaches the goal.
     fn value(&self, weights: &[i64], column: i64, goal: Goal) -> i64 {
         sum(weights)
             .wrapping_sub(beyond(&self.loads, &self.scaled_costs))
@@ -267,7 +270,7 @@ impl Ascent {
             .wrapping_sub(self.count.wrapping_mul(goal.counts))
     }
 
-    /// Polishes the weights, and keeps them where they say more than the best so far.
+    /// Polishes the weights, and keeps them if they say more than the best so far.
     fn polish(
         &mut self,
         alloc: Global,
@@ -307,7 +310,7 @@ impl Ascent {
         Ok(())
     }
 
-    /// A step along the way, which is the slope with three quarters of the last way.
+    /// A step in the direction, which is the violation with three quarters of the last direction.
     fn step(
         &mut self,
         alloc: Global,
@@ -419,8 +422,8 @@ fn found(rows: &[Vec<usize>], row: &[usize], from: usize) -> usize {
     best
 }
 
-/// What a search remembers: the rows and weights of the last bound, the share of a column, and how likely each column
-/// is thought to be in a cover.
+/// What a search remembers: the rows and weights of the last bound, the multiplier of a column, and how likely each
+/// column is thought to be in a cover.
 #[derive(Drop)]
 pub(crate) struct WarmStart {
     rows: Vec<Vec<usize>>,
@@ -451,7 +454,7 @@ impl WarmStart {
         })
     }
 
-    /// Even weights, disturbed.
+    /// Even weights, disturbed at random.
     fn first(&self, alloc: Global, table: &Compact) -> Result<Vec<i64>, AllocError> {
         let mut standing: Vec<i64> = vec![in alloc; 0; table.costs.len()]?;
         for row in &table.rows {
@@ -535,7 +538,7 @@ impl WarmStart {
         Ok(ascent)
     }
 
-    /// Notes which columns bear more than their caps.
+    /// Notes which columns bear more than their scaled costs.
     fn note_likely(&mut self, live: &[usize], ascent: &Ascent, fresh: bool) {
         for (i, column) in live.iter().enumerate() {
             let now = if at(&ascent.loads, i) > at(&ascent.scaled_costs, i) {
@@ -553,7 +556,7 @@ impl WarmStart {
         }
     }
 
-    /// Weights of the rows that are wished for, where no cover reaches the goal.
+    /// Multipliers that are wished for, to show that no cover reaches the goal.
     pub(crate) fn multipliers(
         &mut self,
         alloc: Global,

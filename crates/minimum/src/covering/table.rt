@@ -43,22 +43,36 @@ impl Model for Table {
 
     ghost Value = { Matrix };
 
-    ghost view = { λ t. record { columns = t.columns; taken = t.taken.items; live = t.live.items; rows = items_of t.rows.items; weights = t.weights.items } };
+    ghost view = { λ t. record {
+      columns = t.columns;
+      taken = t.taken.items;
+      live = t.live.items;
+      rows = items_of t.rows.items;
+      weights = t.weights.items;
+    } };
 
-    ghost invariant = { λ t. IsTable (record { columns = t.columns; taken = t.taken.items; live = t.live.items; rows = items_of t.rows.items; weights = t.weights.items }) };
+    ghost invariant = { λ t. IsTable (record {
+      columns = t.columns;
+      taken = t.taken.items;
+      live = t.live.items;
+      rows = items_of t.rows.items;
+      weights = t.weights.items;
+    }) };
 }
 
 impl Table {
     /// The table of these rows, with a column for each weight; none is taken and all are live.
     ///
-    /// A row lists its columns in rising order; a column's weight is its number of literals. `None` where some row
+    /// A row lists its columns in rising order; a column's weight is its number of literals. `None` if some row
     /// is empty, doesn't rise or has a column that has no weight. Its cost is that of reading the rows once.
     pub fn new(
         alloc: Global,
         rows: Vec<Vec<usize>>,
         weights: Vec<u32>,
     ) -> Result<Option<Table>, AllocError>
-        ensures { IfOk result (λ o. MatchOption o (AreRows (length weights.items) (items_of rows.items) → ⊥) (λ t. AreRows (length weights.items) (items_of rows.items) × (t ≡ fresh (items_of rows.items) weights.items))) }
+        ensures { IfOk result (λ o. MatchOption o (AreRows (length weights.items)
+            (items_of rows.items) → ⊥) (λ t. AreRows (length weights.items) (items_of rows.items)
+            × (t ≡ fresh (items_of rows.items) weights.items))) }
     {
         let columns = weights.len();
         if !are_rows(&rows, columns) {
@@ -139,8 +153,10 @@ impl Table {
         live: Vec<usize>,
         rows: Vec<Vec<usize>>,
     ) -> Result<Table, AllocError>
-        requires { IsTable (table_of self.now.columns taken.items live.items (items_of rows.items) self.now.weights) }
-        ensures { IfOk result (λ t. t ≡ table_of self.now.columns taken.items live.items (items_of rows.items) self.now.weights) }
+        requires { IsTable (table_of self.now.columns taken.items live.items (items_of rows.items)
+            self.now.weights) }
+        ensures { IfOk result (λ t. t ≡ table_of self.now.columns taken.items live.items
+            (items_of rows.items) self.now.weights) }
     {
         let weights: Vec<u32> = self.weights.iter().copied().collect(alloc)?;
         Ok(Table {
@@ -152,7 +168,7 @@ impl Table {
         })
     }
 
-    /// The same table.
+    /// A copy of the table.
     pub(crate) fn copied(&self, alloc: Global) -> Result<Table, AllocError>
         ensures { IfOk result (λ t. t ≡ self.now) }
     {

@@ -7,7 +7,7 @@ ghost use Rattle.minimum.specs.Reduce.{row_at, AreRising, Appends, Enters, IsTra
 use crate::covering::table::Table;
 use std::alloc::{AllocError, Global};
 
-/// The list at the place, empty where there is none.
+/// The list at the place, empty if there is none.
 pub(crate) fn entry(lists: &[Vec<usize>], place: usize) -> &[usize]
     ensures { result.now ≡ row_at (items_of lists.entry.now) place }
 {
@@ -20,7 +20,8 @@ pub(crate) fn entry(lists: &[Vec<usize>], place: usize) -> &[usize]
 
 /// Adds the number to the list at the place.
 fn append(lists: &mut Vec<Vec<usize>>, place: usize, number: usize) -> Result<(), AllocError>
-    ensures { IfOk result (λ _. Appends (items_of lists.old.items) place number (items_of lists.new.items)) }
+    ensures { IfOk result (λ _. Appends (items_of lists.old.items) place number
+        (items_of lists.new.items)) }
 {
     if place < lists.len() {
         lists[place].push(number)?;
@@ -31,7 +32,8 @@ fn append(lists: &mut Vec<Vec<usize>>, place: usize, number: usize) -> Result<()
 /// Adds the row's number to each of its columns.
 fn enter(columns: &mut Vec<Vec<usize>>, row: &[usize], number: usize) -> Result<(), AllocError>
     requires { RisesFrom 0 row.now }
-    ensures { IfOk result (λ _. Enters (items_of columns.old.items) row.now number (items_of columns.new.items)) }
+    ensures { IfOk result (λ _. Enters (items_of columns.old.items) row.now number
+        (items_of columns.new.items)) }
 {
     for column in row {
         append(columns, *column, number)?;
@@ -46,7 +48,8 @@ fn transpose(
     columns: usize,
 ) -> Result<Vec<Vec<usize>>, AllocError>
     requires { AreRising (items_of rows.now) }
-    ensures transpose { IfOk result (λ v. IsTranspose columns (items_of rows.now) (items_of v.items)) }
+    ensures transpose { IfOk result (λ v. IsTranspose columns (items_of rows.now)
+        (items_of v.items)) }
     ensures long { IfOk result (λ v. length v.items ≡ columns) }
 {
     let mut transpose: Vec<Vec<usize>> = Vec::new(alloc);
@@ -62,7 +65,8 @@ fn transpose(
 impl Table {
     /// The rows in which each column stands.
     pub(crate) fn transpose(&self, alloc: Global) -> Result<Vec<Vec<usize>>, AllocError>
-        ensures transpose { IfOk result (λ v. IsTranspose self.now.columns self.now.rows (items_of v.items)) }
+        ensures transpose { IfOk result (λ v. IsTranspose self.now.columns self.now.rows
+            (items_of v.items)) }
         ensures long { IfOk result (λ v. length v.items ≡ self.now.columns) }
     {
         transpose(alloc, self.row_lists(), self.columns())

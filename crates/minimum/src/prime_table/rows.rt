@@ -1,9 +1,9 @@
 //! Rows from split cubes.
 //!
 //! A region is a cube of one output. The primes, the ON cubes and the DC cubes that have a place of it are known by
-//! their numbers. Where no ON cube is left, or a DC cube holds the region, no place of it is wanted; where each column
-//! of an earlier row holds the region, that row already asks for more. Where no DC cube is left and one prime alone, or
-//! where nothing has a literal inside the region, the primes that are left are the row of its wanted places. Else the
+//! their numbers. If no ON cube is left, or a DC cube holds the region, no place of it is wanted; if each column of
+//! an earlier row holds the region, that row already asks for more. If no DC cube is left and one prime alone, or if
+//! nothing has a literal inside the region, the primes that are left are the row of its wanted places. Else the
 //! region is split at such a literal. So places that the same primes hold are looked at together, and mostly once.
 
 ghost use Rattle.std.specs.Prelude.{◌≡◌, ◌<◌, ◌+◌, ◌==◌, ℕ, true, false, IfOk, OnOk, MatchOption, MatchBool, All, length, filter};
@@ -123,11 +123,12 @@ fn literal_inside(cube: &Cube, region: &Cube) -> Option<usize>
     None
 }
 
-/// The same for some of the cubes.
+/// An input at which the region has a dash and one of these cubes a literal.
 fn first_inside(cubes: &[Cube], region: &Cube, numbers: &[usize]) -> Option<usize>
     requires size { All (λ d. SameSize d region.now) cubes.now }
     requires below { All (λ i. i < length cubes.now) numbers.now }
-    ensures { MatchOption result ((n : ℕ) → has n numbers.now ≡ true → HasNoneInside (cube_at cubes.now n) region.now) (IsFree region.now) }
+    ensures { MatchOption result ((n : ℕ) → has n numbers.now ≡ true
+        → HasNoneInside (cube_at cubes.now n) region.now) (IsFree region.now) }
 {
     for number in numbers {
         if let Some(i) = literal_inside(&cubes[*number], region) {
@@ -160,8 +161,10 @@ impl<'a> Lists<'a> {
         candidates: &Candidates,
         region: &Cube,
     ) -> Result<Candidates, AllocError>
-        requires { IsSplit self.now.primes.now self.now.on.now self.now.dc.now region.now candidates.now.primes.items candidates.now.on.items candidates.now.dc.items }
-        ensures { IfOk result (λ n. IsTouched self.now.primes.now self.now.on.now self.now.dc.now region.now n.primes.items n.on.items n.dc.items) }
+        requires { IsSplit self.now.primes.now self.now.on.now self.now.dc.now region.now
+            candidates.now.primes.items candidates.now.on.items candidates.now.dc.items }
+        ensures { IfOk result (λ n. IsTouched self.now.primes.now self.now.on.now self.now.dc.now
+            region.now n.primes.items n.on.items n.dc.items) }
     {
         Ok(Candidates {
             primes: touching(alloc, self.primes, region, &candidates.primes)?,
@@ -177,9 +180,12 @@ impl<'a> Lists<'a> {
         candidates: &Candidates,
         region: &Cube,
     ) -> Result<Vec<usize>, AllocError>
-        requires { IsTouched self.now.primes.now self.now.on.now self.now.dc.now region.now candidates.now.primes.items candidates.now.on.items candidates.now.dc.items }
+        requires { IsTouched self.now.primes.now self.now.on.now self.now.dc.now region.now
+            candidates.now.primes.items candidates.now.on.items candidates.now.dc.items }
         ensures rises { IfOk result (λ v. RisesFrom 0 v.items) }
-        ensures hold { IfOk result (λ v. (i : ℕ) (p : Place) → has i v.items ≡ true → holds region.now p ≡ true → difference (places self.now.on.now) (places self.now.dc.now) p ≡ true → holds_at self.now.primes.now i p ≡ true) }
+        ensures hold { IfOk result (λ v. (i : ℕ) (p : Place) → has i v.items ≡ true
+            → holds region.now p ≡ true → difference (places self.now.on.now)
+            (places self.now.dc.now) p ≡ true → holds_at self.now.primes.now i p ≡ true) }
     {
         if is_alone(&candidates.primes) {
             return copied(alloc, &candidates.primes);
@@ -195,8 +201,11 @@ impl<'a> Lists<'a> {
         region: &Cube,
         rows: &[Vec<usize>],
     ) -> Result<bool, AllocError>
-        requires { IsTouched self.now.primes.now self.now.on.now self.now.dc.now region.now candidates.now.primes.items candidates.now.on.items candidates.now.dc.items }
-        ensures { IfOk result (λ b. MatchBool b (HasRowsFor self.now.primes.now self.now.on.now self.now.dc.now (holds region.now) (items_of rows.now)) (IsOpen self.now.dc.now region.now candidates.now.on.items candidates.now.dc.items)) }
+        requires { IsTouched self.now.primes.now self.now.on.now self.now.dc.now region.now
+            candidates.now.primes.items candidates.now.on.items candidates.now.dc.items }
+        ensures { IfOk result (λ b. MatchBool b (HasRowsFor self.now.primes.now self.now.on.now
+            self.now.dc.now (holds region.now) (items_of rows.now))
+            (IsOpen self.now.dc.now region.now candidates.now.on.items candidates.now.dc.items)) }
     {
         if is_blank(&candidates.on) || any_spans(self.dc, region, &candidates.dc) {
             return Ok(true);
@@ -205,11 +214,14 @@ impl<'a> Lists<'a> {
         Ok(any_within(rows, &common_primes))
     }
 
-    /// An input to split the region at; `None` where its wanted places are in the same primes.
+    /// An input to split the region at; `None` if its wanted places are in the same primes.
     fn split(&self, candidates: &Candidates, region: &Cube) -> Option<usize>
-        requires touched { IsTouched self.now.primes.now self.now.on.now self.now.dc.now region.now candidates.now.primes.items candidates.now.on.items candidates.now.dc.items }
-        requires open { IsOpen self.now.dc.now region.now candidates.now.on.items candidates.now.dc.items }
-        ensures { MatchOption result (IsSettled self.now.primes.now self.now.on.now self.now.dc.now region.now candidates.now.primes.items) (IsFree region.now) }
+        requires touched { IsTouched self.now.primes.now self.now.on.now self.now.dc.now region.now
+            candidates.now.primes.items candidates.now.on.items candidates.now.dc.items }
+        requires open { IsOpen self.now.dc.now region.now candidates.now.on.items
+            candidates.now.dc.items }
+        ensures { MatchOption result (IsSettled self.now.primes.now self.now.on.now self.now.dc.now
+            region.now candidates.now.primes.items) (IsFree region.now) }
     {
         if is_alone(&candidates.primes) && is_blank(&candidates.dc) {
             return None;
@@ -228,8 +240,10 @@ impl<'a> Lists<'a> {
         region: &Cube,
         rows: &mut Vec<Vec<usize>>,
     ) -> Result<(), AllocError>
-        requires { IsSplit self.now.primes.now self.now.on.now self.now.dc.now region.now candidates.now.primes.items candidates.now.on.items candidates.now.dc.items }
-        ensures { OnOk result (AddsRows self.now.primes.now self.now.on.now self.now.dc.now (holds region.now) (items_of rows.old.items) (items_of rows.new.items)) }
+        requires { IsSplit self.now.primes.now self.now.on.now self.now.dc.now region.now
+            candidates.now.primes.items candidates.now.on.items candidates.now.dc.items }
+        ensures { OnOk result (AddsRows self.now.primes.now self.now.on.now self.now.dc.now
+            (holds region.now) (items_of rows.old.items) (items_of rows.new.items)) }
     {
         let candidates = self.candidates(alloc, candidates, region)?;
         if self.needs_no_row(alloc, &candidates, region, rows)? {
@@ -245,7 +259,7 @@ impl<'a> Lists<'a> {
         self.add_rows(alloc, &candidates, &high, rows)
     }
 
-    /// The same, ON cube by ON cube: so primes that are of no use to a cube's places do not multiply its splits.
+    /// Adds them ON cube by ON cube: so primes that are of no use to a cube's places do not multiply its splits.
     pub(crate) fn add_rows_by_cubes(
         &self,
         alloc: Global,
@@ -253,8 +267,10 @@ impl<'a> Lists<'a> {
         region: &Cube,
         rows: &mut Vec<Vec<usize>>,
     ) -> Result<(), AllocError>
-        requires { IsSplit self.now.primes.now self.now.on.now self.now.dc.now region.now candidates.now.primes.items candidates.now.on.items candidates.now.dc.items }
-        ensures { OnOk result (AddsRows self.now.primes.now self.now.on.now self.now.dc.now (holds region.now) (items_of rows.old.items) (items_of rows.new.items)) }
+        requires { IsSplit self.now.primes.now self.now.on.now self.now.dc.now region.now
+            candidates.now.primes.items candidates.now.on.items candidates.now.dc.items }
+        ensures { OnOk result (AddsRows self.now.primes.now self.now.on.now self.now.dc.now
+            (holds region.now) (items_of rows.old.items) (items_of rows.new.items)) }
     {
         let candidates = self.candidates(alloc, candidates, region)?;
         for cube in self.on {
