@@ -20,22 +20,19 @@ use std::alloc::{AllocError, Global};
 pub(crate) fn espresso_command<'a>(alloc: Global) -> Result<clap::Command<'a>, AllocError>
     ensures { IfOk result (λ c. app_of c ≡ espresso_app) }
 {
-    let command = Arg::new(alloc, "command").short('D');
-    let out = Arg::new(alloc, "type").short('o');
-    let eat = Arg::new(alloc, "eat").short('e');
-    let files = Arg::new(alloc, "files").action(ArgAction::Append);
-    let literals = Arg::new(alloc, "literals")
-        .long("literals")
-        .action(ArgAction::SetTrue);
     clap::Command::new(alloc, "espresso")
         .no_binary_name(true)
         .disable_help_flag(true)
         .disable_version_flag(true)
-        .arg(command)?
-        .arg(out)?
-        .arg(eat)?
-        .arg(files)?
-        .arg(literals)
+        .arg(Arg::new(alloc, "command").short('D'))?
+        .arg(Arg::new(alloc, "type").short('o'))?
+        .arg(Arg::new(alloc, "eat").short('e'))?
+        .arg(Arg::new(alloc, "files").action(ArgAction::Append))?
+        .arg(
+            Arg::new(alloc, "literals")
+                .long("literals")
+                .action(ArgAction::SetTrue),
+        )
 }
 
 // Out of memory if the parse was, and else a usage fault.
