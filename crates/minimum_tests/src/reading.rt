@@ -1,6 +1,7 @@
 //! Reading on devices that tell their bytes. What is read of whole texts is tested on the built program.
 ghost use Rattle.std.specs.Prelude.{◌<◌};
 
+use crate::tables::read;
 use pla::{Echo, Ending, FileType, Given, ReadFault, ReadKind, Scan, Taken, read_pla};
 use std::test::Fail;
 
@@ -17,16 +18,24 @@ fn a_file_is_read_in_pieces(rt: HostRuntime) -> Result<(), Fail> {
     let mut input = Given::new(TEXT.to_vec(alloc)?, 3, Ending::Failed);
     let mut output = Taken::new(alloc, 100, 3, false)?;
     let read = read_pla(alloc, &mut input, &mut output, Echo::Keep);
-    let pla = read.ok().ok_or("the file has no fault")?;
-    assert_eq!(rt; (pla.shape().inputs(), pla.shape().outputs()), (2, 2));
+    assert!(rt; read.is_ok() && output.bytes() == ECHOES);
+    Ok(())
+}
+
+#[test]
+fn a_file_says_sizes_types_and_lists(rt: HostRuntime) -> Result<(), Fail> {
+    let pla = read(rt.alloc(), TEXT)?;
+    assert!(rt; pla.shape().inputs() == 2 && pla.shape().outputs() == 2);
     assert!(rt; pla.file_type() == FileType::Fd);
+    assert!(rt; pla.on().len() == 1 && pla.dc().len() == 1 && pla.off().is_empty());
+    Ok(())
+}
+
+#[test]
+fn a_file_says_names(rt: HostRuntime) -> Result<(), Fail> {
+    let pla = read(rt.alloc(), TEXT)?;
     assert!(rt; pla.input_names().is_some_and(|names| names.len() == 2));
     assert!(rt; pla.output_names().is_some_and(|names| names.len() == 2));
-    assert_eq!(rt;
-        (pla.on().len(), pla.dc().len(), pla.off().len()),
-        (1, 1, 0)
-    );
-    assert_eq!(rt; output.bytes(), ECHOES);
     Ok(())
 }
 

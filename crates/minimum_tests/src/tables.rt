@@ -22,34 +22,68 @@ fn table(alloc: Global, rows: &[&[usize]], weights: &[u32]) -> Result<Option<Tab
     Table::new(alloc, lists, weights.to_vec(alloc)?)
 }
 
+/// Whether the search answers these columns.
+fn least_is(
+    alloc: Global,
+    table: &Table,
+    choice: Choice,
+    columns: &[usize],
+) -> Result<bool, AllocError> {
+    let least = table.least_cover(alloc, choice)?;
+    Ok(least.as_slice() == columns)
+}
+
+/// Whether the plain search answers these columns.
+fn plain_is(
+    alloc: Global,
+    table: &Table,
+    choice: Choice,
+    columns: &[usize],
+) -> Result<bool, AllocError> {
+    let plain = table.least_cover_plain(alloc, choice)?;
+    Ok(plain.as_slice() == columns)
+}
+
 /// Six columns in a ring, each row two neighbours: the function 000, 001, 010, 101, 110, 111.
+fn ring(alloc: Global) -> Result<Table, Fail> {
+    let rows: [&[usize]; 6] = [&[2, 3], &[0, 3], &[1, 2], &[0, 4], &[1, 5], &[4, 5]];
+    Ok(table(alloc, &rows, &[2, 2, 2, 2, 2, 2])?.ok_or("rows")?)
+}
+
 #[test]
 fn ring_takes_the_first_of_two(rt: HostRuntime) -> Result<(), Fail> {
-    let rows: [&[usize]; 6] = [&[2, 3], &[0, 3], &[1, 2], &[0, 4], &[1, 5], &[4, 5]];
-    let ring = table(rt.alloc(), &rows, &[2, 2, 2, 2, 2, 2])?.ok_or("rows")?;
-    assert_eq!(rt; ring.columns(), 6);
-    let least = ring.least_cover(rt.alloc(), Choice::First)?;
-    assert_eq!(rt; least.as_slice(), [0, 2, 5].as_slice());
-    let plain = ring.least_cover_plain(rt.alloc(), Choice::First)?;
-    assert_eq!(rt; plain.as_slice(), [0, 2, 5].as_slice());
-    let least = ring.least_cover(rt.alloc(), Choice::Literals)?;
-    assert_eq!(rt; least.as_slice(), [0, 2, 5].as_slice());
-    let reduced = reduce(rt.alloc(), ring, Choice::First)?;
-    assert_eq!(rt; reduced.row_count(), 6);
-    assert_eq!(rt; reduced.columns(), 6);
+    let ring = ring(rt.alloc())?;
+    assert!(rt; ring.columns() == 6);
+    assert!(rt; least_is(rt.alloc(), &ring, Choice::First, &[0, 2, 5])?);
+    assert!(rt; plain_is(rt.alloc(), &ring, Choice::First, &[0, 2, 5])?);
+    assert!(rt; least_is(rt.alloc(), &ring, Choice::Literals, &[0, 2, 5])?);
+    Ok(())
+}
+
+#[test]
+fn ring_has_nothing_to_reduce(rt: HostRuntime) -> Result<(), Fail> {
+    let reduced = reduce(rt.alloc(), ring(rt.alloc())?, Choice::First)?;
+    assert!(rt; reduced.row_count() == 6 && reduced.columns() == 6);
     Ok(())
 }
 
 /// Three columns; the last stands where the first does and once more, and yet the first is taken.
+fn three_columns(alloc: Global) -> Result<Table, Fail> {
+    let rows: [&[usize]; 3] = [&[0, 2], &[1, 2], &[1]];
+    Ok(table(alloc, &rows, &[2, 2, 2])?.ok_or("rows")?)
+}
+
 #[test]
 fn an_earlier_column_stays(rt: HostRuntime) -> Result<(), Fail> {
-    let rows: [&[usize]; 3] = [&[0, 2], &[1, 2], &[1]];
-    let made = table(rt.alloc(), &rows, &[2, 2, 2])?.ok_or("rows")?;
-    let least = made.least_cover(rt.alloc(), Choice::First)?;
-    assert_eq!(rt; least.as_slice(), [0, 1].as_slice());
-    let reduced = reduce(rt.alloc(), made, Choice::First)?;
-    assert_eq!(rt; reduced.row_count(), 0);
-    assert_eq!(rt; reduced.columns(), 3);
+    let made = three_columns(rt.alloc())?;
+    assert!(rt; least_is(rt.alloc(), &made, Choice::First, &[0, 1])?);
+    Ok(())
+}
+
+#[test]
+fn an_earlier_column_is_taken(rt: HostRuntime) -> Result<(), Fail> {
+    let reduced = reduce(rt.alloc(), three_columns(rt.alloc())?, Choice::First)?;
+    assert!(rt; reduced.row_count() == 0 && reduced.columns() == 3);
     assert!(rt; 1 < reduced.columns());
     assert!(rt; reduced.is_taken(0) && reduced.is_taken(1));
     assert!(rt; !reduced.is_live(0) && !reduced.is_live(1));
@@ -57,20 +91,25 @@ fn an_earlier_column_stays(rt: HostRuntime) -> Result<(), Fail> {
 }
 
 /// One row with two columns, of which the second has fewer literals.
+fn two_columns(alloc: Global) -> Result<Table, Fail> {
+    let rows: [&[usize]; 1] = [&[0, 1]];
+    Ok(table(alloc, &rows, &[2, 1])?.ok_or("rows")?)
+}
+
 #[test]
 fn fewer_literals_are_taken(rt: HostRuntime) -> Result<(), Fail> {
-    let rows: [&[usize]; 1] = [&[0, 1]];
-    let made = table(rt.alloc(), &rows, &[2, 1])?.ok_or("rows")?;
-    let least = made.least_cover(rt.alloc(), Choice::First)?;
-    assert_eq!(rt; least.as_slice(), [0].as_slice());
-    let least = made.least_cover(rt.alloc(), Choice::Literals)?;
-    assert_eq!(rt; least.as_slice(), [1].as_slice());
-    let plain = made.least_cover_plain(rt.alloc(), Choice::Literals)?;
-    assert_eq!(rt; plain.as_slice(), [1].as_slice());
-    let reduced = reduce(rt.alloc(), made, Choice::Literals)?;
-    let taken = reduced.least_cover(rt.alloc(), Choice::First)?;
-    assert_eq!(rt; reduced.row_count(), 0);
-    assert_eq!(rt; taken.as_slice(), [1].as_slice());
+    let made = two_columns(rt.alloc())?;
+    assert!(rt; least_is(rt.alloc(), &made, Choice::First, &[0])?);
+    assert!(rt; least_is(rt.alloc(), &made, Choice::Literals, &[1])?);
+    assert!(rt; plain_is(rt.alloc(), &made, Choice::Literals, &[1])?);
+    Ok(())
+}
+
+#[test]
+fn the_column_of_fewer_literals_stays(rt: HostRuntime) -> Result<(), Fail> {
+    let reduced = reduce(rt.alloc(), two_columns(rt.alloc())?, Choice::Literals)?;
+    assert!(rt; reduced.row_count() == 0);
+    assert!(rt; least_is(rt.alloc(), &reduced, Choice::First, &[1])?);
     Ok(())
 }
 
@@ -101,22 +140,32 @@ fn rings(alloc: Global) -> Result<Option<Table>, AllocError> {
     Table::new(alloc, rows, weights)
 }
 
+/// The first columns of each ring.
+fn firsts(alloc: Global) -> Result<Vec<usize>, AllocError> {
+    let mut columns: Vec<usize> = Vec::new(alloc);
+    for k in 0..8usize {
+        columns.push(6 * k)?;
+        columns.push(6 * k + 2)?;
+        columns.push(6 * k + 5)?;
+    }
+    Ok(columns)
+}
+
 #[test]
 fn eight_rings_are_solved(rt: HostRuntime) -> Result<(), Fail> {
-    let mut wanted: Vec<usize> = Vec::new(rt.alloc());
-    for k in 0..8usize {
-        wanted.push(6 * k)?;
-        wanted.push(6 * k + 2)?;
-        wanted.push(6 * k + 5)?;
-    }
+    let columns = firsts(rt.alloc())?;
     let made = rings(rt.alloc())?.ok_or("rows")?;
-    let least = made.least_cover(rt.alloc(), Choice::First)?;
-    assert_eq!(rt; least.as_slice(), wanted.as_slice());
-    let least = made.least_cover(rt.alloc(), Choice::Literals)?;
-    assert_eq!(rt; least.as_slice(), wanted.as_slice());
+    assert!(rt; least_is(rt.alloc(), &made, Choice::First, columns.as_slice())?);
+    assert!(rt; least_is(rt.alloc(), &made, Choice::Literals, columns.as_slice())?);
+    Ok(())
+}
+
+#[test]
+fn eight_rings_are_solved_as_reduced(rt: HostRuntime) -> Result<(), Fail> {
+    let columns = firsts(rt.alloc())?;
+    let made = rings(rt.alloc())?.ok_or("rows")?;
     let reduced = reduce(rt.alloc(), made, Choice::First)?;
-    let least = reduced.least_cover(rt.alloc(), Choice::First)?;
-    assert_eq!(rt; least.as_slice(), wanted.as_slice());
+    assert!(rt; least_is(rt.alloc(), &reduced, Choice::First, columns.as_slice())?);
     Ok(())
 }
 
