@@ -12,6 +12,9 @@ const TEXT: &[u8] =
 /// What is passed on of it.
 const ECHOES: &[u8] = b"# two gates\n.unknown x # y\n# last\n# end\n";
 
+/// A description without lines that are passed on.
+const PLAIN: &[u8] = b".i 2\n.o 2\n.ilb a b\n.ob f g\n11 1-\n0- 0\n0\n.e\n";
+
 #[test]
 fn a_file_is_read_in_pieces(rt: HostRuntime) -> Result<(), Fail> {
     let alloc = rt.alloc();
@@ -24,7 +27,7 @@ fn a_file_is_read_in_pieces(rt: HostRuntime) -> Result<(), Fail> {
 
 #[test]
 fn a_file_says_sizes_types_and_lists(rt: HostRuntime) -> Result<(), Fail> {
-    let pla = read(rt.alloc(), TEXT)?;
+    let pla = read(rt.alloc(), PLAIN)?;
     assert!(rt; pla.shape().inputs() == 2 && pla.shape().outputs() == 2);
     assert!(rt; pla.file_type() == FileType::Fd);
     assert!(rt; pla.on().len() == 1 && pla.dc().len() == 1 && pla.off().is_empty());
@@ -33,7 +36,7 @@ fn a_file_says_sizes_types_and_lists(rt: HostRuntime) -> Result<(), Fail> {
 
 #[test]
 fn a_file_says_names(rt: HostRuntime) -> Result<(), Fail> {
-    let pla = read(rt.alloc(), TEXT)?;
+    let pla = read(rt.alloc(), PLAIN)?;
     assert!(rt; pla.input_names().is_some_and(|names| names.len() == 2));
     assert!(rt; pla.output_names().is_some_and(|names| names.len() == 2));
     Ok(())
