@@ -39,7 +39,7 @@ pub fn exact(alloc: Global, sets: &Sets, choice: Choice) -> Result<Cover, AllocE
 {
     let primes = primes(sets)?;
     let table = Table::build(alloc, &primes, sets)?;
-    let table = reduce(alloc, table, choice)?;
-    let least = table.least_cover(alloc, choice)?;
+    let table = reduce(table, choice)?;
+    let least = table.least_cover(choice)?;
     chosen(alloc, &primes, &least)
 }

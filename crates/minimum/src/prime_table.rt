@@ -1,8 +1,9 @@
 //! The table of the primes.
 //!
 //! Its rows come from regions that are split until their places lie in the same primes, output by output; no point is
-//! listed. It takes a look at each cube for each output and each region, and memory for the rows and for a list of
-//! numbers at each level of the splits.
+//! listed. A region of many ON cubes is halved first, so that primes and ON cubes that are far apart never come together.
+//! It takes a look at each cube that is left for each region, and memory for the rows and for a list of numbers at each
+//! level of the splits.
 
 ghost use Rattle.std.specs.Prelude.{◌≡◌, ◌<◌, true, false, IfOk, map, replicate, slice_set};
 ghost use Rattle.cube.specs.Cube.{literals as literals_of};
@@ -12,6 +13,7 @@ ghost use Rattle.minimum.specs.Primes.{primes_of};
 ghost use Rattle.minimum.specs.PrimeTable.{HasPrimeColumns, HasPrimeCovers};
 ghost use Rattle.minimum.specs.PrimeRows.{AreEnough, AreRowsOf};
 
+mod halving_input;
 pub(crate) mod rows;
 
 use crate::covering::table::{Table, numbers};
@@ -69,7 +71,7 @@ fn rows_of(alloc: Global, lists: &Lists, shape: Shape) -> Result<Vec<Vec<usize>>
     let mut rows = Vec::new(alloc);
     for j in 0..shape.outputs() {
         let region = one_output(alloc, shape, j)?;
-        lists.add_rows_by_cubes(alloc, &candidates, &region, &mut rows)?;
+        lists.add_rows_by_halves(alloc, &candidates, &region, &mut rows)?;
     }
     Ok(rows)
 }

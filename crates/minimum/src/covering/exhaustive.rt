@@ -97,9 +97,10 @@ impl Table {
     /// The first of the shortest covers under the choice, by trying all choices of live columns in rising size.
     ///
     /// It looks at every choice of the least size, so that it serves only small tables; it stands for comparison.
-    pub fn least_cover_plain(&self, alloc: Global, choice: Choice) -> Result<Vec<usize>, AllocError>
+    pub fn least_cover_plain(&self, choice: Choice) -> Result<Vec<usize>, AllocError>
         ensures { IfOk result (λ v. IsLeast choice self.now v.items) }
     {
+        let alloc = *self.rows.allocator();
         let mut size = 0;
         loop {
             if let Some(best) = self.best_choice(alloc, choice, size)? {

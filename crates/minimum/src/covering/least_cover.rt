@@ -441,7 +441,7 @@ impl Table {
     {
         let live = self.live_columns();
         if live.len() <= FEW {
-            return self.least_cover_plain(alloc, choice);
+            return self.least_cover_plain(choice);
         }
         if all_count(
             choice,
@@ -463,9 +463,10 @@ impl Table {
     }
 
     /// The least cover: the first of the shortest; with `Choice::Literals`, of those with the fewest literals.
-    pub fn least_cover(&self, alloc: Global, choice: Choice) -> Result<Vec<usize>, AllocError>
+    pub fn least_cover(&self, choice: Choice) -> Result<Vec<usize>, AllocError>
         ensures { IfOk result (λ v. IsLeast choice self.now v.items) }
     {
+        let alloc = *self.rows.allocator();
         let table = self.cyclic_core(alloc, choice)?;
         table.least_by_parts(alloc, choice)
     }

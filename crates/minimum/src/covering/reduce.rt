@@ -137,12 +137,13 @@ impl Table {
 /// which with `Choice::Literals` means fewer literals, or as many and a smaller number.
 ///
 /// The least cover stays as it is. If memory is refused the table is gone.
-pub fn reduce(alloc: Global, table: Table, choice: Choice) -> Result<Table, AllocError>
+pub fn reduce(table: Table, choice: Choice) -> Result<Table, AllocError>
     ensures steps { IfOk result (Steps choice table) }
     ensures reduced { IfOk result (IsReduced choice) }
     ensures least { IfOk result (SameLeast choice table) }
 {
     let _columns = table.columns;
+    let alloc = *table.rows.allocator();
     let mut table = table;
     while let Some(reduced_once) = table.reduced_once(alloc, choice)? {
         table = reduced_once;

@@ -6,7 +6,7 @@
 //! nothing has a literal inside the region, the primes that are left are the row of its wanted places. Else the
 //! region is split at such a literal. So places that the same primes hold are looked at together, and mostly once.
 
-ghost use Rattle.std.specs.Prelude.{◌≡◌, ◌<◌, ◌+◌, ◌==◌, ℕ, true, false, IfOk, OnOk, MatchOption, MatchBool, All, length, filter};
+ghost use Rattle.std.specs.Prelude.{◌≡◌, ◌<◌, ◌+◌, ◌==◌, ℕ, true, false, IfOk, OnOk, MatchOption, MatchBool, IfSome, All, length, filter};
 ghost use Rattle.std.specs.List.{list_any};
 ghost use Rattle.cube.specs.Cube.{SameSize, Place, holds, difference};
 ghost use Rattle.cover.specs.Places.{places};
@@ -16,6 +16,7 @@ ghost use Rattle.minimum.specs.Reduce.{holds_all};
 ghost use Rattle.minimum.specs.PrimeRows.{touches, spans, holds_at, HasNoneInside, IsFree, IsSplit, IsTouched, IsSettled, IsOpen, HasRowsFor, AddsRows};
 
 use crate::covering::columns::{copied, is_blank, is_within};
+use crate::prime_table::halving_input::halving_input;
 use cube::{Cube, Symbol};
 use std::alloc::{AllocError, Global};
 
@@ -260,7 +261,40 @@ impl<'a> Lists<'a> {
     }
 
     /// Adds them ON cube by ON cube: so primes that are of no use to a cube's places do not multiply its splits.
-    pub(crate) fn add_rows_by_cubes(
+    fn add_rows_by_cubes(
+        &self,
+        alloc: Global,
+        candidates: &Candidates,
+        region: &Cube,
+        rows: &mut Vec<Vec<usize>>,
+    ) -> Result<(), AllocError>
+        requires { IsSplit self.now.primes.now self.now.on.now self.now.dc.now region.now
+            candidates.now.primes.items candidates.now.on.items candidates.now.dc.items }
+        ensures { OnOk result (AddsRows self.now.primes.now self.now.on.now self.now.dc.now
+            (holds region.now) (items_of rows.old.items) (items_of rows.new.items)) }
+    {
+        for number in &candidates.on {
+            if let Some(part) = self.on[*number].meet(region)? {
+                self.add_rows(alloc, candidates, &part, rows)?;
+            }
+        }
+        Ok(())
+    }
+
+    /// An input to halve the region at, if that sets its ON cubes apart.
+    fn halving_input(&self, candidates: &Candidates, region: &Cube) -> Option<usize>
+        ensures { IfSome result (IsFree region.now) }
+    {
+        let i = halving_input(self.on, &candidates.on, region)?;
+        if i < region.shape().inputs() && region.symbol(i) == Symbol::Dash {
+            return Some(i);
+        }
+        None
+    }
+
+    /// Adds them half by half while a region has many ON cubes: so a prime and an ON cube that lie in different halves
+    /// never come together.
+    pub(crate) fn add_rows_by_halves(
         &self,
         alloc: Global,
         candidates: &Candidates,
@@ -273,11 +307,12 @@ impl<'a> Lists<'a> {
             (holds region.now) (items_of rows.old.items) (items_of rows.new.items)) }
     {
         let candidates = self.candidates(alloc, candidates, region)?;
-        for cube in self.on {
-            if let Some(part) = cube.meet(region)? {
-                self.add_rows(alloc, &candidates, &part, rows)?;
-            }
-        }
-        Ok(())
+        let Some(i) = self.halving_input(&candidates, region) else {
+            return self.add_rows_by_cubes(alloc, &candidates, region, rows);
+        };
+        let low = region.with_symbol(i, Symbol::Zero)?;
+        self.add_rows_by_halves(alloc, &candidates, &low, rows)?;
+        let high = region.with_symbol(i, Symbol::One)?;
+        self.add_rows_by_halves(alloc, &candidates, &high, rows)
     }
 }

@@ -1,0 +1,39 @@
+//! Where a region of many ON cubes is halved: at an input at which nearly all of them have a literal, so that few lie in
+//! both halves. A wish, which is looked at before it is used.
+
+use cube::{Cube, Symbol};
+
+/// A region with so few ON cubes is not halved.
+const FEW: usize = 16;
+
+/// At most so many of the ON cubes are looked at.
+const SAMPLE: usize = 64;
+
+/// How many of the looked-at cubes have no literal at the input.
+fn dashes_at(cubes: &[Cube], numbers: &[usize], i: usize) -> usize {
+    let step = numbers.len() / SAMPLE + 1;
+    let mut dashes = 0usize;
+    for k in 0..SAMPLE {
+        if let Some(number) = numbers.get(k.saturating_mul(step)) {
+            if let Some(cube) = cubes.get(*number) {
+                let symbol = cube.literal_bits(i / 32) >> (2 * (i % 32)) & 3;
+                dashes = dashes.saturating_add((symbol == 0) as usize);
+            }
+        }
+    }
+    dashes
+}
+
+/// The first input that is free in the region and at which at most one in eight of the cubes has no literal.
+pub(crate) fn halving_input(cubes: &[Cube], numbers: &[usize], region: &Cube) -> Option<usize> {
+    if numbers.len() <= FEW {
+        return None;
+    }
+    let few = numbers.len().min(SAMPLE) / 8;
+    for i in 0..region.shape().inputs() {
+        if region.symbol(i) == Symbol::Dash && dashes_at(cubes, numbers, i) <= few {
+            return Some(i);
+        }
+    }
+    None
+}
