@@ -1,11 +1,11 @@
 //! Lists beside one another, by hand.
-use crate::rows::{Row, are_written, cover_of, same_shape};
+use crate::rows::{are_written, cover_of, same_shape};
 use cover::agree_outside;
 use std::alloc::Global;
 use std::test::Fail;
 
 // Whether the lists of these rows have a place in common.
-fn intersecting(alloc: Global, rows: &[Row], others: &[Row]) -> Result<bool, Fail> {
+fn intersecting(alloc: Global, rows: &[u8], others: &[u8]) -> Result<bool, Fail> {
     let list = cover_of(alloc, 2, 2, rows)?;
     let other = cover_of(alloc, 2, 2, others)?;
     same_shape(list.shape(), other.shape())?;
@@ -13,7 +13,7 @@ fn intersecting(alloc: Global, rows: &[Row], others: &[Row]) -> Result<bool, Fai
 }
 
 // Whether the lists of these rows agree outside the third.
-fn agreeing(alloc: Global, rows: &[Row], others: &[Row], free: &[Row]) -> Result<bool, Fail> {
+fn agreeing(alloc: Global, rows: &[u8], others: &[u8], free: &[u8]) -> Result<bool, Fail> {
     let list = cover_of(alloc, 2, 1, rows)?;
     let other = cover_of(alloc, 2, 1, others)?;
     let free = cover_of(alloc, 2, 1, free)?;
@@ -25,8 +25,8 @@ fn agreeing(alloc: Global, rows: &[Row], others: &[Row], free: &[Row]) -> Result
 #[test]
 fn appends(rt: HostRuntime) -> Result<(), Fail> {
     let alloc = rt.alloc();
-    let mut list = cover_of(alloc, 2, 1, &[("11", "1")])?;
-    let other = cover_of(alloc, 2, 1, &[("0-", "1"), ("11", "1")])?;
+    let mut list = cover_of(alloc, 2, 1, b"11 1\n")?;
+    let other = cover_of(alloc, 2, 1, b"0- 1\n11 1\n")?;
     same_shape(list.shape(), other.shape())?;
     list.append(&other)?;
     assert!(rt; are_written(alloc, list.as_slice(), "11 1\n0- 1\n11 1\n")?);
@@ -36,21 +36,19 @@ fn appends(rt: HostRuntime) -> Result<(), Fail> {
 #[test]
 fn intersects(rt: HostRuntime) -> Result<(), Fail> {
     let alloc = rt.alloc();
-    let rows = [("11", "10"), ("0-", "01")];
-    assert!(rt; intersecting(alloc, &rows, &[("-1", "01")])?);
-    assert!(rt; !intersecting(alloc, &rows, &[("1-", "01"), ("0-", "10"), ("10", "11")])?);
-    assert!(rt; !intersecting(alloc, &rows, &[])?);
+    let rows = b"11 10\n0- 01".as_slice();
+    assert!(rt; intersecting(alloc, rows, b"-1 01")?);
+    assert!(rt; !intersecting(alloc, rows, b"1- 01\n0- 10\n10 11")?);
+    assert!(rt; !intersecting(alloc, rows, b"")?);
     Ok(())
 }
 
 #[test]
 fn agrees(rt: HostRuntime) -> Result<(), Fail> {
     let alloc = rt.alloc();
-    let rows = [("1-", "1")];
-    let other = [("-1", "1")];
-    assert!(rt; agreeing(alloc, &rows, &[("11", "1"), ("10", "1")], &[])?);
-    assert!(rt; agreeing(alloc, &rows, &other, &[("10", "1"), ("01", "1")])?);
-    assert!(rt; !agreeing(alloc, &rows, &other, &[("10", "1")])?);
-    assert!(rt; !agreeing(alloc, &rows, &[], &[])?);
+    assert!(rt; agreeing(alloc, b"1- 1", b"11 1\n10 1", b"")?);
+    assert!(rt; agreeing(alloc, b"1- 1", b"-1 1", b"10 1\n01 1")?);
+    assert!(rt; !agreeing(alloc, b"1- 1", b"-1 1", b"10 1")?);
+    assert!(rt; !agreeing(alloc, b"1- 1", b"", b"")?);
     Ok(())
 }

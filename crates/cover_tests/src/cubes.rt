@@ -1,5 +1,5 @@
 //! Small cubes by hand.
-use crate::rows::{Row, are_written, cube_of, is_written, packed, same_shape};
+use crate::rows::{are_written, cube_of, is_written, packed, same_shape};
 use crate::wide::{Operation, answer};
 use cube::{Cube, Shape, Symbol, laws, limits};
 use std::alloc::Global;
@@ -8,7 +8,7 @@ use std::test::Fail;
 #[test]
 fn reads_back(rt: HostRuntime) -> Result<(), Fail> {
     let alloc = rt.alloc();
-    let c = cube_of(alloc, ("-01-0", "101"))?;
+    let c = cube_of(alloc, b"-01-0 101")?;
     assert!(rt; c.shape().inputs() == 5 && c.shape().outputs() == 3);
     assert!(rt; is_written(alloc, &c, "-01-0 101\n")?);
     assert!(rt; is_written(alloc, &c.try_clone()?, "-01-0 101\n")?);
@@ -17,7 +17,7 @@ fn reads_back(rt: HostRuntime) -> Result<(), Fail> {
 
 #[test]
 fn puts_bytes(rt: HostRuntime) -> Result<(), Fail> {
-    let c = cube_of(rt.alloc(), ("-01-0", "101"))?;
+    let c = cube_of(rt.alloc(), b"-01-0 101")?;
     let shape = c.shape();
     if shape.inputs() != 5 || shape.outputs() != 3 {
         return Err("shape")?;
@@ -113,7 +113,7 @@ fn keeps_the_limits(rt: HostRuntime) -> Result<(), Fail> {
 }
 
 // Whether the sharp product of two cubes is these rows.
-fn sharp_is(alloc: Global, a: Row, b: Row, text: &str) -> Result<bool, Fail> {
+fn sharp_is(alloc: Global, a: &[u8], b: &[u8], text: &str) -> Result<bool, Fail> {
     let (a, b) = (cube_of(alloc, a)?, cube_of(alloc, b)?);
     same_shape(a.shape(), b.shape())?;
     are_written(alloc, a.sharp(&b)?.as_slice(), text)
@@ -122,11 +122,11 @@ fn sharp_is(alloc: Global, a: Row, b: Row, text: &str) -> Result<bool, Fail> {
 #[test]
 fn sharps(rt: HostRuntime) -> Result<(), Fail> {
     let alloc = rt.alloc();
-    assert!(rt; sharp_is(alloc, ("--", "1"), ("11", "1"), "-0 1\n0- 1\n")?);
-    assert!(rt; sharp_is(alloc, ("1-", "11"), ("11", "01"), "1- 10\n10 11\n")?);
-    assert!(rt; sharp_is(alloc, ("11", "10"), ("1-", "11"), "")?);
-    assert!(rt; sharp_is(alloc, ("1-", "10"), ("1-", "01"), "1- 10\n")?);
-    assert!(rt; sharp_is(alloc, ("", "11"), ("", "10"), " 01\n")?);
+    assert!(rt; sharp_is(alloc, b"-- 1", b"11 1", "-0 1\n0- 1\n")?);
+    assert!(rt; sharp_is(alloc, b"1- 11", b"11 01", "1- 10\n10 11\n")?);
+    assert!(rt; sharp_is(alloc, b"11 10", b"1- 11", "")?);
+    assert!(rt; sharp_is(alloc, b"1- 10", b"1- 01", "1- 10\n")?);
+    assert!(rt; sharp_is(alloc, b" 11", b" 10", " 01\n")?);
     Ok(())
 }
 
@@ -134,8 +134,8 @@ fn sharps(rt: HostRuntime) -> Result<(), Fail> {
 fn makes(
     alloc: Global,
     operation: Operation,
-    a: Row,
-    b: Row,
+    a: &[u8],
+    b: &[u8],
     text: Option<&str>,
 ) -> Result<bool, Fail> {
     let (a, b) = (cube_of(alloc, a)?, cube_of(alloc, b)?);
@@ -149,101 +149,70 @@ fn makes(
 #[test]
 fn meets(rt: HostRuntime) -> Result<(), Fail> {
     let alloc = rt.alloc();
-    assert!(rt; makes(alloc, Operation::Meet, ("1-", "10"), ("-1", "01"), None)?);
-    assert!(rt;
-        makes(
-            alloc,
-            Operation::Meet,
-            ("1-", "11"),
-            ("-1", "01"),
-            Some("11 01\n")
-        )?
-    );
+    assert!(rt; makes(alloc, Operation::Meet, b"1- 10", b"-1 01", None)?);
+    assert!(rt; makes(alloc, Operation::Meet, b"1- 11", b"-1 01", Some("11 01\n"))?);
     Ok(())
 }
 
 #[test]
 fn joins(rt: HostRuntime) -> Result<(), Fail> {
     let alloc = rt.alloc();
-    assert!(rt;
-        makes(
-            alloc,
-            Operation::Join,
-            ("11", "10"),
-            ("10", "01"),
-            Some("1- 11\n")
-        )?
-    );
+    assert!(rt; makes(alloc, Operation::Join, b"11 10", b"10 01", Some("1- 11\n"))?);
     Ok(())
 }
 
 #[test]
 fn stacks(rt: HostRuntime) -> Result<(), Fail> {
     let alloc = rt.alloc();
-    assert!(rt;
-        makes(
-            alloc,
-            Operation::Stack,
-            ("1-", "10"),
-            ("-0", "01"),
-            Some("10 11\n")
-        )?
-    );
-    assert!(rt; makes(alloc, Operation::Stack, ("1-", "10"), ("0-", "11"), None)?);
+    assert!(rt; makes(alloc, Operation::Stack, b"1- 10", b"-0 01", Some("10 11\n"))?);
+    assert!(rt; makes(alloc, Operation::Stack, b"1- 10", b"0- 11", None)?);
     Ok(())
 }
 
 #[test]
 fn rests(rt: HostRuntime) -> Result<(), Fail> {
     let alloc = rt.alloc();
-    assert!(rt;
-        makes(
-            alloc,
-            Operation::Rest,
-            ("1-", "11"),
-            ("-0", "01"),
-            Some("1- 10\n")
-        )?
-    );
-    assert!(rt; makes(alloc, Operation::Rest, ("1-", "01"), ("-0", "11"), None)?);
+    assert!(rt; makes(alloc, Operation::Rest, b"1- 11", b"-0 01", Some("1- 10\n"))?);
+    assert!(rt; makes(alloc, Operation::Rest, b"1- 01", b"-0 11", None)?);
     Ok(())
 }
 
 #[test]
 fn cofactors(rt: HostRuntime) -> Result<(), Fail> {
     let alloc = rt.alloc();
-    let (a, b) = (("10-0", "100"), ("1--0", "110"));
+    let (a, b) = (b"10-0 100", b"1--0 110");
     assert!(rt; makes(alloc, Operation::Cofactor, a, b, Some("-0-- 101\n"))?);
-    assert!(rt; makes(alloc, Operation::Cofactor, ("1", "10"), ("0", "11"), None)?);
+    assert!(rt; makes(alloc, Operation::Cofactor, b"1 10", b"0 11", None)?);
     Ok(())
 }
 
-// Whether the two rows are found equal, whichever is asked.
-fn are_equal(alloc: Global, a: Row, b: Row) -> Result<(bool, bool), Fail> {
+// Whether the two rows are found equal or not, whichever is asked.
+fn is_told(alloc: Global, a: &[u8], b: &[u8], are_equal: bool) -> Result<bool, Fail> {
     let (a, b) = (cube_of(alloc, a)?, cube_of(alloc, b)?);
-    Ok((a.is_equal(&b), b.is_equal(&a)))
-}
-
-// Whether the row differs from `01- 10`.
-fn differs(alloc: Global, other: Row) -> Result<bool, Fail> {
-    Ok(are_equal(alloc, ("01-", "10"), other)? == (false, false))
+    Ok(a.is_equal(&b) == are_equal && b.is_equal(&a) == are_equal)
 }
 
 #[test]
 fn equal_cubes(rt: HostRuntime) -> Result<(), Fail> {
     let alloc = rt.alloc();
-    assert!(rt; !differs(alloc, ("01-", "10"))?);
-    assert!(rt; differs(alloc, ("01-", "11"))?);
-    assert!(rt; differs(alloc, ("011", "10"))?);
-    assert!(rt; differs(alloc, ("0--", "10"))?);
-    assert!(rt; differs(alloc, ("01", "10"))?);
-    assert!(rt; differs(alloc, ("01-", "1"))?);
+    assert!(rt; is_told(alloc, b"01- 10", b"01- 10", true)?);
+    assert!(rt; is_told(alloc, b"01- 10", b"01- 11", false)?);
+    assert!(rt; is_told(alloc, b"01- 10", b"011 10", false)?);
+    assert!(rt; is_told(alloc, b"01- 10", b"0-- 10", false)?);
+    Ok(())
+}
+
+#[test]
+fn cubes_of_other_shapes_are_not_equal(rt: HostRuntime) -> Result<(), Fail> {
+    let alloc = rt.alloc();
+    assert!(rt; is_told(alloc, b"01- 10", b"01 10", false)?);
+    assert!(rt; is_told(alloc, b"01- 10", b"01- 1", false)?);
     Ok(())
 }
 
 #[test]
 fn literals_as_bits(rt: HostRuntime) -> Result<(), Fail> {
-    let row = cube_of(rt.alloc(), ("01-1", "1"))?;
+    let row = cube_of(rt.alloc(), b"01-1 1")?;
     assert!(rt; row.literal_bits(0) == 0b01_00_01_10);
     assert!(rt; row.literal_bits(1) == 0);
     Ok(())
@@ -251,7 +220,7 @@ fn literals_as_bits(rt: HostRuntime) -> Result<(), Fail> {
 
 #[test]
 fn outputs_as_bits(rt: HostRuntime) -> Result<(), Fail> {
-    let row = cube_of(rt.alloc(), ("01", "1011"))?;
+    let row = cube_of(rt.alloc(), b"01 1011")?;
     assert!(rt; row.output_bits(0) == 0b1101);
     assert!(rt; row.output_bits(1) == 0);
     Ok(())

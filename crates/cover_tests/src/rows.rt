@@ -6,9 +6,6 @@ use cube::{Cube, Shape, Symbol};
 use std::alloc::Global;
 use std::test::Fail;
 
-// Symbols and outputs, written as in a file.
-pub(crate) type Row<'a> = (&'a str, &'a str);
-
 fn symbol_from(c: u8) -> Symbol {
     match c {
         b'0' => Symbol::Zero,
@@ -30,14 +27,19 @@ pub(crate) fn packed(
     Ok(Cube::from_symbols(alloc, shape, symbols, outputs)?)
 }
 
-pub(crate) fn cube_of(alloc: Global, row: Row) -> Result<Cube, Fail> {
+// The cube of a row: symbols, a space, outputs.
+pub(crate) fn cube_of(alloc: Global, row: &[u8]) -> Result<Cube, Fail> {
     let mut symbols = Vec::new(alloc);
-    for c in row.0.as_bytes() {
-        symbols.push(symbol_from(*c))?;
-    }
     let mut outputs = Vec::new(alloc);
-    for c in row.1.as_bytes() {
-        outputs.push(*c == b'1')?;
+    let mut is_output = false;
+    for c in row {
+        if *c == b' ' {
+            is_output = true;
+        } else if is_output {
+            outputs.push(*c == b'1')?;
+        } else {
+            symbols.push(symbol_from(*c))?;
+        }
     }
     Ok(packed(alloc, symbols.as_slice(), outputs.as_slice())?.ok_or("no output")?)
 }
@@ -57,17 +59,19 @@ pub(crate) fn push(list: &mut Cover, row: Cube) -> Result<(), Fail> {
     Ok(list.push(row).map_err(|_| "memory")?)
 }
 
-// The list of these rows.
+// The list of these rows, each of them a line.
 pub(crate) fn cover_of(
     alloc: Global,
     inputs: usize,
     outputs: usize,
-    rows: &[Row],
+    rows: &[u8],
 ) -> Result<Cover, Fail> {
     let shape = Shape::new(inputs, outputs).ok_or("limits")?;
     let mut list = Cover::new(alloc, shape);
-    for row in rows {
-        push(&mut list, cube_of(alloc, *row)?)?;
+    for row in rows.split(|c| *c == b'\n') {
+        if !row.is_empty() {
+            push(&mut list, cube_of(alloc, row)?)?;
+        }
     }
     Ok(list)
 }

@@ -102,65 +102,86 @@ fn echo_on(alloc: Global, text: &[u8], output: Taken) -> Result<Ran, Fail> {
 
 // The run has this output, this message and this status.
 fn check(rt: &impl Abort, ran: &Ran, output: &[u8], message: &[u8], status: Status) {
-    assert_eq!(rt; ran.output.bytes(), output);
-    assert_eq!(rt; ran.message.bytes(), message);
-    assert_eq!(rt; ran.status, status);
+    assert!(rt; ran.output.bytes() == output);
+    assert!(rt; ran.message.bytes() == message);
+    assert!(rt; ran.status == status);
 }
 
 #[test]
 fn words_are_read(rt: HostRuntime) -> Result<(), Fail> {
-    let alloc = rt.alloc();
-    let line = line_of(alloc, &["-Decho", "--", "-x"])?;
-    assert!(rt; !line.pair());
-    assert_eq!(rt; line.files().len(), 1);
-    assert_eq!(rt; line.files()[0].as_str(), "-x");
-    let line = line_of(alloc, &["-Dsharp", "-of", "-", "b"])?;
-    assert!(rt; line.pair());
-    assert_eq!(rt; line.files().len(), 2);
-    assert_eq!(rt; Line::read(alloc, &[]).err(), Some(LineFault::Usage));
+    let line = line_of(rt.alloc(), &["-Decho", "--", "-x"])?;
+    assert!(rt; !line.pair() && line.files().len() == 1);
+    assert!(rt; line.files()[0].as_str() == "-x");
+    let line = line_of(rt.alloc(), &["-Dsharp", "-of", "-", "b"])?;
+    assert!(rt; line.pair() && line.files().len() == 2);
+    Ok(())
+}
+
+#[test]
+fn no_words_are_refused(rt: HostRuntime) -> Result<(), Fail> {
+    assert!(rt; Line::read(rt.alloc(), &[]).err() == Some(LineFault::Usage));
     tool_in_parts();
     Ok(())
 }
 
+// Whether a refusal is told so, where there is room for so many bytes.
+fn refuses(
+    alloc: Global,
+    fault: LineFault,
+    room: usize,
+    text: &[u8],
+    code: u8,
+) -> Result<bool, Fail> {
+    let mut message = Taken::new(alloc, room, 7, false)?;
+    let status = refuse(&fault, &mut message);
+    Ok(status.code() == code && message.bytes() == text)
+}
+
 #[test]
 fn a_refusal_is_one_line_and_a_status(rt: HostRuntime) -> Result<(), Fail> {
-    let alloc = rt.alloc();
     let usage = b"usage: espresso -Dcommand [-o type] [-e eat] [file [file]]\n";
-    let mut err = Taken::new(alloc, 200, 7, false)?;
-    assert_eq!(rt; refuse(&LineFault::Usage, &mut err).code(), 2);
-    assert_eq!(rt; err.bytes(), usage.as_slice());
-    let mut err = Taken::new(alloc, 200, 7, false)?;
-    assert_eq!(rt; refuse(&LineFault::Memory, &mut err).code(), 3);
-    assert_eq!(rt; err.bytes(), b"espresso: out of memory\n".as_slice());
-    let mut err = Taken::new(alloc, 5, 7, false)?;
-    assert_eq!(rt; refuse(&LineFault::Usage, &mut err).code(), 2);
-    assert_eq!(rt; err.bytes(), b"usage".as_slice());
-    assert_eq!(rt; Status::Done.code(), 0);
-    assert_eq!(rt; Status::No.code(), 1);
+    assert!(rt; refuses(rt.alloc(), LineFault::Usage, 200, usage, 2)?);
+    assert!(rt;
+        refuses(
+            rt.alloc(),
+            LineFault::Memory,
+            200,
+            b"espresso: out of memory\n",
+            3
+        )?
+    );
+    assert!(rt; refuses(rt.alloc(), LineFault::Usage, 5, b"usage", 2)?);
     Ok(())
 }
 
 #[test]
+fn statuses_are_numbers(rt: HostRuntime) -> Result<(), Fail> {
+    assert!(rt; Status::Done.code() == 0 && Status::No.code() == 1);
+    Ok(())
+}
+
+// A comparison of two files, the output of which may fail at its flush.
+fn verify_on(alloc: Global, text: &[u8], fails: bool) -> Result<Ran, Fail> {
+    let one = given(alloc, text, Ending::Failed)?;
+    let other = given(alloc, b"# b\n.i 2\n.o 1\n1- 1\n.e\n", Ending::Failed)?;
+    let output = Taken::new(alloc, 100, 3, fails)?;
+    run_on(alloc, &["-Dverify", "a", "b"], one, other, output)
+}
+
+#[test]
 fn two_files_are_read_one_behind_the_other(rt: HostRuntime) -> Result<(), Fail> {
-    let alloc = rt.alloc();
-    let words = ["-Dverify", "a", "b"];
-    let second = b"# b\n.i 2\n.o 1\n1- 1\n.e\n";
+    let ran = verify_on(rt.alloc(), TEXT, false)?;
     let printed = b"# a\n# b\nPLA comparison failed; the PLAs are not equivalent\n";
-    let one = given(alloc, TEXT, Ending::Failed)?;
-    let other = given(alloc, second, Ending::Failed)?;
-    let ran = run_on(alloc, &words, one, other, Taken::new(alloc, 100, 3, false)?)?;
     check(&rt, &ran, printed, b"", Status::No);
-    let one = given(alloc, b"# a\n", Ending::Failed)?;
-    let other = given(alloc, second, Ending::Failed)?;
-    let ran = run_on(alloc, &words, one, other, Taken::new(alloc, 100, 3, true)?)?;
-    check(
-        &rt,
-        &ran,
-        b"# a\n",
-        b"espresso: a:2: read failed\n",
-        Status::Fault,
-    );
-    assert_eq!(rt; (ran.first, ran.second), (4, 0));
+    Ok(())
+}
+
+#[test]
+fn a_second_file_is_not_read_behind_a_fault(rt: HostRuntime) -> Result<(), Fail> {
+    let ran = verify_on(rt.alloc(), b"# a\n", true)?;
+    let message = b"espresso: a:2: read failed\n";
+    check(&rt, &ran, b"# a\n", message, Status::Fault);
+    assert!(rt; ran.first == 4 && ran.second == 0);
     Ok(())
 }
 

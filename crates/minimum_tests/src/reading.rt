@@ -3,6 +3,7 @@ ghost use Rattle.std.specs.Prelude.{◌<◌};
 
 use crate::tables::read;
 use pla::{Echo, Ending, FileType, Given, ReadFault, ReadKind, Scan, Taken, read_pla};
+use std::alloc::Global;
 use std::test::Fail;
 
 /// A small file: comments, an unknown keyword, names, and rows that go over lines.
@@ -21,7 +22,9 @@ fn a_file_is_read_in_pieces(rt: HostRuntime) -> Result<(), Fail> {
     let mut input = Given::new(TEXT.to_vec(alloc)?, 3, Ending::Failed);
     let mut output = Taken::new(alloc, 100, 3, false)?;
     let read = read_pla(alloc, &mut input, &mut output, Echo::Keep);
-    assert!(rt; read.is_ok() && output.bytes() == ECHOES);
+    let pla = read.ok().ok_or("the file has a fault")?;
+    assert!(rt; output.bytes() == ECHOES);
+    assert!(rt; pla.on().len() == 1 && pla.dc().len() == 1 && pla.off().is_empty());
     Ok(())
 }
 
@@ -52,32 +55,40 @@ fn no_more_is_asked_for_behind_the_end(rt: HostRuntime) -> Result<(), Fail> {
     let mut input = Given::new(text, 100, Ending::Failed);
     let mut output = Taken::new(alloc, 100, 100, false)?;
     assert!(rt; read_pla(alloc, &mut input, &mut output, Echo::Eat).is_ok());
-    assert_eq!(rt; input.delivered(), 100);
+    assert!(rt; input.delivered() == 100);
     Ok(())
 }
 
-/// A failed read is told with its line, and a failed write before a fault behind it.
+/// Whether reading this text ends with this fault, behind these echoes, where the output has so much room.
+fn ends_with(
+    alloc: Global,
+    text: &[u8],
+    room: usize,
+    fault: ReadFault,
+    written: &[u8],
+) -> Result<bool, Fail> {
+    let mut input = Given::new(text.to_vec(alloc)?, 4096, Ending::Failed);
+    let mut output = Taken::new(alloc, room, 7, false)?;
+    let read = read_pla(alloc, &mut input, &mut output, Echo::Keep);
+    Ok(read.err() == Some(fault) && output.bytes() == written)
+}
+
+/// A failed read is told with its line.
 #[test]
-fn devices_that_fail_are_told(rt: HostRuntime) -> Result<(), Fail> {
-    let alloc = rt.alloc();
-    let cases: [(&[u8], usize, u64, ReadKind, &[u8]); 3] = [
-        (b".i 1\n.o ", 100, 2, ReadKind::ReadFailed, b""),
-        (
-            b"# a\n.i 1\n.o 1\nz 1\n",
-            2,
-            0,
-            ReadKind::WriteFailed,
-            b"# ",
-        ),
-        (TEXT, 20, 0, ReadKind::WriteFailed, b"# two gates\n.unknown"),
-    ];
-    for (text, room, line, kind, written) in cases {
-        let mut input = Given::new(text.to_vec(alloc)?, 4096, Ending::Failed);
-        let mut output = Taken::new(alloc, room, 7, false)?;
-        let fault = read_pla(alloc, &mut input, &mut output, Echo::Keep).err();
-        assert!(rt; fault == Some(ReadFault { line, kind }));
-        assert_eq!(rt; output.bytes(), written);
-    }
+fn a_read_that_fails_is_told(rt: HostRuntime) -> Result<(), Fail> {
+    let kind = ReadKind::ReadFailed;
+    let fault = ReadFault { line: 2, kind };
+    assert!(rt; ends_with(rt.alloc(), b".i 1\n.o ", 100, fault, b"")?);
+    Ok(())
+}
+
+/// A failed write is told before a fault behind it.
+#[test]
+fn a_write_that_fails_is_told(rt: HostRuntime) -> Result<(), Fail> {
+    let kind = ReadKind::WriteFailed;
+    let fault = ReadFault { line: 0, kind };
+    assert!(rt; ends_with(rt.alloc(), b"# a\n.i 1\n.o 1\nz 1\n", 2, fault, b"# ")?);
+    assert!(rt; ends_with(rt.alloc(), TEXT, 20, fault, b"# two gates\n.unknown")?);
     Ok(())
 }
 
@@ -88,50 +99,68 @@ fn a_scan_takes_pieces(rt: HostRuntime) -> Result<(), Fail> {
     let scan = Scan::new(alloc, Echo::Keep).feed(b".i 1\n.o 1\n1 ", &mut output);
     let scan = scan.ok().ok_or("the piece has no fault")?;
     assert!(rt; !scan.done());
-    let scan = scan
-        .feed(b"1 # a", &mut output)
-        .ok()
-        .ok_or("the piece has no fault")?;
-    let pla = scan
-        .finish(Ending::End, &mut output)
-        .ok()
-        .ok_or("the file has no fault")?;
-    assert_eq!(rt; pla.on().len(), 1);
-    assert_eq!(rt; output.bytes(), b"# a\n".as_slice());
-    let scan = Scan::new(alloc, Echo::Eat).feed(b".i 1\n.o 1\n.e\n", &mut output);
+    let scan = scan.feed(b"1 # a", &mut output);
+    let scan = scan.ok().ok_or("the piece has no fault")?;
+    let pla = scan.finish(Ending::End, &mut output);
+    let pla = pla.ok().ok_or("the file has no fault")?;
+    assert!(rt; pla.on().len() == 1 && output.bytes() == b"# a\n".as_slice());
+    Ok(())
+}
+
+#[test]
+fn a_scan_is_done_at_the_end(rt: HostRuntime) -> Result<(), Fail> {
+    let mut output = Taken::new(rt.alloc(), 100, 100, false)?;
+    let scan = Scan::new(rt.alloc(), Echo::Eat).feed(b".i 1\n.o 1\n.e\n", &mut output);
     assert!(rt; scan.is_ok_and(|scan| scan.done()));
     Ok(())
 }
 
-// A file whose read or write of each number fails alone, in pieces of one byte: nothing follows the failure.
+/// A file of four lines.
+const FOUR_LINES: &[u8] = b"# a\n.i 1\n.o 1\n.e\n";
+
+/// How reading it ends, and how much was delivered, where the read of this number fails alone, in pieces of one byte.
+fn read_failing_after(alloc: Global, reads: u64) -> Result<(Option<ReadFault>, usize), Fail> {
+    let input = Given::new(FOUR_LINES.to_vec(alloc)?, 1, Ending::End);
+    let mut input = input.failing_after(reads);
+    let mut output = Taken::new(alloc, 100, 100, false)?;
+    let read = read_pla(alloc, &mut input, &mut output, Echo::Keep);
+    Ok((read.err(), input.delivered()))
+}
+
+/// Whether nothing follows the failed read of this number, which stands in this line.
+fn ends_at_read(alloc: Global, reads: u64, line: u64) -> Result<bool, Fail> {
+    let (fault, delivered) = read_failing_after(alloc, reads)?;
+    let kind = ReadKind::ReadFailed;
+    Ok(fault == Some(ReadFault { line, kind }) && u64::try_from(delivered) == Ok(reads))
+}
+
 #[test]
-fn a_call_that_fails_alone_is_the_last(rt: HostRuntime) -> Result<(), Fail> {
-    let alloc = rt.alloc();
-    for reads in 0..10 {
-        let input = Given::new(b"# a\n.i 1\n.o 1\n.e\n".to_vec(alloc)?, 1, Ending::End);
-        let mut input = input.failing_after(reads);
-        let mut output = Taken::new(alloc, 100, 100, false)?;
-        let fault = read_pla(alloc, &mut input, &mut output, Echo::Keep).err();
-        let line = if reads < 4 {
-            1
-        } else if reads < 9 {
-            2
-        } else {
-            3
-        };
-        let kind = ReadKind::ReadFailed;
-        assert!(rt; fault == Some(ReadFault { line, kind }));
-        assert!(rt; u64::try_from(input.delivered()) == Ok(reads));
+fn a_read_that_fails_alone_is_the_last(rt: HostRuntime) -> Result<(), Fail> {
+    for reads in 0..4 {
+        assert!(rt; ends_at_read(rt.alloc(), reads, 1)?);
     }
+    for reads in 4..9 {
+        assert!(rt; ends_at_read(rt.alloc(), reads, 2)?);
+    }
+    assert!(rt; ends_at_read(rt.alloc(), 9, 3)?);
+    Ok(())
+}
+
+/// Whether nothing follows the failed write of this number, in pieces of one byte.
+fn ends_at_write(alloc: Global, writes: u64) -> Result<bool, Fail> {
+    let mut input = Given::new(FOUR_LINES.to_vec(alloc)?, 1, Ending::End);
+    let output = Taken::new(alloc, 100, 1, false)?;
+    let mut output = output.failing_after(writes);
+    let read = read_pla(alloc, &mut input, &mut output, Echo::Keep);
+    let kind = ReadKind::WriteFailed;
+    let is_told = read.err() == Some(ReadFault { line: 0, kind });
+    Ok(is_told && u64::try_from(output.bytes().len()) == Ok(writes) && input.delivered() == 4)
+}
+
+#[test]
+fn a_write_that_fails_alone_is_the_last(rt: HostRuntime) -> Result<(), Fail> {
     for writes in 0..4 {
-        let mut input = Given::new(b"# a\n.i 1\n.o 1\n.e\n".to_vec(alloc)?, 1, Ending::End);
-        let output = Taken::new(alloc, 100, 1, false)?;
-        let mut output = output.failing_after(writes);
-        let fault = read_pla(alloc, &mut input, &mut output, Echo::Keep).err();
-        let kind = ReadKind::WriteFailed;
-        assert!(rt; fault == Some(ReadFault { line: 0, kind }));
-        assert!(rt; u64::try_from(output.bytes().len()) == Ok(writes));
-        assert!(rt; input.delivered() == 4);
+        assert!(rt; ends_at_write(rt.alloc(), writes)?);
     }
     Ok(())
 }

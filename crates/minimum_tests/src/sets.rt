@@ -41,41 +41,42 @@ fn row_count(list: &Option<Cover>) -> Option<usize> {
     }
 }
 
-// How many rows the lists have that the type of the file leaves open, DC and OFF.
-fn open_rows(alloc: Global, text: &[u8]) -> Result<(Option<usize>, Option<usize>), Fail> {
+// Whether the lists that the type of the file leaves open have so many rows, DC and OFF.
+fn are_open(
+    alloc: Global,
+    text: &[u8],
+    dc: Option<usize>,
+    off: Option<usize>,
+) -> Result<bool, Fail> {
     let pla = read(alloc, text)?;
-    let dc = open_dc(alloc, &pla, true)?;
-    let off = open_off(alloc, &pla, true)?;
-    Ok((row_count(&dc), row_count(&off)))
+    let open_dc = open_dc(alloc, &pla, true)?;
+    let open_off = open_off(alloc, &pla, true)?;
+    Ok(row_count(&open_dc) == dc && row_count(&open_off) == off)
 }
 
 #[test]
 fn lists_that_the_type_leaves_open(rt: HostRuntime) -> Result<(), Fail> {
     let alloc = rt.alloc();
-    assert!(rt; open_rows(alloc, b".i 1\n.o 1\n.type f\n1 1\n")? == (Some(0), Some(1)));
-    assert!(rt; open_rows(alloc, b".i 1\n.o 1\n.type fd\n1 1\n")? == (None, Some(1)));
-    assert!(rt; open_rows(alloc, b".i 1\n.o 1\n.type fr\n1 1\n")? == (Some(1), None));
-    assert!(rt; open_rows(alloc, b".i 1\n.o 1\n.type fdr\n1 1\n")? == (None, None));
+    assert!(rt; are_open(alloc, b".i 1\n.o 1\n.type f\n1 1\n", Some(0), Some(1))?);
+    assert!(rt; are_open(alloc, b".i 1\n.o 1\n.type fd\n1 1\n", None, Some(1))?);
+    assert!(rt; are_open(alloc, b".i 1\n.o 1\n.type fr\n1 1\n", Some(1), None)?);
+    assert!(rt; are_open(alloc, b".i 1\n.o 1\n.type fdr\n1 1\n", None, None)?);
     Ok(())
+}
+
+/// Whether the sets have so many rows.
+fn has_rows(sets: &Sets, on: usize, dc: usize, off: usize) -> bool {
+    sets.on().len() == on && sets.dc().len() == dc && sets.off().len() == off
 }
 
 #[test]
 fn lists_are_put_together(rt: HostRuntime) -> Result<(), Fail> {
-    let alloc = rt.alloc();
-    let pla = read(
-        alloc,
-        b".i 1\n.o 1\n.type fdr\n1 1\n1 1\n1 1\n1 -\n1 -\n0 0\n",
-    )?;
+    let text = b".i 1\n.o 1\n.type fdr\n1 1\n1 1\n1 1\n1 -\n1 -\n0 0\n";
+    let pla = read(rt.alloc(), text)?;
     let off = pla.off().try_clone()?;
     let sets = Sets::new(off, pla.dc().try_clone()?, pla.off().try_clone()?);
-    assert_eq!(rt;
-        (sets.on().len(), sets.dc().len(), sets.off().len()),
-        (1, 2, 1)
-    );
+    assert!(rt; has_rows(&sets, 1, 2, 1));
     let sets = sets.with_on(pla.on().try_clone()?);
-    assert_eq!(rt;
-        (sets.on().len(), sets.dc().len(), sets.off().len()),
-        (3, 2, 1)
-    );
+    assert!(rt; has_rows(&sets, 3, 2, 1));
     Ok(())
 }

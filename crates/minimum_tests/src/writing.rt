@@ -8,8 +8,8 @@ fn parts_are_written_one_behind_another(rt: HostRuntime) -> Result<(), Fail> {
     let mut out = Taken::new(rt.alloc(), 10, 2, false)?;
     let done = write_bytes(&mut out, b"abc");
     let done = write_next(&mut out, done, b"de");
-    assert_eq!(rt; done, Ok(()));
-    assert_eq!(rt; out.bytes(), b"abcde".as_slice());
+    assert!(rt; done == Ok(()));
+    assert!(rt; out.bytes() == b"abcde".as_slice());
     Ok(())
 }
 
@@ -17,9 +17,9 @@ fn parts_are_written_one_behind_another(rt: HostRuntime) -> Result<(), Fail> {
 fn nothing_is_written_behind_a_failure(rt: HostRuntime) -> Result<(), Fail> {
     let mut out = Taken::new(rt.alloc(), 2, 2, false)?;
     let done = write_bytes(&mut out, b"abc");
-    assert_eq!(rt; done, Err(WriteFault));
+    assert!(rt; done == Err(WriteFault));
     let done = write_next(&mut out, done, b"de");
-    assert_eq!(rt; done, Err(WriteFault));
-    assert_eq!(rt; out.bytes(), b"ab".as_slice());
+    assert!(rt; done == Err(WriteFault));
+    assert!(rt; out.bytes() == b"ab".as_slice());
     Ok(())
 }

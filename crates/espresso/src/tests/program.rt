@@ -86,82 +86,75 @@ fn left_by(alloc: Global, words: Result<Vec<String>, LineFault>) -> Result<Left,
     })
 }
 
-#[test]
-fn each_word_names_its_own_source(rt: HostRuntime) -> Result<(), Fail> {
-    let alloc = rt.alloc();
-    for (words, output, message, code) in [
-        (["x", "-Decho", "a"], ".i 1\n.o 1\n.p 1\n1 1\n.e\n", "", 0),
-        (
-            ["-Decho", "-Decho", "b"],
-            "# b\n.i 1\n.o 1\n.p 1\n0 1\n.e\n",
-            "",
-            0,
-        ),
-        (
-            ["x", "-Decho", "-"],
-            "# in\n.i 1\n.o 1\n.p 1\n- 1\n.e\n",
-            "",
-            0,
-        ),
-        (
-            ["x", "-D", "echo"],
-            "# in\n.i 1\n.o 1\n.p 1\n- 1\n.e\n",
-            "",
-            0,
-        ),
-        (["x", "-Decho", "c"], "", "espresso: cannot open c\n", 2),
-        (
-            ["x", "-Dtautology", "a"],
-            "ON-set is not a tautology\n",
-            "",
-            1,
-        ),
-        (["x", "-Decho", "-Decho"], "", USAGE, 2),
-    ] {
-        let left = left_by(alloc, Ok(words_of(alloc, &words)?))?;
-        assert_eq!(rt; left.output.bytes(), output.as_bytes());
-        assert_eq!(rt; left.message.bytes(), message.as_bytes());
-        assert_eq!(rt; left.code, code);
-    }
-    Ok(())
+// Whether a process with these words answers so.
+fn answers(
+    alloc: Global,
+    words: &[&str],
+    output: &str,
+    message: &str,
+    code: u8,
+) -> Result<bool, Fail> {
+    let left = left_by(alloc, Ok(words_of(alloc, words)?))?;
+    Ok(
+        left.output.bytes() == output.as_bytes()
+            && left.message.bytes() == message.as_bytes()
+            && left.code == code,
+    )
 }
 
 const USAGE: &str = "usage: espresso -Dcommand [-o type] [-e eat] [file [file]]\n";
 
+const WRITE_FAILED: &[u8] = b"espresso: write failed\n";
+
+const CLOSED: &str = "espresso: cannot open c\n";
+
+#[test]
+fn a_word_names_its_file(rt: HostRuntime) -> Result<(), Fail> {
+    let a = ".i 1\n.o 1\n.p 1\n1 1\n.e\n";
+    assert!(rt; answers(rt.alloc(), &["x", "-Decho", "a"], a, "", 0)?);
+    let b = "# b\n.i 1\n.o 1\n.p 1\n0 1\n.e\n";
+    assert!(rt; answers(rt.alloc(), &["-Decho", "-Decho", "b"], b, "", 0)?);
+    Ok(())
+}
+
+#[test]
+fn no_word_is_standard_input(rt: HostRuntime) -> Result<(), Fail> {
+    let input = "# in\n.i 1\n.o 1\n.p 1\n- 1\n.e\n";
+    assert!(rt; answers(rt.alloc(), &["x", "-Decho", "-"], input, "", 0)?);
+    assert!(rt; answers(rt.alloc(), &["x", "-D", "echo"], input, "", 0)?);
+    Ok(())
+}
+
+#[test]
+fn a_run_that_does_not_answer_yes(rt: HostRuntime) -> Result<(), Fail> {
+    assert!(rt; answers(rt.alloc(), &["x", "-Decho", "c"], "", CLOSED, 2)?);
+    let no = "ON-set is not a tautology\n";
+    assert!(rt; answers(rt.alloc(), &["x", "-Dtautology", "a"], no, "", 1)?);
+    assert!(rt; answers(rt.alloc(), &["x", "-Decho", "-Decho"], "", USAGE, 2)?);
+    Ok(())
+}
+
 #[test]
 fn each_of_two_words_names_its_own_source(rt: HostRuntime) -> Result<(), Fail> {
-    let alloc = rt.alloc();
-    for (words, output, message, code) in [
-        (
-            ["x", "-Dsharp", "-", "a"],
-            "# in\n.i 1\n.o 1\n.p 1\n0 1\n.e\n",
+    let without_a = "# in\n.i 1\n.o 1\n.p 1\n0 1\n.e\n";
+    assert!(rt; answers(rt.alloc(), &["x", "-Dsharp", "-", "a"], without_a, "", 0)?);
+    let without_input = "# b\n# in\n.i 1\n.o 1\n.p 0\n.e\n";
+    assert!(rt;
+        answers(
+            rt.alloc(),
+            &["x", "-Dsharp", "b", "-"],
+            without_input,
             "",
-            0,
-        ),
-        (
-            ["x", "-Dsharp", "b", "-"],
-            "# b\n# in\n.i 1\n.o 1\n.p 0\n.e\n",
-            "",
-            0,
-        ),
-        (
-            ["x", "-Dsharp", "a", "c"],
-            "",
-            "espresso: cannot open c\n",
-            2,
-        ),
-        (
-            ["x", "-Dsharp", "c", "a"],
-            "",
-            "espresso: cannot open c\n",
-            2,
-        ),
-    ] {
-        let left = left_by(alloc, Ok(words_of(alloc, &words)?))?;
-        assert_eq!(rt; left.output.bytes(), output.as_bytes());
-        assert_eq!(rt; left.message.bytes(), message.as_bytes());
-        assert_eq!(rt; left.code, code);
-    }
+            0
+        )?
+    );
+    Ok(())
+}
+
+#[test]
+fn one_of_two_words_cannot_be_opened(rt: HostRuntime) -> Result<(), Fail> {
+    assert!(rt; answers(rt.alloc(), &["x", "-Dsharp", "a", "c"], "", CLOSED, 2)?);
+    assert!(rt; answers(rt.alloc(), &["x", "-Dsharp", "c", "a"], "", CLOSED, 2)?);
     Ok(())
 }
 
@@ -169,15 +162,11 @@ fn each_of_two_words_names_its_own_source(rt: HostRuntime) -> Result<(), Fail> {
 fn words_that_are_none_are_told(rt: HostRuntime) -> Result<(), Fail> {
     let alloc = rt.alloc();
     let left = left_by(alloc, Err(LineFault::Usage))?;
-    assert_eq!(rt; left.message.bytes(), USAGE.as_bytes());
-    assert_eq!(rt; left.code, 2);
-    assert_eq!(rt; left.output.calls(), WriteCalls::new());
+    assert!(rt; left.message.bytes() == USAGE.as_bytes() && left.code == 2);
+    assert!(rt; left.output.calls() == WriteCalls::new());
     let left = left_by(alloc, Err(LineFault::Memory))?;
-    assert_eq!(rt;
-        left.message.bytes(),
-        b"espresso: out of memory\n".as_slice()
-    );
-    assert_eq!(rt; left.code, 3);
+    let message = b"espresso: out of memory\n";
+    assert!(rt; left.message.bytes() == message.as_slice() && left.code == 3);
     Ok(())
 }
 
@@ -270,24 +259,36 @@ fn marks_of(alloc: Global, words: &[&str]) -> Result<u64, Fail> {
     Ok(slate.get())
 }
 
+// Whether a process with these words makes these calls.
+fn calls(alloc: Global, words: &[&str], marks: u64) -> Result<bool, Fail> {
+    Ok(marks_of(alloc, words)? == marks)
+}
+
 #[test]
 fn a_message_comes_behind_the_flush(rt: HostRuntime) -> Result<(), Fail> {
-    let alloc = rt.alloc();
-    assert_eq!(rt; marks_of(alloc, &["x", "-Decho", "a"])?, 412);
-    assert_eq!(rt; marks_of(alloc, &["x", "-Decho", "c"])?, 62333);
-    assert_eq!(rt; marks_of(alloc, &["x", "-Dsharp", "b", "c"])?, 5162333);
-    assert_eq!(rt; marks_of(alloc, &["x", "-Dsharp"])?, 3);
+    assert!(rt; calls(rt.alloc(), &["x", "-Decho", "a"], 412)?);
+    assert!(rt; calls(rt.alloc(), &["x", "-Decho", "c"], 62333)?);
+    Ok(())
+}
+
+#[test]
+fn a_message_comes_behind_the_echoes(rt: HostRuntime) -> Result<(), Fail> {
+    assert!(rt; calls(rt.alloc(), &["x", "-Dsharp", "b", "c"], 5162333)?);
+    assert!(rt; calls(rt.alloc(), &["x", "-Dsharp"], 3)?);
     Ok(())
 }
 
 #[test]
 fn a_second_file_is_opened_behind_a_first_without_a_fault(rt: HostRuntime) -> Result<(), Fail> {
-    let alloc = rt.alloc();
-    assert_eq!(rt; marks_of(alloc, &["x", "-Dverify", "b", "a"])?, 51412);
-    assert_eq!(rt; marks_of(alloc, &["x", "-Dverify", "a", "-"])?, 47112);
-    assert_eq!(rt; marks_of(alloc, &["x", "-Dverify", "c", "a"])?, 62333);
-    let at_fault = marks_of(alloc, &["x", "-Dverify", "fault", "a"])?;
-    assert_eq!(rt; at_fault, 623333333);
+    assert!(rt; calls(rt.alloc(), &["x", "-Dverify", "b", "a"], 51412)?);
+    assert!(rt; calls(rt.alloc(), &["x", "-Dverify", "a", "-"], 47112)?);
+    Ok(())
+}
+
+#[test]
+fn a_second_file_stays_closed_behind_a_fault(rt: HostRuntime) -> Result<(), Fail> {
+    assert!(rt; calls(rt.alloc(), &["x", "-Dverify", "c", "a"], 62333)?);
+    assert!(rt; calls(rt.alloc(), &["x", "-Dverify", "fault", "a"], 623333333)?);
     Ok(())
 }
 
@@ -304,34 +305,40 @@ fn a_second_file_stays_closed_behind_a_failed_write(rt: HostRuntime) -> Result<(
     let mut message = Taken::new(alloc, 200, 200, false)?;
     let words = words_of(alloc, &["x", "-Dverify", "b", "a"])?;
     let status = execute(alloc, Ok(words), &files, &mut output, &mut message);
-    assert_eq!(rt; status, Status::Fault);
-    assert_eq!(rt; message.bytes(), b"espresso: write failed\n".as_slice());
-    assert_eq!(rt; slate.get(), 5);
+    assert!(rt; status == Status::Fault && message.bytes() == WRITE_FAILED);
+    assert!(rt; slate.get() == 5);
     Ok(())
+}
+
+// An echo on an output whose write of this number fails alone.
+fn echo_failing_after(alloc: Global, writes: u64) -> Result<Left, Fail> {
+    let output = Taken::new(alloc, 200, 10, false)?;
+    let mut output = output.failing_after(writes);
+    let mut message = Taken::new(alloc, 200, 200, false)?;
+    let words = words_of(alloc, &["x", "-Decho", "a"])?;
+    let status = execute(
+        alloc,
+        Ok(words),
+        &two_files(alloc),
+        &mut output,
+        &mut message,
+    );
+    Ok(Left {
+        output,
+        message,
+        code: status.code(),
+    })
 }
 
 #[test]
 fn a_failed_call_is_the_last_of_its_kind(rt: HostRuntime) -> Result<(), Fail> {
-    let alloc = rt.alloc();
     for writes in 0..2 {
-        let output = Taken::new(alloc, 200, 10, false)?;
-        let mut output = output.failing_after(writes);
-        let mut message = Taken::new(alloc, 200, 200, false)?;
-        let words = words_of(alloc, &["x", "-Decho", "a"])?;
-        let status = execute(
-            alloc,
-            Ok(words),
-            &two_files(alloc),
-            &mut output,
-            &mut message,
-        );
-        assert_eq!(rt; status, Status::Fault);
-        assert_eq!(rt; message.bytes(), b"espresso: write failed\n".as_slice());
-        assert!(rt; output.calls().broken);
-        assert!(rt; output.calls().flushed);
-        assert_eq!(rt; output.calls().counts.failures, 1);
-        assert_eq!(rt; output.calls().counts.flushes, 1);
-        assert_eq!(rt; output.calls().counts.failed_flushes, 0);
+        let left = echo_failing_after(rt.alloc(), writes)?;
+        assert!(rt; left.code == 2 && left.message.bytes() == WRITE_FAILED);
+        let calls = left.output.calls();
+        assert!(rt; calls.broken && calls.flushed);
+        assert!(rt; calls.counts.failures == 1 && calls.counts.flushes == 1);
+        assert!(rt; calls.counts.failed_flushes == 0);
     }
     Ok(())
 }
