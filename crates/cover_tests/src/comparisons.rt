@@ -48,6 +48,12 @@ fn agrees(rt: HostRuntime) -> Result<(), Fail> {
     let alloc = rt.alloc();
     assert!(rt; agreeing(alloc, b"1- 1", b"11 1\n10 1", b"")?);
     assert!(rt; agreeing(alloc, b"1- 1", b"-1 1", b"10 1\n01 1")?);
+    Ok(())
+}
+
+#[test]
+fn disagrees(rt: HostRuntime) -> Result<(), Fail> {
+    let alloc = rt.alloc();
     assert!(rt; !agreeing(alloc, b"1- 1", b"-1 1", b"10 1")?);
     assert!(rt; !agreeing(alloc, b"1- 1", b"", b"")?);
     Ok(())

@@ -113,12 +113,9 @@ fn the_column_of_fewer_literals_stays(rt: HostRuntime) -> Result<(), Fail> {
 
 #[test]
 fn a_row_that_does_not_rise_is_refused(rt: HostRuntime) -> Result<(), Fail> {
-    let falling = b"10";
-    assert!(rt; table(rt.alloc(), falling, &[2, 1])?.is_none());
-    let empty = b"";
-    assert!(rt; table(rt.alloc(), empty, &[2, 1])?.is_none());
-    let far = b"02";
-    assert!(rt; table(rt.alloc(), far, &[2, 1])?.is_none());
+    assert!(rt; table(rt.alloc(), b"10", &[2, 1])?.is_none());
+    assert!(rt; table(rt.alloc(), b"", &[2, 1])?.is_none());
+    assert!(rt; table(rt.alloc(), b"02", &[2, 1])?.is_none());
     Ok(())
 }
 

@@ -121,7 +121,7 @@ pub(crate) fn sum(choice: Choice, weights: &[u32], columns: &[usize]) -> u128
     sum
 }
 
-pub(crate) fn copied_rows(alloc: Global, rows: &[Vec<usize>]) -> Result<Vec<Vec<usize>>, AllocError>
+pub(crate) fn copy_rows(alloc: Global, rows: &[Vec<usize>]) -> Result<Vec<Vec<usize>>, AllocError>
     ensures { IfOk result (λ v. items_of v.items ≡ items_of rows.now) }
 {
     let mut kept = Vec::new(alloc);

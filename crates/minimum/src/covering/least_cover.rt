@@ -15,7 +15,7 @@ ghost use Rattle.minimum.specs.Steps.{with_rows};
 
 use crate::choice::Choice;
 use crate::covering::bound::Budget;
-use crate::covering::columns::{contains, copied, copied_rows, count, joined, sum};
+use crate::covering::columns::{contains, copied, copy_rows, count, joined, sum};
 use crate::covering::marks::{all_but, marked_columns, others};
 use crate::covering::subgradient::{Goal, WarmStart};
 use crate::covering::table::Table;
@@ -196,7 +196,7 @@ impl Stage {
     {
         match self
             .table
-            .kept_within(alloc, choice, budget, &mut help.warm_start)?
+            .columns_within_budget(alloc, choice, budget, &mut help.warm_start)?
         {
             Some(keep) => self.without_columns(alloc, choice, budget, &keep),
             None => unreachable!(),
@@ -264,7 +264,7 @@ impl Table {
         requires within { IsWithin row.items self.now.live }
         ensures { IfOk result (λ t. t ≡ with_rows self.now (self.now.rows ++ row.items ∷ [])) }
     {
-        let mut rows = copied_rows(alloc, self.row_lists())?;
+        let mut rows = copy_rows(alloc, self.row_lists())?;
         rows.push(row)?;
         let taken = copied(alloc, self.taken_columns())?;
         let live = copied(alloc, self.live_columns())?;
@@ -398,8 +398,8 @@ impl Table {
             if counts <= low {
                 return Ok(cover);
             }
-            let wished = self.wished(alloc, columns, counts, warm_start)?;
-            let asked = wished.max(low + 1).min(counts);
+            let target = self.target_count(alloc, columns, counts, warm_start)?;
+            let asked = target.max(low + 1).min(counts);
             match self.with_fewer(alloc, columns, asked, warm_start)? {
                 None => low = asked,
                 Some(fewer) => cover = fewer,
@@ -408,7 +408,7 @@ impl Table {
     }
 
     /// Fewer literals than which covers of so many columns hardly have, as far as row weights show: a wish.
-    fn wished(
+    fn target_count(
         &self,
         alloc: Global,
         columns: usize,
@@ -416,7 +416,7 @@ impl Table {
         warm_start: &mut WarmStart,
     ) -> Result<u128, AllocError> {
         let budget = Budget { columns, counts };
-        let _keep = self.kept_within(alloc, Choice::Literals, budget, warm_start)?;
+        let _keep = self.columns_within_budget(alloc, Choice::Literals, budget, warm_start)?;
         Ok(counts.saturating_sub(u128::from(warm_start.missing)))
     }
 

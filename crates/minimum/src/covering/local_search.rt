@@ -4,7 +4,7 @@
 //! alone, and a column of some open row comes in. Rows that stay open weigh more and more, so that the search does not
 //! turn in circles. Whatever it finds is looked at before it is used.
 
-use crate::covering::subgradient::{Compact, Goal, SEED, at, drawn, put};
+use crate::covering::subgradient::{Compact, Goal, SEED, at, next_random, put};
 use std::alloc::{AllocError, Global};
 
 pub(crate) fn number(numbers: &[usize], place: usize) -> usize {
@@ -50,7 +50,7 @@ impl LocalSearch {
         let columns = table.costs.len();
         let rows = table.rows.len();
         let mut scores: Vec<i64> = Vec::with_capacity(alloc, columns)?;
-        for rows in &table.standing {
+        for rows in &table.column_rows {
             scores.push(i64::try_from(rows.len()).unwrap_or(0))?;
         }
         Ok(LocalSearch {
@@ -97,10 +97,10 @@ impl LocalSearch {
         put(&mut self.scores, column, 0i64.wrapping_sub(score));
         mark(&mut self.inside, column, true);
         self.chosen.push(column)?;
-        if column >= table.standing.len() {
+        if column >= table.column_rows.len() {
             return Ok(());
         }
-        for row in &table.standing[column] {
+        for row in &table.column_rows[column] {
             let row = *row;
             let held = number(&self.held, row).wrapping_add(1);
             set(&mut self.held, row, held);
@@ -127,10 +127,10 @@ impl LocalSearch {
         mark(&mut self.fresh, column, false);
         set(&mut self.stamps, column, now);
         self.chosen.retain(|other| *other != column);
-        if column >= table.standing.len() {
+        if column >= table.column_rows.len() {
             return Ok(());
         }
-        for row in &table.standing[column] {
+        for row in &table.column_rows[column] {
             let row = *row;
             let held = number(&self.held, row).wrapping_sub(1);
             set(&mut self.held, row, held);
@@ -167,7 +167,7 @@ impl LocalSearch {
     }
 
     /// The column of the list whose going brings the most, other than the last one.
-    fn leaving(&self, table: &Compact, last: usize) -> usize {
+    fn column_to_drop(&self, table: &Compact, last: usize) -> usize {
         let mut best = usize::MAX;
         for column in &self.chosen {
             if *column != last && (best == usize::MAX || self.is_better(table, *column, best)) {
@@ -178,7 +178,7 @@ impl LocalSearch {
     }
 
     /// The column of the row whose coming brings the most.
-    fn coming(&self, table: &Compact, row: &[usize]) -> usize {
+    fn column_to_add(&self, table: &Compact, row: &[usize]) -> usize {
         let mut best = usize::MAX;
         for column in row {
             if flag(&self.fresh, *column)
@@ -258,7 +258,7 @@ impl LocalSearch {
         seed: u64,
     ) -> Result<usize, AllocError> {
         if self.size() >= goal.columns {
-            let column = self.leaving(table, last);
+            let column = self.column_to_drop(table, last);
             if column == usize::MAX {
                 return Ok(last);
             }
@@ -274,7 +274,7 @@ impl LocalSearch {
         if row >= table.rows.len() {
             return Ok(last);
         }
-        let column = self.coming(table, &table.rows[row]);
+        let column = self.column_to_add(table, &table.rows[row]);
         if column == usize::MAX {
             return Ok(last);
         }
@@ -308,14 +308,14 @@ pub(crate) fn local_search(
             if local_search.reaches(table, goal) {
                 break;
             }
-            let column = local_search.leaving(table, usize::MAX);
+            let column = local_search.column_to_drop(table, usize::MAX);
             if column == usize::MAX {
                 break;
             }
             local_search.remove(table, column, now)?;
             continue;
         }
-        seed = drawn(seed);
+        seed = next_random(seed);
         last = local_search.swap(table, goal, last, now, seed)?;
     }
     Ok(best)

@@ -71,7 +71,7 @@ fn any_blank(rows: &[Vec<usize>]) -> bool
 }
 
 /// The marked numbers of the second list and all of the first, below the end.
-fn chosen_of(
+fn taken_and_marked(
     alloc: Global,
     taken: &[usize],
     live: &[usize],
@@ -137,7 +137,7 @@ fn entanglement(
 }
 
 /// The sum of the numbers of the row's columns.
-fn entangled(row: &[usize], numbers: &[i64]) -> i64 {
+fn row_entanglement(row: &[usize], numbers: &[i64]) -> i64 {
     let mut sum: i64 = 0;
     for column in row {
         sum = sum.wrapping_add(at(numbers, *column));
@@ -165,7 +165,7 @@ fn likeliest(rows: &[Vec<usize>], likely: &[i64], numbers: &[i64]) -> usize {
     let mut most = i64::MIN;
     let mut best = 0;
     for row in rows {
-        let here = entangled(row, numbers);
+        let here = row_entanglement(row, numbers);
         if row.len() < shortest || (row.len() == shortest && here > most) {
             shortest = row.len();
             most = here;
@@ -273,7 +273,7 @@ impl Table {
 
     /// Marks the columns that a cover within the budget may have, as far as these multipliers show; `None` if they
     /// show that there is no such cover.
-    fn kept_by(
+    fn columns_by_bound(
         &self,
         alloc: Global,
         choice: Choice,
@@ -316,7 +316,7 @@ impl Table {
     }
 
     /// Marks them by multipliers that are wished for.
-    pub(crate) fn kept_within(
+    pub(crate) fn columns_within_budget(
         &self,
         alloc: Global,
         choice: Choice,
@@ -337,7 +337,7 @@ impl Table {
             self.columns(),
             goal,
         )?;
-        self.kept_by(alloc, choice, budget, &multipliers)
+        self.columns_by_bound(alloc, choice, budget, &multipliers)
     }
 
     /// The table without the columns that no cover within the budget has, as far as row weights show.
@@ -351,7 +351,7 @@ impl Table {
         ensures { IfOk result (λ o. MatchOption o (NoneWithin choice self.now budget.columns
             budget.counts) (IsNarrowed choice budget.columns budget.counts self.now)) }
     {
-        let Some(keep) = self.kept_within(alloc, choice, budget, warm_start)? else {
+        let Some(keep) = self.columns_within_budget(alloc, choice, budget, warm_start)? else {
             return Ok(None);
         };
         self.keep_marked(alloc, &keep)
@@ -445,7 +445,7 @@ impl Table {
     }
 
     /// The cover of the taken columns and the marked live ones, if it is one and within the budget.
-    fn completed(
+    fn cover_from_marks(
         &self,
         alloc: Global,
         choice: Choice,
@@ -455,7 +455,7 @@ impl Table {
         ensures { IfOk result (λ o. IfSome o (λ v. IsAnswer choice self.now budget.columns
             budget.counts v.items)) }
     {
-        let cover = chosen_of(
+        let cover = taken_and_marked(
             alloc,
             self.taken_columns(),
             self.live_columns(),
@@ -490,7 +490,7 @@ impl Table {
         let steps = steps.saturating_mul(self.row_lists().len()).min(100000);
         let wished = local_search(alloc, &compact, goal, steps)?;
         let marks = marks_of(alloc, self.live_columns(), &wished, self.columns())?;
-        self.completed(alloc, choice, budget, &marks)
+        self.cover_from_marks(alloc, choice, budget, &marks)
     }
 
     /// A cover within the budget, or none if there is none: a local search looks for one before the branches.

@@ -10,7 +10,7 @@
 //! it is used.
 
 use crate::choice::Choice;
-use crate::covering::columns::{copied_rows, count};
+use crate::covering::columns::{copy_rows, count};
 use std::alloc::{AllocError, Global};
 
 /// The multiplier of a column if it is not itself asked for.
@@ -31,7 +31,7 @@ const LAST_PACE: i64 = 16;
 const PATIENCE: u32 = 10;
 
 /// The next number of a fixed sequence.
-pub(crate) fn drawn(seed: u64) -> u64 {
+pub(crate) fn next_random(seed: u64) -> u64 {
     let a = seed ^ (seed << 13);
     let b = a ^ (a >> 7);
     b ^ (b << 17)
@@ -64,7 +64,7 @@ fn shift(numbers: &mut Vec<i64>, row: &[usize], amount: i64) {
     }
 }
 
-fn sum(numbers: &[i64]) -> i64 {
+fn total(numbers: &[i64]) -> i64 {
     let mut sum: i64 = 0;
     for number in numbers {
         sum = sum.wrapping_add(*number);
@@ -76,28 +76,28 @@ fn sum(numbers: &[i64]) -> i64 {
 #[derive(Drop)]
 pub(crate) struct Compact {
     pub(crate) rows: Vec<Vec<usize>>,
-    pub(crate) standing: Vec<Vec<usize>>,
+    pub(crate) column_rows: Vec<Vec<usize>>,
     pub(crate) costs: Vec<i64>,
 }
 
 /// The rows in which each column stands.
-fn standing(
+fn rows_by_column(
     alloc: Global,
     rows: &[Vec<usize>],
     columns: usize,
 ) -> Result<Vec<Vec<usize>>, AllocError> {
-    let mut standing: Vec<Vec<usize>> = Vec::with_capacity(alloc, columns)?;
+    let mut column_rows: Vec<Vec<usize>> = Vec::with_capacity(alloc, columns)?;
     for _ in 0..columns {
-        standing.push(Vec::new(alloc))?;
+        column_rows.push(Vec::new(alloc))?;
     }
     for (i, row) in rows.iter().enumerate() {
         for column in row {
-            if *column < standing.len() {
-                standing[*column].push(i)?;
+            if *column < column_rows.len() {
+                column_rows[*column].push(i)?;
             }
         }
     }
-    Ok(standing)
+    Ok(column_rows)
 }
 
 /// The place of each live column among them.
@@ -111,14 +111,14 @@ fn places(alloc: Global, live: &[usize], columns: usize) -> Result<Vec<usize>, A
     Ok(places)
 }
 
-fn placed(alloc: Global, row: &[usize], places: &[usize]) -> Result<Vec<usize>, AllocError> {
-    let mut placed = Vec::with_capacity(alloc, row.len())?;
+fn renumber_row(alloc: Global, row: &[usize], places: &[usize]) -> Result<Vec<usize>, AllocError> {
+    let mut renumbered = Vec::with_capacity(alloc, row.len())?;
     for column in row {
         if *column < places.len() {
-            placed.push(places[*column])?;
+            renumbered.push(places[*column])?;
         }
     }
-    Ok(placed)
+    Ok(renumbered)
 }
 
 impl Compact {
@@ -132,14 +132,14 @@ impl Compact {
         let places = places(alloc, live, weights.len())?;
         let mut lists = Vec::with_capacity(alloc, rows.len())?;
         for row in rows {
-            lists.push(placed(alloc, row, &places)?)?;
+            lists.push(renumber_row(alloc, row, &places)?)?;
         }
         let mut costs = Vec::with_capacity(alloc, live.len())?;
         for column in live {
             costs.push(i64::from(count(choice, weights, *column)))?;
         }
         Ok(Compact {
-            standing: standing(alloc, &lists, live.len())?,
+            column_rows: rows_by_column(alloc, &lists, live.len())?,
             rows: lists,
             costs,
         })
@@ -264,7 +264,7 @@ impl Ascent {
 
     /// What weights say of a cover: more than nothing if no cover reaches the goal.
     fn value(&self, weights: &[i64], column: i64, goal: Goal) -> i64 {
-        sum(weights)
+        total(weights)
             .wrapping_sub(beyond(&self.loads, &self.scaled_costs))
             .wrapping_sub(column.wrapping_mul(goal.columns))
             .wrapping_sub(self.count.wrapping_mul(goal.counts))
@@ -337,7 +337,7 @@ impl Ascent {
             }
         }
         if self.count > 0 {
-            let slope = sum(&relaxed).wrapping_sub(goal.columns).wrapping_mul(16);
+            let slope = total(&relaxed).wrapping_sub(goal.columns).wrapping_mul(16);
             self.column_direction = slope.wrapping_add(self.column_direction.wrapping_mul(12) >> 4);
             square = square.wrapping_add(self.column_direction.wrapping_mul(self.column_direction));
         }
@@ -373,7 +373,7 @@ impl Ascent {
     fn kick(&mut self, alloc: Global) -> Result<(), AllocError> {
         let number = self.top_weights.len();
         let mean = match i64::try_from(number.max(1)) {
-            Ok(number) => sum(&self.top_weights).wrapping_div(number.max(1)),
+            Ok(number) => total(&self.top_weights).wrapping_div(number.max(1)),
             Err(_) => 0,
         };
         let mut weights = Vec::with_capacity(alloc, number)?;
@@ -403,7 +403,7 @@ fn lies_in(row: &[usize], other: &[usize]) -> bool {
 }
 
 /// The row from a place on that has all columns of this one and the fewest others, among some that follow the first.
-fn found(rows: &[Vec<usize>], row: &[usize], from: usize) -> usize {
+fn matching_row(rows: &[Vec<usize>], row: &[usize], from: usize) -> usize {
     let mut best = rows.len();
     let mut fewest = usize::MAX;
     let mut seen: usize = 0;
@@ -446,7 +446,7 @@ impl WarmStart {
 
     pub(crate) fn copy(&self, alloc: Global) -> Result<WarmStart, AllocError> {
         Ok(WarmStart {
-            rows: copied_rows(alloc, &self.rows)?,
+            rows: copy_rows(alloc, &self.rows)?,
             weights: self.weights.to_vec(alloc)?,
             column: self.column,
             likely: self.likely.to_vec(alloc)?,
@@ -456,18 +456,18 @@ impl WarmStart {
 
     /// Even weights, disturbed at random.
     fn first(&self, alloc: Global, table: &Compact) -> Result<Vec<i64>, AllocError> {
-        let mut standing: Vec<i64> = vec![in alloc; 0; table.costs.len()]?;
+        let mut column_rows: Vec<i64> = vec![in alloc; 0; table.costs.len()]?;
         for row in &table.rows {
-            shift(&mut standing, row, 1);
+            shift(&mut column_rows, row, 1);
         }
         let mut seed = SEED;
         let mut weights = Vec::with_capacity(alloc, table.rows.len())?;
         for row in &table.rows {
             let mut most: i64 = 1;
             for column in row {
-                most = most.max(at(&standing, *column));
+                most = most.max(at(&column_rows, *column));
             }
-            seed = drawn(seed);
+            seed = next_random(seed);
             let part = 512i64.wrapping_add(i64::try_from(seed >> 54).unwrap_or(0));
             weights.push((UNIT.wrapping_div(most.max(1)) >> 10).wrapping_mul(part))?;
         }
@@ -476,11 +476,15 @@ impl WarmStart {
 
     /// The remembered weights of rows that come from the remembered ones, in their order, where some left, some have
     /// lost columns and some came at the end.
-    fn carried(&self, alloc: Global, rows: &[Vec<usize>]) -> Result<Vec<i64>, AllocError> {
+    fn inherited_weights(
+        &self,
+        alloc: Global,
+        rows: &[Vec<usize>],
+    ) -> Result<Vec<i64>, AllocError> {
         let mut weights = Vec::with_capacity(alloc, rows.len())?;
         let mut from: usize = 0;
         for row in rows {
-            let place = found(&self.rows, row, from);
+            let place = matching_row(&self.rows, row, from);
             if place < self.weights.len() {
                 weights.push(self.weights[place])?;
             } else {
@@ -503,10 +507,10 @@ impl WarmStart {
         let weights = if self.rows.is_empty() {
             self.first(alloc, table)?
         } else {
-            self.carried(alloc, rows)?
+            self.inherited_weights(alloc, rows)?
         };
         let number = i64::try_from(table.costs.len()).unwrap_or(i64::MAX);
-        let total = sum(&table.costs).max(1);
+        let total = total(&table.costs).max(1);
         let uneven = table.is_uneven();
         let count = if uneven {
             UNIT.wrapping_mul(number)
@@ -626,7 +630,7 @@ impl WarmStart {
         rows: &[Vec<usize>],
         ascent: &Ascent,
     ) -> Result<(), AllocError> {
-        self.rows = copied_rows(alloc, rows)?;
+        self.rows = copy_rows(alloc, rows)?;
         self.weights = ascent.top_weights.to_vec(alloc)?;
         if ascent.count > 0 {
             self.column = ascent.top_column;

@@ -8,8 +8,8 @@ use Rattle.minimum.specs.Weights.{at}
 use Rattle.minimum.specs.Lagrange.{BoundsCovers}
 use Rattle.minimum.specs.Search.{marked}
 use Rattle.minimum.proofs.Lagrange.{none_within, outside, scaled_costs_at, marks_at}
-use Rattle.minimum.proofs.covering.table.Table.kept_by.Goals as goal
-use Rattle.minimum.proofs.covering.table.Table.kept_by.Goals.{In-Some}
+use Rattle.minimum.proofs.covering.table.Table.columns_by_bound.Goals as goal
+use Rattle.minimum.proofs.covering.table.Table.columns_by_bound.Goals.{In-Some}
 
 pub returns-then-len-rows : goal.returns-then-len-rows
 returns-then-len-rows c d l e = absurd (both_ways _ e (c.in_ok-any_marked.ensures d l))

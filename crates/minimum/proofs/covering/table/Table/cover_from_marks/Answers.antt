@@ -7,8 +7,8 @@ use Rattle.minimum.specs.Search.{marked}
 use Rattle.minimum.proofs.Sets.{filter_rises}
 use Rattle.minimum.proofs.Rising.{range_rises}
 use Rattle.minimum.proofs.Chosen.{all_met, chosen, chosen_cover}
-use Rattle.minimum.proofs.covering.table.Table.completed.Goals as goal
-use Rattle.minimum.proofs.covering.table.Table.completed.Goals.{In_ok-cover}
+use Rattle.minimum.proofs.covering.table.Table.cover_from_marks.Goals as goal
+use Rattle.minimum.proofs.covering.table.Table.cover_from_marks.Goals.{In_ok-cover}
 
 made : (c : In_ok-cover) → c.in_ok-cover.cover.items ≡ filter (chosen c.args.self.now c.args.marks.now) (range_with_len 0 c.args.self.now.columns)
 made c =
