@@ -265,9 +265,6 @@ unforced_table t c w e = kept_table (λ x. not (eqb c x)) t w e
 
 -- ---- answers over narrowed tables
 
-pub narrowed_answer : (choice : Choice) (t u : Table) (k w : ℕ) (o : Option (List ℕ)) → IsNarrowed choice k w t u → Answers choice u k w o → Answers choice t k w o
-narrowed_answer choice t u k w o n a = n.leads o a
-
 pub over_sum : (choice : Choice) (t : Table) (k w n : ℕ) → IsTable t → length t.taken ≤ k → n ≡ sum_over (counted choice t.weights) t.taken → MatchBool (nat_lt w n) (NoneWithin choice t k w) ((length t.taken ≤ k) × (sum_over (counted choice t.weights) t.taken ≤ w))
 over_sum choice t k w n wt l e = go (nat_lt w n) refl
   where

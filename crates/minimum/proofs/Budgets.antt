@@ -2,10 +2,10 @@
 use Rattle.std.proofs.Common.{◌≡◌, ℕ, ◌-◌, ◌<◌, ◌≤◌, ◌⊎◌, inl, inr, List, [], ◌∷◌, length, refl, arith, Vec}
 use Rattle.std.specs.Prelude.{Option, Some, None, MatchOption, option_map}
 use Rattle.std.proofs.lemmas.Bool.{cases_lt}
-use Rattle.minimum.specs.declared.choice.Choice.TheVariants.{First, Literals}
+use Rattle.minimum.specs.declared.choice.Choice.TheVariants.{First}
 use Rattle.minimum.specs.Table.{Table}
 use Rattle.minimum.specs.Cover.{IsCover, counted, sum_over}
-use Rattle.minimum.specs.Search.{Answers, IsShortest, HasShorter, IsFewest, HasFewer, IsBest}
+use Rattle.minimum.specs.Search.{Answers, IsShortest, HasShorter, IsBest}
 
 pub sum_nothing : (weights x : List ℕ) → sum_over (counted First weights) x ≡ 0
 sum_nothing weights [] = refl
@@ -23,23 +23,4 @@ pub shortest_best : (t : Table) (s : List ℕ) → IsCover t s → IsShortest t 
 shortest_best t s h low = record {
   cover = h;
   none = λ x g. let e = sum_nothing t.weights s in at_least (length x) (length s) (sum_over (counted First t.weights) s) (sum_over (counted First t.weights) x) (low x g) (omega arith);
-}
-
-pub best_shortest : (t : Table) (s : List ℕ) → IsBest First t s → IsShortest t (length s)
-best_shortest t s h x g = elim (h.none x g) [ inl m ↦ omega arith | inr m ↦ omega (arith, m.0) ]
-
-pub fewer_from : {Z : Type 0} (t : Table) (k w : ℕ) (o : Option (Vec ℕ Z)) → 0 < w → Answers Literals t k (w - 1) (option_map (λ v. v.items) o) → MatchOption o (IsFewest t k w) (λ v. HasFewer t k w v.items)
-fewer_from t k w None l a = λ x h. elim (a x h) [ inl m ↦ inl m | inr m ↦ inr (omega arith) ]
-fewer_from t k w (Some v) l a = record { cover = a.cover; fits = a.fits; fewer = (let c = a.counts in omega arith) }
-
-pub fewest_best : (t : Table) (k : ℕ) (s : List ℕ) → IsShortest t k → IsCover t s → length s ≤ k → IsFewest t k (sum_over (counted Literals t.weights) s) → IsBest Literals t s
-fewest_best t k s low h fits few = record {
-  cover = h;
-  none = λ x g.
-      let own = low s h in
-      let l = low x g in
-      elim (few x g) [
-        | inl m ↦ inl (omega arith)
-        | inr m ↦ at_least (length x) (length s) (sum_over (counted Literals t.weights) s) (sum_over (counted Literals t.weights) x) (omega arith) m
-      ];
 }

@@ -7,7 +7,7 @@ use Rattle.minimum.specs.declared.choice.Choice.{Choice}
 use Rattle.minimum.specs.Table.{Table, has, RisesFrom, IsWithin, IsTable}
 use Rattle.minimum.specs.Cover.{meets, counted, sum_over, IsLeast}
 use Rattle.minimum.specs.Steps.{take_column, with_rows}
-use Rattle.minimum.specs.Search.{NoneWithin, NoneBelow, IsAnswer, IsOutside, IsBest, IsStage, Continues, keep_columns, is_blank, marked}
+use Rattle.minimum.specs.Search.{NoneWithin, NoneBelow, IsAnswer, IsOutside, IsStage, Continues, keep_columns, is_blank, marked}
 use Rattle.minimum.proofs.Sets.{has_here, without_only, filter_parts, meets_from}
 use Rattle.minimum.proofs.Covers.{take_cover, take_back}
 use Rattle.minimum.proofs.Branches.{later, taken_least, kept_back, kept_cover, split, none_blank, leaf, no_live}
@@ -117,14 +117,8 @@ outside_asked choice t row k w c h none x g there = none x (record {
 
 -- ---- from one table to the next
 
-pub next_same : (choice : Choice) (t : Table) → Continues choice t t
-next_same choice t = record { least = λ x h. h; live = λ n h. h }
-
 pub next_join : (choice : Choice) (t u v : Table) → Continues choice t u → Continues choice u v → Continues choice t v
 next_join choice t u v h g = record { least = λ x l. h.least x (g.least x l); live = λ n l. h.live n (g.live n l) }
-
-pub stage_first : (choice : Choice) (t : Table) (s : List ℕ) → IsBest choice t s → IsStage choice (length s) (sum_over (counted choice t.weights) s) t s
-stage_first choice t s h = record { none = h.none; witness = record { cover = h.cover; fits = omega arith; counts = omega arith } }
 
 -- ---- marks
 

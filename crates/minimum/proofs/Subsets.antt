@@ -110,11 +110,3 @@ all_cover t w = record {
   only = λ n h. elim (join_only n t.taken t.live h) [ inl f ↦ or_left _ _ f | inr f ↦ or_right (has n t.taken) _ f ];
   rows = rows_all t.taken t.live t.rows w.rows;
 }
-
-pub some_cover : (t : Table) → IsTable t → (x : List ℕ) × IsCover t x × (length x ≤ t.columns)
-some_cover t w =
-    let k = rises_length 0 t.columns (join t.taken t.live) (omega arith) (all_cover t w).rises (λ m e. elim (join_only m t.taken t.live e) [ inl f ↦ w.taken_within m f | inr f ↦ w.within m f ]) in (
-      join t.taken t.live,
-      all_cover t w,
-      omega arith,
-    )

@@ -1,10 +1,8 @@
 -- Any weights of rows, also those of which a column bears more than its scaled cost.
 use Rattle.std.specs.Prelude.{◌≡◌, ℕ, ◌+◌, ◌-◌, ◌<◌, ◌≤◌, ◌⊎◌, true, false, List, length}
 use Rattle.std.specs.List.{AllByRecursion, range_with_len}
-use Rattle.minimum.specs.declared.choice.Choice.{Choice}
-use Rattle.minimum.specs.Table.{Table, has, RisesFrom}
-use Rattle.minimum.specs.Cover.{IsCover, meets, counted, sum_over}
-use Rattle.minimum.specs.Search.{IsBeyond}
+use Rattle.minimum.specs.Table.{has, RisesFrom}
+use Rattle.minimum.specs.Cover.{meets, sum_over}
 use Rattle.minimum.specs.Weights.{load, total, at}
 
 -- what the column bears beyond its scaled cost
@@ -37,11 +35,6 @@ LagrangianHolds = (scaled_cost : ℕ → ℕ) (n : ℕ) (rows : List (List ℕ))
     × ((c : ℕ) → c < n → has c x ≡ false
     → total ys + overload scaled_cost rows ys c ≤ sum_over scaled_cost x
     + overloads n scaled_cost rows ys)
-
--- every cover without the column is beyond the budget
-abbrev pub IsInside : Choice → Table → ℕ → ℕ → ℕ → Type 0
-IsInside choice t k w c = (x : List ℕ) → IsCover t x → has c x ≡ false
-    → IsBeyond (counted choice t.weights) k w x
 
 -- what the column bears beyond its scaled cost, by lists of both
 abbrev pub beyond : List ℕ → List ℕ → ℕ → ℕ
