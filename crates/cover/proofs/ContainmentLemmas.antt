@@ -1,8 +1,8 @@
 -- Which cubes of a list lie in others of it, by their indices.
-use Rattle.std.proofs.Common.{◌≡◌, ℕ, zero, suc, ◌+◌, ◌<◌, ◌≤◌, Bool, true, false, not, ◌&&◌, ◌||◌, cond, nat_lt, nat_eq, List, [], ◌∷◌, ◌++◌, length, take, drop, get_or, All, refl, ap, sym, subst, ◌∙◌, arith, add-one, add-zero, zero-add, ◌-◌, replicate, append_assoc, inl, inr, ◌↔◌, IsTrue, filter}
+use Rattle.std.proofs.Common.{◌≡◌, ℕ, zero, suc, ◌+◌, ◌<◌, Bool, true, false, not, ◌&&◌, ◌||◌, cond, nat_lt, nat_eq, List, [], ◌∷◌, ◌++◌, length, take, drop, get_or, All, refl, ap, sym, subst, ◌∙◌, arith, add-one, add-zero, zero-add, ◌-◌, replicate, append_assoc, inl, inr, ◌↔◌, IsTrue, filter}
 use Rattle.std.specs.List.{Contains, list_any, range_with_len}
 use Rattle.std.proofs.lemmas.Bool.{cases_Bool, eqb-true, eq-eqb, ltb-true, lt-ltb, false≢true, and_parts, and_from, or_cases, or_left, or_right}
-use Rattle.std.proofs.lemmas.List.{get_or_default, take_more, append-nil, drop_all, length-take, length-drop, get_or-take, get_or-drop, length-replicate, get_or-replicate}
+use Rattle.std.proofs.lemmas.List.{get_or_default, take_more, length-take, length-drop, get_or-take, get_or-drop, length-replicate, get_or-replicate}
 use Rattle.std.specs.Cmp.{both_ways}
 use Rattle.std.proofs.lemmas.List.FromFn.{length-range_with_len, get_or-range_with_len}
 use Rattle.std.proofs.lemmas.List.Elements.{Contains-append_cases, All-filter}
@@ -294,12 +294,3 @@ module _ (size : Size) (cubes : List Cube) (k : ℕ) (c : Cube) (lt : k < length
 
 pub cube_at-self : (cubes : List Cube) (k : ℕ) → k < length cubes → cube_at cubes k ≡ get_or cubes k (cube_at cubes k)
 cube_at-self cubes k lt = get_or_default cubes k (record { symbols = []; outputs = [] }) (cube_at cubes k) lt
-
-pub KeepsUnmarked-none : (size : Size) (cubes : List Cube) → KeepsUnmarked size cubes 0 []
-KeepsUnmarked-none size cubes = record { are = λ k d lt. absurd (omega arith); rest = refl }
-
-pub contained-from_KeepsUnmarked : (size : Size) (cubes : List Cube) (k : ℕ) (kept : List Cube) → length cubes ≤ k → KeepsUnmarked size cubes k kept
-    → kept ≡ contained size cubes
-contained-from_KeepsUnmarked size cubes k kept past h =
-    sym (append-nil kept)
-    ∙ ap (λ l. kept ++ contained_after size (take k cubes) l) (sym (drop_all k cubes past)) ∙ h.rest

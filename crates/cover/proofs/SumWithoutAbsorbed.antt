@@ -21,9 +21,6 @@ use Rattle.cover.proofs.SumParts.{live-at_most}
 pub IsWithoutAbsorbed-all : (cubes others : List Cube) → IsWithoutAbsorbed cubes others cubes
 IsWithoutAbsorbed-all cubes others = record { within = λ c h. h; over = λ c h. inl h }
 
-pub IsWithoutAbsorbed-none : (others : List Cube) → IsWithoutAbsorbed [] others []
-IsWithoutAbsorbed-none others = IsWithoutAbsorbed-all [] others
-
 -- ---- the loop over the list
 
 module _ (rows : List Cube) (i : ℕ) (row : Cube) (others kept : List Cube) (lt : i < length rows) (at : row ≡ get_or rows i row)

@@ -7,6 +7,7 @@ use Rattle.pla.specs.declared.calls.WriteCalls.{WriteCalls}
 use Rattle.pla.specs.declared.fault.ReadFault.{ReadFault}
 use Rattle.pla.specs.Description.{Description, described}
 use Rattle.pla.specs.Fault.{fault_of}
+use Rattle.pla.proofs.Moves.{front_before}
 use Rattle.espresso.specs.declared.sources.Source.{Source}
 use Rattle.espresso.specs.declared.status.Status.{Status}
 use Rattle.espresso.specs.declared.failure.Operand.{Operand}
@@ -19,7 +20,7 @@ use Rattle.espresso.specs.Steps.{Closes, IsReadAs, Names, PassesOn, Reports, Sta
 use Rattle.espresso.specs.Tool.{outcome_of, unless_faulty}
 use Rattle.espresso.specs.Tool as tool
 use Rattle.espresso.specs.Words.{Meaning, Text, takes_two}
-use Rattle.espresso.proofs.Outputs.{front_longer, front_whole}
+use Rattle.espresso.proofs.Outputs.{front_whole}
 use Rattle.espresso.proofs.Ways.{could_not_write, ran_out}
 
 -- ---- the first source
@@ -73,7 +74,7 @@ opens_none D file input left calls line first Stopped false is h = is
 pub not_opened : (line : Meaning) (taken : Intakes) (name : Text) (names : Names) (old mid : Option (List ℕ)) (before count : WriteCalls) (pla : Description)
     → IsReadAs line First name taken.first (trace old mid before count) (Ok pla) → Stands line taken names (trace old mid before count) (Err failure.OutOfMemory)
 not_opened line taken name names old mid before count pla h =
-    (inl (front_longer old mid _ (second_due line taken.second) (front_whole old mid _ h.0.wrote)), h.1)
+    (inl (front_before old mid _ (second_due line taken.second) (front_whole old mid _ h.0.wrote)), h.1)
 
 -- the same second source, not opened for a reason that follows
 pub opens_since : (D : Type 0) (file : Text → Option D → Type 0) (input : D → Type 0) (left : D → Option (List ℕ)) (calls : D → ReadCalls) (line : Meaning) (first : Intake) (S T : Type 0) → (S → T)

@@ -4,13 +4,6 @@ use Rattle.std.specs.Io.KnownBytes.{Appends, Keeps}
 use Rattle.pla.specs.declared.calls.WriteCalls.{WriteCalls}
 use Rattle.pla.specs.Device.{AllWritten, AppendsFront, LastUnwritten, one_failed}
 
--- a text behind a text
-pub appends_more : (old mid new : Option (List ℕ)) (a b : List ℕ) → Appends old mid a → Appends mid new b → Appends old new (a ++ b)
-appends_more None mid new a b h k = tt
-appends_more (Some xs) None new a b h k = absurd h
-appends_more (Some xs) (Some ys) None a b h k = absurd k
-appends_more (Some xs) (Some ys) (Some zs) a b h k = k ∙ ap (λ t. t ++ b) h ∙ append_assoc xs a b
-
 -- and then nothing more
 pub appends_kept : (old mid new : Option (List ℕ)) (a : List ℕ) → Appends old mid a → Keeps mid new → Appends old new a
 appends_kept None mid new a h k = tt
@@ -27,10 +20,6 @@ appends_nothing (Some xs) = sym (append-nil xs)
 pub front_whole : (old new : Option (List ℕ)) (a : List ℕ) → Appends old new a → AppendsFront old new a
 front_whole old new a h = (a, [], sym (append-nil a), h)
 
--- a text, and then a beginning
-pub front_more : (old mid new : Option (List ℕ)) (a b : List ℕ) → Appends old mid a → AppendsFront mid new b → AppendsFront old new (a ++ b)
-front_more old mid new a b h k = (a ++ k.0, k.1, ap (λ t. a ++ t) k.2 ∙ sym (append_assoc a k.0 k.1), appends_more old mid new a k.0 h k.3)
-
 -- a beginning, and then nothing more
 pub front_kept : (old mid new : Option (List ℕ)) (a : List ℕ) → AppendsFront old mid a → Keeps mid new → AppendsFront old new a
 front_kept old mid new a h k = (h.0, h.1, h.2, appends_kept old mid new h.0 h.3 k)
@@ -38,7 +27,3 @@ front_kept old mid new a h k = (h.0, h.1, h.2, appends_kept old mid new h.0 h.3 
 -- a failure behind calls of which none failed
 pub failed_since : (before mid after : WriteCalls) → AllWritten before mid → LastUnwritten mid after → LastUnwritten before after
 failed_since before mid after same h = (h.0 ∙ ap one_failed same, h.1)
-
--- a beginning of a text is one of a longer text
-pub front_longer : (old new : Option (List ℕ)) (a b : List ℕ) → AppendsFront old new a → AppendsFront old new (a ++ b)
-front_longer old new a b h = (h.0, h.1 ++ b, ap (λ t. t ++ b) h.2 ∙ append_assoc h.0 h.1 b, h.3)

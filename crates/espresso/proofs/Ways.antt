@@ -7,6 +7,7 @@ use Rattle.pla.specs.Description.{Description}
 use Rattle.pla.specs.declared.calls.Counts.{Counts}
 use Rattle.pla.specs.declared.calls.WriteCalls.{WriteCalls}
 use Rattle.pla.specs.Device.{AppendsFront, TellsFlush, flush_broke, flush_went, one_more}
+use Rattle.pla.proofs.Moves.{appends_then, front_then, front_before}
 use Rattle.espresso.specs.declared.status.Status.{Status}
 use Rattle.espresso.specs.declared.status.Status.TheVariants.{Fault}
 use Rattle.espresso.specs.declared.failure.Operand.{Operand}
@@ -18,7 +19,7 @@ use Rattle.espresso.specs.Steps.{Answers, Began, Closes, FilesOf, IsReadAs, Name
 use Rattle.espresso.specs.Answer.{Answer}
 use Rattle.espresso.specs.Tool.{File, Outcome, answered, behind, outcome_of, reading_of, reading_then, unless_stopped}
 use Rattle.espresso.specs.Words.{Meaning, Text}
-use Rattle.espresso.proofs.Outputs.{appends_kept, appends_more, failed_since, front_kept, front_longer, front_more, front_whole}
+use Rattle.espresso.proofs.Outputs.{appends_kept, failed_since, front_kept, front_whole}
 
 -- ---- the reading of a source, and what follows
 
@@ -51,20 +52,20 @@ module _ (line : Meaning) (operand : Operand) (name : Text) (taken : Intake) (X 
     h.2,
   )
   stopped_there failure.SizesDiffer named h = absurd h
-  stopped_there failure.WriteFailed named h = (inl (front_longer old mid _ rest h.0), h.1)
-  stopped_there failure.OutOfMemory named h = (inl (front_longer old mid _ rest h.0), h.1)
+  stopped_there failure.WriteFailed named h = (inl (front_before old mid _ rest h.0), h.1)
+  stopped_there failure.OutOfMemory named h = (inl (front_before old mid _ rest h.0), h.1)
 
   -- it came to a description, and the run went on
   module _ (pla : Description) (new : Option (List ℕ)) (after : WriteCalls) (read : IsReadAs line operand name taken (trace old mid before count) (Ok pla)) where
     prints_behind : (message : List ℕ) (status : Status) (x : X) → Prints (next x pla) (trace mid new count after) message status
         → Prints (whole x) (trace old new before after) message status
     prints_behind message status x h = subst (λ o. Prints o (trace old new before after) message status) (sym (outcome_is x (Ok pla) read.0))
-        (record { output = appends_more old mid new _ _ read.0.wrote h.output; same_message = h.same_message; same_status = h.same_status })
+        (record { output = appends_then old mid new _ _ read.0.wrote h.output; same_message = h.same_message; same_status = h.same_status })
 
     began_behind : Began X (λ x. next x pla) rest (trace mid new count after) → Began X whole (echoes_due line taken ++ rest) (trace old new before after)
-    began_behind (inl h) = inl (front_more old mid new _ rest read.0.wrote h)
+    began_behind (inl h) = inl (front_then old mid new _ rest read.0.wrote h)
     began_behind (inr h) = inr (λ x. subst (λ o. AppendsFront old new o.output) (sym (outcome_is x (Ok pla) read.0))
-        (front_more old mid new _ _ read.0.wrote (h x)))
+        (front_then old mid new _ _ read.0.wrote (h x)))
 
     pub went_on : (result : Result Status Failure) → StandsAt X (λ x. next x pla) rest names (trace mid new count after) result
         → StandsAt X whole (echoes_due line taken ++ rest) names (trace old new before after) result

@@ -1,6 +1,6 @@
 use Rattle.std.proofs.Common.{◌≤◌, IfSome, length, ap, sym, subst, ◌∙◌, arith, refl}
 use Rattle.cube.specs.Cube.{SameSize}
-use Rattle.cover.specs.Places.{behind, meeting}
+use Rattle.cover.specs.Places.{behind}
 use Rattle.cover.specs.Reason.{IsReason, AreAmong}
 use Rattle.cover.proofs.Lists.{behind_member}
 use Rattle.cover.proofs.Meeting.{meeting-kept, meeting-skipped}
