@@ -456,16 +456,16 @@ impl WarmStart {
 
     /// Even weights, disturbed at random.
     fn first(&self, alloc: Global, table: &Compact) -> Result<Vec<i64>, AllocError> {
-        let mut column_rows: Vec<i64> = vec![in alloc; 0; table.costs.len()]?;
+        let mut row_counts: Vec<i64> = vec![in alloc; 0; table.costs.len()]?;
         for row in &table.rows {
-            shift(&mut column_rows, row, 1);
+            shift(&mut row_counts, row, 1);
         }
         let mut seed = SEED;
         let mut weights = Vec::with_capacity(alloc, table.rows.len())?;
         for row in &table.rows {
             let mut most: i64 = 1;
             for column in row {
-                most = most.max(at(&column_rows, *column));
+                most = most.max(at(&row_counts, *column));
             }
             seed = next_random(seed);
             let part = 512i64.wrapping_add(i64::try_from(seed >> 54).unwrap_or(0));
