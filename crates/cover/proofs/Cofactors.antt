@@ -42,7 +42,8 @@ agrees-cofactor s Dash x h = h
 agrees-cofactor s Zero x h = refl
 agrees-cofactor s One x h = refl
 
--- a bit that agrees with the second symbol, and with the cofactor, agrees with the first, unless no bit agrees with both
+-- a bit that agrees with the second symbol, and with the cofactor, agrees with the first, unless no
+-- bit agrees with both
 agrees-back : (s t : Symbol) (x : Bool) → agrees t x ≡ true → agrees (cofactor_symbol s t) x ≡ true
     → (agrees s x ≡ true) ⊎ ((y : Bool) → agrees s y ≡ true → agrees t y ≡ true → ⊥)
 agrees-back s Dash x h k = inl k

@@ -117,7 +117,8 @@ fn step(alloc: Global, inputs: usize, i: usize, outputs: &[bool]) -> Result<Cube
     Ok(packed(alloc, symbols.as_slice(), outputs)?.ok_or("empty")?)
 }
 
-// Cubes of seven words and three outputs that hold everything, each step in two rows, but for the rows left out.
+// Cubes of seven words and three outputs that hold everything, each step in two rows, but for the
+// rows left out.
 fn steps(alloc: Global, left_out: usize) -> Result<Cover, Fail> {
     let mut list = Cover::new(alloc, Shape::new(180, 3).ok_or("limits")?);
     for i in (0..181usize).rev() {

@@ -46,7 +46,8 @@ pub(crate) fn put_answer<W: Output>(
     }
 }
 
-// The description with this list in place of its ON list, and the lists that the type prints beside it.
+// The description with this list in place of its ON list, and the lists that the type prints beside
+// it.
 pub(crate) fn put_lists<W: Output>(
     alloc: Global,
     pla: &Pla,

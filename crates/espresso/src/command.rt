@@ -18,8 +18,9 @@ pub enum Command {
     Primes,
     /// The PLA with the essential primes for its ON list.
     Essen,
-    /// The PLA with the least cover by primes for its ON list: the first, in the order of the list of
-    /// primes, of the covers with fewest primes, under `--literals` of those with fewest literals.
+    /// The PLA with the least cover by primes for its ON list: the first, in the order of the list
+    /// of primes, of the covers with fewest primes, under `--literals` of those with fewest
+    /// literals.
     Exact,
     /// Whether the ON-set is everything.
     Tautology,

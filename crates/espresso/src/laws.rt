@@ -5,9 +5,9 @@ ghost use Rattle.espresso.specs.Words.{Meaning, Text, line_of};
 
 use crate::line::LineFault;
 
-/// What [`Line::read`](crate::Line::read), [`run`](crate::run) and [`refuse`](crate::refuse) promise one
-/// by one is together what the tool answers: if the words say a line, its outcome on the files,
-/// and otherwise the usage.
+/// What [`Line::read`](crate::Line::read), [`run`](crate::run) and [`refuse`](crate::refuse)
+/// promise one by one is together what the tool answers: if the words say a line, its outcome on
+/// the files, and otherwise the usage.
 pub fn tool_in_parts()
     ensures lines { (words : List Text) (line : Meaning) → line_of words ≡ Some line
         → (first : File) (second : Option File)

@@ -10,8 +10,8 @@ use pla::{Echo, OutType};
 use std::alloc::Global;
 use std::marker::Model;
 
-/// What a list of words asks for: a command, an output type, whether comments are left out, a choice
-/// among covers, and files.
+/// What a list of words asks for: a command, an output type, whether comments are left out, a
+/// choice among covers, and files.
 #[derive(Debug, Drop)]
 pub struct Line {
     command: Command,
@@ -27,7 +27,8 @@ impl Model for Line {
 
     ghost Value = { Meaning };
 
-    ghost view = { λ l. meaning_by l.command l.out l.eat l.choice (map string_bytes l.files.items) };
+    ghost view = { λ l.
+        meaning_by l.command l.out l.eat l.choice (map string_bytes l.files.items) };
 }
 
 /// Why a list of words gave no line.
@@ -40,8 +41,8 @@ pub enum LineFault {
 }
 
 impl Line {
-    /// Reads the words after the program's name, at a cost in proportion to their number. Words that
-    /// say no line are a usage fault.
+    /// Reads the words after the program's name, at a cost in proportion to their number. Words
+    /// that say no line are a usage fault.
     pub fn read(alloc: Global, words: &[String]) -> Result<Line, LineFault>
         ensures ok { IfOk result (λ l. line_of (map string_bytes words.now) ≡ Some l) }
         ensures usage { result ≡ Err LineFault.Usage

@@ -1,10 +1,11 @@
 //! espresso: a two-level logic tool on PLA files.
 //!
 //! A command line names a command and a file, or two files that are read one after the other.
-//! [`Line::read`] takes the words after the program's name, and [`run`] reads the files, passes their
-//! comments on, and prints what the command answers; if the words say no line, [`refuse`] says so.
-//! [`execute`] is all of it, with the files opened: it answers what `specs/Tool.antt` defines as `tool`: what
-//! goes to standard output, the one line that may go to standard error, and the exit status.
+//! [`Line::read`] takes the words after the program's name, and [`run`] reads the files, passes
+//! their comments on, and prints what the command answers; if the words say no line, [`refuse`]
+//! says so. [`execute`] is all of it, with the files opened: it answers what `specs/Tool.antt`
+//! defines as `tool`: what goes to standard output, the one line that may go to standard error, and
+//! the exit status.
 //!
 //! Some commands print a PLA, with the lists that the output type asks for:
 //!
@@ -12,8 +13,8 @@
 //! - `contain`, without the cubes that lie in others of its ON list;
 //! - `primes`, with the primes for its ON list;
 //! - `essen`, with the essential primes;
-//! - `exact`, with the least cover by primes: the shortest, of these under `--literals` the one with the
-//!   fewest literals, and of these the first;
+//! - `exact`, with the least cover by primes: the shortest, of these under `--literals` the one
+//!   with the fewest literals, and of these the first;
 //! - `intersect`, with the places in both files' ON-sets;
 //! - `sharp`, with the places in the first file's ON-set and not in the second's.
 //!

@@ -132,8 +132,8 @@ fn line_with(
     }
 }
 
-// A type that the command prints, a choice that it makes, and as many files as it takes, with standard
-// input once at most.
+// A type that the command prints, a choice that it makes, and as many files as it takes, with
+// standard input once at most.
 fn is_fitting(command: Command, out: OutType, choice: Choice, files: &[&str]) -> bool
     ensures { result ≡ fits command out choice (map (λ s. s.now) files.now) }
 {

@@ -15,13 +15,14 @@ use crate::status::Status;
 use pla::Output;
 use std::alloc::{AllocError, Global};
 
-/// Answers the words that a process was started with, the program's name first, and answers how it ends:
-/// if they say a line, it is run on its files, and otherwise it is said why not. So output, message and
-/// status are those of `tool`, unless memory runs out or an output fails.
+/// Answers the words that a process was started with, the program's name first, and answers how it
+/// ends: if they say a line, it is run on its files, and otherwise it is said why not. So output,
+/// message and status are those of `tool`, unless memory runs out or an output fails.
 ///
-/// No file word, or `-`, is standard input; any other word is the file of that name, or a closed source
-/// if it cannot be opened. If the command takes two files, the second source is opened once the first
-/// was read whole and without a fault; a process that was stopped before leaves it unopened.
+/// No file word, or `-`, is standard input; any other word is the file of that name, or a closed
+/// source if it cannot be opened. If the command takes two files, the second source is opened once
+/// the first was read whole and without a fault; a process that was stopped before leaves it
+/// unopened.
 pub fn execute<O: Opener, W: Output, E: Output>(
     alloc: Global,
     words: Result<Vec<String>, LineFault>,

@@ -14,8 +14,8 @@ use crate::status::Status;
 use pla::{Broken, Input, Output, Pla, read_pla, write_bytes};
 use std::alloc::Global;
 
-/// Says on standard error why words gave no line, and answers how the process ends: with a fault, or
-/// out of memory. Takes no memory; a failure of standard error is ignored.
+/// Says on standard error why words gave no line, and answers how the process ends: with a fault,
+/// or out of memory. Takes no memory; a failure of standard error is ignored.
 pub fn refuse<E: Output>(fault: &LineFault, err: &mut E) -> Status
     ensures status { result ≡ (refusal_of fault.now).status }
     ensures message { WroteOrFailed
@@ -37,18 +37,19 @@ pub fn refuse<E: Output>(fault: &LineFault, err: &mut E) -> Status
 
 /// Runs the line, and answers how the process ends.
 ///
-/// The first source is read to its end or its first fault, then the second if there is one, and their
-/// comments and unknown keyword lines go out as their lines end; then the sizes of two files are compared,
-/// the command's text is printed, and the output is flushed, once and last. The first that stops the run
-/// ends it: it is said in one line on `err`, whose own failures are ignored, and what comes after it is
-/// left alone. After a write that failed nothing more is written, and after a read that failed nothing more
-/// is read. No input is asked for more than a piece beyond the line that ends its description or has a fault.
+/// The first source is read to its end or its first fault, then the second if there is one, and
+/// their comments and unknown keyword lines go out as their lines end; then the sizes of two files
+/// are compared, the command's text is printed, and the output is flushed, once and last. The first
+/// that stops the run ends it: it is said in one line on `err`, whose own failures are ignored, and
+/// what comes after it is left alone. After a write that failed nothing more is written, and after
+/// a read that failed nothing more is read. No input is asked for more than a piece beyond the line
+/// that ends its description or has a fault.
 ///
-/// A second source is there if the command takes two files. The sources have the names of the line's
-/// files, `(stdin)` for none or `-`, and keep them.
+/// A second source is there if the command takes two files. The sources have the names of the
+/// line's files, `(stdin)` for none or `-`, and keep them.
 ///
-/// A run costs what reading, the command and printing cost: each input once, in pieces of 4,096 bytes, and
-/// memory for the rows of both as packed cubes.
+/// A run costs what reading, the command and printing cost: each input once, in pieces of 4,096
+/// bytes, and memory for the rows of both as packed cubes.
 pub fn run<R: Input, W: Output, E: Output>(
     alloc: Global,
     line: &Line,

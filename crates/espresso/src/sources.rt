@@ -32,8 +32,8 @@ impl<R> Source<R> {
     }
 }
 
-/// What opens files by their names and has standard input, and can do nothing else. A contract sees what
-/// the file of a name was opened as, and what standard input is.
+/// What opens files by their names and has standard input, and can do nothing else. A contract sees
+/// what the file of a name was opened as, and what standard input is.
 pub trait Opener {
     /// What is read from.
     type Device: Input + Drop;

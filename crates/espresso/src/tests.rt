@@ -1,5 +1,5 @@
-//! Each public call once with ample memory, and runs on devices that fail. What a run prints of whole
-//! texts is tested on the built program.
+//! Each public call once with ample memory, and runs on devices that fail. What a run prints of
+//! whole texts is tested on the built program.
 ghost use Rattle.std.specs.Prelude.{◌≡◌, ◌<◌, IfOk, IfSome, is_some};
 ghost use Rattle.espresso.specs.Run.{name_of};
 ghost use Rattle.espresso.specs.Tool.{second_name};

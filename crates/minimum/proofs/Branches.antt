@@ -1,4 +1,5 @@
--- What a search over a table rests on: the leaf, the two branches, steps and columns outside the budget.
+-- What a search over a table rests on: the leaf, the two branches, steps and columns outside the
+-- budget.
 use Rattle.std.proofs.Common.{◌≡◌, ◌≢◌, ℕ, zero, suc, ◌+◌, ◌<◌, ◌≤◌, ◌⊎◌, inl, inr, Bool, true, false, not, List, [], ◌∷◌, ◌++◌, eqb, replicate, length, map, refl, sym, ap, subst, ◌∙◌, arith}
 use Rattle.std.specs.Prelude.{Option, Some, None, filter, MatchBool, MatchOption, nat_lt}
 use Rattle.std.specs.List.{AllByRecursion, list_any}

@@ -71,8 +71,8 @@ fn rivals(alloc: Global, cubes: &[Cube], prime: &Cube) -> Result<Vec<Cube>, Allo
     Ok(kept)
 }
 
-/// Whether other primes and the DC-set together leave out a place of the prime: such a place is wanted, as the prime
-/// lies in the ON-set with the DC-set.
+/// Whether other primes and the DC-set together leave out a place of the prime: such a place is
+/// wanted, as the prime lies in the ON-set with the DC-set.
 fn is_essential(
     alloc: Global,
     sets: &Sets,
@@ -92,8 +92,8 @@ fn is_essential(
     Ok(!held)
 }
 
-/// Whether the prime with this number is essential; one that is marked, as it holds no cube of the ON-set alone, is
-/// not.
+/// Whether the prime with this number is essential; one that is marked, as it holds no cube of the
+/// ON-set alone, is not.
 fn is_essential_at(
     alloc: Global,
     sets: &Sets,
@@ -116,12 +116,13 @@ fn is_essential_at(
     is_essential(alloc, sets, primes, prime)
 }
 
-/// The essential primes among the primes, as [`primes`] answers them, in their order: those that hold a place of the
-/// ON-set that is neither in the DC-set nor in another prime (Brayton et al. 1984).
+/// The essential primes among the primes, as [`primes`] answers them, in their order: those that
+/// hold a place of the ON-set that is neither in the DC-set nor in another prime (Brayton et al.
+/// 1984).
 ///
-/// If the ON-set has fewer cubes than there are primes, it first finds the primes that hold one of its cubes alone, as
-/// no other is essential. Each of them is compared with all primes; whether those that have a place of it hold all of
-/// it is asked by cofactors.
+/// If the ON-set has fewer cubes than there are primes, it first finds the primes that hold one of
+/// its cubes alone, as no other is essential. Each of them is compared with all primes; whether
+/// those that have a place of it hold all of it is asked by cofactors.
 pub fn essential(alloc: Global, sets: &Sets, primes: &Cover) -> Result<Cover, AllocError>
     requires { primes.now ≡ record { size = sets.now.size; cubes = primes_of sets.now } }
     ensures { IfOk result (λ list. list ≡ record

@@ -28,11 +28,12 @@ fn chosen(alloc: Global, list: &Cover, numbers: &[usize]) -> Result<Cover, Alloc
     Ok(picked)
 }
 
-/// The least cover by primes: of the lists of primes that together hold each place of the ON-set that is not in the
-/// DC-set, the first of the shortest, in row order; with `Choice::Literals`, of those with the fewest literals.
+/// The least cover by primes: of the lists of primes that together hold each place of the ON-set
+/// that is not in the DC-set, the first of the shortest, in row order; with `Choice::Literals`, of
+/// those with the fewest literals.
 ///
-/// Its cost is that of [`primes`], of [`Table::build`] and of [`Table::least_cover`] on the reduced table, whose number
-/// of branches has no small bound.
+/// Its cost is that of [`primes`], of [`Table::build`] and of [`Table::least_cover`] on the reduced
+/// table, whose number of branches has no small bound.
 pub fn exact(alloc: Global, sets: &Sets, choice: Choice) -> Result<Cover, AllocError>
     ensures { IfOk result (λ list. list ≡ record
         { size = sets.now.size; cubes = exact_of choice sets.now }) }

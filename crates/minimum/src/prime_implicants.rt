@@ -7,8 +7,9 @@ use cover::{Cover, complete_sum};
 use pla::Sets;
 use std::alloc::AllocError;
 
-/// The primes, in row order: the largest cubes of places that are in the ON-set or the DC-set (Brayton et al. 1984).
-/// Those that lie in the DC-set alone are among them. Costs what [`complete_sum`] does, and a copy of both lists.
+/// The primes, in row order: the largest cubes of places that are in the ON-set or the DC-set
+/// (Brayton et al. 1984). Those that lie in the DC-set alone are among them. Costs what
+/// [`complete_sum`] does, and a copy of both lists.
 pub fn primes(sets: &Sets) -> Result<Cover, AllocError>
     ensures { IfOk result (λ sum. sum ≡ record {
       size = sets.now.size;

@@ -1,9 +1,9 @@
 //! The table of the primes.
 //!
-//! Its rows come from regions that are split until their places lie in the same primes, output by output; no point is
-//! listed. A region of many ON cubes is halved first, so that primes and ON cubes that are far apart never come together.
-//! It takes a look at each cube that is left for each region, and memory for the rows and for a list of numbers at each
-//! level of the splits.
+//! Its rows come from regions that are split until their places lie in the same primes, output by
+//! output; no point is listed. A region of many ON cubes is halved first, so that primes and ON
+//! cubes that are far apart never come together. It takes a look at each cube that is left for each
+//! region, and memory for the rows and for a list of numbers at each level of the splits.
 
 ghost use Rattle.std.specs.Prelude.{◌≡◌, ◌<◌, true, false, IfOk, map, replicate, slice_set};
 ghost use Rattle.cube.specs.Cube.{literals as literals_of};
@@ -77,11 +77,12 @@ fn rows_of(alloc: Global, lists: &Lists, shape: Shape) -> Result<Vec<Vec<usize>>
 }
 
 impl Table {
-    /// The table of the primes, as [`crate::primes`] answers them: a column for each, none taken and all live, weighed
-    /// by its literals. Its covers are the lists of primes that together hold each place of the ON-set that is not in
-    /// the DC-set.
+    /// The table of the primes, as [`crate::primes`] answers them: a column for each, none taken
+    /// and all live, weighed by its literals. Its covers are the lists of primes that together hold
+    /// each place of the ON-set that is not in the DC-set.
     ///
-    /// It may have as many rows as there are such places that lie in different primes; no point is listed.
+    /// It may have as many rows as there are such places that lie in different primes; no point is
+    /// listed.
     pub fn build(alloc: Global, primes: &Cover, sets: &Sets) -> Result<Table, AllocError>
         requires { primes.now ≡ record { size = sets.now.size; cubes = primes_of sets.now } }
         ensures columns { IfOk result (HasPrimeColumns sets.now) }

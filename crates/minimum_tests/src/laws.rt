@@ -1,4 +1,5 @@
-//! The laws are functions that can be called. What they say of printed texts is tested on the built program.
+//! The laws are functions that can be called. What they say of printed texts is tested on the built
+//! program.
 use pla::laws;
 use std::test::Fail;
 

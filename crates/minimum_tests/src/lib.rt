@@ -1,7 +1,7 @@
 //! Tests of the public calls of `pla` and `minimum`.
 //!
-//! They stand in a crate of their own, as those of `cube` and `cover` do, since the crate that a test stands in is proved a
-//! second time with it.
+//! They stand in a crate of their own, as those of `cube` and `cover` do, since the crate that a
+//! test stands in is proved a second time with it.
 #![tactic(auto)]
 
 #[cfg(test)]

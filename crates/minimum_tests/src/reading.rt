@@ -1,4 +1,5 @@
-//! Reading on devices that tell their bytes. What is read of whole texts is tested on the built program.
+//! Reading on devices that tell their bytes. What is read of whole texts is tested on the built
+//! program.
 ghost use Rattle.std.specs.Prelude.{◌<◌};
 
 use crate::tables::read;
@@ -59,7 +60,8 @@ fn no_more_is_asked_for_behind_the_end(rt: HostRuntime) -> Result<(), Fail> {
     Ok(())
 }
 
-/// Whether reading this text ends with this fault, behind these echoes, where the output has so much room.
+/// Whether reading this text ends with this fault, behind these echoes, where the output has so
+/// much room.
 fn ends_with(
     alloc: Global,
     text: &[u8],
@@ -118,7 +120,8 @@ fn a_scan_is_done_at_the_end(rt: HostRuntime) -> Result<(), Fail> {
 /// A file of four lines.
 const FOUR_LINES: &[u8] = b"# a\n.i 1\n.o 1\n.e\n";
 
-/// How reading it ends, and how much was delivered, where the read of this number fails alone, in pieces of one byte.
+/// How reading it ends, and how much was delivered, where the read of this number fails alone, in
+/// pieces of one byte.
 fn read_failing_after(alloc: Global, reads: u64) -> Result<(Option<ReadFault>, usize), Fail> {
     let input = Given::new(FOUR_LINES.to_vec(alloc)?, 1, Ending::End);
     let mut input = input.failing_after(reads);

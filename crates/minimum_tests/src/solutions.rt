@@ -33,7 +33,8 @@ fn is_printed(alloc: Global, pla: &Pla, list: &Cover, text: &[u8]) -> Result<boo
     Ok(output.bytes() == text)
 }
 
-/// The second of its primes stands in every row of the first, and in one more, and yet the first is taken.
+/// The second of its primes stands in every row of the first, and in one more, and yet the first is
+/// taken.
 const THREE_POINTS: &[u8] = b".i 3\n.o 1\n000 1\n001 1\n011 1\n100 -\n.e\n";
 
 #[test]

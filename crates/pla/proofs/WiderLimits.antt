@@ -25,7 +25,8 @@ use Rattle.pla.proofs.FirstFaults.{FirstFault, split_sound, fault_here, no_fault
 
 -- ---- tests that hold less often
 
--- the same kinds in the same order, each test at most where the other one holds, and of some kinds exactly there
+-- the same kinds in the same order, each test at most where the other one holds, and of some kinds
+-- exactly there
 abbrev Weaker : (ReadKind → Type 0) → List (Bool × ReadKind) → List (Bool × ReadKind) → Type 0
 Weaker Same [] [] = Unit {0}
 Weaker Same [] (t ∷ ts) = ⊥

@@ -5,8 +5,8 @@ use Rattle.pla.specs.declared.calls.WriteCalls.{WriteCalls}
 use Rattle.pla.specs.declared.ending.Ending.{Ending}
 
 -- stored bytes that a reader delivers: those left and how many were delivered, the most that one
--- read delivers, how reading ends, how many reads come before one that fails alone, and what came of
--- the reads
+-- read delivers, how reading ends, how many reads come before one that fails alone, and what came
+-- of the reads
 pub record Given : Type 0 where
   pub left : List ℕ
   pub delivered : ℕ
@@ -15,9 +15,9 @@ pub record Given : Type 0 where
   pub until_failure : Option ℕ
   pub calls : ReadCalls
 
--- room for bytes that a writer takes: those taken, how many more fit, the most that one write takes,
--- whether a flush fails, how many writes come before one that fails alone, and what came of the
--- calls
+-- room for bytes that a writer takes: those taken, how many more fit, the most that one write
+-- takes, whether a flush fails, how many writes come before one that fails alone, and what came of
+-- the calls
 pub record Taken : Type 0 where
   pub taken : List ℕ
   pub room : ℕ

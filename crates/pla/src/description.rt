@@ -37,7 +37,8 @@ impl Model for Pla {
       off = p.off.cubes;
     } };
 
-    ghost invariant = { λ p. (p.on.size ≡ p.shape) × (p.dc.size ≡ p.shape) × (p.off.size ≡ p.shape) };
+    ghost invariant = { λ p. (p.on.size ≡ p.shape) × (p.dc.size ≡ p.shape)
+        × (p.off.size ≡ p.shape) };
 }
 
 impl Pla {
@@ -82,7 +83,8 @@ impl Pla {
         self.shape
     }
 
-    /// The names of the inputs, in their order, if the file gives them. They are bytes, and may repeat.
+    /// The names of the inputs, in their order, if the file gives them. They are bytes, and may
+    /// repeat.
     pub fn input_names(&self) -> Option<&[Vec<u8>]>
         ensures { lent_names result ≡ self.now.input_names }
     {

@@ -34,8 +34,8 @@ pub trait Input {
 /// Where bytes go. A contract sees the bytes that were taken, if the device reports them, how many
 /// writes and flushes failed, how many flushes were asked for, and what the last call was.
 pub trait Output {
-    /// The bytes that were taken so far, if the device reports them. A device reports them throughout
-    /// or not at all.
+    /// The bytes that were taken so far, if the device reports them. A device reports them
+    /// throughout or not at all.
     ghost taken: { Self → Option (List ℕ) };
 
     /// What came of the writes and flushes.

@@ -71,7 +71,8 @@ fn echo_text<'a>(echo: Echo, line: &'a [u8], code: &'a [u8]) -> &'a [u8]
 }
 
 /// Writes the echo of a line: the whole line if its keyword is unknown, otherwise its comment if it
-/// has one and comments are kept, with a line feed. The code is that of a row line. Takes no memory.
+/// has one and comments are kept, with a line feed. The code is that of a row line. Takes no
+/// memory.
 pub fn write_echo<W: Output>(
     echo: Echo,
     line: &[u8],

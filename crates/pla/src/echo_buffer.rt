@@ -7,8 +7,8 @@ use crate::device::{Broken, Output};
 use crate::writing::{WriteFault, write_bytes};
 use std::alloc::Global;
 
-/// An output in memory, which holds what it takes until a flush to another output. A write breaks if
-/// memory is refused.
+/// An output in memory, which holds what it takes until a flush to another output. A write breaks
+/// if memory is refused.
 #[derive(Drop)]
 pub struct EchoBuffer {
     pub bytes: Vec<u8>,

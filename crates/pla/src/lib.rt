@@ -1,4 +1,5 @@
-//! Descriptions of Boolean functions of several outputs in the PLA format: read them and print them.
+//! Descriptions of Boolean functions of several outputs in the PLA format: read them and print
+//! them.
 //!
 //! - [`read_pla`] reads a description through a fixed buffer, in one pass, and passes comments and
 //!   unknown keywords on; what is wrong with a file it reports with the line. [`Scan`] does so for
@@ -6,8 +7,8 @@
 //! - [`Sets::of`] gives the lists of a description's three sets, and computes those that its type
 //!   leaves open; [`open_dc`] and [`open_off`] give those alone, and copy none.
 //! - [`write_pla`] prints a description with such lists.
-//! - [`Input`] and [`Output`] are what is read from and written to; [`Reading`] and [`Writing`] make
-//!   them of std's readers and writers, [`Given`] and [`Taken`] are such in memory, for tests.
+//! - [`Input`] and [`Output`] are what is read from and written to; [`Reading`] and [`Writing`]
+//!   make them of std's readers and writers, [`Given`] and [`Taken`] are such in memory, for tests.
 //!
 //! The text
 //!

@@ -10,8 +10,8 @@ use crate::ending::Ending;
 use std::alloc::{AllocError, Global};
 use std::marker::Model;
 
-/// An input that delivers stored bytes, at most so many a read, and then ends or fails. One read may
-/// fail alone, before and after which it works.
+/// An input that delivers stored bytes, at most so many a read, and then ends or fails. One read
+/// may fail alone, before and after which it works.
 #[derive(Drop)]
 pub struct Given {
     bytes: Vec<u8>,
@@ -132,8 +132,8 @@ fn nearer(until_failure: Option<u64>) -> Option<u64>
     }
 }
 
-/// An output that takes bytes up to its room, at most so many a write, and then breaks. One write may
-/// fail alone, before and after which it works.
+/// An output that takes bytes up to its room, at most so many a write, and then breaks. One write
+/// may fail alone, before and after which it works.
 #[derive(Drop)]
 pub struct Taken {
     bytes: Vec<u8>,

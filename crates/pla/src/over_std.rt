@@ -48,8 +48,8 @@ impl<R: Read> Input for Reading<R> {
     }
 }
 
-/// A writer of std as an [`Output`]. A write that std reports as failed or interrupted is [`Broken`],
-/// and so is one that takes nothing of bytes that are there.
+/// A writer of std as an [`Output`]. A write that std reports as failed or interrupted is
+/// [`Broken`], and so is one that takes nothing of bytes that are there.
 #[derive(Drop)]
 pub struct Writing<W> {
     inner: W,

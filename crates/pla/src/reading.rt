@@ -20,12 +20,12 @@ use std::alloc::Global;
 /// Reads a description and writes the echoes of its lines, in one pass through a buffer of 4,096
 /// bytes; the echoes of each piece are put together, and written before the next piece is read.
 ///
-/// Answers the description, or the first fault of what was delivered. Two faults are not of the text
-/// and have line 0: a failed write (`WriteFailed`, only if the output counted one) and out of memory
-/// (`OutOfMemory`); the output has then taken a prefix of the echoes. After a line that ends the
-/// description, a faulty line or one that is too long, no more is asked for. Costs a pass over the
-/// bytes, and memory for the cubes and the names, at most one line, the words of a keyword line, the
-/// bytes of at most one unfinished row, and the echoes of a piece.
+/// Answers the description, or the first fault of what was delivered. Two faults are not of the
+/// text and have line 0: a failed write (`WriteFailed`, only if the output counted one) and out of
+/// memory (`OutOfMemory`); the output has then taken a prefix of the echoes. After a line that ends
+/// the description, a faulty line or one that is too long, no more is asked for. Costs a pass over
+/// the bytes, and memory for the cubes and the names, at most one line, the words of a keyword
+/// line, the bytes of at most one unfinished row, and the echoes of a piece.
 pub fn read_pla<R: Input, W: Output>(
     alloc: Global,
     input: &mut R,

@@ -26,8 +26,8 @@ pub enum Part {
     Off,
 }
 
-// What each byte is in a row: bit 4 if it is a symbol of an input, and else the list that it puts an output
-// into: bit 0 the OFF list, bit 1 the ON list, bit 2 the DC list, bit 3 none.
+// What each byte is in a row: bit 4 if it is a symbol of an input, and else the list that it puts
+// an output into: bit 0 the OFF list, bit 1 the ON list, bit 2 the DC list, bit 3 none.
 static MARKS: [u8; 256] = [
     0, 0, 0, 0, 0, 0, 0, 0, 0, 0, 0, 0, 0, 0, 0, 0, 0, 0, 0, 0, 0, 0, 0, 0, 0, 0, 0, 0, 0, 0, 0, 0,
     0, 0, 0, 0, 0, 0, 0, 0, 0, 0, 0, 0, 0, 20, 0, 0, 17, 18, 20, 8, 2, 0, 0, 0, 0, 0, 0, 0, 0, 0,
@@ -115,7 +115,8 @@ impl Model for Rows {
       off = r.off.cubes;
     } };
 
-    ghost invariant = { λ r. (r.on.size ≡ r.shape) × (r.dc.size ≡ r.shape) × (r.off.size ≡ r.shape) };
+    ghost invariant = { λ r. (r.on.size ≡ r.shape) × (r.dc.size ≡ r.shape)
+        × (r.off.size ≡ r.shape) };
 }
 
 /// Adds the cube that a row's bytes put into a list, if it has an output.

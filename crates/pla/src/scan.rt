@@ -1,8 +1,8 @@
 //! Reading of a text that comes in pieces.
 //!
-//! A line goes to the parser at its line feed, straight from the piece where it began there, and its
-//! echo is written before the next line is taken. Only what stands after the last line feed is kept
-//! between pieces; it is refused if it is too long to be a line, before it is kept.
+//! A line goes to the parser at its line feed, straight from the piece where it began there, and
+//! its echo is written before the next line is taken. Only what stands after the last line feed is
+//! kept between pieces; it is refused if it is too long to be a line, before it is kept.
 ghost use Rattle.std.specs.Prelude.{◌≡◌, ◌++◌, ◌∷◌, [], List, ℕ, Some, None, false, ◌≤◌, ◌<◌, ◌+◌, MatchOption, OnOk, IfOk, IfErr, length, take, drop, vec_len, option_map};
 ghost use Rattle.cube.specs.Limits.{format_limits};
 ghost use Rattle.pla.specs.Scan.{StandsFor, StandsForLines};
@@ -177,11 +177,11 @@ impl Scan {
 
     /// Takes the next piece, cut anywhere, and writes the echoes of the lines that it ends.
     ///
-    /// Answers what stands for the text with the piece, or the first fault of that text, which stays
-    /// whatever follows. Two faults are not of the text and have line 0: a failed write and out of
-    /// memory. A fault consumes the state. Costs a pass over the piece, and memory for the cubes and
-    /// the names, for the line that the piece leaves open and its unfinished row, and for the words of
-    /// a keyword line while that is taken.
+    /// Answers what stands for the text with the piece, or the first fault of that text, which
+    /// stays whatever follows. Two faults are not of the text and have line 0: a failed write and
+    /// out of memory. A fault consumes the state. Costs a pass over the piece, and memory for the
+    /// cubes and the names, for the line that the piece leaves open and its unfinished row, and for
+    /// the words of a keyword line while that is taken.
     pub fn feed<W: Output>(mut self, piece: &[u8], output: &mut W) -> Result<Scan, ReadFault>
         ensures echo { IfOk result (λ scan. scan.echo ≡ self.echo) }
         ensures stands { (text : List ℕ) → StandsFor format_limits self text →

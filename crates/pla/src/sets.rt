@@ -39,8 +39,9 @@ impl Sets {
     }
 
     /// The lists of a description's three sets. Those that its type gives are copied as they stand.
-    /// Of the others, `dc` asks under fr for what neither ON nor OFF holds, and `off` under f and fd
-    /// for what neither ON nor DC holds; they are empty if not asked for, and DC is empty under f.
+    /// Of the others, `dc` asks under fr for what neither ON nor OFF holds, and `off` under f and
+    /// fd for what neither ON nor DC holds; they are empty if not asked for, and DC is empty under
+    /// f.
     ///
     /// A computed list is a complete sum, in row order: it may have exponentially many cubes in the
     /// inputs. The types are those of espresso(5).
@@ -117,8 +118,8 @@ fn off_of(alloc: Global, pla: &Pla, asked: bool) -> Result<Cover, AllocError>
     }
 }
 
-/// The DC list that [`Sets::of`] gives, if it is not the description's own; `None` if it is, under fd
-/// and fdr. Under fr it is computed if asked for.
+/// The DC list that [`Sets::of`] gives, if it is not the description's own; `None` if it is, under
+/// fd and fdr. Under fr it is computed if asked for.
 ///
 /// # Errors
 ///

@@ -18,8 +18,8 @@ use crate::writing::WriteFault;
 use cover::Cover;
 use itoa::Buffer;
 
-/// Writes the description's shape and names, and of the sets those lists that the output type names, as
-/// espresso(5) has them. Takes no memory, and writes many rows at once.
+/// Writes the description's shape and names, and of the sets those lists that the output type
+/// names, as espresso(5) has them. Takes no memory, and writes many rows at once.
 ///
 /// # Errors
 ///
@@ -38,8 +38,8 @@ pub fn write_pla<W: Output>(
     write_covers(pla, out_type, sets.on(), sets.dc(), sets.off(), out)
 }
 
-/// Writes what [`write_pla`] does, with lists that stand apart: an echo lends the description's own, and
-/// so holds its rows once.
+/// Writes what [`write_pla`] does, with lists that stand apart: an echo lends the description's
+/// own, and so holds its rows once.
 ///
 /// # Errors
 ///

@@ -1,8 +1,8 @@
 //! Texts to an output.
 //!
-//! A text is written part by part: [`write_bytes`] writes the first, and [`write_next`] each further
-//! one, only while all went well. So what the output took is always a prefix of the text, nothing is
-//! written after a failure, and the last answer says whether there was one.
+//! A text is written part by part: [`write_bytes`] writes the first, and [`write_next`] each
+//! further one, only while all went well. So what the output took is always a prefix of the text,
+//! nothing is written after a failure, and the last answer says whether there was one.
 ghost use Rattle.std.specs.Prelude.{◌≡◌, OnErr};
 ghost use Rattle.pla.specs.Device.{Continues, CountsOn, TellsFailure, Writes};
 

@@ -170,9 +170,9 @@ fn words_that_are_none_are_told(rt: HostRuntime) -> Result<(), Fail> {
     Ok(())
 }
 
-// A slate with a digit for each call, the last after the others: 1 for a write of the first output, 2 for
-// its flush, 3 for a write of the second, and for what is opened 4 if it is `a`, 5 if it is `b`, 6
-// if it is another file, and 7 if it is standard input.
+// A slate with a digit for each call, the last after the others: 1 for a write of the first output,
+// 2 for its flush, 3 for a write of the second, and for what is opened 4 if it is `a`, 5 if it is
+// `b`, 6 if it is another file, and 7 if it is standard input.
 fn put(slate: &Cell<u64>, mark: u64) {
     slate.set(slate.get().wrapping_mul(10).wrapping_add(mark));
 }

@@ -49,8 +49,8 @@ pub(crate) fn scaled_costs(
         .collect(alloc)
 }
 
-/// The scaled costs of so many columns that count so much, with what columns bear beyond theirs; `None` if that is past
-/// all numbers.
+/// The scaled costs of so many columns that count so much, with what columns bear beyond theirs;
+/// `None` if that is past all numbers.
 pub(crate) fn limit_of(
     one: u32,
     columns: usize,

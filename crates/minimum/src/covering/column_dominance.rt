@@ -1,8 +1,8 @@
 //! Column dominance: a column leaves under one that stands in all its rows.
 //!
-//! In a reduction that one comes first: it counts less, or as much and has a smaller number. In a search within a
-//! budget, which asks for any cover, it counts no more. It stands in a shortest row of the column that leaves, so that
-//! candidates are few.
+//! In a reduction that one comes first: it counts less, or as much and has a smaller number. In a
+//! search within a budget, which asks for any cover, it counts no more. It stands in a shortest row
+//! of the column that leaves, so that candidates are few.
 
 ghost use Rattle.std.specs.Prelude.{◌≡◌, ◌<◌, ◌==◌, ◌&&◌, ◌||◌, ℕ, [], IfOk, IfSome, MatchOption, length, true};
 ghost use Rattle.std.specs.List.{list_any};
@@ -78,8 +78,8 @@ pub(crate) fn shortest(rows: &[Vec<usize>], among: &[usize]) -> Option<usize>
     Some(shortest)
 }
 
-/// Whether a live column is kept, preferred to `a` and stands in all its rows; such a column stands in each of them, so
-/// that a shortest one has it.
+/// Whether a live column is kept, preferred to `a` and stands in all its rows; such a column stands
+/// in each of them, so that a shortest one has it.
 fn is_dominated(
     choice: Choice,
     weights: &[u32],
@@ -102,7 +102,8 @@ fn is_dominated(
     }
 }
 
-/// Marks columns so that each other live column is dominated by a marked one, and one is unmarked if any can leave.
+/// Marks columns so that each other live column is dominated by a marked one, and one is unmarked
+/// if any can leave.
 fn column_dominance(
     alloc: Global,
     choice: Choice,
@@ -190,7 +191,8 @@ fn is_weakly_dominated(
     }
 }
 
-/// Marks columns so that for each cover there is one of marked live columns which is no longer and counts no more.
+/// Marks columns so that for each cover there is one of marked live columns which is no longer and
+/// counts no more.
 fn weak_column_dominance(
     alloc: Global,
     choice: Choice,
@@ -243,8 +245,8 @@ impl Table {
         Ok(Some(self.with(alloc, taken, live, rows)?))
     }
 
-    /// Lets each column leave that any other dominates which counts no more, in a search for some cover within a
-    /// budget; `None` if none leaves.
+    /// Lets each column leave that any other dominates which counts no more, in a search for some
+    /// cover within a budget; `None` if none leaves.
     pub(crate) fn drop_weakly_dominated_columns(
         &self,
         alloc: Global,

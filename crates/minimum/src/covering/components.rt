@@ -1,12 +1,13 @@
 //! A wish: columns on two sides, such that no row has columns on both.
 //!
-//! Columns hang together if a row has both. They are joined row by row, and whole groups are then put on one side
-//! until it has half of the rows. What comes out is looked at before it is used.
+//! Columns hang together if a row has both. They are joined row by row, and whole groups are then
+//! put on one side until it has half of the rows. What comes out is looked at before it is used.
 
 use crate::covering::local_search::{number, set};
 use std::alloc::{AllocError, Global};
 
-/// The column that stands for those that hang together with this one; the way there becomes shorter.
+/// The column that stands for those that hang together with this one; the way there becomes
+/// shorter.
 fn leader(leaders: &mut Vec<usize>, column: usize) -> usize {
     let mut at = column;
     for _ in 0..leaders.len() {

@@ -94,9 +94,11 @@ impl Table {
         joined(alloc, &self.taken, columns)
     }
 
-    /// The first of the shortest covers under the choice, by trying all choices of live columns in rising size.
+    /// The first of the shortest covers under the choice, by trying all choices of live columns in
+    /// rising size.
     ///
-    /// It looks at every choice of the least size, so that it serves only small tables; it stands for comparison.
+    /// It looks at every choice of the least size, so that it serves only small tables; it stands
+    /// for comparison.
     pub fn least_cover_plain(&self, choice: Choice) -> Result<Vec<usize>, AllocError>
         ensures { IfOk result (λ v. IsLeast choice self.now v.items) }
     {

@@ -1,9 +1,10 @@
-//! The Lagrangian bound: any weights of rows, also those of which a column bears more than its scaled cost.
+//! The Lagrangian bound: any weights of rows, also those of which a column bears more than its
+//! scaled cost.
 //!
-//! The columns of a list that has a column of each row bear all rows' weights, and none of them bears more than its
-//! scaled cost with what it bears beyond it. So the weights are no more than the list's scaled costs and all that
-//! columns bear beyond theirs; a column of the list has no slack beside that, and one that is not in it bears no more
-//! than its scaled cost beside that.
+//! The columns of a list that has a column of each row bear all rows' weights, and none of them
+//! bears more than its scaled cost with what it bears beyond it. So the weights are no more than
+//! the list's scaled costs and all that columns bear beyond theirs; a column of the list has no
+//! slack beside that, and one that is not in it bears no more than its scaled cost beside that.
 
 ghost use Rattle.std.specs.Prelude.{◌≡◌, ◌≤◌, ◌<◌, ◌+◌, ◌-◌, ◌*◌, ◌^◌, ◌⊎◌, ℕ, IfOk, cond, length};
 ghost use Rattle.std.specs.List.{AllByRecursion, range_with_len};
@@ -15,7 +16,8 @@ ghost use Rattle.minimum.specs.Weights.{at, total};
 use crate::covering::bound::at;
 use std::alloc::{AllocError, Global};
 
-/// What each column bears, the weight of all rows, and what the columns bear beyond their scaled costs.
+/// What each column bears, the weight of all rows, and what the columns bear beyond their scaled
+/// costs.
 #[derive(Drop)]
 pub(crate) struct Loads {
     pub(crate) loads: Vec<u128>,
@@ -50,7 +52,8 @@ fn total(weights: &[u64]) -> u128
     total
 }
 
-/// What the columns bear beyond their scaled costs, or the largest number if that is none of this type.
+/// What the columns bear beyond their scaled costs, or the largest number if that is none of this
+/// type.
 fn over(loads: &[u128], scaled_costs: &[u64]) -> u128
     ensures { (result ≡ sum_over (beyond loads.now scaled_costs.now)
         (range_with_len 0 (length loads.now))) ⊎ (result ≡ 2 ^ 128 - 1) }

@@ -1,10 +1,11 @@
 //! The least cover: its length, then what it counts, and then the first such cover in list order.
 //!
-//! A cover of the least length is found by asking for shorter ones until there is none; with literals, covers with
-//! fewer are asked for in the same way. Then the columns are settled one by one, in list order. If the witness, a cover
-//! within the budget, has the next column, so has the least cover; else it is asked whether some cover within the
-//! budget has it, which gives a new witness or drops the column. Many columns are asked for at once, by a further row
-//! of them: if no cover has one of them all are dropped.
+//! A cover of the least length is found by asking for shorter ones until there is none; with
+//! literals, covers with fewer are asked for in the same way. Then the columns are settled one by
+//! one, in list order. If the witness, a cover within the budget, has the next column, so has the
+//! least cover; else it is asked whether some cover within the budget has it, which gives a new
+//! witness or drops the column. Many columns are asked for at once, by a further row of them: if no
+//! cover has one of them all are dropped.
 
 ghost use Rattle.std.specs.Prelude.{◌≡◌, ◌≢◌, ◌≤◌, ◌<◌, ◌+◌, ◌++◌, ◌∷◌, [], ℕ, IfOk, MatchOption, filter, ◌==◌, true, false};
 ghost use Rattle.std.specs.List.{list_all};
@@ -96,7 +97,8 @@ impl Stage {
         }
     }
 
-    /// Drops a batch of columns if no cover within the budget has one of them; else there is a new witness.
+    /// Drops a batch of columns if no cover within the budget has one of them; else there is a new
+    /// witness.
     fn ask_for_many(
         self,
         alloc: Global,
@@ -362,7 +364,8 @@ impl Table {
         Ok(cover)
     }
 
-    /// A cover of so many columns with fewer literals; `None` if every cover is longer or has as many.
+    /// A cover of so many columns with fewer literals; `None` if every cover is longer or has as
+    /// many.
     fn with_fewer(
         &self,
         alloc: Global,
@@ -407,7 +410,8 @@ impl Table {
         }
     }
 
-    /// Fewer literals than which covers of so many columns hardly have, as far as row weights show: a wish.
+    /// Fewer literals than which covers of so many columns hardly have, as far as row weights show:
+    /// a wish.
     fn target_count(
         &self,
         alloc: Global,
@@ -431,7 +435,8 @@ impl Table {
         }
     }
 
-    /// The least cover, of all rows at once. If all live columns count alike, size decides before what they count.
+    /// The least cover, of all rows at once. If all live columns count alike, size decides before
+    /// what they count.
     pub(crate) fn least_of_whole(
         &self,
         alloc: Global,
@@ -462,7 +467,8 @@ impl Table {
         self.first_of(alloc, choice, best)
     }
 
-    /// The least cover: the first of the shortest; with `Choice::Literals`, of those with the fewest literals.
+    /// The least cover: the first of the shortest; with `Choice::Literals`, of those with the
+    /// fewest literals.
     pub fn least_cover(&self, choice: Choice) -> Result<Vec<usize>, AllocError>
         ensures { IfOk result (λ v. IsLeast choice self.now v.items) }
     {

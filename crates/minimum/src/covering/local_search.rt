@@ -1,8 +1,9 @@
 //! Wishes for a cover: a local search, which owes nothing to anyone.
 //!
-//! It adds columns until each row is held, takes one away, and goes on by swaps: a column leaves that holds the least
-//! alone, and a column of some open row comes in. Rows that stay open weigh more and more, so that the search does not
-//! turn in circles. Whatever it finds is looked at before it is used.
+//! It adds columns until each row is held, takes one away, and goes on by swaps: a column leaves
+//! that holds the least alone, and a column of some open row comes in. Rows that stay open weigh
+//! more and more, so that the search does not turn in circles. Whatever it finds is looked at
+//! before it is used.
 
 use crate::covering::subgradient::{Compact, Goal, SEED, at, next_random, put};
 use std::alloc::{AllocError, Global};

@@ -1,10 +1,11 @@
 //! The least cover, part by part.
 //!
-//! If the rows fall into parts that share no column, a list is a cover if it has a cover of each part, and no
-//! part asks what another has. Lists compare by their length, then by what they count, and then by the least column in
-//! which they differ; so the least covers of the parts together are the least cover. Without this, the questions that
-//! find the least cover would be asked of all parts together. Which columns make a part is wished for, and it is looked
-//! at that each row lies on one side.
+//! If the rows fall into parts that share no column, a list is a cover if it has a cover of each
+//! part, and no part asks what another has. Lists compare by their length, then by what they count,
+//! and then by the least column in which they differ; so the least covers of the parts together are
+//! the least cover. Without this, the questions that find the least cover would be asked of all
+//! parts together. Which columns make a part is wished for, and it is looked at that each row lies
+//! on one side.
 
 ghost use Rattle.std.specs.Prelude.{◌≡◌, ◌||◌, IfOk, IfSome};
 ghost use Rattle.std.specs.List.{list_all};
@@ -74,7 +75,8 @@ impl Table {
         Ok(Some(Parts { one, other }))
     }
 
-    /// The least cover: of a table in numbers of its own, which is cheaper if many columns are not live.
+    /// The least cover: of a table in numbers of its own, which is cheaper if many columns are not
+    /// live.
     #[cycle(parts)]
     pub(crate) fn least_by_parts(
         &self,

@@ -1,10 +1,11 @@
 //! The reductions of a table, in passes over all rows or all columns until none changes it.
 //!
-//! A pass first lists for each column the rows in which it stands. A row that has all columns of another stands among
-//! the rows of that row's rarest column; a column that stands in all rows of another stands in that column's shortest
-//! row. So candidates are few, and each is tested by a binary search for each number. What leaves is marked, and leaves
-//! in one go: each of it has a witness that stays, so that it could leave step by step. If a pass marks nothing, no
-//! step of its kind applies.
+//! A pass first lists for each column the rows in which it stands. A row that has all columns of
+//! another stands among the rows of that row's rarest column; a column that stands in all rows of
+//! another stands in that column's shortest row. So candidates are few, and each is tested by a
+//! binary search for each number. What leaves is marked, and leaves in one go: each of it has a
+//! witness that stays, so that it could leave step by step. If a pass marks nothing, no step of its
+//! kind applies.
 
 ghost use Rattle.std.specs.Prelude.{◌≡◌, ◌<◌, ◌==◌, ◌||◌, IfOk, IfSome, MatchOption, not, filter};
 ghost use Rattle.std.specs.List.{range_with_len};
@@ -79,7 +80,8 @@ impl Table {
         Ok(Some(self.with(alloc, taken, live, rows)?))
     }
 
-    /// The table after one pass that changes it, in a search for some cover within a budget; `None` if none does.
+    /// The table after one pass that changes it, in a search for some cover within a budget; `None`
+    /// if none does.
     fn lighter(&self, alloc: Global, choice: Choice) -> Result<Option<Table>, AllocError>
         ensures { IfOk result (λ o. IfSome o (IsLighter choice self.now)) }
     {
@@ -132,9 +134,10 @@ impl Table {
     }
 }
 
-/// Reduces a table until no step applies: a row leaves that has all columns of another, the only column of a row is
-/// taken and its rows leave, and a live column leaves under a live one that stands in all its rows and comes first,
-/// which with `Choice::Literals` means fewer literals, or as many and a smaller number.
+/// Reduces a table until no step applies: a row leaves that has all columns of another, the only
+/// column of a row is taken and its rows leave, and a live column leaves under a live one that
+/// stands in all its rows and comes first, which with `Choice::Literals` means fewer literals, or
+/// as many and a smaller number.
 ///
 /// The least cover stays as it is. If memory is refused the table is gone.
 pub fn reduce(table: Table, choice: Choice) -> Result<Table, AllocError>

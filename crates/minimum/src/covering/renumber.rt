@@ -1,7 +1,8 @@
 //! A table in numbers of its own.
 //!
-//! What is done for each column of a table is done for each live one alone once these are numbered in their order: the
-//! least cover in the new numbers stands for the least cover, since the order of columns is kept.
+//! What is done for each column of a table is done for each live one alone once these are numbered
+//! in their order: the least cover in the new numbers stands for the least cover, since the order
+//! of columns is kept.
 
 ghost use Rattle.std.specs.Prelude.{◌≡◌, IfOk, IfSome, map, slice_index_or};
 ghost use Rattle.minimum.specs.Table.{items_of};

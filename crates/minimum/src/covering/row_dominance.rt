@@ -37,7 +37,8 @@ fn is_dominating_row(rows: &[Vec<usize>], at: usize, number: usize) -> bool
     number != at && is_within(entry(rows, at), entry(rows, number))
 }
 
-/// Takes the marks from those of the rows `among` that have all columns of the row `at`, but not from `at`.
+/// Takes the marks from those of the rows `among` that have all columns of the row `at`, but not
+/// from `at`.
 fn unmark_dominating_rows(stay: &mut Vec<bool>, rows: &[Vec<usize>], among: &[usize], at: usize)
     requires { AreRising (items_of rows.now) }
     ensures { UnmarksDominatingRows (items_of rows.now) at among.now stay.old.items stay.new.items }
@@ -49,7 +50,8 @@ fn unmark_dominating_rows(stay: &mut Vec<bool>, rows: &[Vec<usize>], among: &[us
     }
 }
 
-/// Marks rows so that each other row has all columns of a marked one, and each other row is unmarked if there is one.
+/// Marks rows so that each other row has all columns of a marked one, and each other row is
+/// unmarked if there is one.
 fn row_dominance(
     alloc: Global,
     rows: &[Vec<usize>],

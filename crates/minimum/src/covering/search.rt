@@ -1,10 +1,11 @@
 //! Whether there is a cover within a budget.
 //!
-//! A budget is a number of columns and of what they count. A search answers a cover within it, or that there is none:
-//! it narrows the table, branches on a column, taken and then dropped, and searches on. A table is narrowed by the
-//! steps of a reduction, by columns that stand under any other that counts no more, and by weights of its rows (the
-//! dual bound): if the weights are more than the budget can bear there is no cover within it, and a column with more
-//! slack than the gap that is left is in none. Which cover is answered is left open, so that any order of branches
+//! A budget is a number of columns and of what they count. A search answers a cover within it, or
+//! that there is none: it narrows the table, branches on a column, taken and then dropped, and
+//! searches on. A table is narrowed by the steps of a reduction, by columns that stand under any
+//! other that counts no more, and by weights of its rows (the dual bound): if the weights are more
+//! than the budget can bear there is no cover within it, and a column with more slack than the gap
+//! that is left is in none. Which cover is answered is left open, so that any order of branches
 //! serves.
 
 ghost use Rattle.std.specs.Prelude.{◌≡◌, ◌≤◌, ◌<◌, ◌*◌, ◌-◌, ℕ, Vec, IfOk, IfSome, MatchOption, MatchBool, IsTrue, ◌↔◌, [], ◌==◌, ◌&&◌, ◌||◌, option_map, map, filter, not, length, true, false};
@@ -271,8 +272,8 @@ impl Table {
         all_marked(alloc, self.columns())
     }
 
-    /// Marks the columns that a cover within the budget may have, as far as these multipliers show; `None` if they
-    /// show that there is no such cover.
+    /// Marks the columns that a cover within the budget may have, as far as these multipliers show;
+    /// `None` if they show that there is no such cover.
     fn columns_by_bound(
         &self,
         alloc: Global,
@@ -340,7 +341,8 @@ impl Table {
         self.columns_by_bound(alloc, choice, budget, &multipliers)
     }
 
-    /// The table without the columns that no cover within the budget has, as far as row weights show.
+    /// The table without the columns that no cover within the budget has, as far as row weights
+    /// show.
     fn bounded(
         &self,
         alloc: Global,
@@ -357,7 +359,8 @@ impl Table {
         self.keep_marked(alloc, &keep)
     }
 
-    /// The table as far as a search within the budget has to look at it; `None` if there is no cover.
+    /// The table as far as a search within the budget has to look at it; `None` if there is no
+    /// cover.
     fn narrowed(
         &self,
         alloc: Global,
@@ -493,7 +496,8 @@ impl Table {
         self.cover_from_marks(alloc, choice, budget, &marks)
     }
 
-    /// A cover within the budget, or none if there is none: a local search looks for one before the branches.
+    /// A cover within the budget, or none if there is none: a local search looks for one before the
+    /// branches.
     pub(crate) fn decide(
         &self,
         alloc: Global,

@@ -1,13 +1,14 @@
 //! Wishes for the weights of rows: a heuristic, which owes nothing to anyone.
 //!
-//! Whole-number subgradient steps with momentum on the Lagrangian relaxation of the covering problem (Held and Karp). A
-//! column has a scaled cost: a multiplier for itself, and one for each thing that it counts. A step lowers the rows of
-//! columns that bear more than their scaled costs and raises the others. From time to time the weights are polished:
-//! cut if more than one column bears too much, and raised by the least room of the row's columns. The first weights are
-//! disturbed, since with even ones all columns of a symmetric table would cross their scaled costs together; and if the
-//! steps end just short of what is wished for, they go on from weights a quarter of the way to their mean. A search
-//! hands its weights on. The cost is that of reading all rows some times a step; whatever comes out is looked at before
-//! it is used.
+//! Whole-number subgradient steps with momentum on the Lagrangian relaxation of the covering
+//! problem (Held and Karp). A column has a scaled cost: a multiplier for itself, and one for each
+//! thing that it counts. A step lowers the rows of columns that bear more than their scaled costs
+//! and raises the others. From time to time the weights are polished: cut if more than one column
+//! bears too much, and raised by the least room of the row's columns. The first weights are
+//! disturbed, since with even ones all columns of a symmetric table would cross their scaled costs
+//! together; and if the steps end just short of what is wished for, they go on from weights a
+//! quarter of the way to their mean. A search hands its weights on. The cost is that of reading all
+//! rows some times a step; whatever comes out is looked at before it is used.
 
 use crate::choice::Choice;
 use crate::covering::columns::{copy_rows, count};
@@ -162,8 +163,8 @@ pub(crate) struct Goal {
     pub(crate) counts: i64,
 }
 
-/// The multipliers of the relaxation: weights of rows, and the parts of a column's scaled cost, for itself and for each
-/// thing that it counts.
+/// The multipliers of the relaxation: weights of rows, and the parts of a column's scaled cost, for
+/// itself and for each thing that it counts.
 #[derive(Drop)]
 pub(crate) struct Multipliers {
     pub(crate) weights: Vec<u64>,
@@ -210,8 +211,8 @@ fn beyond(loads: &[i64], scaled_costs: &[i64]) -> i64 {
     beyond
 }
 
-/// How much a row has to leave so that one more of its columns bears no more than its scaled cost; nothing if one
-/// bears more at most.
+/// How much a row has to leave so that one more of its columns bears no more than its scaled cost;
+/// nothing if one bears more at most.
 fn excess(row: &[usize], weight: i64, loads: &[i64], scaled_costs: &[i64]) -> i64 {
     let mut number: u32 = 0;
     let mut least = weight;
@@ -234,7 +235,8 @@ fn room(row: &[usize], loads: &[i64], scaled_costs: &[i64]) -> i64 {
     if row.is_empty() { 0 } else { least.max(0) }
 }
 
-/// How far the relaxed choice falls short of one column for the row: less than nothing if it has more.
+/// How far the relaxed choice falls short of one column for the row: less than nothing if it has
+/// more.
 fn violation(row: &[usize], relaxed: &[i64]) -> i64 {
     let mut violation: i64 = 1;
     for column in row {
@@ -402,7 +404,8 @@ fn lies_in(row: &[usize], other: &[usize]) -> bool {
     met == row.len()
 }
 
-/// The row from a place on that has all columns of this one and the fewest others, among some that follow the first.
+/// The row from a place on that has all columns of this one and the fewest others, among some that
+/// follow the first.
 fn matching_row(rows: &[Vec<usize>], row: &[usize], from: usize) -> usize {
     let mut best = rows.len();
     let mut fewest = usize::MAX;
@@ -422,8 +425,8 @@ fn matching_row(rows: &[Vec<usize>], row: &[usize], from: usize) -> usize {
     best
 }
 
-/// What a search remembers: the rows and weights of the last bound, the multiplier of a column, and how likely each
-/// column is thought to be in a cover.
+/// What a search remembers: the rows and weights of the last bound, the multiplier of a column, and
+/// how likely each column is thought to be in a cover.
 #[derive(Drop)]
 pub(crate) struct WarmStart {
     rows: Vec<Vec<usize>>,
@@ -474,8 +477,8 @@ impl WarmStart {
         Ok(weights)
     }
 
-    /// The remembered weights of rows that come from the remembered ones, in their order, where some left, some have
-    /// lost columns and some came at the end.
+    /// The remembered weights of rows that come from the remembered ones, in their order, where
+    /// some left, some have lost columns and some came at the end.
     fn inherited_weights(
         &self,
         alloc: Global,

@@ -63,8 +63,9 @@ impl Model for Table {
 impl Table {
     /// The table of these rows, with a column for each weight; none is taken and all are live.
     ///
-    /// A row lists its columns in rising order; a column's weight is its number of literals. `None` if some row
-    /// is empty, doesn't rise or has a column that has no weight. Its cost is that of reading the rows once.
+    /// A row lists its columns in rising order; a column's weight is its number of literals. `None`
+    /// if some row is empty, doesn't rise or has a column that has no weight. Its cost is that of
+    /// reading the rows once.
     pub fn new(
         alloc: Global,
         rows: Vec<Vec<usize>>,

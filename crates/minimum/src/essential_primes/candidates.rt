@@ -1,8 +1,9 @@
 //! Candidates for essential primes: those that alone hold a cube of the ON-set.
 //!
-//! An essential prime holds a wanted place that no other prime holds. The place is in a cube of the ON-set; this cube
-//! lies in some prime, as each such cube does, and that is a prime with the place: the essential one, and no other. So
-//! a prime that holds no cube of the ON-set alone is not essential, and there are no more candidates than such cubes.
+//! An essential prime holds a wanted place that no other prime holds. The place is in a cube of the
+//! ON-set; this cube lies in some prime, as each such cube does, and that is a prime with the
+//! place: the essential one, and no other. So a prime that holds no cube of the ON-set alone is not
+//! essential, and there are no more candidates than such cubes.
 
 ghost use Rattle.std.specs.Prelude.{◌≡◌, ◌<◌, ◌≤◌, ◌+◌, ℕ, true, false, IfOk, All, length};
 ghost use Rattle.cube.specs.Cube.{SameSize};
@@ -14,7 +15,8 @@ use crate::prime_table::rows::spans;
 use cube::Cube;
 use std::alloc::{AllocError, Global};
 
-/// The number of the first prime from a number on that holds the cube; how many primes there are if none does.
+/// The number of the first prime from a number on that holds the cube; how many primes there are if
+/// none does.
 fn containing_prime(primes: &[Cube], cube: &Cube, from: usize) -> usize
     requires size { All (λ d. SameSize d cube.now) primes.now }
     requires from { from ≤ length primes.now }
@@ -45,8 +47,8 @@ fn unmark_candidate(non_candidates: &mut Vec<bool>, primes: &[Cube], cube: &Cube
     }
 }
 
-/// Marks the primes of which each cube of the ON-set that they hold lies in another prime too; none if that is not
-/// less work than to ask each prime.
+/// Marks the primes of which each cube of the ON-set that they hold lies in another prime too; none
+/// if that is not less work than to ask each prime.
 pub(crate) fn non_candidates(
     alloc: Global,
     primes: &[Cube],

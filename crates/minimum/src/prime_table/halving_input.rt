@@ -1,5 +1,5 @@
-//! Where a region of many ON cubes is halved: at an input at which nearly all of them have a literal, so that few lie in
-//! both halves. A wish, which is looked at before it is used.
+//! Where a region of many ON cubes is halved: at an input at which nearly all of them have a
+//! literal, so that few lie in both halves. A wish, which is looked at before it is used.
 
 use cube::{Cube, Symbol};
 
@@ -24,7 +24,8 @@ fn dashes_at(cubes: &[Cube], numbers: &[usize], i: usize) -> usize {
     dashes
 }
 
-/// The first input that is free in the region and at which at most one in eight of the cubes has no literal.
+/// The first input that is free in the region and at which at most one in eight of the cubes has no
+/// literal.
 pub(crate) fn halving_input(cubes: &[Cube], numbers: &[usize], region: &Cube) -> Option<usize> {
     if numbers.len() <= FEW {
         return None;

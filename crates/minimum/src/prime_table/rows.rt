@@ -1,10 +1,11 @@
 //! Rows from split cubes.
 //!
-//! A region is a cube of one output. The primes, the ON cubes and the DC cubes that have a place of it are known by
-//! their numbers. If no ON cube is left, or a DC cube holds the region, no place of it is wanted; if each column of
-//! an earlier row holds the region, that row already asks for more. If no DC cube is left and one prime alone, or if
-//! nothing has a literal inside the region, the primes that are left are the row of its wanted places. Else the
-//! region is split at such a literal. So places that the same primes hold are looked at together, and mostly once.
+//! A region is a cube of one output. The primes, the ON cubes and the DC cubes that have a place of
+//! it are known by their numbers. If no ON cube is left, or a DC cube holds the region, no place of
+//! it is wanted; if each column of an earlier row holds the region, that row already asks for more.
+//! If no DC cube is left and one prime alone, or if nothing has a literal inside the region, the
+//! primes that are left are the row of its wanted places. Else the region is split at such a
+//! literal. So places that the same primes hold are looked at together, and mostly once.
 
 ghost use Rattle.std.specs.Prelude.{◌≡◌, ◌<◌, ◌+◌, ◌==◌, ℕ, true, false, IfOk, OnOk, MatchOption, MatchBool, IfSome, All, length, filter};
 ghost use Rattle.std.specs.List.{list_any};
@@ -260,7 +261,8 @@ impl<'a> Lists<'a> {
         self.add_rows(alloc, &candidates, &high, rows)
     }
 
-    /// Adds them ON cube by ON cube: so primes that are of no use to a cube's places do not multiply its splits.
+    /// Adds them ON cube by ON cube: so primes that are of no use to a cube's places do not
+    /// multiply its splits.
     fn add_rows_by_cubes(
         &self,
         alloc: Global,
@@ -292,8 +294,8 @@ impl<'a> Lists<'a> {
         None
     }
 
-    /// Adds them half by half while a region has many ON cubes: so a prime and an ON cube that lie in different halves
-    /// never come together.
+    /// Adds them half by half while a region has many ON cubes: so a prime and an ON cube that lie
+    /// in different halves never come together.
     pub(crate) fn add_rows_by_halves(
         &self,
         alloc: Global,
