@@ -10,7 +10,7 @@ ghost use Rattle.cube.specs.Cube.{difference as difference_of};
 ghost use Rattle.cube.specs.Sum.{complete_sum as complete_sum_of};
 ghost use Rattle.cover.specs.Places.{places};
 
-use crate::list::copied;
+use crate::list::copy_of;
 use cube::{Cube, Shape};
 use std::alloc::{AllocError, Global};
 use std::mem;
@@ -90,7 +90,7 @@ impl ComputedTable {
         if !known.is_of(shape, hash, minuend, subtrahend) {
             return Ok(None);
         }
-        Ok(Some(copied(alloc, &known.sum)?))
+        Ok(Some(copy_of(alloc, &known.sum)?))
     }
 
     /// Keeps a sum with its lists.
@@ -107,7 +107,7 @@ impl ComputedTable {
             ≡ complete_sum_of shape
             (difference_of (places minuend.items) (places subtrahend.items)) }
     {
-        let sum = copied(alloc, sum)?;
+        let sum = copy_of(alloc, sum)?;
         let known = Entry {
             hash,
             shape,

@@ -123,13 +123,13 @@ impl Cover {
     pub fn try_clone(&self) -> Result<Cover, AllocError>
         ensures { IfOk result (λ c. c ≡ self.now) }
     {
-        let cubes = copied(self.allocator(), self.as_slice())?;
+        let cubes = copy_of(self.allocator(), self.as_slice())?;
         Ok(Cover::from_cubes(self.shape(), cubes))
     }
 }
 
 /// An equal list.
-pub(crate) fn copied(alloc: Global, cubes: &[Cube]) -> Result<Vec<Cube>, AllocError>
+pub(crate) fn copy_of(alloc: Global, cubes: &[Cube]) -> Result<Vec<Cube>, AllocError>
     ensures { IfOk result (λ copy. copy.items ≡ cubes.now) }
 {
     let mut copy = Vec::with_capacity(alloc, cubes.len())?;

@@ -126,7 +126,7 @@ fn line_with(
     if !is_fitting(command, out, choice, names) {
         return Err(LineFault::Usage);
     }
-    match copied(alloc, names) {
+    match copy_names(alloc, names) {
         Ok(files) => Ok(Line::new(command, out, eat, choice, files)),
         Err(_) => Err(LineFault::Memory),
     }
@@ -148,7 +148,7 @@ fn is_fitting(command: Command, out: OutType, choice: Choice, files: &[&str]) ->
     is_printed && is_chosen && is_count && inputs <= 1
 }
 
-fn copied(alloc: Global, names: &[&str]) -> Result<Vec<String>, AllocError>
+fn copy_names(alloc: Global, names: &[&str]) -> Result<Vec<String>, AllocError>
     ensures { IfOk result (λ v. map string_bytes v.items ≡ map (λ s. s.now) names.now) }
 {
     let mut files = Vec::new(alloc);

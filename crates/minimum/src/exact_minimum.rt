@@ -13,7 +13,7 @@ use pla::Sets;
 use std::alloc::{AllocError, Global};
 
 /// The cubes with these numbers.
-fn chosen(alloc: Global, list: &Cover, numbers: &[usize]) -> Result<Cover, AllocError>
+fn cubes_at(alloc: Global, list: &Cover, numbers: &[usize]) -> Result<Cover, AllocError>
     ensures { IfOk result (λ l. l ≡ record {
       size = list.now.size;
       cubes = chosen list.now.cubes numbers.now;
@@ -42,5 +42,5 @@ pub fn exact(alloc: Global, sets: &Sets, choice: Choice) -> Result<Cover, AllocE
     let table = Table::build(alloc, &primes, sets)?;
     let table = reduce(table, choice)?;
     let least = table.least_cover(choice)?;
-    chosen(alloc, &primes, &least)
+    cubes_at(alloc, &primes, &least)
 }

@@ -12,7 +12,7 @@ ghost use Rattle.minimum.specs.Search.{IsLighter, IsServed};
 ghost use Rattle.minimum.specs.Reduce.{weakly_dominates, row_at, IsTranspose, LeavesNoDominatedColumn, prefers, dominates, HasNoDominatedColumn, Shrinks};
 
 use crate::choice::Choice;
-use crate::covering::columns::{copied, count, is_within};
+use crate::covering::columns::{copy_of, count, is_within};
 use crate::covering::marks::{all_marked, is_marked, marked_columns, rows_of_marked, unmark};
 use crate::covering::table::Table;
 use crate::covering::transpose::entry;
@@ -240,7 +240,7 @@ impl Table {
         if live.len() == self.live_columns().len() {
             return Ok(None);
         }
-        let taken = copied(alloc, self.taken_columns())?;
+        let taken = copy_of(alloc, self.taken_columns())?;
         let rows = rows_of_marked(alloc, self.row_lists(), &keep)?;
         Ok(Some(self.with(alloc, taken, live, rows)?))
     }

@@ -30,7 +30,7 @@ pub(crate) fn all_met(columns: &[usize], rows: &[Vec<usize>]) -> bool
     rows.iter().all(|row| meets(columns, row))
 }
 
-pub(crate) fn copied(alloc: Global, xs: &[usize]) -> Result<Vec<usize>, AllocError>
+pub(crate) fn copy_of(alloc: Global, xs: &[usize]) -> Result<Vec<usize>, AllocError>
     ensures { IfOk result (λ v. v.items ≡ xs.now) }
 {
     xs.iter().copied().collect(alloc)
@@ -55,7 +55,7 @@ pub(crate) fn with_column(
 }
 
 /// The rising list of both.
-pub(crate) fn joined(
+pub(crate) fn join(
     alloc: Global,
     taken: &[usize],
     choice: &[usize],
@@ -64,9 +64,9 @@ pub(crate) fn joined(
     ensures { IfOk result (λ v. v.items ≡ join taken.now choice.now) }
 {
     if choice.is_empty() {
-        return copied(alloc, taken);
+        return copy_of(alloc, taken);
     }
-    let rest = joined(alloc, taken, &choice[1..])?;
+    let rest = join(alloc, taken, &choice[1..])?;
     with_column(alloc, &rest, choice[0])
 }
 
@@ -126,7 +126,7 @@ pub(crate) fn copy_rows(alloc: Global, rows: &[Vec<usize>]) -> Result<Vec<Vec<us
 {
     let mut kept = Vec::new(alloc);
     for row in rows {
-        kept.push(copied(alloc, row)?)?;
+        kept.push(copy_of(alloc, row)?)?;
     }
     Ok(kept)
 }

@@ -9,7 +9,7 @@ ghost use Rattle.minimum.specs.Cover.{meets, counted, IsLeast};
 ghost use Rattle.minimum.specs.Choices.{choices, join, better, best_of, best_choice};
 
 use crate::choice::Choice;
-use crate::covering::columns::{all_met, joined, sum};
+use crate::covering::columns::{all_met, join, sum};
 use crate::covering::table::Table;
 use itertools::{Combinations, Itertools};
 use std::alloc::{AllocError, Global};
@@ -88,10 +88,10 @@ impl Table {
     }
 
     /// The rising list of the taken columns and these.
-    fn taken_with(&self, alloc: Global, columns: &[usize]) -> Result<Vec<usize>, AllocError>
+    fn with_taken(&self, alloc: Global, columns: &[usize]) -> Result<Vec<usize>, AllocError>
         ensures { IfOk result (λ v. v.items ≡ join self.now.taken columns.now) }
     {
-        joined(alloc, &self.taken, columns)
+        join(alloc, &self.taken, columns)
     }
 
     /// The first of the shortest covers under the choice, by trying all choices of live columns in
@@ -106,7 +106,7 @@ impl Table {
         let mut size = 0;
         loop {
             if let Some(best) = self.best_choice(alloc, choice, size)? {
-                return self.taken_with(alloc, &best);
+                return self.with_taken(alloc, &best);
             }
             size += 1;
         }

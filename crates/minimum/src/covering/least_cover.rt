@@ -16,7 +16,7 @@ ghost use Rattle.minimum.specs.Steps.{with_rows};
 
 use crate::choice::Choice;
 use crate::covering::bound::Budget;
-use crate::covering::columns::{contains, copied, copy_rows, count, joined, sum};
+use crate::covering::columns::{contains, copy_of, copy_rows, count, join, sum};
 use crate::covering::marks::{all_but, marked_columns, others};
 use crate::covering::subgradient::{Goal, WarmStart};
 use crate::covering::table::Table;
@@ -184,7 +184,7 @@ impl Stage {
     }
 
     /// Drops the columns that row weights show to be in no cover within the budget.
-    fn bounded(
+    fn drop_by_bound(
         self,
         alloc: Global,
         choice: Choice,
@@ -206,7 +206,7 @@ impl Stage {
     }
 
     /// Drops such columns until weights show no more.
-    fn narrowed(
+    fn narrow(
         self,
         alloc: Global,
         choice: Choice,
@@ -221,7 +221,7 @@ impl Stage {
         let mut stage = self;
         loop {
             let live = stage.table.live_columns().len();
-            stage = stage.bounded(alloc, choice, budget, help)?;
+            stage = stage.drop_by_bound(alloc, choice, budget, help)?;
             if live <= stage.table.live_columns().len() {
                 return Ok(stage);
             }
@@ -249,13 +249,13 @@ impl Stage {
         }
         let stage = self.ask_for_many(alloc, choice, budget, column, help)?;
         if !contains(stage.table.live_columns(), column) {
-            return stage.narrowed(alloc, choice, budget, help);
+            return stage.narrow(alloc, choice, budget, help);
         }
         if contains(&stage.witness, column) {
             return stage.ask_for_one(alloc, choice, budget, column, help);
         }
         let stage = stage.ask_for_one(alloc, choice, budget, column, help)?;
-        stage.narrowed(alloc, choice, budget, help)
+        stage.narrow(alloc, choice, budget, help)
     }
 }
 
@@ -268,8 +268,8 @@ impl Table {
     {
         let mut rows = copy_rows(alloc, self.row_lists())?;
         rows.push(row)?;
-        let taken = copied(alloc, self.taken_columns())?;
-        let live = copied(alloc, self.live_columns())?;
+        let taken = copy_of(alloc, self.taken_columns())?;
+        let live = copy_of(alloc, self.live_columns())?;
         self.with(alloc, taken, live, rows)
     }
 
@@ -292,17 +292,17 @@ impl Table {
             most: 1,
         };
         let mut stage = Stage {
-            table: self.copied(alloc)?,
+            table: self.copy(alloc)?,
             witness: best,
         };
-        stage = stage.narrowed(alloc, choice, budget, &mut help)?;
+        stage = stage.narrow(alloc, choice, budget, &mut help)?;
         for column in 0..self.columns() {
             if stage.table.is_solved() {
-                return copied(alloc, stage.table.taken_columns());
+                return copy_of(alloc, stage.table.taken_columns());
             }
             stage = stage.settle(alloc, choice, budget, column, &mut help)?;
         }
-        copied(alloc, stage.table.taken_columns())
+        copy_of(alloc, stage.table.taken_columns())
     }
 
     /// A shorter cover; `None` if there is none.
@@ -326,7 +326,7 @@ impl Table {
     fn all_columns(&self, alloc: Global) -> Result<Vec<usize>, AllocError>
         ensures { IfOk result (λ v. IsCover self.now v.items) }
     {
-        joined(alloc, self.taken_columns(), self.live_columns())
+        join(alloc, self.taken_columns(), self.live_columns())
     }
 
     /// A cover that a local search comes upon.

@@ -6,7 +6,7 @@ ghost use Rattle.minimum.specs.Table.{items_of};
 ghost use Rattle.minimum.specs.Search.{marked};
 ghost use Rattle.minimum.specs.Reduce.{Unmarks, rows_from};
 
-use crate::covering::columns::copied;
+use crate::covering::columns::copy_of;
 use std::alloc::{AllocError, Global};
 
 /// Marks what the marks leave.
@@ -51,7 +51,7 @@ pub(crate) fn untouched_rows(
     let mut kept = Vec::new(alloc);
     for row in rows {
         if all_kept(row, keep) {
-            kept.push(copied(alloc, row)?)?;
+            kept.push(copy_of(alloc, row)?)?;
         }
     }
     Ok(kept)
@@ -69,7 +69,7 @@ pub(crate) fn marked_rows(
     let mut kept = Vec::new(alloc);
     for (i, row) in rows.iter().enumerate() {
         if is_marked(stay, i) {
-            kept.push(copied(alloc, row)?)?;
+            kept.push(copy_of(alloc, row)?)?;
         }
     }
     Ok(kept)

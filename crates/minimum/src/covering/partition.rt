@@ -15,7 +15,7 @@ ghost use Rattle.minimum.specs.Search.{marked};
 ghost use Rattle.minimum.specs.Parts.{AreParts, is_on_one_side, part_of};
 
 use crate::choice::Choice;
-use crate::covering::columns::{copied, joined};
+use crate::covering::columns::{copy_of, join};
 use crate::covering::components::wished_side;
 use crate::covering::marks::{all_kept, marked_columns, others, untouched_rows};
 use crate::covering::table::Table;
@@ -65,7 +65,7 @@ impl Table {
         if !are_apart(self.row_lists(), &marks, &others) {
             return Ok(None);
         }
-        let taken = copied(alloc, self.taken_columns())?;
+        let taken = copy_of(alloc, self.taken_columns())?;
         let one = self.part(alloc, taken, &marks)?;
         let other = self.part(alloc, Vec::new(alloc), &others)?;
         let most = one.row_count().max(other.row_count());
@@ -85,7 +85,7 @@ impl Table {
     ) -> Result<Vec<usize>, AllocError>
         ensures { IfOk result (λ v. IsLeast choice self.now v.items) }
     {
-        match self.renumbered(alloc)? {
+        match self.renumber(alloc)? {
             None => self.least_of_parts(alloc, choice),
             Some(table) => {
                 let numbers = table.least_of_parts(alloc, choice)?;
@@ -104,7 +104,7 @@ impl Table {
             Some(Parts { one, other }) => {
                 let first = one.least_by_parts(alloc, choice)?;
                 let second = other.least_by_parts(alloc, choice)?;
-                joined(alloc, &first, &second)
+                join(alloc, &first, &second)
             }
         }
     }

@@ -45,7 +45,7 @@ fn inessential_columns(
 }
 
 /// The rising list of the taken columns and the unmarked ones.
-pub(crate) fn taken_with(
+pub(crate) fn with_unmarked(
     alloc: Global,
     taken: &[usize],
     keep: &[bool],
@@ -75,14 +75,14 @@ impl Table {
         if live.len() == self.live_columns().len() {
             return Ok(None);
         }
-        let taken = taken_with(alloc, self.taken_columns(), &keep, self.columns())?;
+        let taken = with_unmarked(alloc, self.taken_columns(), &keep, self.columns())?;
         let rows = untouched_rows(alloc, self.row_lists(), &keep)?;
         Ok(Some(self.with(alloc, taken, live, rows)?))
     }
 
     /// The table after one pass that changes it, in a search for some cover within a budget; `None`
     /// if none does.
-    fn lighter(&self, alloc: Global, choice: Choice) -> Result<Option<Table>, AllocError>
+    fn lighten_once(&self, alloc: Global, choice: Choice) -> Result<Option<Table>, AllocError>
         ensures { IfOk result (λ o. IfSome o (IsLighter choice self.now)) }
     {
         let _live = self.live_columns();
@@ -96,11 +96,11 @@ impl Table {
     }
 
     /// The table after all passes, in a search for some cover within a budget.
-    pub(crate) fn lightened(&self, alloc: Global, choice: Choice) -> Result<Table, AllocError>
+    pub(crate) fn lighten(&self, alloc: Global, choice: Choice) -> Result<Table, AllocError>
         ensures { IfOk result (λ u. IsLightened choice self.now u) }
     {
-        let mut table = self.copied(alloc)?;
-        while let Some(lighter) = table.lighter(alloc, choice)? {
+        let mut table = self.copy(alloc)?;
+        while let Some(lighter) = table.lighten_once(alloc, choice)? {
             table = lighter;
         }
         Ok(table)
@@ -112,15 +112,15 @@ impl Table {
         ensures table { IsTable self.now }
     {
         let _live = self.live_columns();
-        let mut table = self.copied(alloc)?;
-        while let Some(reduced_once) = table.reduced_once(alloc, choice)? {
-            table = reduced_once;
+        let mut table = self.copy(alloc)?;
+        while let Some(reduced) = table.reduce_once(alloc, choice)? {
+            table = reduced;
         }
         Ok(table)
     }
 
     /// The table after one pass that changes it; `None` if none does.
-    fn reduced_once(&self, alloc: Global, choice: Choice) -> Result<Option<Table>, AllocError>
+    fn reduce_once(&self, alloc: Global, choice: Choice) -> Result<Option<Table>, AllocError>
         ensures { IfOk result (λ o. MatchOption o (IsReduced choice self.now)
             (Shrinks choice self.now)) }
     {
@@ -148,8 +148,8 @@ pub fn reduce(table: Table, choice: Choice) -> Result<Table, AllocError>
     let _columns = table.columns;
     let alloc = *table.rows.allocator();
     let mut table = table;
-    while let Some(reduced_once) = table.reduced_once(alloc, choice)? {
-        table = reduced_once;
+    while let Some(reduced) = table.reduce_once(alloc, choice)? {
+        table = reduced;
     }
     Ok(table)
 }

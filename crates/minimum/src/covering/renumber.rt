@@ -10,7 +10,7 @@ ghost use Rattle.minimum.specs.Choices.{join};
 ghost use Rattle.minimum.specs.Parts.{IsRenumbered, pick};
 
 use crate::choice::Choice;
-use crate::covering::columns::{count, joined};
+use crate::covering::columns::{count, join};
 use crate::covering::table::Table;
 use std::alloc::{AllocError, Global};
 
@@ -95,7 +95,7 @@ fn literals_of(alloc: Global, weights: &[u32], live: &[usize]) -> Result<Vec<u32
 
 impl Table {
     /// The table in numbers of its own, if it has columns that are not live.
-    pub(crate) fn renumbered(&self, alloc: Global) -> Result<Option<Table>, AllocError>
+    pub(crate) fn renumber(&self, alloc: Global) -> Result<Option<Table>, AllocError>
         ensures { IfOk result (λ o. IfSome o (IsRenumbered self.now)) }
     {
         let live = self.live_columns();
@@ -119,6 +119,6 @@ impl Table {
             (map (pick self.now.live) numbers.now)) }
     {
         let columns = columns_of(alloc, self.live_columns(), numbers)?;
-        joined(alloc, self.taken_columns(), &columns)
+        join(alloc, self.taken_columns(), &columns)
     }
 }

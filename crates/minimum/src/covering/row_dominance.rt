@@ -7,7 +7,7 @@ ghost use Rattle.minimum.specs.Table.{items_of, has};
 ghost use Rattle.minimum.specs.Reduce.{row_at, AreRising, IsTranspose, UnmarksDominatingRows, LeavesNoDominatingRow, is_dominating_row, HasNoDominatingRow, Shrinks};
 
 use crate::choice::Choice;
-use crate::covering::columns::{copied, is_within};
+use crate::covering::columns::{copy_of, is_within};
 use crate::covering::marks::{all_marked, is_marked, marked_rows, unmark};
 use crate::covering::table::Table;
 use crate::covering::transpose::entry;
@@ -91,8 +91,8 @@ impl Table {
         if rows.len() == self.row_lists().len() {
             return Ok(None);
         }
-        let taken = copied(alloc, self.taken_columns())?;
-        let live = copied(alloc, self.live_columns())?;
+        let taken = copy_of(alloc, self.taken_columns())?;
+        let live = copy_of(alloc, self.live_columns())?;
         Ok(Some(self.with(alloc, taken, live, rows)?))
     }
 }

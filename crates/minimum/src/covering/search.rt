@@ -17,7 +17,7 @@ ghost use Rattle.minimum.specs.Search.{NoneWithin, Answers, IsAnswer, IsNarrowed
 
 use crate::choice::Choice;
 use crate::covering::bound::{Budget, columns_within_gap, limit_of, scaled_costs};
-use crate::covering::columns::{contains, copied, holds, is_blank, sum, with_column};
+use crate::covering::columns::{contains, copy_of, holds, is_blank, sum, with_column};
 use crate::covering::lagrangian::lagrangian;
 use crate::covering::local_search::local_search;
 use crate::covering::marks::{all_marked, is_marked, marked_columns, rows_of_marked};
@@ -59,7 +59,7 @@ fn rows_lacking(
     let mut kept = Vec::new(alloc);
     for row in rows {
         if !contains(row, column) {
-            kept.push(copied(alloc, row)?)?;
+            kept.push(copy_of(alloc, row)?)?;
         }
     }
     Ok(kept)
@@ -203,7 +203,7 @@ impl Table {
         if any_blank(&rows) {
             return Ok(None);
         }
-        let taken = copied(alloc, self.taken_columns())?;
+        let taken = copy_of(alloc, self.taken_columns())?;
         let live = without_column(alloc, self.live_columns(), column)?;
         Ok(Some(self.with(alloc, taken, live, rows)?))
     }
@@ -223,7 +223,7 @@ impl Table {
         if any_blank(&rows) {
             return Ok(None);
         }
-        let taken = copied(alloc, self.taken_columns())?;
+        let taken = copy_of(alloc, self.taken_columns())?;
         let live = marked_columns(alloc, self.live_columns(), keep)?;
         Ok(Some(self.with(alloc, taken, live, rows)?))
     }
@@ -343,7 +343,7 @@ impl Table {
 
     /// The table without the columns that no cover within the budget has, as far as row weights
     /// show.
-    fn bounded(
+    fn drop_by_bound(
         &self,
         alloc: Global,
         choice: Choice,
@@ -361,7 +361,7 @@ impl Table {
 
     /// The table as far as a search within the budget has to look at it; `None` if there is no
     /// cover.
-    fn narrowed(
+    fn narrow(
         &self,
         alloc: Global,
         choice: Choice,
@@ -371,15 +371,15 @@ impl Table {
         ensures { IfOk result (λ o. MatchOption o (NoneWithin choice self.now budget.columns
             budget.counts) (IsNarrowed choice budget.columns budget.counts self.now)) }
     {
-        let mut table = self.lightened(alloc, choice)?;
+        let mut table = self.lighten(alloc, choice)?;
         loop {
-            let Some(next) = table.bounded(alloc, choice, budget, warm_start)? else {
+            let Some(next) = table.drop_by_bound(alloc, choice, budget, warm_start)? else {
                 return Ok(None);
             };
             if table.live_columns().len() <= next.live_columns().len() {
                 return Ok(Some(next));
             }
-            table = next.lightened(alloc, choice)?;
+            table = next.lighten(alloc, choice)?;
         }
     }
 
@@ -410,7 +410,7 @@ impl Table {
             (option_map (λ v. v.items) o)) }
     {
         let mut warm_start = warm_start.copy(alloc)?;
-        match self.narrowed(alloc, choice, budget, &mut warm_start)? {
+        match self.narrow(alloc, choice, budget, &mut warm_start)? {
             None => Ok(None),
             Some(table) => table.branch(alloc, choice, budget, &warm_start),
         }
@@ -432,7 +432,7 @@ impl Table {
             return Ok(None);
         }
         if self.is_solved() {
-            return Ok(Some(copied(alloc, self.taken_columns())?));
+            return Ok(Some(copy_of(alloc, self.taken_columns())?));
         }
         let Some(column) = self.likeliest(alloc, warm_start)? else {
             return Ok(None);
@@ -508,7 +508,7 @@ impl Table {
         ensures { IfOk result (λ o. Answers choice self.now budget.columns budget.counts
             (option_map (λ v. v.items) o)) }
     {
-        let Some(table) = self.narrowed(alloc, choice, budget, warm_start)? else {
+        let Some(table) = self.narrow(alloc, choice, budget, warm_start)? else {
             return Ok(None);
         };
         let goal = table.goal(choice, budget);

@@ -4,7 +4,7 @@ ghost use Rattle.std.specs.Prelude.{◌≡◌, ◌<◌, ◌&&◌, IfOk, MatchOpt
 ghost use Rattle.std.specs.List.{list_all, range_with_len};
 ghost use Rattle.minimum.specs.Table.{Table as Matrix, IsTable, items_of, has, AreRows, fresh, is_row, table_of};
 
-use crate::covering::columns::{contains, copied, copy_rows, rises};
+use crate::covering::columns::{contains, copy_of, copy_rows, rises};
 use std::alloc::{AllocError, Global};
 use std::marker::Model;
 
@@ -170,11 +170,11 @@ impl Table {
     }
 
     /// A copy of the table.
-    pub(crate) fn copied(&self, alloc: Global) -> Result<Table, AllocError>
+    pub(crate) fn copy(&self, alloc: Global) -> Result<Table, AllocError>
         ensures { IfOk result (λ t. t ≡ self.now) }
     {
-        let taken = copied(alloc, self.taken_columns())?;
-        let live = copied(alloc, self.live_columns())?;
+        let taken = copy_of(alloc, self.taken_columns())?;
+        let live = copy_of(alloc, self.live_columns())?;
         let rows = copy_rows(alloc, self.row_lists())?;
         self.with(alloc, taken, live, rows)
     }

@@ -16,7 +16,7 @@ ghost use Rattle.minimum.specs.Table.{has, RisesFrom, items_of};
 ghost use Rattle.minimum.specs.Reduce.{holds_all};
 ghost use Rattle.minimum.specs.PrimeRows.{touches, spans, holds_at, HasNoneInside, IsFree, IsSplit, IsTouched, IsSettled, IsOpen, HasRowsFor, AddsRows};
 
-use crate::covering::columns::{copied, is_blank, is_within};
+use crate::covering::columns::{copy_of, is_blank, is_within};
 use crate::prime_table::halving_input::halving_input;
 use cube::{Cube, Symbol};
 use std::alloc::{AllocError, Global};
@@ -190,7 +190,7 @@ impl<'a> Lists<'a> {
             (places self.now.dc.now) p ≡ true → holds_at self.now.primes.now i p ≡ true) }
     {
         if is_alone(&candidates.primes) {
-            return copied(alloc, &candidates.primes);
+            return copy_of(alloc, &candidates.primes);
         }
         spanning(alloc, self.primes, region, &candidates.primes)
     }

@@ -13,7 +13,7 @@ returns c =
     let primes = c.in_ok-primes.primes in
     let least = (c.in_ok-table-2.ensures.least c.in_ok-least.least.items).1 c.in_ok-least.ensures in
     let is = least_is choice sets c.in_ok-table.table c.in_ok-least.least.items c.in_ok-table.ensures.columns c.in_ok-table.ensures.covers least in
-    IfOk-weaker c.chosen.result _ _
+    IfOk-weaker c.cubes_at.result _ _
     (λ l h. h ∙ ap (λ s. cubes_of primes.size (chosen primes.cubes s)) (c.deref.ensures.value ∙ is)
     ∙ ap (λ (p : Cubes). cubes_of p.size (chosen p.cubes (least_prime_cover choice sets))) c.in_ok-primes.ensures)
-    c.chosen.ensures
+    c.cubes_at.ensures

@@ -8,7 +8,7 @@ use Rattle.minimum.proofs.Rows.{take_items}
 use Rattle.minimum.proofs.TransposeSteps.{length_items}
 use Rattle.minimum.proofs.Reduced.{rows_from_more, append_nothing}
 use Rattle.minimum.proofs.covering.marks.marked_rows.Goals as goal
-use Rattle.minimum.proofs.covering.marks.marked_rows.Goals.{then-is_marked+in_ok-copied+in_ok-push, else-is_marked}
+use Rattle.minimum.proofs.covering.marks.marked_rows.Goals.{then-is_marked+in_ok-copy_of+in_ok-push, else-is_marked}
 
 pub loop-i-preserved : goal.loop-i-preserved
 loop-i-preserved c =
@@ -20,9 +20,9 @@ loop-i-preserved c =
     let rows : rows_from (marked stay) 0 (items_of (take (i + 1) c.args.rows.now)) ≡ rows_from (marked stay) 0 before ++ cond (marked stay i) (row ∷ []) [] =
     ap (rows_from (marked stay) 0) (take_items c.args.rows.now i c.index-rows-i.result c.loop-i-test.true c.index-rows-i.is) ∙ rows_from_more (marked stay) 0 before row ∙ ap (λ n. rows_from (marked stay) 0 before ++ cond (marked stay n) (row ∷ []) []) long in
     elim c.if-is_marked.branch [
-      | then-is_marked+in_ok-copied+in_ok-push w ↦
-          ap (λ v. items_of v.items) w.kept-is ∙ ap items_of w.in_ok-push.ensures.items ∙ map-append (λ v. v.items) c.loop-i.kept.items (w.in_ok-copied.field-0 ∷ [])
-          ∙ ap (λ xs. xs ++ w.in_ok-copied.field-0.items ∷ []) c.loop-i.invariant ∙ ap (λ r. rows_from (marked stay) 0 before ++ r ∷ []) (w.in_ok-copied.ensures ∙ w.deref.ensures.value)
+      | then-is_marked+in_ok-copy_of+in_ok-push w ↦
+          ap (λ v. items_of v.items) w.kept-is ∙ ap items_of w.in_ok-push.ensures.items ∙ map-append (λ v. v.items) c.loop-i.kept.items (w.in_ok-copy_of.field-0 ∷ [])
+          ∙ ap (λ xs. xs ++ w.in_ok-copy_of.field-0.items ∷ []) c.loop-i.invariant ∙ ap (λ r. rows_from (marked stay) 0 before ++ r ∷ []) (w.in_ok-copy_of.ensures ∙ w.deref.ensures.value)
           ∙ ap (λ rs. rows_from (marked stay) 0 before ++ rs) (sym (cond-true (marked stay i) (row ∷ []) [] (sym c.is_marked.ensures ∙ w.if-is_marked.true))) ∙ sym rows
       | else-is_marked w ↦
           ap (λ v. items_of v.items) w.kept-is ∙ c.loop-i.invariant ∙ sym (append_nothing (rows_from (marked stay) 0 before))

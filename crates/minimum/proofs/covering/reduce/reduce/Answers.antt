@@ -10,8 +10,8 @@ loop-table-init c = done c.args.table
 
 pub loop-table-preserved : goal.loop-table-preserved
 loop-table-preserved c =
-    let next = rw c.in-Some.is at c.in_ok-reduced_once.ensures in
-    steps_join c.args.choice c.args.table c.loop-table.table c.in-Some.reduced_once c.loop-table.invariant next.steps
+    let next = rw c.in-Some.is at c.in_ok-reduce_once.ensures in
+    steps_join c.args.choice c.args.table c.loop-table.table c.in-Some.reduced c.loop-table.invariant next.steps
 
 pub returns-clause-least : goal.returns-clause-least
 returns-clause-least c = (steps_keep c.args.choice c.args.table c.loop-table.table (subst IsTable c.table.view_is c.table.invariant) c.loop-table.invariant).1

@@ -11,7 +11,7 @@ use Rattle.minimum.proofs.covering.table.Table.+search.Goals as goal
 pub branch-returns-then-is_solved : goal.branch-returns-then-is_solved
 branch-returns-then-is_solved t c =
     let fits = MatchBool-at_false _ _ c.if-is_over_budget.false c.is_over_budget.ensures in
-    answer_leaf c.args.choice c.args.self.now c.args.budget.columns c.args.budget.counts _ c.if-is_solved.ensures.table (c.if-is_solved.ensures.solved.0 refl) (c.in_ok-copied.ensures ∙ c.taken_columns.ensures.value) fits.0 fits.1
+    answer_leaf c.args.choice c.args.self.now c.args.budget.columns c.args.budget.counts _ c.if-is_solved.ensures.table (c.if-is_solved.ensures.solved.0 refl) (c.in_ok-copy_of.ensures ∙ c.taken_columns.ensures.value) fits.0 fits.1
 
 pub branch-returns-in_default : goal.branch-returns-in_default
 branch-returns-in_default t c = absurd (true≢false (sym (c.if-is_solved.ensures.solved.1 (no_live c.args.self.now c.in_ok-column.ensures.table (rw c.in_default.is at c.in_ok-column.ensures.live)))))
@@ -51,8 +51,8 @@ branch-returns t c =
 
 pub search-branch-table-requires : goal.search-branch-table-requires
 search-branch-table-requires t c =
-    let n = rw c.in-Some.is at c.in_ok-narrowed.ensures in
+    let n = rw c.in-Some.is at c.in_ok-narrow.ensures in
     (omega (arith, n.live, c.decreases), tt)
 
 pub search-returns-in-None : goal.search-returns-in-None
-search-returns-in-None t c = rw c.in-None.is at c.in_ok-narrowed.ensures
+search-returns-in-None t c = rw c.in-None.is at c.in_ok-narrow.ensures

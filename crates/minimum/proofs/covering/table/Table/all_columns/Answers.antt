@@ -8,4 +8,4 @@ use Rattle.minimum.proofs.covering.table.Table.all_columns.Goals as goal
 pub returns : goal.returns
 returns c =
     let t = c.args.self.now in
-    IfOk-weaker c.joined.result _ _ (λ v h. subst (IsCover t) (sym (h ∙ ap (λ ts. join ts c.live_columns.result.now) c.taken_columns.ensures.value ∙ ap (join t.taken) c.live_columns.ensures.value)) (all_cover t c.taken_columns.ensures.table)) c.joined.ensures
+    IfOk-weaker c.join.result _ _ (λ v h. subst (IsCover t) (sym (h ∙ ap (λ ts. join ts c.live_columns.result.now) c.taken_columns.ensures.value ∙ ap (join t.taken) c.live_columns.ensures.value)) (all_cover t c.taken_columns.ensures.table)) c.join.ensures

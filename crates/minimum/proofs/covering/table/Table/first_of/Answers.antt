@@ -4,9 +4,9 @@ use Rattle.minimum.proofs.Stages.{next_join, stage_done, all_settled, first_next
 use Rattle.minimum.proofs.covering.table.Table.first_of.Goals as goal
 
 pub returns-then-is_solved : goal.returns-then-is_solved
-returns-then-is_solved c = IfOk-weaker c.copied-then-is_solved.result _ _
+returns-then-is_solved c = IfOk-weaker c.copy_of-then-is_solved.result _ _
     (λ v h. stage_done c.args.choice c.args.self.now c.loop-column.stage.table v.items c.taken_columns.ensures.table c.loop-column.invariant.next (c.if-is_solved.ensures.solved.0 refl) (h ∙ c.taken_columns.ensures.value))
-    c.copied-then-is_solved.ensures
+    c.copy_of-then-is_solved.ensures
 
 pub loop-column-preserved : goal.loop-column-preserved
 loop-column-preserved c = record {
@@ -20,6 +20,6 @@ returns c =
     let past = c.loop-column-test.false in
     let wide = c.columns-column-end.ensures in
     let done = all_settled c.args.choice c.args.self.now c.loop-column.stage.table c.loop-column.column c.literals.ensures.table c.taken_columns-2.ensures.table c.loop-column.invariant.next c.loop-column.invariant.first (omega arith) in
-    IfOk-weaker c.copied-2.result _ _
+    IfOk-weaker c.copy_of-2.result _ _
     (λ v h. stage_done c.args.choice c.args.self.now c.loop-column.stage.table v.items c.taken_columns-2.ensures.table c.loop-column.invariant.next done (h ∙ c.taken_columns-2.ensures.value))
-    c.copied-2.ensures
+    c.copy_of-2.ensures

@@ -10,7 +10,7 @@ pub returns-in-Some : goal.returns-in-Some
 returns-in-Some c =
     let found : best_choice c.args.choice c.args.self.now c.loop-best.size ≡ Some c.in-Some.best.items = sym c.in_ok-best.ensures.found ∙ ap (option_map (λ (v : Vec ℕ Global). v.items)) c.in-Some.is in
     let least = exhaustive_least c.args.choice c.args.self.now c.loop-best.size c.in-Some.best.items c.in_ok-best.ensures.table found c.loop-best.invariant in
-    IfOk-weaker c.taken_with.result _ _ (λ v h. subst (IsLeast c.args.choice c.args.self.now) (sym (h ∙ ap (join c.args.self.now.taken) c.deref.ensures.value)) least) c.taken_with.ensures
+    IfOk-weaker c.with_taken.result _ _ (λ v h. subst (IsLeast c.args.choice c.args.self.now) (sym (h ∙ ap (join c.args.self.now.taken) c.deref.ensures.value)) least) c.with_taken.ensures
 
 pub overflow_add-size : goal.overflow_add-size
 overflow_add-size c =

@@ -10,9 +10,9 @@ pub returns-then-is_alone-clause-hold : goal.returns-then-is_alone-clause-hold
 returns-then-is_alone-clause-hold c =
     let lists = c.args.self.now in
     let candidates = c.args.candidates.now in
-    IfOk-weaker c.copied.result _ _
+    IfOk-weaker c.copy_of.result _ _
     (λ v same i p h. alone_holds lists.primes.now lists.on.now lists.dc.now c.args.region.now candidates.primes.items candidates.on.items candidates.dc.items c.requires (eqb-true (length candidates.primes.items) 1 (ap (λ l. eqb (length l) 1) (sym c.deref.ensures.value) ∙ sym c.is_alone.ensures ∙ c.if-is_alone.true)) i p (ap (has i) (sym (same ∙ c.deref-then-is_alone.ensures.value)) ∙ h))
-    c.copied.ensures
+    c.copy_of.ensures
 
 pub returns-clause-rises : goal.returns-clause-rises
 returns-clause-rises c =

@@ -1,8 +1,8 @@
 use Rattle.std.proofs.Common.{◌≡◌, ◌∙◌, refl, sym, subst}
 use Rattle.minimum.specs.Table.{IsTable, items_of, table_of}
 use Rattle.minimum.proofs.Made.{table_same}
-use Rattle.minimum.proofs.covering.table.Table.copied.Goals as goal
-use Rattle.minimum.proofs.covering.table.Table.copied.Goals.{In_ok-rows}
+use Rattle.minimum.proofs.covering.table.Table.copy.Goals as goal
+use Rattle.minimum.proofs.covering.table.Table.copy.Goals.{In_ok-rows}
 
 same : (c : In_ok-rows) → table_of c.args.self.now.columns c.in_ok-taken.taken.items c.in_ok-live.live.items (items_of c.in_ok-rows.rows.items) c.args.self.now.weights ≡ c.args.self.now
 same c = table_same c.args.self.now.columns _ _ _ _ _ _ _ _ (c.in_ok-taken.ensures ∙ c.taken_columns.ensures.value) (c.in_ok-live.ensures ∙ c.live_columns.ensures.value) (c.in_ok-rows.ensures ∙ c.row_lists.ensures.value) refl

@@ -1,5 +1,5 @@
 use Rattle.minimum.proofs.WeakDominance.{shrinks_lighter}
-use Rattle.minimum.proofs.covering.table.Table.lighter.Goals as goal
+use Rattle.minimum.proofs.covering.table.Table.lighten_once.Goals as goal
 
 pub returns-in-Some : goal.returns-in-Some
 returns-in-Some c = shrinks_lighter c.args.choice c.args.self.now c.in-Some.table c.live_columns-live.ensures.table (rw c.in-Some.is at c.in_ok-table.ensures)

@@ -1,5 +1,5 @@
 use Rattle.std.proofs.Common.{◌≡◌, take}
-use Rattle.cover.proofs.list.copied.Given as goal
+use Rattle.cover.proofs.list.copy_of.Given as goal
 
 abbrev pub invariant-loop-cube : goal.invariant-loop-cube
 invariant-loop-cube l = l.copy.items ≡ take l.cube-index l.cubes

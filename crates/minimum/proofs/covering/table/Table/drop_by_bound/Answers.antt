@@ -4,7 +4,7 @@ use Rattle.std.specs.List.{list_any}
 use Rattle.std.proofs.lemmas.Result.{IfOk-weaker}
 use Rattle.minimum.specs.Search.{is_blank, marked, keep_columns}
 use Rattle.minimum.proofs.Branches.{narrowed_from}
-use Rattle.minimum.proofs.covering.table.Table.bounded.Goals as goal
+use Rattle.minimum.proofs.covering.table.Table.drop_by_bound.Goals as goal
 
 pub returns : goal.returns
 returns c =

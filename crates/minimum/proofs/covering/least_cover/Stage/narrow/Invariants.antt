@@ -1,6 +1,6 @@
 use Rattle.std.proofs.Common.{length}
 use Rattle.minimum.specs.Search.{IsStage, Continues}
-use Rattle.minimum.proofs.covering.least_cover.Stage.narrowed.Given as goal
+use Rattle.minimum.proofs.covering.least_cover.Stage.narrow.Given as goal
 
 abbrev pub invariant-loop-stage : goal.invariant-loop-stage
 invariant-loop-stage l = record { stage : IsStage l.choice l.budget.columns l.budget.counts l.stage.table l.stage.witness.items; next : Continues l.choice l.fn.self.table l.stage.table }

@@ -1,6 +1,6 @@
 use Rattle.std.proofs.Common.{None, length, ap, arith}
 use Rattle.minimum.proofs.Reduced.{narrowed_join, lightened_narrowed}
-use Rattle.minimum.proofs.covering.table.Table.narrowed.Goals as goal
+use Rattle.minimum.proofs.covering.table.Table.narrow.Goals as goal
 
 pub loop-table-init : goal.loop-table-init
 loop-table-init c = lightened_narrowed c.args.choice c.args.budget.columns c.args.budget.counts c.args.self.now c.in_ok-table.table c.in_ok-table.ensures

@@ -1,6 +1,6 @@
 use Rattle.std.proofs.Common.{length}
 use Rattle.minimum.specs.Search.{IsNarrowed}
-use Rattle.minimum.proofs.covering.table.Table.narrowed.Given as goal
+use Rattle.minimum.proofs.covering.table.Table.narrow.Given as goal
 
 abbrev pub invariant-loop-table : goal.invariant-loop-table
 invariant-loop-table l = IsNarrowed l.choice l.budget.columns l.budget.counts l.self l.table

@@ -1,6 +1,6 @@
 use Rattle.std.proofs.lemmas.Result.{IfOk-weaker}
 use Rattle.minimum.proofs.Reduced.{reduced_once_from}
-use Rattle.minimum.proofs.covering.table.Table.reduced_once.Goals as goal
+use Rattle.minimum.proofs.covering.table.Table.reduce_once.Goals as goal
 
 pub returns : goal.returns
 returns c =

@@ -3,7 +3,7 @@ use Rattle.std.proofs.lemmas.Result.{IfOk-weaker}
 use Rattle.minimum.specs.Table.{items_of}
 use Rattle.minimum.specs.Parts.{pick}
 use Rattle.minimum.proofs.Renumbered.{renumbered}
-use Rattle.minimum.proofs.covering.table.Table.renumbered.Goals as goal
+use Rattle.minimum.proofs.covering.table.Table.renumber.Goals as goal
 
 pub returns : goal.returns
 returns c =

@@ -1,6 +1,6 @@
 use Rattle.std.proofs.Common.{◌≡◌, take}
 use Rattle.minimum.specs.Primes.{chosen}
-use Rattle.minimum.proofs.exact_minimum.chosen.Given as goal
+use Rattle.minimum.proofs.exact_minimum.cubes_at.Given as goal
 
 abbrev pub invariant-loop-number : goal.invariant-loop-number
 invariant-loop-number l = record {

@@ -4,8 +4,8 @@ use Rattle.std.proofs.lemmas.List.{append-nil}
 use Rattle.cube.specs.Cube.{HasSize}
 use Rattle.minimum.specs.Primes.{chosen}
 use Rattle.minimum.proofs.LeastPrimes.{chosen_next}
-use Rattle.minimum.proofs.exact_minimum.chosen.Goals as goal
-use Rattle.minimum.proofs.exact_minimum.chosen.Goals.{in-Some+in_ok-add, in_default}
+use Rattle.minimum.proofs.exact_minimum.cubes_at.Goals as goal
+use Rattle.minimum.proofs.exact_minimum.cubes_at.Goals.{in-Some+in_ok-add, in_default}
 
 pub add-requires : goal.add-requires
 add-requires c = subst (HasSize c.in-Some.cube.now) (sym c.loop-number.invariant.size) c.in-Some.ensures.is_cube.has_size

@@ -1,6 +1,6 @@
 use Rattle.std.proofs.Common.{◌+◌, length}
 use Rattle.minimum.specs.Search.{IsLightened}
-use Rattle.minimum.proofs.covering.table.Table.lightened.Given as goal
+use Rattle.minimum.proofs.covering.table.Table.lighten.Given as goal
 
 abbrev pub invariant-loop-table : goal.invariant-loop-table
 invariant-loop-table l = IsLightened l.choice l.self l.table
