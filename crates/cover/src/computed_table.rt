@@ -172,14 +172,14 @@ fn list_hash(shape: Shape, rows: &[Cube], seed: u64) -> u64 {
 fn row_hash(shape: Shape, row: &Cube, seed: u64) -> u64 {
     let mut hash = seed;
     for w in 0..(shape.inputs() / 32).max(shape.outputs() / 64) + 1 {
-        hash = mixed(mixed(hash ^ row.literal_bits(w)) ^ row.output_bits(w));
+        hash = mix(mix(hash ^ row.literal_bits(w)) ^ row.output_bits(w));
     }
     hash
 }
 
 // A number that each bit of the word changes in many bits: an odd factor, and the higher half upon
 // the lower.
-fn mixed(word: u64) -> u64 {
+fn mix(word: u64) -> u64 {
     let product = word.wrapping_mul(0x9E37_79B9_7F4A_7C15);
     product ^ (product >> 32)
 }

@@ -242,7 +242,7 @@ fn weight(zeros: u64, ones: u64, all: u64) -> u64 {
 }
 
 // The cubes that are not marked.
-fn unmarked(alloc: Global, list: &Cover, marks: &[bool]) -> Result<Cover, AllocError>
+fn unmarked_cubes(alloc: Global, list: &Cover, marks: &[bool]) -> Result<Cover, AllocError>
     requires len { length marks.now ≡ length list.now.cubes }
     requires marks { (k : ℕ) → k < length list.now.cubes → slice_index_or marks.now k false
         ≡ is_contained_at list.now.size list.now.cubes k }
@@ -283,5 +283,5 @@ pub fn contain(list: &Cover) -> Result<Cover, AllocError>
     let all = indices(alloc, list.len())?;
     let mut marks = vec![in alloc; false; list.len()]?;
     mark(alloc, list, &order, &all, &all, &mut marks)?;
-    unmarked(alloc, list, &marks)
+    unmarked_cubes(alloc, list, &marks)
 }

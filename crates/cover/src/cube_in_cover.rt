@@ -189,7 +189,7 @@ fn consensus(region: &Cube, i: usize, one: &Cube, other: &Cube) -> Result<Cube, 
 }
 
 // The cube that asks what either of the two asks, with the outputs of both.
-fn stacked(region: &Cube, one: &Cube, other: &Cube) -> Result<Cube, AllocError>
+fn stack_all(region: &Cube, one: &Cube, other: &Cube) -> Result<Cube, AllocError>
     requires one_size { SameSize one.now region.now }
     requires other_size { SameSize other.now region.now }
     requires one { (point : List Bool) → IsTrue (matches region.now.symbols point)
@@ -314,7 +314,7 @@ fn by_outputs(
     if other.contains(region) {
         return Ok(Some(other));
     }
-    Ok(Some(stacked(region, row, &other)?))
+    Ok(Some(stack_all(region, row, &other)?))
 }
 
 // The reason by halves, that with the literal first.

@@ -34,7 +34,7 @@ use crate::sum_branch::{Branches, absorbed_cofactor_at, branches_at, literal, sm
 use crate::sum_leaf::free_sum;
 use crate::sum_meets::pairwise_meets;
 use crate::sum_parts::has_symbol;
-use crate::sum_rows::{combine, merge, sorted};
+use crate::sum_rows::{combine, merge, sort_rows};
 use crate::sum_splitting_input::{has_literal_in_each, hold_everything, is_unate, splitting_input};
 use crate::tautology::universal;
 use cube::{Cube, Shape};
@@ -226,8 +226,8 @@ fn sum_in_order(
         (λ rows. rows.items
         ≡ complete_sum_of shape (difference_of (places minuend.items) (places subtrahend.items))) }
 {
-    let minuend = sorted(alloc, shape, minuend)?;
-    let subtrahend = sorted(alloc, shape, subtrahend)?;
+    let minuend = sort_rows(alloc, shape, minuend)?;
+    let subtrahend = sort_rows(alloc, shape, subtrahend)?;
     sum_between(
         alloc,
         shape,
@@ -282,8 +282,8 @@ pub fn intersect(list: &Cover, other: &Cover) -> Result<Cover, AllocError>
     let alloc = list.allocator();
     let shape = list.shape();
     let _shape = other.shape();
-    let mine = sorted(alloc, shape, list.try_clone()?.into_cubes())?;
-    let theirs = sorted(alloc, shape, other.try_clone()?.into_cubes())?;
+    let mine = sort_rows(alloc, shape, list.try_clone()?.into_cubes())?;
+    let theirs = sort_rows(alloc, shape, other.try_clone()?.into_cubes())?;
     let rows = pairwise_meets(alloc, shape, 0, &mine, &theirs)?;
     let rows = absorb(alloc, shape, rows)?;
     let sum = sum_in_order(alloc, shape, rows, Vec::new(alloc))?;

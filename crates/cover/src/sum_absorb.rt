@@ -6,7 +6,7 @@ ghost use Rattle.cube.specs.Order.{row_cmp as row_order};
 ghost use Rattle.cover.specs.Cubes.{AreCubes};
 ghost use Rattle.cover.specs.Reduced.{IsAbsorbed, IsPartlyAbsorbed, IsWithoutAbsorbed};
 
-use crate::sum_rows::sorted;
+use crate::sum_rows::sort_rows;
 use cube::{Cube, Shape};
 use std::alloc::{AllocError, Global};
 
@@ -142,7 +142,7 @@ pub(crate) fn absorb_if_short(
     requires { AreCubes shape rows.items }
     ensures { IfOk result (λ kept. IsPartlyAbsorbed rows.items kept.items) }
 {
-    let rows = sorted(alloc, shape, rows)?;
+    let rows = sort_rows(alloc, shape, rows)?;
     if rows.len() > MANY {
         return Ok(rows);
     }
@@ -157,6 +157,6 @@ pub(crate) fn absorb(alloc: Global, shape: Shape, rows: Vec<Cube>) -> Result<Vec
     requires { AreCubes shape rows.items }
     ensures { IfOk result (λ kept. IsAbsorbed rows.items kept.items) }
 {
-    let rows = sorted(alloc, shape, rows)?;
+    let rows = sort_rows(alloc, shape, rows)?;
     absorb_sorted(alloc, shape, &rows)
 }

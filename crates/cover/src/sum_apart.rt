@@ -36,7 +36,7 @@ fn is_on_side(row: &Cube, sides: &[bool], side: bool) -> bool
 }
 
 // The rows on the one side and those on the other, if each is on one.
-fn divided(
+fn divide(
     alloc: Global,
     shape: Shape,
     rows: &[Cube],
@@ -91,7 +91,7 @@ pub(crate) fn parts_apart(
     if sides.len() != shape.inputs() || !has_same_outputs(shape, rows) {
         return Ok(None);
     }
-    let Some(parts) = divided(alloc, shape, rows, &sides)? else {
+    let Some(parts) = divide(alloc, shape, rows, &sides)? else {
         return Ok(None);
     };
     if !has_some_literal(shape, &parts.one) || !has_some_literal(shape, &parts.other) {

@@ -142,7 +142,7 @@ fn sizes(
 }
 
 // For each input the one that stands for its group.
-fn grouped(alloc: Global, shape: Shape, rows: &[Cube]) -> Result<Vec<usize>, AllocError> {
+fn group_rows(alloc: Global, shape: Shape, rows: &[Cube]) -> Result<Vec<usize>, AllocError> {
     let mut leaders = Vec::with_capacity(alloc, shape.inputs())?;
     for i in 0..shape.inputs() {
         leaders.push(i)?;
@@ -162,7 +162,7 @@ pub(crate) fn wished_sides(
     if hang_together(shape, rows) {
         return Ok(None);
     }
-    let leaders = grouped(alloc, shape, rows)?;
+    let leaders = group_rows(alloc, shape, rows)?;
     let sizes = sizes(alloc, shape, rows, &leaders)?;
     let mut chosen = vec![in alloc; false; leaders.len()]?;
     let mut taken = 0usize;

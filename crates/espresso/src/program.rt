@@ -9,7 +9,7 @@ ghost use Rattle.espresso.specs.Tool.{first_name, outcome_of};
 use crate::answer::put_answer;
 use crate::failure::{Failure, Operand};
 use crate::line::{Line, LineFault};
-use crate::run::{flushed, go_on, read_source, refuse, report};
+use crate::run::{flush_last, go_on, read_source, refuse, report};
 use crate::sources::{Opener, Source, after_first, name_in_messages, source_name};
 use crate::status::Status;
 use pla::Output;
@@ -61,11 +61,11 @@ fn run_line<O: Opener, W: Output, E: Output>(
     ensures silent { IsTrue (is_answer result) → err.new ≡ err.old }
 {
     let files = line.files();
-    let Ok(mut first) = opened(alloc, opener, files) else {
+    let Ok(mut first) = open_source(alloc, opener, files) else {
         return refuse(&LineFault::Memory, err);
     };
     let done = carry_out(alloc, line, &mut first, opener, out);
-    let done = flushed(out, done);
+    let done = flush_last(out, done);
     let second_name = name_in_messages(after_first(files));
     report(
         done,
@@ -97,14 +97,14 @@ fn carry_out<O: Opener, W: Output>(
     if !line.pair() {
         return put_answer(alloc, line, &pla, &pla, out);
     }
-    match opened(alloc, opener, after_first(line.files())) {
+    match open_source(alloc, opener, after_first(line.files())) {
         Ok(mut second) => go_on(alloc, line, &pla, &mut second, out),
         Err(AllocError) => Err(Failure::OutOfMemory),
     }
 }
 
 // The first of these files, opened, or standard input if there is none or it is `-`.
-fn opened<O: Opener>(
+fn open_source<O: Opener>(
     alloc: Global,
     opener: &O,
     files: &[String],

@@ -69,7 +69,7 @@ pub fn run<R: Input, W: Output, E: Output>(
     ensures silent { IsTrue (is_answer result) → err.new ≡ err.old }
 {
     let done = carried_out(alloc, line, first, second, out);
-    let done = flushed(out, done);
+    let done = flush_last(out, done);
     report(done, first.name().as_bytes(), second_bytes(second), err)
 }
 
@@ -164,7 +164,7 @@ pub(crate) fn read_source<R: Input, W: Output>(
 }
 
 // Flushes the output, once and last. A failure stops a run that was not stopped yet.
-pub(crate) fn flushed<W: Output>(
+pub(crate) fn flush_last<W: Output>(
     out: &mut W,
     done: Result<Status, Failure>,
 ) -> Result<Status, Failure>

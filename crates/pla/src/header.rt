@@ -169,7 +169,7 @@ impl Head {
     }
 
     #[tactic(auto, unfolding(crate::specs::Fault::is_refused))]
-    fn refused(&self, unfinished: usize, line: &[u8], keyword: &[u8]) -> bool
+    fn is_refused(&self, unfinished: usize, line: &[u8], keyword: &[u8]) -> bool
         requires { keyword.now ≡ keyword_on line.now }
         ensures { result ≡ is_refused (seen self.now unfinished) line.now }
     {
@@ -185,7 +185,7 @@ impl Head {
     }
 
     #[tactic(auto, unfolding(crate::specs::Fault::is_repeated))]
-    fn repeated(&self, unfinished: usize, line: &[u8], keyword: &[u8]) -> bool
+    fn is_repeated(&self, unfinished: usize, line: &[u8], keyword: &[u8]) -> bool
         requires { keyword.now ≡ keyword_on line.now }
         ensures { result ≡ is_repeated (seen self.now unfinished) line.now }
     {
@@ -263,13 +263,13 @@ impl Head {
     {
         let keyword = first(words);
         let arguments = rest(words);
-        if self.refused(unfinished, line, keyword) {
+        if self.is_refused(unfinished, line, keyword) {
             return Some(ReadKind::RefusedKeyword);
         }
         if self.inside_row(unfinished, line, keyword) {
             return Some(ReadKind::KeywordInsideRow);
         }
-        if self.repeated(unfinished, line, keyword) {
+        if self.is_repeated(unfinished, line, keyword) {
             return Some(ReadKind::KeywordRepeated);
         }
         if self.bad_number(unfinished, line, keyword, arguments) {

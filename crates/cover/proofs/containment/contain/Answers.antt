@@ -14,8 +14,8 @@ mark-requires-clause-outer c =
     All-range (length c.args.list.now.cubes) c.deref-3.result.now
     (c.deref-3.ensures.value ∙ c.in_ok-all.ensures ∙ ap (range_with_len 0) c.len.ensures)
 
-pub unmarked-requires-clause-marks : goal.unmarked-requires-clause-marks
-unmarked-requires-clause-marks c =
+pub unmarked_cubes-requires-clause-marks : goal.unmarked_cubes-requires-clause-marks
+unmarked_cubes-requires-clause-marks c =
     let cubes = c.args.list.now.cubes in
     let all = c.deref-2.result.now in
     let all_is : all ≡ range_with_len 0 (length cubes) = c.deref-2.ensures.value ∙ c.in_ok-all.ensures ∙ ap (range_with_len 0) c.len.ensures in

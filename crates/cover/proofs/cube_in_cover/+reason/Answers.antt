@@ -96,26 +96,26 @@ by_outputs-returns-then-contains t c =
     (size_rest (behind c.args.rows.now) c.args.region.now c.args.row.now c.in_ok-rest.rest c.requires.size c.requires.meets c.requires.closed c.in_ok-rest.ensures)
     r (c.contains.ensures.0 c.if-contains.true)
 
-pub by_outputs-stacked-requires-clause-other_size : goal.by_outputs-stacked-requires-clause-other_size
-by_outputs-stacked-requires-clause-other_size t c =
+pub by_outputs-stack_all-requires-clause-other_size : goal.by_outputs-stack_all-requires-clause-other_size
+by_outputs-stack_all-requires-clause-other_size t c =
     let r : IsReason c.in_ok-rest.rest (behind c.args.rows.now) c.in-Some.other =
     subst (λ o. Explains c.in_ok-rest.rest (behind c.args.rows.now) o) c.in-Some.is c.in_ok-other.ensures in
     SameSize-part c.in-Some.other c.in_ok-rest.rest c.args.region.now r.size
     (size_rest (behind c.args.rows.now) c.args.region.now c.args.row.now c.in_ok-rest.rest c.requires.size c.requires.meets c.requires.closed c.in_ok-rest.ensures)
 
-pub by_outputs-stacked-requires-clause-one : goal.by_outputs-stacked-requires-clause-one
-by_outputs-stacked-requires-clause-one t c =
+pub by_outputs-stack_all-requires-clause-one : goal.by_outputs-stack_all-requires-clause-one
+by_outputs-stack_all-requires-clause-one t c =
     row_inputs (behind c.args.rows.now) c.args.region.now c.args.row.now c.in_ok-rest.rest c.requires.size c.requires.meets c.requires.closed
 
-pub by_outputs-stacked-requires-clause-other : goal.by_outputs-stacked-requires-clause-other
-by_outputs-stacked-requires-clause-other t c =
+pub by_outputs-stack_all-requires-clause-other : goal.by_outputs-stack_all-requires-clause-other
+by_outputs-stack_all-requires-clause-other t c =
     let r : IsReason c.in_ok-rest.rest (behind c.args.rows.now) c.in-Some.other =
     subst (λ o. Explains c.in_ok-rest.rest (behind c.args.rows.now) o) c.in-Some.is c.in_ok-other.ensures in
     other_inputs (behind c.args.rows.now) c.args.region.now c.args.row.now c.in_ok-rest.rest c.requires.size c.requires.meets c.requires.closed c.in_ok-rest.ensures
     c.in-Some.other r.above (c.has_more_outputs.ensures.0 c.if-not-has_more_outputs.false)
 
-pub by_outputs-stacked-requires-clause-outputs : goal.by_outputs-stacked-requires-clause-outputs
-by_outputs-stacked-requires-clause-outputs t c =
+pub by_outputs-stack_all-requires-clause-outputs : goal.by_outputs-stack_all-requires-clause-outputs
+by_outputs-stack_all-requires-clause-outputs t c =
     let r : IsReason c.in_ok-rest.rest (behind c.args.rows.now) c.in-Some.other =
     subst (λ o. Explains c.in_ok-rest.rest (behind c.args.rows.now) o) c.in-Some.is c.in_ok-other.ensures in
     either_output (behind c.args.rows.now) c.args.region.now c.args.row.now c.in_ok-rest.rest c.requires.size c.requires.meets c.requires.closed c.in_ok-rest.ensures
@@ -125,8 +125,8 @@ pub by_outputs-returns : goal.by_outputs-returns
 by_outputs-returns t c =
     let r : IsReason c.in_ok-rest.rest (behind c.args.rows.now) c.in-Some.other =
     subst (λ o. Explains c.in_ok-rest.rest (behind c.args.rows.now) o) c.in-Some.is c.in_ok-other.ensures in
-    reason_of_both (behind c.args.rows.now) c.args.region.now c.args.row.now c.in-Some.other c.in_ok-stacked.field-0
-    c.in_ok-stacked.ensures.size c.in_ok-stacked.ensures.above c.in_ok-stacked.ensures.within
+    reason_of_both (behind c.args.rows.now) c.args.region.now c.args.row.now c.in-Some.other c.in_ok-stack_all.field-0
+    c.in_ok-stack_all.ensures.size c.in_ok-stack_all.ensures.above c.in_ok-stack_all.ensures.within
     (within_rows (behind c.args.rows.now) c.args.row.now c.requires.member) r.within
 
 pub by_step-next_step-requires-clause-sizes : goal.by_step-next_step-requires-clause-sizes

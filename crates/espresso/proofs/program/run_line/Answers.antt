@@ -11,8 +11,8 @@ pub returns-clause-ends : goal.returns-clause-ends
 returns-clause-ends g c = let ran = c.carry_out-done.ensures in
     let line = c.args.line.now in
     let taken = ran.0 in
-    let done = c.flushed-done.result in
-    let closes = c.flushed-done.ensures.passes line taken (names_said line) _ _ ran.3 in
+    let done = c.flush_last-done.result in
+    let closes = c.flush_last-done.ensures.passes line taken (names_said line) _ _ ran.3 in
     let reports = reports_by _ (names_said line)
     (trace (g.E.Output.taken c.args.err.now) (g.E.Output.taken c.report.new.err) (g.E.Output.calls c.args.err.now) (g.E.Output.calls c.report.new.err))
     _ _ (c.as_bytes.ensures.value ∙ c.name_in_messages.ensures ∙ ap first_name c.files-files.ensures)
@@ -26,7 +26,7 @@ returns-clause-ends g c = let ran = c.carry_out-done.ensures in
       taken = taken;
       first_taken = ran.1;
       second_opened = opens_since g.row.O-Device.Denot (g.O.Opener.file c.args.opener.now) (g.O.Opener.input c.args.opener.now) g.O.Device.Input.left g.O.Device.Input.calls line taken.first _ _
-          (λ stopped. why_unopened line taken (names_said line) _ _ _ done closes reports (stopped_over taken.first c.carry_out-done.result done c.flushed-done.ensures.stopped stopped))
+          (λ stopped. why_unopened line taken (names_said line) _ _ _ done closes reports (stopped_over taken.first c.carry_out-done.result done c.flush_last-done.ensures.stopped stopped))
           ran.2.0 ran.2.1 taken.second ran.2.2;
       ends = ends line taken (names_said line) _ _ _ done closes reports;
     })

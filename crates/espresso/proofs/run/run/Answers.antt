@@ -11,7 +11,7 @@ returns-clause-ends g c = let done = c.carried_out-done.ensures in
       done.0,
       done.1,
       done.2,
-      ends c.args.line.now done.0 names _ _ _ c.flushed-done.result (c.flushed-done.ensures.passes c.args.line.now done.0 names _ _ done.3)
+      ends c.args.line.now done.0 names _ _ _ c.flush_last-done.result (c.flush_last-done.ensures.passes c.args.line.now done.0 names _ _ done.3)
           (reports_by _ names
           (trace (g.E.Output.taken c.args.err.now) (g.E.Output.taken c.report.new.err) (g.E.Output.calls c.args.err.now) (g.E.Output.calls c.report.new.err))
           _ _ (c.as_bytes.ensures.value ∙ c.name.ensures ∙ takes_name _ _ _ _ _ done.0.first done.1)

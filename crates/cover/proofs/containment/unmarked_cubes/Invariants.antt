@@ -1,5 +1,5 @@
 use Rattle.cover.proofs.ContainmentLemmas.{KeepsUnmarked}
-use Rattle.cover.proofs.containment.unmarked.Given as goal
+use Rattle.cover.proofs.containment.unmarked_cubes.Given as goal
 
 abbrev pub invariant-loop-k : goal.invariant-loop-k
 invariant-loop-k l = KeepsUnmarked l.list.size l.list.cubes l.k l.kept.items

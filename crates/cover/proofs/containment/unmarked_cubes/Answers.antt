@@ -2,8 +2,8 @@ use Rattle.std.proofs.Common.{◌+◌, ◌<◌, ◌∙◌, ◌++◌, ◌∷◌, 
 use Rattle.cover.specs.Cubes.{AreCubes}
 use Rattle.cover.specs.Marks.{cube_at}
 use Rattle.cover.proofs.ContainmentLemmas.{KeepsUnmarked, KeepsUnmarked-keep, KeepsUnmarked-skip, cube_at-self}
-use Rattle.cover.proofs.containment.unmarked.Goals as goal
-use Rattle.cover.proofs.containment.unmarked.Goals.{then-not-marks-k+in_ok-try_clone+in_ok-push, else-not-marks-k}
+use Rattle.cover.proofs.containment.unmarked_cubes.Goals as goal
+use Rattle.cover.proofs.containment.unmarked_cubes.Goals.{then-not-marks-k+in_ok-try_clone+in_ok-push, else-not-marks-k}
 
 pub loop-k-preserved : goal.loop-k-preserved
 loop-k-preserved c =

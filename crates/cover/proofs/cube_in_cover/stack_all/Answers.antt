@@ -1,7 +1,7 @@
 use Rattle.std.proofs.Common.{subst, List, Bool, map, IsTrue, IfNone}
 use Rattle.cube.specs.Pattern.{matches}
 use Rattle.cube.proofs.HoldsLemmas.{pick, matches-map_pick}
-use Rattle.cover.proofs.cube_in_cover.stacked.Goals as goal
+use Rattle.cover.proofs.cube_in_cover.stack_all.Goals as goal
 
 pub unreachable-requires : goal.unreachable-requires
 unreachable-requires c =

@@ -1,5 +1,5 @@
 use Rattle.espresso.proofs.Ways.{flush_failed, flush_ignored, flush_kept}
-use Rattle.espresso.proofs.run.flushed.Goals as goal
+use Rattle.espresso.proofs.run.flush_last.Goals as goal
 
 pub returns-in-Ok-flush-clause-passes : goal.returns-in-Ok-flush-clause-passes
 returns-in-Ok-flush-clause-passes g c = λ line intakes names old before s. flush_kept line intakes names old _ _ before _ _ c.flush.ensures.bytes

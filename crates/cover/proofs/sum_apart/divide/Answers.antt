@@ -1,8 +1,8 @@
 use Rattle.std.proofs.Common.{◌∙◌, ◌+◌, ◌++◌, ◌∷◌, [], ap, sym, subst, take}
 use Rattle.cover.specs.Apart.{IsDivided}
 use Rattle.cover.proofs.Dividing.{IsDivided-one, IsDivided-other}
-use Rattle.cover.proofs.sum_apart.divided.Goals as goal
-use Rattle.cover.proofs.sum_apart.divided.Goals.{then-is_on_side+in_ok-try_clone+in_ok-push, else-is_on_side+then-is_on_side-2+in_ok-try_clone-2+in_ok-push-2}
+use Rattle.cover.proofs.sum_apart.divide.Goals as goal
+use Rattle.cover.proofs.sum_apart.divide.Goals.{then-is_on_side+in_ok-try_clone+in_ok-push, else-is_on_side+then-is_on_side-2+in_ok-try_clone-2+in_ok-push-2}
 
 pub loop-row-preserved : goal.loop-row-preserved
 loop-row-preserved c =
