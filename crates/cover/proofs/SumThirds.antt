@@ -11,7 +11,7 @@ use Rattle.cube.specs.Cube.{Cube, Place, holds, IsCube}
 use Rattle.cube.proofs.HoldsLemmas.{agrees_at-matches}
 use Rattle.cover.specs.Cubes.{AreCubes}
 use Rattle.cover.specs.Places.{places}
-use Rattle.cover.specs.Reduced.{IsMeets, IsInThirds}
+use Rattle.cover.specs.Reduced.{IsMeets, IsMeetsWithBoth, IsInThirds}
 use Rattle.cover.proofs.Lists.{all_members, list_any_witness}
 use Rattle.cover.proofs.SumMeets.{IsMeets-rows, IsMeets-others}
 
@@ -71,22 +71,24 @@ module _ (size : Size) (i : ℕ) (lt : i < size.inputs) (rows dashes zeros ones 
     literals = λ k h g. refl;
   }
 
-  pub IsMeets-thirds : (dd dz dn zd zz od oo all : List Cube) → IsMeets size dashes dashes' dd → IsMeets size dashes zeros' dz → IsMeets size dashes ones' dn
-      → IsMeets size zeros dashes' zd → IsMeets size zeros zeros' zz → IsMeets size ones dashes' od → IsMeets size ones ones' oo
-      → all ≡ (((((dd ++ dz) ++ dn) ++ zd) ++ zz) ++ od) ++ oo → IsMeets size rows others all
-  IsMeets-thirds dd dz dn zd zz od oo all a b c d e f g is =
+  pub IsMeets-thirds : (first dn second third all : List Cube) → IsMeetsWithBoth size dashes dashes' zeros' first → IsMeets size dashes ones' dn
+      → IsMeetsWithBoth size zeros dashes' zeros' second → IsMeetsWithBoth size ones dashes' ones' third
+      → all ≡ ((first ++ dn) ++ second) ++ third → IsMeets size rows others all
+  IsMeets-thirds first dn second third all a c d f is =
       let each = (dashes' ++ zeros') ++ ones' in
-      let of_dashes = IsMeets-others size dashes (dashes' ++ zeros') ones' (dd ++ dz) dn (IsMeets-others size dashes dashes' zeros' dd dz a b) c in
-      let of_zeros = IsMeets-others size zeros (dashes' ++ zeros') ones' (zd ++ zz) [] (IsMeets-others size zeros dashes' zeros' zd zz d e) zeros_apart in
-      let of_ones = IsMeets-others size ones (dashes' ++ zeros') ones' (od ++ []) oo (IsMeets-others size ones dashes' zeros' od [] f ones_apart) g in
-      let whole = IsMeets-rows size (dashes ++ zeros) ones each (((dd ++ dz) ++ dn) ++ ((zd ++ zz) ++ [])) ((od ++ []) ++ oo)
-      (IsMeets-rows size dashes zeros each ((dd ++ dz) ++ dn) ((zd ++ zz) ++ []) of_dashes of_zeros) of_ones in
-      let front = (dd ++ dz) ++ dn in
-      let same : (front ++ ((zd ++ zz) ++ [])) ++ ((od ++ []) ++ oo) ≡ all =
-      ap (λ l. (front ++ l) ++ ((od ++ []) ++ oo)) (append-nil (zd ++ zz))
-      ∙ ap (λ l. (front ++ (zd ++ zz)) ++ (l ++ oo)) (append-nil od)
-      ∙ ap (λ l. l ++ (od ++ oo)) (sym (append_assoc front zd zz))
-      ∙ sym (append_assoc ((front ++ zd) ++ zz) od oo)
+      let front = (a.front ++ a.back) ++ dn in
+      let middle = d.front ++ d.back in
+      let of_dashes = IsMeets-others size dashes (dashes' ++ zeros') ones' (a.front ++ a.back) dn (IsMeets-others size dashes dashes' zeros' a.front a.back a.of_others a.of_more) c in
+      let of_zeros = IsMeets-others size zeros (dashes' ++ zeros') ones' middle [] (IsMeets-others size zeros dashes' zeros' d.front d.back d.of_others d.of_more) zeros_apart in
+      let of_ones = IsMeets-others size ones (dashes' ++ zeros') ones' (f.front ++ []) f.back (IsMeets-others size ones dashes' zeros' f.front [] f.of_others ones_apart) f.of_more in
+      let whole = IsMeets-rows size (dashes ++ zeros) ones each (front ++ (middle ++ [])) ((f.front ++ []) ++ f.back)
+      (IsMeets-rows size dashes zeros each front (middle ++ []) of_dashes of_zeros) of_ones in
+      let same : (front ++ (middle ++ [])) ++ ((f.front ++ []) ++ f.back) ≡ all =
+      ap (λ l. (front ++ l) ++ ((f.front ++ []) ++ f.back)) (append-nil middle)
+      ∙ ap (λ l. (front ++ middle) ++ (l ++ f.back)) (append-nil f.front)
+      ∙ ap (λ l. ((l ++ dn) ++ middle) ++ (f.front ++ f.back)) (sym a.all)
+      ∙ ap (λ l. ((first ++ dn) ++ l) ++ (f.front ++ f.back)) (sym d.all)
+      ∙ ap (λ l. ((first ++ dn) ++ second) ++ l) (sym f.all)
       ∙ sym is in
       subst (λ l. IsMeets size l others all) (sym mine.all)
       (subst (λ l. IsMeets size ((dashes ++ zeros) ++ ones) l all) (sym theirs.all)

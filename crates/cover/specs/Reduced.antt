@@ -18,6 +18,14 @@ pub record IsMeets (size : Size) (rows others meets : List Cube) : Type 0 where
   pub literals : (k : ℕ) → has_literal k rows ≡ false → has_literal k others ≡ false
       → has_literal k meets ≡ false
 
+-- the meets of the rows with one list, and then those with another
+pub record IsMeetsWithBoth (size : Size) (rows others more meets : List Cube) : Type 0 where
+  pub front : List Cube
+  pub back : List Cube
+  pub of_others : IsMeets size rows others front
+  pub of_more : IsMeets size rows more back
+  pub all : meets ≡ front ++ back
+
 -- the cubes one after the other by their symbol at input i: those with `-`, with `0` and with `1`
 pub record IsInThirds (size : Size) (i : ℕ) (cubes dashes zeros ones : List Cube) : Type 0 where
   pub all : cubes ≡ (dashes ++ zeros) ++ ones

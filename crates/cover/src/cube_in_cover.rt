@@ -333,7 +333,6 @@ fn by_input(
     requires literal { at.1 ≢ Symbol.Dash }
     ensures { IfOk result (λ found. Explains region.now (behind rows.now) found) }
 {
-    let _shape = region.shape();
     let (i, literal) = at;
     let first = region.with_symbol(i, literal)?;
     let Some(one) = reason(alloc, rows, near, bound, &first)? else {
@@ -342,6 +341,30 @@ fn by_input(
     if one.contains(region) {
         return Ok(Some(one));
     }
+    by_other_half(alloc, rows, near, bound, region, at, &one)
+}
+
+// The reason by the half with the other literal, and by the reason of the half with the literal.
+#[cycle(reason)]
+fn by_other_half(
+    alloc: Global,
+    rows: &[&Cube],
+    near: &[&Cube],
+    bound: u32,
+    region: &Cube,
+    at: (usize, Symbol),
+    one: &Cube,
+) -> Result<Option<Cube>, AllocError>
+    requires sizes { All (λ d. SameSize d.now region.now) rows.now }
+    requires near { AreAmong near.now rows.now }
+    requires dash { slice_get region.now.symbols at.0 ≡ Some Symbol.Dash }
+    requires literal { at.1 ≢ Symbol.Dash }
+    requires one_size { SameSize one.now region.now }
+    requires one { IsReason (with_symbol region.now at.0 at.1) (behind rows.now) one.now }
+    ensures { IfOk result (λ found. Explains region.now (behind rows.now) found) }
+{
+    let _shape = region.shape();
+    let (i, literal) = at;
     let second = region.with_symbol(i, opposite(literal))?;
     let Some(other) = reason(alloc, rows, near, bound, &second)? else {
         return Ok(None);
@@ -349,7 +372,7 @@ fn by_input(
     if other.contains(region) {
         return Ok(Some(other));
     }
-    Ok(Some(consensus(region, i, &one, &other)?))
+    Ok(Some(consensus(region, i, one, &other)?))
 }
 
 /// Whether the rows hold each place of the region.

@@ -5,7 +5,7 @@
 //! and rows with other literals never come together. Lists in another order are met pair by pair.
 ghost use Rattle.std.specs.Prelude.{◌≡◌, ◌<◌, ◌≤◌, IfOk, IfSome, All, length, take, slice_index_or};
 ghost use Rattle.cover.specs.Cubes.{AreCubes};
-ghost use Rattle.cover.specs.Reduced.{IsMeets, IsInThirds};
+ghost use Rattle.cover.specs.Reduced.{IsMeets, IsMeetsWithBoth, IsInThirds};
 
 use crate::sum_parts::meets_by_pairs;
 use crate::symbols::has_symbol_at;
@@ -58,6 +58,7 @@ fn cut_in_three<'a>(shape: Shape, rows: &'a [Cube], i: usize) -> Option<Thirds<'
 }
 
 /// The meets of a row of each list. The lists are cut at the inputs from `at` on.
+#[cycle(pairwise_meets)]
 pub(crate) fn pairwise_meets(
     alloc: Global,
     shape: Shape,
@@ -79,18 +80,33 @@ pub(crate) fn pairwise_meets(
         return meets_by_pairs(alloc, shape, rows, others);
     };
     let next = at + 1;
-    let mut all = pairwise_meets(alloc, shape, next, mine.dashes, theirs.dashes)?;
-    let mut more = pairwise_meets(alloc, shape, next, mine.dashes, theirs.zeros)?;
-    all.append(&mut more)?;
+    let mut all = meets_with_both(alloc, shape, next, mine.dashes, theirs.dashes, theirs.zeros)?;
     let mut more = pairwise_meets(alloc, shape, next, mine.dashes, theirs.ones)?;
     all.append(&mut more)?;
-    let mut more = pairwise_meets(alloc, shape, next, mine.zeros, theirs.dashes)?;
+    let mut more = meets_with_both(alloc, shape, next, mine.zeros, theirs.dashes, theirs.zeros)?;
     all.append(&mut more)?;
-    let mut more = pairwise_meets(alloc, shape, next, mine.zeros, theirs.zeros)?;
+    let mut more = meets_with_both(alloc, shape, next, mine.ones, theirs.dashes, theirs.ones)?;
     all.append(&mut more)?;
-    let mut more = pairwise_meets(alloc, shape, next, mine.ones, theirs.dashes)?;
-    all.append(&mut more)?;
-    let mut more = pairwise_meets(alloc, shape, next, mine.ones, theirs.ones)?;
-    all.append(&mut more)?;
+    Ok(all)
+}
+
+// The meets of the rows with one list, and then those with another.
+#[cycle(pairwise_meets)]
+fn meets_with_both(
+    alloc: Global,
+    shape: Shape,
+    at: usize,
+    rows: &[Cube],
+    others: &[Cube],
+    more: &[Cube],
+) -> Result<Vec<Cube>, AllocError>
+    requires rows { AreCubes shape rows.now }
+    requires others { AreCubes shape others.now }
+    requires more { AreCubes shape more.now }
+    ensures { IfOk result (λ all. IsMeetsWithBoth shape rows.now others.now more.now all.items) }
+{
+    let mut all = pairwise_meets(alloc, shape, at, rows, others)?;
+    let mut rest = pairwise_meets(alloc, shape, at, rows, more)?;
+    all.append(&mut rest)?;
     Ok(all)
 }

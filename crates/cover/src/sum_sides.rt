@@ -153,6 +153,34 @@ fn group_rows(alloc: Global, shape: Shape, rows: &[Cube]) -> Result<Vec<usize>, 
     Ok(leaders)
 }
 
+// The groups of the one side, each marked at the input that stands for it: those that come first,
+// until they have half of the rows.
+fn groups_of_one_side(
+    alloc: Global,
+    sizes: &[usize],
+    rows: usize,
+) -> Result<Vec<bool>, AllocError> {
+    let mut groups = Vec::with_capacity(alloc, sizes.len())?;
+    let mut taken = 0usize;
+    for size in sizes {
+        let is_taken = *size > 0 && taken < rows / 2;
+        if is_taken {
+            taken = taken.saturating_add(*size);
+        }
+        groups.push(is_taken)?;
+    }
+    Ok(groups)
+}
+
+// For each input whether its group is marked.
+fn sides(alloc: Global, leaders: &[usize], groups: &[bool]) -> Result<Vec<bool>, AllocError> {
+    let mut sides = Vec::with_capacity(alloc, leaders.len())?;
+    for i in 0..leaders.len() {
+        sides.push(groups.get(leader(leaders, i)).copied().unwrap_or(false))?;
+    }
+    Ok(sides)
+}
+
 /// For each input whether it is on the one side, or `None` if all rows hang together.
 pub(crate) fn wished_sides(
     alloc: Global,
@@ -164,20 +192,6 @@ pub(crate) fn wished_sides(
     }
     let leaders = group_rows(alloc, shape, rows)?;
     let sizes = sizes(alloc, shape, rows, &leaders)?;
-    let mut chosen = vec![in alloc; false; leaders.len()]?;
-    let mut taken = 0usize;
-    for i in 0..leaders.len() {
-        let size = sizes.get(i).copied().unwrap_or(0);
-        if size > 0 && taken < rows.len() / 2 {
-            taken = taken.saturating_add(size);
-            if let Some(side) = chosen.get_mut(i) {
-                *side = true;
-            }
-        }
-    }
-    let mut sides = Vec::with_capacity(alloc, leaders.len())?;
-    for i in 0..leaders.len() {
-        sides.push(chosen.get(leader(&leaders, i)).copied().unwrap_or(false))?;
-    }
-    Ok(Some(sides))
+    let groups = groups_of_one_side(alloc, &sizes, rows.len())?;
+    Ok(Some(sides(alloc, &leaders, &groups)?))
 }

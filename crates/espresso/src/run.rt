@@ -68,7 +68,7 @@ pub fn run<R: Input, W: Output, E: Output>(
         (trace (E.taken err.old) (E.taken err.new) (E.calls err.old) (E.calls err.new)) result }
     ensures silent { IsTrue (is_answer result) → err.new ≡ err.old }
 {
-    let done = carried_out(alloc, line, first, second, out);
+    let done = read_and_answer(alloc, line, first, second, out);
     let done = flush_last(out, done);
     report(done, first.name().as_bytes(), second_bytes(second), err)
 }
@@ -84,7 +84,7 @@ fn second_bytes<R>(second: &Option<Source<R>>) -> &[u8]
 }
 
 // Reads the sources in their order, and prints what the command answers.
-fn carried_out<R: Input, W: Output>(
+fn read_and_answer<R: Input, W: Output>(
     alloc: Global,
     line: &Line,
     first: &mut Source<R>,

@@ -1,8 +1,8 @@
 //! Each public call once with ample memory, and runs on devices that fail. What a run prints of
 //! whole texts is tested on the built program.
-ghost use Rattle.std.specs.Prelude.{◌≡◌, ◌<◌, IfOk, IfSome, is_some};
+ghost use Rattle.std.specs.Prelude.{◌≡◌, ◌<◌, ◌≤◌, IfOk, IfSome, is_some};
 ghost use Rattle.espresso.specs.Run.{name_of};
-ghost use Rattle.espresso.specs.Tool.{second_name};
+ghost use Rattle.espresso.specs.Tool.{first_name, second_name};
 ghost use Rattle.espresso.specs.Words.{takes_two};
 
 mod program;
@@ -11,7 +11,6 @@ use crate::sources::{after_first, source_name};
 use crate::{Line, LineFault, Source, Status, refuse, run, tool_in_parts};
 use pla::{Ending, Given, Taken};
 use std::alloc::Global;
-use std::process::Abort;
 use std::test::Fail;
 
 const TEXT: &[u8] = b"# a\n.i 2\n.o 1\n11 1\n.e\n";
@@ -62,23 +61,22 @@ fn delivered(source: &Source<Given>) -> usize {
     }
 }
 
-// A run of the words on these files.
-fn run_on(
+// A run of the line on these sources.
+fn run_line(
     alloc: Global,
-    words: &[&str],
-    first: Given,
-    second: Given,
-    output: Taken,
-) -> Result<Ran, Fail> {
-    let line = line_of(alloc, words)?;
-    let name = source_name(alloc, line.files())?;
-    let mut first = Source::Open { name, input: first };
-    let mut second = second_source(alloc, &line, second)?;
-    let mut output = output;
+    line: &Line,
+    mut first: Source<Given>,
+    mut second: Option<Source<Given>>,
+    mut output: Taken,
+) -> Result<Ran, Fail>
+    requires pair { is_some second ≡ takes_two line.now.command }
+    requires first_name { name_of first ≡ first_name line.now.files }
+    requires second_name { IfSome second (λ s. name_of s ≡ second_name line.now.files) }
+{
     let mut message = Taken::new(alloc, 100, 7, false)?;
     let status = run(
         alloc,
-        &line,
+        line,
         &mut first,
         &mut second,
         &mut output,
@@ -93,6 +91,21 @@ fn run_on(
     })
 }
 
+// A run of the words on these files.
+fn run_on(
+    alloc: Global,
+    words: &[&str],
+    first: Given,
+    second: Given,
+    output: Taken,
+) -> Result<Ran, Fail> {
+    let line = line_of(alloc, words)?;
+    let name = source_name(alloc, line.files())?;
+    let first = Source::Open { name, input: first };
+    let second = second_source(alloc, &line, second)?;
+    run_line(alloc, &line, first, second, output)
+}
+
 // A run of an echo of this text.
 fn echo_on(alloc: Global, text: &[u8], output: Taken) -> Result<Ran, Fail> {
     let none = given(alloc, b"", Ending::End)?;
@@ -100,20 +113,46 @@ fn echo_on(alloc: Global, text: &[u8], output: Taken) -> Result<Ran, Fail> {
     run_on(alloc, &["-Decho"], text, none, output)
 }
 
-// The run has this output, this message and this status.
-fn check(rt: &impl Abort, ran: &Ran, output: &[u8], message: &[u8], status: Status) {
-    assert!(rt; ran.output.bytes() == output);
-    assert!(rt; ran.message.bytes() == message);
-    assert!(rt; ran.status == status);
+// Whether the run has this output, this message and this status.
+fn has_left(ran: &Ran, output: &[u8], message: &[u8], status: Status) -> bool {
+    ran.output.bytes() == output && ran.message.bytes() == message && ran.status == status
+}
+
+// Whether an echo of this text leaves so.
+fn echo_leaves(
+    alloc: Global,
+    text: &[u8],
+    output: Taken,
+    printed: &[u8],
+    message: &[u8],
+    status: Status,
+) -> Result<bool, Fail> {
+    let ran = echo_on(alloc, text, output)?;
+    Ok(has_left(&ran, printed, message, status))
+}
+
+// Whether the words say a line of so many files, the first of which is this, and of a pair or not.
+fn says(
+    alloc: Global,
+    words: &[&str],
+    pair: bool,
+    files: usize,
+    first: &str,
+) -> Result<bool, Fail> {
+    let line = line_of(alloc, words)?;
+    let found = line.files();
+    Ok(
+        line.pair() == pair
+            && found.len() == files
+            && found.first().is_some_and(|file| file.as_str() == first),
+    )
 }
 
 #[test]
 fn words_are_read(rt: HostRuntime) -> Result<(), Fail> {
-    let line = line_of(rt.alloc(), &["-Decho", "--", "-x"])?;
-    assert!(rt; !line.pair() && line.files().len() == 1);
-    assert!(rt; line.files()[0].as_str() == "-x");
-    let line = line_of(rt.alloc(), &["-Dsharp", "-of", "-", "b"])?;
-    assert!(rt; line.pair() && line.files().len() == 2);
+    let alloc = rt.alloc();
+    assert!(rt; says(alloc, &["-Decho", "--", "-x"], false, 1, "-x")?);
+    assert!(rt; says(alloc, &["-Dsharp", "-of", "-", "b"], true, 2, "-")?);
     Ok(())
 }
 
@@ -172,7 +211,7 @@ fn verify_on(alloc: Global, text: &[u8], fails: bool) -> Result<Ran, Fail> {
 fn two_files_are_read_one_behind_the_other(rt: HostRuntime) -> Result<(), Fail> {
     let ran = verify_on(rt.alloc(), TEXT, false)?;
     let printed = b"# a\n# b\nPLA comparison failed; the PLAs are not equivalent\n";
-    check(&rt, &ran, printed, b"", Status::No);
+    assert!(rt; has_left(&ran, printed, b"", Status::No));
     Ok(())
 }
 
@@ -180,9 +219,19 @@ fn two_files_are_read_one_behind_the_other(rt: HostRuntime) -> Result<(), Fail> 
 fn a_second_file_is_not_read_behind_a_fault(rt: HostRuntime) -> Result<(), Fail> {
     let ran = verify_on(rt.alloc(), b"# a\n", true)?;
     let message = b"espresso: a:2: read failed\n";
-    check(&rt, &ran, b"# a\n", message, Status::Fault);
+    assert!(rt; has_left(&ran, b"# a\n", message, Status::Fault));
     assert!(rt; ran.first == 4 && ran.second == 0);
     Ok(())
+}
+
+// Whether an output of this room, which takes such pieces, has taken its part of the echo at the
+// end.
+fn takes_a_beginning(alloc: Global, room: usize, piece: usize) -> Result<bool, Fail>
+    requires { 1 ≤ piece }
+{
+    let output = Taken::new(alloc, room, piece, false)?;
+    let printed = PRINTED.get(..room).ok_or("room")?;
+    echo_leaves(alloc, TEXT, output, printed, WRITE_FAILED, Status::Fault)
 }
 
 #[test]
@@ -190,22 +239,31 @@ fn an_output_that_fails_has_taken_a_beginning(rt: HostRuntime) -> Result<(), Fai
     let alloc = rt.alloc();
     for room in 0..PRINTED.len() {
         for piece in [1, 5, 100] {
-            let ran = echo_on(alloc, TEXT, Taken::new(alloc, room, piece, false)?)?;
-            check(&rt, &ran, &PRINTED[..room], WRITE_FAILED, Status::Fault);
+            assert!(rt; takes_a_beginning(alloc, room, piece)?);
         }
     }
-    let ran = echo_on(alloc, TEXT, Taken::new(alloc, 100, 100, false)?)?;
-    check(&rt, &ran, PRINTED, b"", Status::Done);
     Ok(())
 }
 
 #[test]
-fn the_output_is_flushed_once_more_at_the_end(rt: HostRuntime) -> Result<(), Fail> {
-    let alloc = rt.alloc();
-    let ran = echo_on(alloc, TEXT, Taken::new(alloc, 100, 100, true)?)?;
-    check(&rt, &ran, PRINTED, WRITE_FAILED, Status::Fault);
-    let ran = echo_on(alloc, b"", Taken::new(alloc, 100, 100, true)?)?;
+fn an_output_takes_the_whole_echo(rt: HostRuntime) -> Result<(), Fail> {
+    let output = Taken::new(rt.alloc(), 100, 100, false)?;
+    assert!(rt; echo_leaves(rt.alloc(), TEXT, output, PRINTED, b"", Status::Done)?);
+    Ok(())
+}
+
+#[test]
+fn a_flush_that_fails_at_the_end_is_told(rt: HostRuntime) -> Result<(), Fail> {
+    let output = Taken::new(rt.alloc(), 100, 100, true)?;
+    let fault = Status::Fault;
+    assert!(rt; echo_leaves(rt.alloc(), TEXT, output, PRINTED, WRITE_FAILED, fault)?);
+    Ok(())
+}
+
+#[test]
+fn a_flush_that_fails_behind_a_fault_is_not_told(rt: HostRuntime) -> Result<(), Fail> {
+    let output = Taken::new(rt.alloc(), 100, 100, true)?;
     let message = b"espresso: (stdin):0: .i or .o missing\n";
-    check(&rt, &ran, b"", message, Status::Fault);
+    assert!(rt; echo_leaves(rt.alloc(), b"", output, b"", message, Status::Fault)?);
     Ok(())
 }

@@ -24,6 +24,34 @@ fn a_table_is_built(rt: HostRuntime) -> Result<(), Fail> {
     Ok(())
 }
 
+/// The same ring at each of four points of two more inputs: so many points that their output is
+/// halved.
+fn many_points(alloc: Global) -> Result<Vec<u8>, AllocError> {
+    let mut text = b".i 5\n.o 1\n".to_vec(alloc)?;
+    for point in 0..32usize {
+        for bit in [16usize, 8, 4, 2, 1] {
+            text.push(if point & bit == 0 { b'0' } else { b'1' })?;
+        }
+        text.push(b' ')?;
+        text.push(if point % 8 == 3 || point % 8 == 4 {
+            b'0'
+        } else {
+            b'1'
+        })?;
+        text.push(b'\n')?;
+    }
+    Ok(text)
+}
+
+#[test]
+fn a_table_of_many_points_is_built(rt: HostRuntime) -> Result<(), Fail> {
+    let ring = table(rt.alloc(), &many_points(rt.alloc())?)?;
+    assert!(rt; ring.columns() == 6);
+    assert!(rt; ring.row_count() == 6);
+    assert!(rt; searches_agree(ring, Choice::First)?);
+    Ok(())
+}
+
 /// Whether the list is printed so.
 fn is_printed(alloc: Global, pla: &Pla, list: &Cover, text: &[u8]) -> Result<bool, Fail>
     requires { list.now.size ≡ pla.now.size }
@@ -63,9 +91,9 @@ fn function(alloc: Global, code: usize) -> Result<Vec<u8>, AllocError> {
     let mut text = b".i 3\n.o 1\n".to_vec(alloc)?;
     let mut rest = code;
     for point in 0..8usize {
-        text.push(if point & 4 == 0 { b'0' } else { b'1' })?;
-        text.push(if point & 2 == 0 { b'0' } else { b'1' })?;
-        text.push(if point & 1 == 0 { b'0' } else { b'1' })?;
+        for bit in [4usize, 2, 1] {
+            text.push(if point & bit == 0 { b'0' } else { b'1' })?;
+        }
         text.push(b' ')?;
         text.push(match rest % 3 {
             0 => b'1',

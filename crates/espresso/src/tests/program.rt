@@ -158,15 +158,21 @@ fn one_of_two_words_cannot_be_opened(rt: HostRuntime) -> Result<(), Fail> {
     Ok(())
 }
 
+// Whether a process without words says so why, and leaves its output alone.
+fn refuses(alloc: Global, fault: LineFault, message: &str, code: u8) -> Result<bool, Fail> {
+    let left = left_by(alloc, Err(fault))?;
+    Ok(
+        left.message.bytes() == message.as_bytes()
+            && left.code == code
+            && left.output.calls() == WriteCalls::new(),
+    )
+}
+
 #[test]
 fn words_that_are_none_are_told(rt: HostRuntime) -> Result<(), Fail> {
     let alloc = rt.alloc();
-    let left = left_by(alloc, Err(LineFault::Usage))?;
-    assert!(rt; left.message.bytes() == USAGE.as_bytes() && left.code == 2);
-    assert!(rt; left.output.calls() == WriteCalls::new());
-    let left = left_by(alloc, Err(LineFault::Memory))?;
-    let message = b"espresso: out of memory\n";
-    assert!(rt; left.message.bytes() == message.as_slice() && left.code == 3);
+    assert!(rt; refuses(alloc, LineFault::Usage, USAGE, 2)?);
+    assert!(rt; refuses(alloc, LineFault::Memory, "espresso: out of memory\n", 3)?);
     Ok(())
 }
 
@@ -292,6 +298,35 @@ fn a_second_file_stays_closed_behind_a_fault(rt: HostRuntime) -> Result<(), Fail
     Ok(())
 }
 
+// Whether a process on an output whose write of this number fails alone says so, and calls the
+// output no more but for one flush.
+fn ends_at_write<O: Opener>(
+    alloc: Global,
+    words: Vec<String>,
+    files: &O,
+    writes: u64,
+) -> Result<bool, Fail> {
+    let output = Taken::new(alloc, 200, 10, false)?;
+    let mut output = output.failing_after(writes);
+    let mut message = Taken::new(alloc, 200, 200, false)?;
+    let status = execute(alloc, Ok(words), files, &mut output, &mut message);
+    Ok(
+        status == Status::Fault
+            && message.bytes() == WRITE_FAILED
+            && is_flushed_after_a_failure(output.calls()),
+    )
+}
+
+// Whether one write failed, and one flush did not fail.
+fn is_flushed_after_a_failure(calls: WriteCalls) -> bool {
+    let counts = calls.counts;
+    calls.broken
+        && calls.flushed
+        && counts.failures == 1
+        && counts.flushes == 1
+        && counts.failed_flushes == 0
+}
+
 #[test]
 fn a_second_file_stays_closed_behind_a_failed_write(rt: HostRuntime) -> Result<(), Fail> {
     let alloc = rt.alloc();
@@ -300,45 +335,18 @@ fn a_second_file_stays_closed_behind_a_failed_write(rt: HostRuntime) -> Result<(
         slate: &slate,
         shelf: two_files(alloc),
     };
-    let output = Taken::new(alloc, 200, 200, false)?;
-    let mut output = output.failing_after(0);
-    let mut message = Taken::new(alloc, 200, 200, false)?;
     let words = words_of(alloc, &["x", "-Dverify", "b", "a"])?;
-    let status = execute(alloc, Ok(words), &files, &mut output, &mut message);
-    assert!(rt; status == Status::Fault && message.bytes() == WRITE_FAILED);
+    assert!(rt; ends_at_write(alloc, words, &files, 0)?);
     assert!(rt; slate.get() == 5);
     Ok(())
 }
 
-// An echo on an output whose write of this number fails alone.
-fn echo_failing_after(alloc: Global, writes: u64) -> Result<Left, Fail> {
-    let output = Taken::new(alloc, 200, 10, false)?;
-    let mut output = output.failing_after(writes);
-    let mut message = Taken::new(alloc, 200, 200, false)?;
-    let words = words_of(alloc, &["x", "-Decho", "a"])?;
-    let status = execute(
-        alloc,
-        Ok(words),
-        &two_files(alloc),
-        &mut output,
-        &mut message,
-    );
-    Ok(Left {
-        output,
-        message,
-        code: status.code(),
-    })
-}
-
 #[test]
 fn a_failed_call_is_the_last_of_its_kind(rt: HostRuntime) -> Result<(), Fail> {
+    let alloc = rt.alloc();
     for writes in 0..2 {
-        let left = echo_failing_after(rt.alloc(), writes)?;
-        assert!(rt; left.code == 2 && left.message.bytes() == WRITE_FAILED);
-        let calls = left.output.calls();
-        assert!(rt; calls.broken && calls.flushed);
-        assert!(rt; calls.counts.failures == 1 && calls.counts.flushes == 1);
-        assert!(rt; calls.counts.failed_flushes == 0);
+        let words = words_of(alloc, &["x", "-Decho", "a"])?;
+        assert!(rt; ends_at_write(alloc, words, &two_files(alloc), writes)?);
     }
     Ok(())
 }

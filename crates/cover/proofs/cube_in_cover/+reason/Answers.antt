@@ -1,4 +1,4 @@
-use Rattle.std.proofs.Common.{◌≡◌, ◌≤◌, ◌∙◌, All, IfNone, IfSome, length, ap, sym, subst, arith}
+use Rattle.std.proofs.Common.{◌≡◌, ◌≤◌, ◌∙◌, All, IfNone, IfSome, length, ap, sym, subst, refl, arith}
 use Rattle.std.specs.Prelude.{vec_len}
 use Rattle.std.proofs.lemmas.Result.{IfOk-weaker}
 use Rattle.std.proofs.lemmas.Option.{slice_get_within}
@@ -20,44 +20,48 @@ by_input-returns-in_default t c =
     unexplained_half (behind c.args.rows.now) c.args.region.now c.in_ok-first.first c.args.at.0 c.args.at.1 c.requires.dash c.in_ok-first.ensures.value
     (subst (λ o. Explains c.in_ok-first.first (behind c.args.rows.now) o) c.in_default.is c.in_ok-one.ensures)
 
-pub by_input-reason-requires-2 : goal.by_input-reason-requires-2
-by_input-reason-requires-2 t c =
+pub by_input-by_other_half-requires : goal.by_input-by_other_half-requires
+by_input-by_other_half-requires t c =
+    let r : IsReason c.in_ok-first.first (behind c.args.rows.now) c.in-Some.one =
+    subst (λ o. Explains c.in_ok-first.first (behind c.args.rows.now) o) c.in-Some.is c.in_ok-one.ensures in
+    let size = SameSize-part c.in-Some.one c.in_ok-first.first c.args.region.now r.size c.in_ok-first.ensures.size in
+    let half = subst (λ h. IsReason h (behind c.args.rows.now) c.in-Some.one) c.in_ok-first.ensures.value r in
+    (omega arith, (c.requires.sizes, (c.requires.near, (c.requires.dash, (c.requires.literal, (size, half))))))
+
+pub by_other_half-reason-requires : goal.by_other_half-reason-requires
+by_other_half-reason-requires t c =
     let less = extent_half c.args.region.now c.in_ok-second.second c.args.at.0 c.opposite.result c.requires.dash
     (subst (λ s. s ≡ Dash → ⊥) (sym c.opposite.ensures) (opposite_literal c.args.at.1 c.requires.literal)) c.in_ok-second.ensures.value in
     (omega (arith, less), (sizes_part c.args.rows.now c.args.region.now c.in_ok-second.second c.requires.sizes c.in_ok-second.ensures.size, c.requires.near))
 
-pub by_input-returns-in_default-2 : goal.by_input-returns-in_default-2
-by_input-returns-in_default-2 t c =
+pub by_other_half-returns-in_default : goal.by_other_half-returns-in_default
+by_other_half-returns-in_default t c =
     unexplained_half (behind c.args.rows.now) c.args.region.now c.in_ok-second.second c.args.at.0 c.opposite.result c.requires.dash c.in_ok-second.ensures.value
-    (subst (λ o. Explains c.in_ok-second.second (behind c.args.rows.now) o) c.in_default-2.is c.in_ok-other.ensures)
+    (subst (λ o. Explains c.in_ok-second.second (behind c.args.rows.now) o) c.in_default.is c.in_ok-other.ensures)
 
-pub by_input-consensus-requires-clause-input : goal.by_input-consensus-requires-clause-input
-by_input-consensus-requires-clause-input t c = slice_get_within c.args.region.now.symbols c.args.at.0 Dash c.requires.dash
+pub by_other_half-consensus-requires-clause-input : goal.by_other_half-consensus-requires-clause-input
+by_other_half-consensus-requires-clause-input t c = slice_get_within c.args.region.now.symbols c.args.at.0 Dash c.requires.dash
 
-pub by_input-consensus-requires-clause-one : goal.by_input-consensus-requires-clause-one
-by_input-consensus-requires-clause-one t c =
-    let r : IsReason c.in_ok-first.first (behind c.args.rows.now) c.in-Some.one =
-    subst (λ o. Explains c.in_ok-first.first (behind c.args.rows.now) o) c.in-Some.is c.in_ok-one.ensures in
-    freed_half c.args.region.now c.in_ok-first.first c.in-Some.one c.args.at.0 c.args.at.1 c.requires.dash c.requires.literal
-    (SameSize-part c.in-Some.one c.in_ok-first.first c.args.region.now r.size c.in_ok-first.ensures.size) c.in_ok-first.ensures.value r.above
+pub by_other_half-consensus-requires-clause-one : goal.by_other_half-consensus-requires-clause-one
+by_other_half-consensus-requires-clause-one t c =
+    freed_half c.args.region.now (with_symbol c.args.region.now c.args.at.0 c.args.at.1) c.args.one.now c.args.at.0 c.args.at.1 c.requires.dash c.requires.literal
+    c.requires.one_size refl c.requires.one.above
 
-pub by_input-consensus-requires-clause-other : goal.by_input-consensus-requires-clause-other
-by_input-consensus-requires-clause-other t c =
-    let r : IsReason c.in_ok-second.second (behind c.args.rows.now) c.in-Some-2.other =
-    subst (λ o. Explains c.in_ok-second.second (behind c.args.rows.now) o) c.in-Some-2.is c.in_ok-other.ensures in
-    freed_half c.args.region.now c.in_ok-second.second c.in-Some-2.other c.args.at.0 c.opposite.result c.requires.dash
+pub by_other_half-consensus-requires-clause-other : goal.by_other_half-consensus-requires-clause-other
+by_other_half-consensus-requires-clause-other t c =
+    let r : IsReason c.in_ok-second.second (behind c.args.rows.now) c.in-Some.other =
+    subst (λ o. Explains c.in_ok-second.second (behind c.args.rows.now) o) c.in-Some.is c.in_ok-other.ensures in
+    freed_half c.args.region.now c.in_ok-second.second c.in-Some.other c.args.at.0 c.opposite.result c.requires.dash
     (subst (λ s. s ≡ Dash → ⊥) (sym c.opposite.ensures) (opposite_literal c.args.at.1 c.requires.literal))
-    (SameSize-part c.in-Some-2.other c.in_ok-second.second c.args.region.now r.size c.in_ok-second.ensures.size) c.in_ok-second.ensures.value r.above
+    (SameSize-part c.in-Some.other c.in_ok-second.second c.args.region.now r.size c.in_ok-second.ensures.size) c.in_ok-second.ensures.value r.above
 
-pub by_input-consensus-requires-clause-sides : goal.by_input-consensus-requires-clause-sides
-by_input-consensus-requires-clause-sides t c =
-    let r : IsReason c.in_ok-first.first (behind c.args.rows.now) c.in-Some.one =
-    subst (λ o. Explains c.in_ok-first.first (behind c.args.rows.now) o) c.in-Some.is c.in_ok-one.ensures in
-    let q : IsReason c.in_ok-second.second (behind c.args.rows.now) c.in-Some-2.other =
-    subst (λ o. Explains c.in_ok-second.second (behind c.args.rows.now) o) c.in-Some-2.is c.in_ok-other.ensures in
-    share_sides c.args.region.now c.in_ok-first.first c.in_ok-second.second c.in-Some.one c.in-Some-2.other c.args.at.0 c.args.at.1
-    c.shape-shape.ensures.is_cube.some_output c.requires.dash c.in_ok-first.ensures.value
-    (c.in_ok-second.ensures.value ∙ ap (λ s. with_symbol c.args.region.now c.args.at.0 s) c.opposite.ensures) r.size q.size r.above q.above
+pub by_other_half-consensus-requires-clause-sides : goal.by_other_half-consensus-requires-clause-sides
+by_other_half-consensus-requires-clause-sides t c =
+    let q : IsReason c.in_ok-second.second (behind c.args.rows.now) c.in-Some.other =
+    subst (λ o. Explains c.in_ok-second.second (behind c.args.rows.now) o) c.in-Some.is c.in_ok-other.ensures in
+    share_sides c.args.region.now (with_symbol c.args.region.now c.args.at.0 c.args.at.1) c.in_ok-second.second c.args.one.now c.in-Some.other c.args.at.0 c.args.at.1
+    c.shape-shape.ensures.is_cube.some_output c.requires.dash refl
+    (c.in_ok-second.ensures.value ∙ ap (λ s. with_symbol c.args.region.now c.args.at.0 s) c.opposite.ensures) c.requires.one.size q.size c.requires.one.above q.above
 
 pub by_outputs-returns-then-not-has_more_outputs : goal.by_outputs-returns-then-not-has_more_outputs
 by_outputs-returns-then-not-has_more_outputs t c =

@@ -2,14 +2,12 @@ use Rattle.std.proofs.Common.{◌∙◌, ◌++◌, ap, arith}
 use Rattle.cover.proofs.SumThirds.{IsMeets-thirds}
 use Rattle.cover.proofs.sum_meets.+pairwise_meets.Goals as goal
 
-pub returns : goal.returns
-returns t c =
+pub pairwise_meets-returns : goal.pairwise_meets-returns
+pairwise_meets-returns t c =
     let mine = c.in-Some.mine in
     let theirs = c.in-Some-cut_in_three.theirs in
     IsMeets-thirds c.args.shape c.args.at (omega (arith, c.inputs.ensures.value)) c.args.rows.now mine.dashes.now mine.zeros.now mine.ones.now
     c.args.others.now theirs.dashes.now theirs.zeros.now theirs.ones.now c.in-Some.ensures c.in-Some-cut_in_three.ensures
-    c.in_ok-all.all.items c.in_ok-more.more.items c.in_ok-more-2.more.items c.in_ok-more-3.more.items
-    c.in_ok-more-4.more.items c.in_ok-more-5.more.items c.in_ok-more-6.more.items c.append-6.new.self.items
+    c.in_ok-all.all.items c.in_ok-more.more.items c.in_ok-more-2.more.items c.in_ok-more-3.more.items c.append-3.new.self.items
     c.in_ok-all.ensures c.in_ok-more.ensures c.in_ok-more-2.ensures c.in_ok-more-3.ensures
-    c.in_ok-more-4.ensures c.in_ok-more-5.ensures c.in_ok-more-6.ensures
-    (c.in_ok-append-6.ensures.items ∙ ap (λ l. l ++ c.in_ok-more-6.more.items) (c.in_ok-append-5.ensures.items ∙ ap (λ l. l ++ c.in_ok-more-5.more.items) (c.in_ok-append-4.ensures.items ∙ ap (λ l. l ++ c.in_ok-more-4.more.items) (c.in_ok-append-3.ensures.items ∙ ap (λ l. l ++ c.in_ok-more-3.more.items) (c.in_ok-append-2.ensures.items ∙ ap (λ l. l ++ c.in_ok-more-2.more.items) (c.in_ok-append.ensures.items))))))
+    (c.in_ok-append-3.ensures.items ∙ ap (λ l. l ++ c.in_ok-more-3.more.items) (c.in_ok-append-2.ensures.items ∙ ap (λ l. l ++ c.in_ok-more-2.more.items) c.in_ok-append.ensures.items))

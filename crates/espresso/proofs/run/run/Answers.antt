@@ -6,7 +6,7 @@ use Rattle.espresso.proofs.Ways.{ends}
 use Rattle.espresso.proofs.run.run.Goals as goal
 
 pub returns-clause-ends : goal.returns-clause-ends
-returns-clause-ends g c = let done = c.carried_out-done.ensures in
+returns-clause-ends g c = let done = c.read_and_answer-done.ensures in
     let names : Names = record { first = name_of c.args.first.now; second = second_text c.args.second.now } in (
       done.0,
       done.1,

@@ -10,7 +10,7 @@ loop-table-init c = done c.args.table
 
 pub loop-table-preserved : goal.loop-table-preserved
 loop-table-preserved c =
-    let next = rw c.in-Some.is at c.in_ok-reduce_once.ensures in
+    let next = rw c.in-Some.is at c.in_ok-reduced.ensures in
     steps_join c.args.choice c.args.table c.loop-table.table c.in-Some.reduced c.loop-table.invariant next.steps
 
 pub returns-clause-least : goal.returns-clause-least

@@ -8,5 +8,5 @@ loop-table-init c = subst (Steps c.args.choice c.args.self.now) (sym c.in_ok-tab
 
 pub loop-table-preserved : goal.loop-table-preserved
 loop-table-preserved c =
-    let next = rw c.in-Some.is at c.in_ok-reduce_once.ensures in
+    let next = rw c.in-Some.is at c.in_ok-reduced.ensures in
     steps_join c.args.choice c.args.self.now c.loop-table.table c.in-Some.reduced c.loop-table.invariant next.steps

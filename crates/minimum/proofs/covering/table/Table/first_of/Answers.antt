@@ -4,9 +4,9 @@ use Rattle.minimum.proofs.Stages.{next_join, stage_done, all_settled, first_next
 use Rattle.minimum.proofs.covering.table.Table.first_of.Goals as goal
 
 pub returns-then-is_solved : goal.returns-then-is_solved
-returns-then-is_solved c = IfOk-weaker c.copy_of-then-is_solved.result _ _
+returns-then-is_solved c = IfOk-weaker c.copy_of.result _ _
     (λ v h. stage_done c.args.choice c.args.self.now c.loop-column.stage.table v.items c.taken_columns.ensures.table c.loop-column.invariant.next (c.if-is_solved.ensures.solved.0 refl) (h ∙ c.taken_columns.ensures.value))
-    c.copy_of-then-is_solved.ensures
+    c.copy_of.ensures
 
 pub loop-column-preserved : goal.loop-column-preserved
 loop-column-preserved c = record {

@@ -8,5 +8,5 @@ loop-table-init c = subst (IsLightened c.args.choice c.args.self.now) (sym c.in_
 
 pub loop-table-preserved : goal.loop-table-preserved
 loop-table-preserved c =
-    let next = rw c.in-Some.is at c.in_ok-lighten_once.ensures in
+    let next = rw c.in-Some.is at c.in_ok-lighter.ensures in
     lightened_join c.args.choice c.args.self.now c.loop-table.table c.in-Some.lighter c.loop-table.invariant next.is

@@ -3,7 +3,7 @@ use Rattle.std.proofs.lemmas.Result.{err_from_is_err_and}
 use Rattle.espresso.specs.Run.{Absent, Asked, Intakes, name_of}
 use Rattle.espresso.specs.Steps.{Names, second_text}
 use Rattle.espresso.proofs.Both.{first_stopped, one_answered, takes_untouched, two_answered, untouched}
-use Rattle.espresso.proofs.run.carried_out.Goals as goal
+use Rattle.espresso.proofs.run.read_and_answer.Goals as goal
 
 pub returns-in_err-pla : goal.returns-in_err-pla
 returns-in_err-pla g c = let read = c.read_source.ensures in
