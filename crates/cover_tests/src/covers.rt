@@ -1,72 +1,337 @@
 //! Small lists by hand. What the program prints of longer ones is tested on the built program.
-use crate::rows::{are_written, cover_of, cube_of, is_written, same_shape};
-use cover::{Cover, contain};
-use std::alloc::Global;
+ghost use Rattle.std.specs.Prelude.{◌≡◌};
+
+use crate::rows::{are_written, cover_of, is_written};
+use cover::{Cover, agree_outside, complete_sum, contain, difference, intersect};
+use cube::Shape;
+use std::alloc::{AllocError, Global};
 use std::test::Fail;
 
+// What is made of a list, or of two.
+#[derive(Clone, Copy)]
+enum Operation {
+    Clone,
+    Cubes,
+    CompleteSum,
+    Complement,
+    Contain,
+    Append,
+    Intersect,
+    Difference,
+    // By the one cube of the other list.
+    Cofactor,
+}
+
+const THREE_ROWS: [&str; 3] = ["1- 10", "0- 11", "-1 01"];
+
+// Operation, inputs, outputs, the two lists and the rows that are made.
+type Made = (
+    Operation,
+    usize,
+    usize,
+    &'static [&'static str],
+    &'static [&'static str],
+    &'static [&'static str],
+);
+
+const MADE: [Made; 13] = [
+    (
+        Operation::Clone,
+        2,
+        1,
+        &["1- 1", "01 1"],
+        &[],
+        &["1- 1", "01 1"],
+    ),
+    (
+        Operation::Cubes,
+        2,
+        1,
+        &["1- 1", "01 1"],
+        &[],
+        &["1- 1", "01 1"],
+    ),
+    (
+        Operation::CompleteSum,
+        2,
+        2,
+        &["00 10", "01 11", "11 01"],
+        &[],
+        &["-1 01", "0- 10", "01 11"],
+    ),
+    (
+        Operation::CompleteSum,
+        4,
+        1,
+        &["01-- 1", "10-- 1", "--01 1", "--10 1"],
+        &[],
+        &["--01 1", "--10 1", "01-- 1", "10-- 1"],
+    ),
+    // A part that holds everything.
+    (
+        Operation::CompleteSum,
+        4,
+        2,
+        &["01-- 11", "10-- 11", "--0- 11", "--11 11", "--10 11"],
+        &[],
+        &["---- 11"],
+    ),
+    // With other outputs the parts are not apart.
+    (
+        Operation::CompleteSum,
+        2,
+        2,
+        &["0- 10", "-1 11"],
+        &[],
+        &["-1 11", "0- 10"],
+    ),
+    (
+        Operation::Complement,
+        1,
+        2,
+        &["1 10"],
+        &[],
+        &["- 01", "0 11"],
+    ),
+    (
+        Operation::Contain,
+        2,
+        1,
+        &["11 1", "1- 1", "1- 1", "0- 1"],
+        &[],
+        &["1- 1", "0- 1"],
+    ),
+    (
+        Operation::Append,
+        2,
+        1,
+        &["11 1"],
+        &["0- 1", "11 1"],
+        &["11 1", "0- 1", "11 1"],
+    ),
+    (
+        Operation::Intersect,
+        2,
+        2,
+        &["1- 11"],
+        &["11 01"],
+        &["11 01"],
+    ),
+    (
+        Operation::Difference,
+        2,
+        2,
+        &["1- 11"],
+        &["11 01"],
+        &["1- 10", "10 11"],
+    ),
+    (Operation::Difference, 2, 2, &["1- 11"], &["1- 11"], &[]),
+    (
+        Operation::Cofactor,
+        2,
+        2,
+        &THREE_ROWS,
+        &["1- 01"],
+        &["-1 11"],
+    ),
+];
+
+// The first list and then the second.
+fn both(list: &Cover, other: &Cover) -> Result<Cover, AllocError>
+    requires { other.now.size ≡ list.now.size }
+{
+    let mut all = list.try_clone()?;
+    all.append(other)?;
+    Ok(all)
+}
+
+// The list made again of its cubes.
+fn again(list: &Cover) -> Result<Cover, AllocError> {
+    Ok(Cover::from_cubes(list.shape(), list.try_clone()?.into_cubes()))
+}
+
+fn result_of(operation: Operation, list: &Cover, other: &Cover) -> Result<Cover, AllocError>
+    requires { other.now.size ≡ list.now.size }
+{
+    match operation {
+        Operation::Clone => list.try_clone(),
+        Operation::Cubes => again(list),
+        Operation::CompleteSum => complete_sum(list),
+        Operation::Complement => list.complement(),
+        Operation::Contain => contain(list),
+        Operation::Append => both(list, other),
+        Operation::Intersect => intersect(list, other),
+        Operation::Difference => difference(list, other),
+        Operation::Cofactor => match other.get(0) {
+            Some(by) => list.cofactor(by),
+            None => list.try_clone(),
+        },
+    }
+}
+
+// Whether the operation of the case makes its last rows of the others.
+fn makes(alloc: Global, case: &Made) -> Result<bool, Fail> {
+    let (operation, inputs, outputs, rows, others, made) = *case;
+    let shape = Shape::new(inputs, outputs).ok_or("limits")?;
+    let list = cover_of(alloc, shape, rows)?;
+    let other = cover_of(alloc, shape, others)?;
+    Ok(are_written(result_of(operation, &list, &other)?.as_slice(), made))
+}
+
 #[test]
-fn lists(rt: HostRuntime) -> Result<(), Fail> {
-    let alloc = rt.alloc();
-    let list = cover_of(alloc, 2, 1, b"1- 1\n01 1\n")?;
-    assert!(rt; list.len() == 2 && !list.is_empty() && list.shape().inputs() == 2);
-    assert!(rt; list.get(2).is_none());
-    assert!(rt; is_written(alloc, list.get(1).ok_or("none")?, "01 1\n")?);
+fn lists_make_lists(rt: HostRuntime) -> Result<(), Fail> {
+    for case in &MADE {
+        assert!(rt; makes(rt.alloc(), case)?);
+    }
     Ok(())
 }
 
+// What is asked of up to three lists.
+#[derive(Clone, Copy)]
+enum Question {
+    ListsRows,
+    IsEmpty,
+    Tautology,
+    // Of the one cube of the second list.
+    HoldsCube,
+    Intersects,
+    // The third says where the others are free.
+    Agrees,
+}
+
+// Question, inputs, outputs, the three lists and the answer.
+type Answer = (
+    Question,
+    usize,
+    usize,
+    &'static [&'static str],
+    &'static [&'static str],
+    &'static [&'static str],
+    bool,
+);
+
+const ANSWERS: [Answer; 13] = [
+    (Question::ListsRows, 2, 1, &["1- 1", "01 1"], &[], &[], true),
+    (Question::IsEmpty, 2, 1, &[], &[], &[], true),
+    (Question::Tautology, 1, 2, &["- 10"], &[], &[], false),
+    (Question::Tautology, 1, 2, &["- 10", "- 01"], &[], &[], true),
+    (
+        Question::HoldsCube,
+        2,
+        2,
+        &THREE_ROWS,
+        &["1- 01"],
+        &[],
+        false,
+    ),
+    (
+        Question::HoldsCube,
+        2,
+        2,
+        &THREE_ROWS,
+        &["11 01"],
+        &[],
+        true,
+    ),
+    (
+        Question::Intersects,
+        2,
+        2,
+        &["11 10", "0- 01"],
+        &["-1 01"],
+        &[],
+        true,
+    ),
+    (
+        Question::Intersects,
+        2,
+        2,
+        &["11 10", "0- 01"],
+        &["1- 01", "0- 10", "10 11"],
+        &[],
+        false,
+    ),
+    (
+        Question::Intersects,
+        2,
+        2,
+        &["11 10", "0- 01"],
+        &[],
+        &[],
+        false,
+    ),
+    (
+        Question::Agrees,
+        2,
+        1,
+        &["1- 1"],
+        &["11 1", "10 1"],
+        &[],
+        true,
+    ),
+    (
+        Question::Agrees,
+        2,
+        1,
+        &["1- 1"],
+        &["-1 1"],
+        &["10 1", "01 1"],
+        true,
+    ),
+    (
+        Question::Agrees,
+        2,
+        1,
+        &["1- 1"],
+        &["-1 1"],
+        &["10 1"],
+        false,
+    ),
+    (Question::Agrees, 2, 1, &["1- 1"], &[], &[], false),
+];
+
+// Whether the list has two rows of two inputs, the second of them `01 1`.
+fn lists_rows(list: &Cover) -> bool {
+    match list.get(1) {
+        Some(cube) => {
+            let is_rest = list.get(2).is_none() && list.shape().inputs() == 2;
+            is_rest && list.len() == 2 && !list.is_empty() && is_written(cube, "01 1")
+        }
+        None => false,
+    }
+}
+
+fn answer(question: Question, list: &Cover, other: &Cover, free: &Cover) -> Result<bool, AllocError>
+    requires other { other.now.size ≡ list.now.size }
+    requires free { free.now.size ≡ list.now.size }
+{
+    match question {
+        Question::ListsRows => Ok(lists_rows(list)),
+        Question::IsEmpty => Ok(list.is_empty()),
+        Question::Tautology => list.tautology(),
+        Question::HoldsCube => match other.get(0) {
+            Some(cube) => list.holds_cube(cube),
+            None => Ok(false),
+        },
+        Question::Intersects => list.intersects(other),
+        Question::Agrees => agree_outside(list, other, free),
+    }
+}
+
+// Whether the lists of the case answer its question so.
+fn answers(alloc: Global, case: &Answer) -> Result<bool, Fail> {
+    let (question, inputs, outputs, rows, others, frees, yes) = *case;
+    let shape = Shape::new(inputs, outputs).ok_or("limits")?;
+    let list = cover_of(alloc, shape, rows)?;
+    let other = cover_of(alloc, shape, others)?;
+    let free = cover_of(alloc, shape, frees)?;
+    Ok(answer(question, &list, &other, &free)? == yes)
+}
+
 #[test]
-fn copies(rt: HostRuntime) -> Result<(), Fail> {
-    let alloc = rt.alloc();
-    let list = cover_of(alloc, 2, 1, b"1- 1\n01 1\n")?;
-    assert!(rt; are_written(alloc, list.try_clone()?.as_slice(), "1- 1\n01 1\n")?);
-    let again = Cover::from_cubes(list.shape(), list.into_cubes());
-    assert!(rt; are_written(alloc, again.as_slice(), "1- 1\n01 1\n")?);
-    assert!(rt; cover_of(alloc, 2, 1, b"")?.is_empty());
-    Ok(())
-}
-
-// The list of the next two tests.
-fn three_rows(alloc: Global) -> Result<Cover, Fail> {
-    cover_of(alloc, 2, 2, b"1- 10\n0- 11\n-1 01\n")
-}
-
-#[test]
-fn cofactors(rt: HostRuntime) -> Result<(), Fail> {
-    let list = three_rows(rt.alloc())?;
-    let by = cube_of(rt.alloc(), b"1- 01")?;
-    same_shape(list.shape(), by.shape())?;
-    assert!(rt; are_written(rt.alloc(), list.cofactor(&by)?.as_slice(), "-1 11\n")?);
-    Ok(())
-}
-
-// Whether that list holds the cube.
-fn is_held(alloc: Global, row: &[u8]) -> Result<bool, Fail> {
-    let list = three_rows(alloc)?;
-    let cube = cube_of(alloc, row)?;
-    same_shape(list.shape(), cube.shape())?;
-    Ok(list.holds_cube(&cube)?)
-}
-
-#[test]
-fn held_cubes(rt: HostRuntime) -> Result<(), Fail> {
-    assert!(rt; !is_held(rt.alloc(), b"1- 01")?);
-    assert!(rt; is_held(rt.alloc(), b"11 01")?);
-    Ok(())
-}
-
-#[test]
-fn tautologies(rt: HostRuntime) -> Result<(), Fail> {
-    let alloc = rt.alloc();
-    assert!(rt; !cover_of(alloc, 1, 2, b"- 10\n")?.tautology()?);
-    assert!(rt; cover_of(alloc, 1, 2, b"- 10\n- 01\n")?.tautology()?);
-    Ok(())
-}
-
-#[test]
-fn contains(rt: HostRuntime) -> Result<(), Fail> {
-    let alloc = rt.alloc();
-    let rows = b"11 1\n1- 1\n1- 1\n0- 1\n";
-    let list = cover_of(alloc, 2, 1, rows)?;
-    assert!(rt; are_written(alloc, contain(&list)?.as_slice(), "1- 1\n0- 1\n")?);
+fn lists_answer(rt: HostRuntime) -> Result<(), Fail> {
+    for case in &ANSWERS {
+        assert!(rt; answers(rt.alloc(), case)?);
+    }
     Ok(())
 }

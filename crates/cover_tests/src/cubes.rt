@@ -1,241 +1,193 @@
 //! Small cubes by hand.
-use crate::rows::{are_written, cube_of, is_written, packed, same_shape};
+use crate::rows::{are_written, cube_of, cube_of_bytes, cube_of_symbols, is_written, same_shape};
 use crate::wide::{Operation, answer};
 use cube::{Cube, Shape, Symbol, laws, limits};
 use std::alloc::Global;
 use std::test::Fail;
 
-#[test]
-fn reads_back(rt: HostRuntime) -> Result<(), Fail> {
-    let alloc = rt.alloc();
-    let c = cube_of(alloc, b"-01-0 101")?;
-    assert!(rt; c.shape().inputs() == 5 && c.shape().outputs() == 3);
-    assert!(rt; is_written(alloc, &c, "-01-0 101\n")?);
-    assert!(rt; is_written(alloc, &c.try_clone()?, "-01-0 101\n")?);
-    Ok(())
-}
-
-#[test]
-fn puts_bytes(rt: HostRuntime) -> Result<(), Fail> {
-    let c = cube_of(rt.alloc(), b"-01-0 101")?;
-    let shape = c.shape();
+// Whether the cube `-01-0 101` puts these bytes, and leaves what follows.
+fn puts_bytes(cube: &Cube) -> bool {
+    let shape = cube.shape();
     if shape.inputs() != 5 || shape.outputs() != 3 {
-        return Err("shape")?;
+        return false;
     }
     let mut row = *b"........";
-    c.put_symbols(&mut row, b'd', b'z', b'o');
-    assert!(rt; row == *b"dzodz...");
-    c.put_outputs(&mut row, b'+', b'-');
-    assert!(rt; row == *b"+-+dz...");
+    cube.put_symbols(&mut row, b'd', b'z', b'o');
+    let symbols = row == *b"dzodz...";
+    cube.put_outputs(&mut row, b'+', b'-');
+    symbols && row == *b"+-+dz..."
+}
+
+// Whether the cube of these symbols and outputs is written so, as its copy is, and puts its bytes;
+// nothing is written for none.
+fn symbols_are(
+    alloc: Global,
+    symbols: &[Symbol],
+    outputs: &[bool],
+    row: &str,
+) -> Result<bool, Fail> {
+    match cube_of_symbols(alloc, symbols, outputs)? {
+        Some(cube) => {
+            let is_row = puts_bytes(&cube) && is_written(&cube, row);
+            Ok(is_written(&cube.try_clone()?, row) && is_row)
+        }
+        None => Ok(row.is_empty()),
+    }
+}
+
+const SYMBOLS: [Symbol; 5] = [
+    Symbol::Dash,
+    Symbol::Zero,
+    Symbol::One,
+    Symbol::Dash,
+    Symbol::Zero,
+];
+
+#[test]
+fn reads_symbols(rt: HostRuntime) -> Result<(), Fail> {
+    assert!(rt; symbols_are(rt.alloc(), &SYMBOLS, &[true, false, true], "-01-0 101")?);
+    assert!(rt; symbols_are(rt.alloc(), &[Symbol::Zero], &[false, false], "")?);
     Ok(())
 }
 
-// The cube of a row's bytes, where a mark is 1 for `1` and `4`, and 2 for `-`.
-fn from_row(alloc: Global, inputs: &[u8], outputs: &[u8], mask: u8) -> Result<Option<Cube>, Fail> {
-    let shape = Shape::new(inputs.len(), outputs.len()).ok_or("limits")?;
-    if shape.inputs() != inputs.len() || shape.outputs() != outputs.len() {
-        return Err("lengths")?;
+// Symbols, outputs and the mask of the outputs that are set, with the row that is read.
+const BYTES: [(&str, &str, u8, &str); 5] = [
+    ("-01-0", "101", 1, "-01-0 101"),
+    ("-012x", "1-4", 1, "-01-- 101"),
+    ("-012x", "1-4", 2, "-01-- 010"),
+    // No output is set.
+    ("-012x", "1-4", 4, ""),
+    // More of each than a word has.
+    (
+        "011--11011--11011--11011--11011--11011--11011--110",
+        "011--11011--11011--11011--11011--11011--11011--110",
+        1,
+        "011--11011--11011--11011--11011--11011--11011--110 \
+         01100110110011011001101100110110011011001101100110",
+    ),
+];
+
+// Whether the bytes are read as the row of the case; nothing is written for none.
+fn bytes_are(alloc: Global, case: &(&str, &str, u8, &str)) -> Result<bool, Fail> {
+    let (inputs, outputs, mask, row) = *case;
+    match cube_of_bytes(alloc, inputs.as_bytes(), outputs.as_bytes(), mask)? {
+        Some(cube) => Ok(is_written(&cube, row)),
+        None => Ok(row.is_empty()),
     }
-    let mut marks = [0u8; 256];
-    marks[49] = 1;
-    marks[52] = 1;
-    marks[45] = 2;
-    Ok(Cube::from_bytes(alloc, shape, inputs, outputs, &marks, mask)?)
 }
 
 #[test]
 fn reads_bytes(rt: HostRuntime) -> Result<(), Fail> {
-    let alloc = rt.alloc();
-    let c = from_row(alloc, b"-012x", b"1-4", 1)?.ok_or("no output")?;
-    assert!(rt; is_written(alloc, &c, "-01-- 101\n")?);
-    let c = from_row(alloc, b"-012x", b"1-4", 2)?.ok_or("no output")?;
-    assert!(rt; is_written(alloc, &c, "-01-- 010\n")?);
-    assert!(rt; from_row(alloc, b"-012x", b"1-4", 4)?.is_none());
-    Ok(())
-}
-
-// Fifty bytes for symbols or outputs, in an order without a period of a word.
-fn wide_bytes(alloc: Global) -> Result<Vec<u8>, Fail> {
-    let mut bytes = Vec::new(alloc);
-    for i in 0..50usize {
-        bytes.push(match i * i % 7 % 3 {
-            0 => b'0',
-            1 => b'1',
-            _ => b'-',
-        })?;
+    for case in &BYTES {
+        assert!(rt; bytes_are(rt.alloc(), case)?);
     }
-    Ok(bytes)
-}
-
-// The line of the cube that has these bytes as symbols and as outputs.
-fn line_of(alloc: Global, bytes: &[u8]) -> Result<String, Fail> {
-    let mut line = String::new(alloc);
-    for byte in bytes {
-        line.push(char::from(*byte))?;
-    }
-    line.push(' ')?;
-    for byte in bytes {
-        line.push(if *byte == b'1' { '1' } else { '0' })?;
-    }
-    line.push('\n')?;
-    Ok(line)
-}
-
-#[test]
-fn reads_wide_bytes(rt: HostRuntime) -> Result<(), Fail> {
-    let bytes = wide_bytes(rt.alloc())?;
-    let c = from_row(rt.alloc(), bytes.as_slice(), bytes.as_slice(), 1)?.ok_or("no output")?;
-    let line = line_of(rt.alloc(), bytes.as_slice())?;
-    assert!(rt; is_written(rt.alloc(), &c, line.as_str())?);
-    Ok(())
-}
-
-#[test]
-fn wants_an_output(rt: HostRuntime) -> Result<(), Fail> {
-    let none = packed(rt.alloc(), &[Symbol::Zero], &[false, false])?;
-    assert!(rt; none.is_none());
     Ok(())
 }
 
 #[test]
 fn keeps_the_limits(rt: HostRuntime) -> Result<(), Fail> {
-    assert!(rt; Shape::new(limits::INPUTS, limits::OUTPUTS).is_some());
-    assert!(rt; Shape::new(0, 1).is_some());
-    assert!(rt; Shape::new(1025, 1).is_none());
-    assert!(rt; Shape::new(1, 1025).is_none());
-    assert!(rt; Shape::new(1, 0).is_none());
-    assert!(rt; limits::LINE_BYTES == 131_072);
-    assert!(rt; limits::LINES == 16_777_216);
+    let widest = Shape::new(limits::INPUTS, limits::OUTPUTS);
+    assert!(rt; widest.is_some() && Shape::new(0, 1).is_some() && Shape::new(1, 0).is_none());
+    assert!(rt; Shape::new(1025, 1).is_none() && Shape::new(1, 1025).is_none());
+    assert!(rt; limits::LINE_BYTES == 131_072 && limits::LINES == 16_777_216);
     laws::complete_sum();
     laws::same_places();
     laws::limits();
     Ok(())
 }
 
-// Whether the sharp product of two cubes is these rows.
-fn sharp_is(alloc: Global, a: &[u8], b: &[u8], text: &str) -> Result<bool, Fail> {
-    let a = cube_of(alloc, a)?;
-    let b = cube_of(alloc, b)?;
+// What is made of two cubes.
+#[derive(Clone, Copy)]
+enum Product {
+    // The row of both where they are equal.
+    Equal,
+    Sharp,
+    By(Operation),
+}
+
+const PRODUCTS: [(Product, &str, &str, &[&str]); 20] = [
+    (Product::Equal, "01- 10", "01- 10", &["01- 10"]),
+    (Product::Equal, "01- 10", "01- 11", &[]),
+    // Other literals.
+    (Product::Equal, "01- 10", "011 10", &[]),
+    (Product::Equal, "01- 10", "0-- 10", &[]),
+    // Other shapes.
+    (Product::Equal, "01- 10", "01 10", &[]),
+    (Product::Equal, "01- 10", "01- 1", &[]),
+    (Product::Sharp, "-- 1", "11 1", &["-0 1", "0- 1"]),
+    (Product::Sharp, "1- 11", "11 01", &["1- 10", "10 11"]),
+    (Product::Sharp, "11 10", "1- 11", &[]),
+    // Cubes apart.
+    (Product::Sharp, "1- 10", "1- 01", &["1- 10"]),
+    (Product::Sharp, " 11", " 10", &[" 01"]),
+    (Product::By(Operation::Meet), "1- 10", "-1 01", &[]),
+    (Product::By(Operation::Meet), "1- 11", "-1 01", &["11 01"]),
+    (Product::By(Operation::Join), "11 10", "10 01", &["1- 11"]),
+    (Product::By(Operation::Stack), "1- 10", "-0 01", &["10 11"]),
+    (Product::By(Operation::Stack), "1- 10", "0- 11", &[]),
+    (Product::By(Operation::Rest), "1- 11", "-0 01", &["1- 10"]),
+    (Product::By(Operation::Rest), "1- 01", "-0 11", &[]),
+    (
+        Product::By(Operation::Cofactor),
+        "10-0 100",
+        "1--0 110",
+        &["-0-- 101"],
+    ),
+    (Product::By(Operation::Cofactor), "1 10", "0 11", &[]),
+];
+
+// Whether the two are found equal or not, whichever is asked.
+fn is_told(a: &Cube, b: &Cube, are_equal: bool) -> bool {
+    a.is_equal(b) == are_equal && b.is_equal(a) == are_equal
+}
+
+// Whether the two cubes make these rows.
+fn product_is(product: Product, a: &Cube, b: &Cube, rows: &[&str]) -> Result<bool, Fail> {
+    if let Product::Equal = product {
+        return Ok(is_told(a, b, !rows.is_empty()));
+    }
     same_shape(a.shape(), b.shape())?;
-    are_written(alloc, a.sharp(&b)?.as_slice(), text)
-}
-
-#[test]
-fn sharps(rt: HostRuntime) -> Result<(), Fail> {
-    let alloc = rt.alloc();
-    assert!(rt; sharp_is(alloc, b"-- 1", b"11 1", "-0 1\n0- 1\n")?);
-    assert!(rt; sharp_is(alloc, b"1- 11", b"11 01", "1- 10\n10 11\n")?);
-    Ok(())
-}
-
-#[test]
-fn sharps_of_cubes_apart(rt: HostRuntime) -> Result<(), Fail> {
-    let alloc = rt.alloc();
-    assert!(rt; sharp_is(alloc, b"11 10", b"1- 11", "")?);
-    assert!(rt; sharp_is(alloc, b"1- 10", b"1- 01", "1- 10\n")?);
-    assert!(rt; sharp_is(alloc, b" 11", b" 10", " 01\n")?);
-    Ok(())
-}
-
-// Whether the operation makes this row of two cubes; nothing is written for none.
-fn makes(
-    alloc: Global,
-    operation: Operation,
-    a: &[u8],
-    b: &[u8],
-    text: &str,
-) -> Result<bool, Fail> {
-    let a = cube_of(alloc, a)?;
-    let b = cube_of(alloc, b)?;
-    match answer(operation, &a, &b)? {
-        Some(cube) => is_written(alloc, &cube, text),
-        None => Ok(text.is_empty()),
+    match product {
+        Product::Equal => Ok(false),
+        Product::Sharp => Ok(are_written(a.sharp(b)?.as_slice(), rows)),
+        Product::By(operation) => match answer(operation, a, b)? {
+            Some(cube) => Ok(rows.len() == 1 && is_written(&cube, rows[0])),
+            None => Ok(rows.is_empty()),
+        },
     }
 }
 
-#[test]
-fn meets(rt: HostRuntime) -> Result<(), Fail> {
-    let alloc = rt.alloc();
-    assert!(rt; makes(alloc, Operation::Meet, b"1- 10", b"-1 01", "")?);
-    assert!(rt; makes(alloc, Operation::Meet, b"1- 11", b"-1 01", "11 01\n")?);
-    Ok(())
-}
-
-#[test]
-fn joins(rt: HostRuntime) -> Result<(), Fail> {
-    let alloc = rt.alloc();
-    assert!(rt; makes(alloc, Operation::Join, b"11 10", b"10 01", "1- 11\n")?);
-    Ok(())
-}
-
-#[test]
-fn stacks(rt: HostRuntime) -> Result<(), Fail> {
-    let alloc = rt.alloc();
-    assert!(rt; makes(alloc, Operation::Stack, b"1- 10", b"-0 01", "10 11\n")?);
-    assert!(rt; makes(alloc, Operation::Stack, b"1- 10", b"0- 11", "")?);
-    Ok(())
-}
-
-#[test]
-fn rests(rt: HostRuntime) -> Result<(), Fail> {
-    let alloc = rt.alloc();
-    assert!(rt; makes(alloc, Operation::Rest, b"1- 11", b"-0 01", "1- 10\n")?);
-    assert!(rt; makes(alloc, Operation::Rest, b"1- 01", b"-0 11", "")?);
-    Ok(())
-}
-
-#[test]
-fn cofactors(rt: HostRuntime) -> Result<(), Fail> {
-    let alloc = rt.alloc();
-    let (a, b) = (b"10-0 100", b"1--0 110");
-    assert!(rt; makes(alloc, Operation::Cofactor, a, b, "-0-- 101\n")?);
-    assert!(rt; makes(alloc, Operation::Cofactor, b"1 10", b"0 11", "")?);
-    Ok(())
-}
-
-// Whether the two rows are found equal or not, whichever is asked.
-fn is_told(alloc: Global, a: &[u8], b: &[u8], are_equal: bool) -> Result<bool, Fail> {
+// Whether the two cubes of the case make its rows.
+fn makes(alloc: Global, case: &(Product, &str, &str, &[&str])) -> Result<bool, Fail> {
+    let (product, a, b, rows) = *case;
     let a = cube_of(alloc, a)?;
     let b = cube_of(alloc, b)?;
-    Ok(a.is_equal(&b) == are_equal && b.is_equal(&a) == are_equal)
+    product_is(product, &a, &b, rows)
 }
 
 #[test]
-fn equal_cubes(rt: HostRuntime) -> Result<(), Fail> {
-    let alloc = rt.alloc();
-    assert!(rt; is_told(alloc, b"01- 10", b"01- 10", true)?);
-    assert!(rt; is_told(alloc, b"01- 10", b"01- 11", false)?);
+fn two_cubes_make_rows(rt: HostRuntime) -> Result<(), Fail> {
+    for case in &PRODUCTS {
+        assert!(rt; makes(rt.alloc(), case)?);
+    }
     Ok(())
 }
 
-#[test]
-fn cubes_of_other_literals_are_not_equal(rt: HostRuntime) -> Result<(), Fail> {
-    let alloc = rt.alloc();
-    assert!(rt; is_told(alloc, b"01- 10", b"011 10", false)?);
-    assert!(rt; is_told(alloc, b"01- 10", b"0-- 10", false)?);
-    Ok(())
+// Whether the first words of the row have these bits, and the next ones none.
+fn bits_are(alloc: Global, row: &str, literals: u64, outputs: u64) -> Result<bool, Fail> {
+    let cube = cube_of(alloc, row)?;
+    let (literal_rest, output_rest) = (cube.literal_bits(1), cube.output_bits(1));
+    Ok(
+        cube.literal_bits(0) == literals
+            && cube.output_bits(0) == outputs
+            && literal_rest == 0
+            && output_rest == 0,
+    )
 }
 
 #[test]
-fn cubes_of_other_shapes_are_not_equal(rt: HostRuntime) -> Result<(), Fail> {
-    let alloc = rt.alloc();
-    assert!(rt; is_told(alloc, b"01- 10", b"01 10", false)?);
-    assert!(rt; is_told(alloc, b"01- 10", b"01- 1", false)?);
-    Ok(())
-}
-
-#[test]
-fn literals_as_bits(rt: HostRuntime) -> Result<(), Fail> {
-    let row = cube_of(rt.alloc(), b"01-1 1")?;
-    assert!(rt; row.literal_bits(0) == 0b01_00_01_10);
-    assert!(rt; row.literal_bits(1) == 0);
-    Ok(())
-}
-
-#[test]
-fn outputs_as_bits(rt: HostRuntime) -> Result<(), Fail> {
-    let row = cube_of(rt.alloc(), b"01 1011")?;
-    assert!(rt; row.output_bits(0) == 0b1101);
-    assert!(rt; row.output_bits(1) == 0);
+fn gives_bits(rt: HostRuntime) -> Result<(), Fail> {
+    assert!(rt; bits_are(rt.alloc(), "01-1 1", 0b01_00_01_10, 0b1)?);
+    assert!(rt; bits_are(rt.alloc(), "01 1011", 0b01_10, 0b1101)?);
     Ok(())
 }

@@ -1,5 +1,5 @@
 //! Tautology and containment against the plain definition, and on wide lists.
-use crate::rows::{packed, push, same_shape};
+use crate::rows::{cube_of_symbols, holds as holds_cube, push};
 use cover::Cover;
 use cube::{Cube, Shape, Symbol};
 use std::alloc::Global;
@@ -29,7 +29,7 @@ fn small_cube(alloc: Global, number: usize) -> Result<Cube, Fail> {
         1 => [false, true],
         _ => [true, true],
     };
-    Ok(packed(alloc, &symbols, &outputs)?.ok_or("empty")?)
+    Ok(cube_of_symbols(alloc, &symbols, &outputs)?.ok_or("empty")?)
 }
 
 // Whether it holds one of the eight places, by the definition.
@@ -78,9 +78,7 @@ fn small_cover(alloc: Global, numbers: &[usize]) -> Result<Cover, Fail> {
 fn holds_as_defined(alloc: Global, numbers: &[usize]) -> Result<bool, Fail> {
     let list = small_cover(alloc, numbers)?;
     for number in 0..27usize {
-        let cube = small_cube(alloc, number)?;
-        same_shape(list.shape(), cube.shape())?;
-        if list.holds_cube(&cube)? != hold_all(numbers, number) {
+        if holds_cube(&list, &small_cube(alloc, number)?)? != hold_all(numbers, number) {
             return Ok(false);
         }
     }
@@ -90,51 +88,50 @@ fn holds_as_defined(alloc: Global, numbers: &[usize]) -> Result<bool, Fail> {
 
 #[test]
 fn all_small_covers(rt: HostRuntime) -> Result<(), Fail> {
-    let alloc = rt.alloc();
-    assert!(rt; holds_as_defined(alloc, &[])?);
-    for one in 0..27usize {
-        for two in 0..one + 1 {
-            for three in 0..two + 1 {
-                assert!(rt; holds_as_defined(alloc, &[one, two, three])?);
-            }
+    assert!(rt; holds_as_defined(rt.alloc(), &[])?);
+    for number in 0..27 * 27 * 27usize {
+        let (one, two, three) = (number / 729, number / 27 % 27, number % 27);
+        if one >= two && two >= three {
+            assert!(rt; holds_as_defined(rt.alloc(), &[one, two, three])?);
         }
     }
     Ok(())
 }
 
-// A row with `0` at the inputs before `i`, `1` there and `-` behind.
-fn step(alloc: Global, inputs: usize, i: usize, outputs: &[bool]) -> Result<Cube, Fail> {
-    let mut symbols = Vec::new(alloc);
-    for k in 0..inputs {
-        symbols.push(if k < i {
-            Symbol::Zero
+// A row with `0` at the inputs before `i`, `1` there and `-` behind, in one of two forms that share
+// an output.
+fn step(alloc: Global, i: usize, is_second: bool) -> Result<Cube, Fail> {
+    let mut symbols = [Symbol::Dash; 180];
+    for k in 0..180usize {
+        if k < i {
+            symbols[k] = Symbol::Zero;
         } else if k == i {
-            Symbol::One
-        } else {
-            Symbol::Dash
-        })?;
-    }
-    Ok(packed(alloc, symbols.as_slice(), outputs)?.ok_or("empty")?)
-}
-
-// Cubes of seven words and three outputs that hold everything, each step in two rows, but for the
-// rows left out.
-fn steps(alloc: Global, left_out: usize) -> Result<Cover, Fail> {
-    let mut list = Cover::new(alloc, Shape::new(180, 3).ok_or("limits")?);
-    for i in (0..181usize).rev() {
-        push(&mut list, step(alloc, 180, i, &[true, true, false])?)?;
-        if i != left_out {
-            push(&mut list, step(alloc, 180, i, &[false, true, true])?)?;
+            symbols[k] = Symbol::One;
         }
     }
-    Ok(list)
+    Ok(cube_of_symbols(alloc, &symbols, &[!is_second, true, is_second])?.ok_or("empty")?)
 }
+
+// Whether all steps hold everything but for the row left out: cubes of seven words and three
+// outputs, each step in two rows.
+fn steps_hold_all(alloc: Global, left_out: usize) -> Result<bool, Fail> {
+    let mut list = Cover::new(alloc, Shape::new(180, 3).ok_or("limits")?);
+    for n in (0..362usize).rev() {
+        let (i, is_second) = (n / 2, n % 2 == 0);
+        if i != left_out || !is_second {
+            push(&mut list, step(alloc, i, is_second)?)?;
+        }
+    }
+    Ok(list.tautology()?)
+}
+
+// Which row is left out, and whether the others hold everything.
+const LEFT_OUT: [(usize, bool); 3] = [(200, true), (180, false), (77, false)];
 
 #[test]
 fn wide_covers(rt: HostRuntime) -> Result<(), Fail> {
-    let alloc = rt.alloc();
-    assert!(rt; steps(alloc, 200)?.tautology()?);
-    assert!(rt; !steps(alloc, 180)?.tautology()?);
-    assert!(rt; !steps(alloc, 77)?.tautology()?);
+    for (left_out, holds_all) in LEFT_OUT {
+        assert!(rt; steps_hold_all(rt.alloc(), left_out)? == holds_all);
+    }
     Ok(())
 }

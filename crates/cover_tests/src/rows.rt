@@ -1,47 +1,58 @@
 //! Cubes and lists from rows of text, and back.
-ghost use Rattle.std.specs.Prelude.{◌≡◌, OnOk};
+ghost use Rattle.std.specs.Prelude.{◌≡◌, IfOk, OnOk};
 
 use cover::Cover;
 use cube::{Cube, Shape, Symbol};
 use std::alloc::Global;
 use std::test::Fail;
 
-fn symbol_from(c: u8) -> Symbol {
-    match c {
-        b'0' => Symbol::Zero,
-        b'1' => Symbol::One,
-        _ => Symbol::Dash,
-    }
-}
-
 // The cube of these symbols and outputs, or `None` where it has no output.
-pub(crate) fn packed(
+pub(crate) fn cube_of_symbols(
     alloc: Global,
     symbols: &[Symbol],
     outputs: &[bool],
 ) -> Result<Option<Cube>, Fail> {
-    let shape = Shape::new(symbols.len(), outputs.len()).ok_or("limits")?;
-    if shape.inputs() != symbols.len() || shape.outputs() != outputs.len() {
-        return Err("lengths")?;
-    }
+    let Some(shape) = Shape::new(symbols.len(), outputs.len()) else {
+        return Err("limits")?;
+    };
     Ok(Cube::from_symbols(alloc, shape, symbols, outputs)?)
 }
 
-// The cube of a row: symbols, a space, outputs.
-pub(crate) fn cube_of(alloc: Global, row: &[u8]) -> Result<Cube, Fail> {
-    let mut symbols = Vec::new(alloc);
-    let mut outputs = Vec::new(alloc);
-    let mut is_output = false;
-    for c in row {
-        if *c == b' ' {
-            is_output = true;
-        } else if is_output {
-            outputs.push(*c == b'1')?;
-        } else {
-            symbols.push(symbol_from(*c))?;
+// The cube of a row's bytes, where a mark is 1 for `1` and `4`, and 2 for `-`.
+pub(crate) fn cube_of_bytes(
+    alloc: Global,
+    inputs: &[u8],
+    outputs: &[u8],
+    mask: u8,
+) -> Result<Option<Cube>, Fail> {
+    let Some(shape) = Shape::new(inputs.len(), outputs.len()) else {
+        return Err("limits")?;
+    };
+    let mut marks = [0u8; 256];
+    marks[49] = 1;
+    marks[52] = 1;
+    marks[45] = 2;
+    Ok(Cube::from_bytes(alloc, shape, inputs, outputs, &marks, mask)?)
+}
+
+// How many bytes stand before the space.
+fn inputs_of(row: &[u8]) -> usize {
+    for i in 0..row.len() {
+        if row[i] == b' ' {
+            return i;
         }
     }
-    Ok(packed(alloc, symbols.as_slice(), outputs.as_slice())?.ok_or("no output")?)
+    row.len()
+}
+
+// The cube of a row: symbols, a space, outputs.
+pub(crate) fn cube_of(alloc: Global, row: &str) -> Result<Cube, Fail> {
+    let row = row.as_bytes();
+    let inputs = inputs_of(row);
+    if inputs >= row.len() {
+        return Err("no space")?;
+    }
+    Ok(cube_of_bytes(alloc, &row[..inputs], &row[inputs + 1..], 1)?.ok_or("no output")?)
 }
 
 // Fails where the shapes are not the same.
@@ -56,57 +67,72 @@ pub(crate) fn same_shape(mine: Shape, theirs: Shape) -> Result<(), Fail>
 
 pub(crate) fn push(list: &mut Cover, row: Cube) -> Result<(), Fail> {
     same_shape(list.shape(), row.shape())?;
-    Ok(list.push(row).map_err(|_| "memory")?)
+    Ok(list.push(row).ok().ok_or("memory")?)
 }
 
-// The list of these rows, each of them a line.
-pub(crate) fn cover_of(
-    alloc: Global,
-    inputs: usize,
-    outputs: usize,
-    rows: &[u8],
-) -> Result<Cover, Fail> {
-    let shape = Shape::new(inputs, outputs).ok_or("limits")?;
+// Whether the list holds the cube.
+pub(crate) fn holds(list: &Cover, cube: &Cube) -> Result<bool, Fail> {
+    same_shape(list.shape(), cube.shape())?;
+    Ok(list.holds_cube(cube)?)
+}
+
+// The list of these rows.
+pub(crate) fn cover_of(alloc: Global, shape: Shape, rows: &[&str]) -> Result<Cover, Fail>
+    ensures { IfOk result (λ c. c.size ≡ shape) }
+{
     let mut list = Cover::new(alloc, shape);
-    for row in rows.split(|c| *c == b'\n') {
-        if !row.is_empty() {
-            push(&mut list, cube_of(alloc, row)?)?;
-        }
+    for row in rows {
+        push(&mut list, cube_of(alloc, row)?)?;
     }
+    same_shape(shape, list.shape())?;
     Ok(list)
 }
 
-// Writes a cube as a line.
-fn push_row(text: &mut String, row: &Cube) -> Result<(), Fail> {
-    let shape = row.shape();
-    for i in 0..shape.inputs() {
-        let c = match row.symbol(i) {
-            Symbol::Dash => '-',
-            Symbol::Zero => '0',
-            Symbol::One => '1',
-        };
-        text.push(c)?;
+pub(crate) fn byte_of(symbol: Symbol) -> u8 {
+    match symbol {
+        Symbol::Dash => b'-',
+        Symbol::Zero => b'0',
+        Symbol::One => b'1',
     }
-    text.push(' ')?;
-    for j in 0..shape.outputs() {
-        text.push(if row.output(j) { '1' } else { '0' })?;
-    }
-    text.push('\n')?;
-    Ok(())
 }
 
-// Whether the rows are written so, each as a line.
-pub(crate) fn are_written(alloc: Global, rows: &[Cube], text: &str) -> Result<bool, Fail> {
-    let mut written = String::new(alloc);
-    for row in rows {
-        push_row(&mut written, row)?;
+// The byte at this place of the cube's line.
+fn byte_at(cube: &Cube, k: usize) -> u8 {
+    let shape = cube.shape();
+    let inputs = shape.inputs();
+    if k < inputs {
+        byte_of(cube.symbol(k))
+    } else if k == inputs {
+        b' '
+    } else if k - inputs > shape.outputs() {
+        b'\n'
+    } else if cube.output(k - inputs - 1) {
+        b'1'
+    } else {
+        b'0'
     }
-    Ok(written.as_str() == text)
 }
 
-// Whether the cube is written so, as a line.
-pub(crate) fn is_written(alloc: Global, row: &Cube, text: &str) -> Result<bool, Fail> {
-    let mut written = String::new(alloc);
-    push_row(&mut written, row)?;
-    Ok(written.as_str() == text)
+// Whether the cube is written so.
+pub(crate) fn is_written(cube: &Cube, row: &str) -> bool {
+    let row = row.as_bytes();
+    for k in 0..row.len() {
+        if row[k] != byte_at(cube, k) {
+            return false;
+        }
+    }
+    byte_at(cube, row.len()) == b'\n'
+}
+
+// Whether the cubes are written so, each as a row.
+pub(crate) fn are_written(cubes: &[Cube], rows: &[&str]) -> bool {
+    if cubes.len() != rows.len() {
+        return false;
+    }
+    for k in 0..rows.len() {
+        if !is_written(&cubes[k], rows[k]) {
+            return false;
+        }
+    }
+    true
 }
