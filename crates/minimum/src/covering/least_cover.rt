@@ -7,11 +7,11 @@
 //! witness or drops the column. Many columns are asked for at once, by a further row of them: if no
 //! cover has one of them all are dropped.
 
-ghost use Rattle.std.specs.Prelude.{◌≡◌, ◌≢◌, ◌≤◌, ◌<◌, ◌+◌, ◌++◌, ◌∷◌, [], ℕ, IfOk, MatchOption, filter, ◌==◌, true, false};
+ghost use Rattle.std.specs.Prelude.{◌≡◌, ◌≢◌, ◌≤◌, ◌<◌, ◌+◌, ◌++◌, ◌∷◌, [], ℕ, IfOk, MatchOption, filter, length, option_map, ◌==◌, true, false};
 ghost use Rattle.std.specs.List.{list_all};
 ghost use Rattle.minimum.specs.Table.{has, IsWithin, RisesFrom};
 ghost use Rattle.minimum.specs.Cover.{IsCover, IsLeast, counted};
-ghost use Rattle.minimum.specs.Search.{Continues, HasFewer, HasShorter, IsBest, IsFewest, IsOutside, IsShortest, IsStage, marked};
+ghost use Rattle.minimum.specs.Search.{Answers, Continues, HasFewer, HasShorter, IsBest, IsFewest, IsOutside, IsShortest, IsStage, marked};
 ghost use Rattle.minimum.specs.Steps.{with_rows};
 
 use crate::choice::Choice;
@@ -37,6 +37,30 @@ struct Stage {
 struct Help {
     warm_start: WarmStart,
     most: usize,
+}
+
+impl Help {
+    /// A cover within the budget, or none if there is none; after a yes one column is asked for at
+    /// once, and after a no twice as many.
+    fn decide(
+        &mut self,
+        alloc: Global,
+        choice: Choice,
+        budget: Budget,
+        table: &Table,
+    ) -> Result<Option<Vec<usize>>, AllocError>
+        ensures { IfOk result (λ o. Answers choice table.now budget.columns budget.counts
+            (option_map (λ v. v.items) o)) }
+    {
+        let mut warm_start = self.warm_start.copy(alloc)?;
+        let witness = table.decide(alloc, choice, budget, &mut warm_start)?;
+        self.most = if witness.is_some() {
+            1
+        } else {
+            self.most.saturating_mul(2)
+        };
+        Ok(witness)
+    }
 }
 
 /// Marks the first live columns from one on that the witness has not, at most so many: a wish.
@@ -97,6 +121,46 @@ impl Stage {
         }
     }
 
+    /// The table without the marked columns, which no cover within the budget has.
+    fn without_marked(
+        self,
+        alloc: Global,
+        choice: Choice,
+        budget: Budget,
+        marks: &[bool],
+    ) -> Result<Stage, AllocError>
+        requires stage { IsStage choice budget.columns budget.counts self.table self.witness.items }
+        requires outside { (c : ℕ) → has c self.table.live ≡ true → marked marks.now c ≡ true
+            → IsOutside choice self.table budget.columns budget.counts c }
+        ensures stage { IfOk result (λ s. IsStage choice budget.columns budget.counts s.table
+            s.witness.items) }
+        ensures next { IfOk result (λ s. Continues choice self.table s.table) }
+    {
+        let _live = self.table.live_columns();
+        let keep = others(alloc, marks, self.table.columns())?;
+        self.without_columns(alloc, choice, budget, &keep)
+    }
+
+    /// The table without the column, which no cover within the budget has.
+    fn without_column(
+        self,
+        alloc: Global,
+        choice: Choice,
+        budget: Budget,
+        column: usize,
+    ) -> Result<Stage, AllocError>
+        requires stage { IsStage choice budget.columns budget.counts self.table self.witness.items }
+        requires outside { IsOutside choice self.table budget.columns budget.counts column }
+        ensures stage { IfOk result (λ s. IsStage choice budget.columns budget.counts s.table
+            s.witness.items) }
+        ensures next { IfOk result (λ s. Continues choice self.table s.table) }
+        ensures gone { IfOk result (λ s. has column s.table.live ≡ false) }
+    {
+        let _live = self.table.live_columns();
+        let keep = all_but(alloc, column, self.table.columns())?;
+        self.without_columns(alloc, choice, budget, &keep)
+    }
+
     /// Drops a batch of columns if no cover within the budget has one of them; else there is a new
     /// witness.
     fn ask_for_many(
@@ -112,33 +176,23 @@ impl Stage {
             s.witness.items) }
         ensures next { IfOk result (λ s. Continues choice self.table s.table) }
     {
-        let live = self.table.live_columns();
         let marks = batch(
             alloc,
-            live,
+            self.table.live_columns(),
             &self.witness,
             column,
             help.most,
             self.table.columns(),
         )?;
-        let row = marked_columns(alloc, live, &marks)?;
-        if row.len() < 2 {
+        let Some(asked) = self.table.with_marked_row(alloc, &marks)? else {
             return Ok(self);
-        }
-        let keep = others(alloc, &marks, self.table.columns())?;
-        let asked = self.table.with_row(alloc, row)?;
-        match asked.decide(alloc, choice, budget, &mut help.warm_start.copy(alloc)?)? {
-            Some(witness) => {
-                help.most = 1;
-                Ok(Stage {
-                    table: self.table,
-                    witness,
-                })
-            }
-            None => {
-                help.most = help.most.saturating_mul(2);
-                self.without_columns(alloc, choice, budget, &keep)
-            }
+        };
+        match help.decide(alloc, choice, budget, &asked)? {
+            Some(witness) => Ok(Stage {
+                table: self.table,
+                witness,
+            }),
+            None => self.without_marked(alloc, choice, budget, &marks),
         }
     }
 
@@ -167,19 +221,12 @@ impl Stage {
                 witness: self.witness,
             });
         }
-        match with.decide(alloc, choice, budget, &mut help.warm_start.copy(alloc)?)? {
-            Some(witness) => {
-                help.most = 1;
-                Ok(Stage {
-                    table: with,
-                    witness,
-                })
-            }
-            None => {
-                help.most = help.most.saturating_mul(2);
-                let keep = all_but(alloc, column, self.table.columns())?;
-                self.without_columns(alloc, choice, budget, &keep)
-            }
+        match help.decide(alloc, choice, budget, &with)? {
+            Some(witness) => Ok(Stage {
+                table: with,
+                witness,
+            }),
+            None => self.without_column(alloc, choice, budget, column),
         }
     }
 
@@ -271,6 +318,19 @@ impl Table {
         let taken = copy_of(alloc, self.taken_columns())?;
         let live = copy_of(alloc, self.live_columns())?;
         self.with(alloc, taken, live, rows)
+    }
+
+    /// The table with a further row of the marked columns; `None` if they are fewer than two.
+    fn with_marked_row(&self, alloc: Global, marks: &[bool]) -> Result<Option<Table>, AllocError>
+        ensures { IfOk result (λ o. MatchOption o (length (filter (marked marks.now)
+            self.now.live) < 2) (λ t. t ≡ with_rows self.now (self.now.rows
+            ++ filter (marked marks.now) self.now.live ∷ []))) }
+    {
+        let row = marked_columns(alloc, self.live_columns(), marks)?;
+        if row.len() < 2 {
+            return Ok(None);
+        }
+        Ok(Some(self.with_row(alloc, row)?))
     }
 
     /// The first of the best covers, from one of them.

@@ -192,6 +192,13 @@ struct Ascent {
     idle: u32,
 }
 
+/// The last step, and whether the steps have begun anew.
+#[derive(Clone, Copy)]
+struct Course {
+    last: u32,
+    again: bool,
+}
+
 /// What each column bears.
 fn load(loads: &mut Vec<i64>, rows: &[Vec<usize>], weights: &[i64]) {
     for load in loads.iter_mut() {
@@ -369,6 +376,76 @@ impl Ascent {
             self.top_column = self.column;
         }
         Ok(())
+    }
+
+    /// What the weights say of a cover now, with what each column bears.
+    fn weigh(&mut self, table: &Compact, goal: Goal) -> i64 {
+        self.set_scaled_costs(&table.costs, self.column);
+        load(&mut self.loads, &table.rows, &self.weights);
+        self.value(&self.weights, self.column, goal)
+    }
+
+    /// Whether the steps bring nothing and cannot become shorter.
+    fn is_slow(&self) -> bool {
+        self.idle > PATIENCE && self.pace.wrapping_mul(3) / 5 < LAST_PACE
+    }
+
+    /// Makes the steps shorter, from the best weights.
+    fn slow_down(&mut self, alloc: Global) -> Result<(), AllocError> {
+        self.idle = 0;
+        self.pace = self.pace.wrapping_mul(3) / 5;
+        self.column = self.top_column;
+        self.weights = self.top_weights.to_vec(alloc)?;
+        Ok(())
+    }
+
+    /// Polishes from time to time and makes a step, or says that the goal is reached.
+    fn go_on(
+        &mut self,
+        alloc: Global,
+        table: &Compact,
+        goal: Goal,
+        step: u32,
+        value: i64,
+    ) -> Result<bool, AllocError> {
+        if step % (STEPS / 4) == 0 {
+            let weights = self.weights.to_vec(alloc)?;
+            self.polish(alloc, table, weights, self.column, goal)?;
+            if self.best_value > 0 {
+                return Ok(true);
+            }
+            self.weigh(table, goal);
+        }
+        if self.idle > PATIENCE {
+            self.slow_down(alloc)?;
+        }
+        let far = UNIT
+            .wrapping_sub(value)
+            .max(UNIT / 50)
+            .wrapping_mul(self.pace);
+        self.step(alloc, table, goal, far)?;
+        Ok(false)
+    }
+
+    /// Polishes the best weights and, once and if they end just short of the goal, begins anew;
+    /// says whether the steps are over.
+    fn stop(
+        &mut self,
+        alloc: Global,
+        table: &Compact,
+        goal: Goal,
+        step: u32,
+        course: &mut Course,
+    ) -> Result<bool, AllocError> {
+        let weights = self.top_weights.to_vec(alloc)?;
+        self.polish(alloc, table, weights, self.top_column, goal)?;
+        if course.again || self.best_value > 0 || self.best_value <= 0 - UNIT / 8 {
+            return Ok(true);
+        }
+        course.again = true;
+        course.last = step.wrapping_add(STEPS);
+        self.kick(alloc)?;
+        Ok(false)
     }
 
     /// Goes a quarter of the way from the best weights to their mean, to begin anew.
@@ -563,6 +640,36 @@ impl WarmStart {
         }
     }
 
+    /// Makes the steps, until they say enough or bring nothing, and remembers where they end.
+    fn climb(
+        &mut self,
+        alloc: Global,
+        table: &Compact,
+        live: &[usize],
+        rows: &[Vec<usize>],
+        goal: Goal,
+        ascent: &mut Ascent,
+    ) -> Result<(), AllocError> {
+        let mut course = Course {
+            last: STEPS,
+            again: false,
+        };
+        for step in 0..STEPS * 2 + 2 {
+            let value = ascent.weigh(table, goal);
+            self.note_likely(live, ascent, step == 0);
+            ascent.note(alloc, value)?;
+            let over = if step >= course.last || ascent.is_slow() {
+                ascent.stop(alloc, table, goal, step, &mut course)?
+            } else {
+                ascent.go_on(alloc, table, goal, step, value)?
+            };
+            if over {
+                break;
+            }
+        }
+        self.remember(alloc, rows, ascent)
+    }
+
     /// Multipliers that are wished for, to show that no cover reaches the goal.
     pub(crate) fn multipliers(
         &mut self,
@@ -574,55 +681,10 @@ impl WarmStart {
         goal: Goal,
     ) -> Result<Multipliers, AllocError> {
         let mut ascent = self.ascent(alloc, table, rows)?;
-        if rows.is_empty() {
-            return ascent.multipliers(alloc);
+        if !rows.is_empty() {
+            self.likely = vec![in alloc; 0; columns]?;
+            self.climb(alloc, table, live, rows, goal, &mut ascent)?;
         }
-        self.likely = vec![in alloc; 0; columns]?;
-        let mut last = STEPS;
-        let mut again = false;
-        for step in 0..STEPS * 2 + 2 {
-            let column = ascent.column;
-            ascent.set_scaled_costs(&table.costs, column);
-            load(&mut ascent.loads, &table.rows, &ascent.weights);
-            let value = ascent.value(&ascent.weights, column, goal);
-            self.note_likely(live, &ascent, step == 0);
-            ascent.note(alloc, value)?;
-            let slow = ascent.idle > PATIENCE && ascent.pace.wrapping_mul(3) / 5 < LAST_PACE;
-            let stop = step >= last || slow;
-            if stop {
-                let weights = ascent.top_weights.to_vec(alloc)?;
-                let column = ascent.top_column;
-                ascent.polish(alloc, table, weights, column, goal)?;
-                if !again && ascent.best_value <= 0 && ascent.best_value > 0 - UNIT / 8 {
-                    again = true;
-                    last = step.wrapping_add(STEPS);
-                    ascent.kick(alloc)?;
-                    continue;
-                }
-                break;
-            }
-            if step % (STEPS / 4) == 0 {
-                let weights = ascent.weights.to_vec(alloc)?;
-                ascent.polish(alloc, table, weights, column, goal)?;
-                if ascent.best_value > 0 {
-                    break;
-                }
-                ascent.set_scaled_costs(&table.costs, column);
-                load(&mut ascent.loads, &table.rows, &ascent.weights);
-            }
-            if ascent.idle > PATIENCE {
-                ascent.idle = 0;
-                ascent.pace = ascent.pace.wrapping_mul(3) / 5;
-                ascent.column = ascent.top_column;
-                ascent.weights = ascent.top_weights.to_vec(alloc)?;
-            }
-            let far = UNIT
-                .wrapping_sub(value)
-                .max(UNIT / 50)
-                .wrapping_mul(ascent.pace);
-            ascent.step(alloc, table, goal, far)?;
-        }
-        self.remember(alloc, rows, &ascent)?;
         ascent.multipliers(alloc)
     }
 

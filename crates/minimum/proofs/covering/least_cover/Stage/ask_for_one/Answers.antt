@@ -1,11 +1,10 @@
 use Rattle.std.proofs.Common.{◌≡◌, ◌∙◌, ℕ, true, Option, Vec, Global, sym, ap, subst}
 use Rattle.std.specs.Prelude.{option_map}
-use Rattle.std.proofs.lemmas.Result.{IfOk-weaker}
 use Rattle.minimum.specs.Table.{Table, has}
 use Rattle.minimum.specs.Steps.{take_column}
-use Rattle.minimum.specs.Search.{Answers, IsAnswer, NoneWithin, IsStage, Continues, marked}
+use Rattle.minimum.specs.Search.{Answers, IsAnswer, NoneWithin, IsStage, Continues}
 use Rattle.minimum.proofs.Sets.{without_lacks}
-use Rattle.minimum.proofs.Stages.{stage_taken, next_taken, witness_taken, outside_taken, lacks_marked, marked_but, same_column}
+use Rattle.minimum.proofs.Stages.{stage_taken, next_taken, witness_taken, outside_taken}
 use Rattle.minimum.proofs.covering.least_cover.Stage.ask_for_one.Goals as goal
 use Rattle.minimum.proofs.covering.least_cover.Stage.ask_for_one.Goals.{Then-contains, In-Some}
 
@@ -42,14 +41,7 @@ returns-in-Some-clause-next c =
 pub returns-in-Some-clause-gone : goal.returns-in-Some-clause-gone
 returns-in-Some-clause-gone c = ap (λ (g : Table). has c.args.column g.live) c.in_ok-with.ensures ∙ without_lacks c.args.column 0 c.args.self.table.live c.live_columns-live.ensures.table.live_rises
 
-pub without_columns-requires-clause-outside : goal.without_columns-requires-clause-outside
-without_columns-requires-clause-outside c d l e =
+pub without_column-requires-clause-outside : goal.without_column-requires-clause-outside
+without_column-requires-clause-outside c =
     let none = subst (λ (o : Option (Vec ℕ Global)). Answers c.args.choice c.in_ok-with.with c.args.budget.columns c.args.budget.counts (option_map (λ v. v.items) o)) c.in-None.is c.in_ok-witness.ensures in
-    let out = outside_taken c.args.choice c.args.self.table c.args.column c.args.budget.columns c.args.budget.counts (subst (λ g. NoneWithin c.args.choice g c.args.budget.columns c.args.budget.counts) c.in_ok-with.ensures none) in
-    let same : d ≡ c.args.column = same_column d c.args.column (sym (marked_but c.args.self.table c.in_ok-keep-in-None.keep.items c.columns.result c.args.column d c.live_columns-live.ensures.table c.columns.ensures c.in_ok-keep-in-None.ensures l) ∙ sym (ap (λ ks. marked ks d) c.deref-in-None.ensures.value) ∙ e) in
-    λ x g there. out x g (subst (λ n. has n x ≡ true) same there)
-
-pub returns-in_ok-keep-in-None-clause-gone : goal.returns-in_ok-keep-in-None-clause-gone
-returns-in_ok-keep-in-None-clause-gone c =
-    IfOk-weaker c.without_columns.result _ _ (λ s h. lacks_marked c.args.self.table.live s.table.live c.deref-in-None.result.now c.args.column h
-    (λ l. ap (λ ks. marked ks c.args.column) c.deref-in-None.ensures.value ∙ marked_but c.args.self.table c.in_ok-keep-in-None.keep.items c.columns.result c.args.column c.args.column c.live_columns-live.ensures.table c.columns.ensures c.in_ok-keep-in-None.ensures l)) c.without_columns.ensures.live
+    outside_taken c.args.choice c.args.self.table c.args.column c.args.budget.columns c.args.budget.counts (subst (λ g. NoneWithin c.args.choice g c.args.budget.columns c.args.budget.counts) c.in_ok-with.ensures none)
