@@ -1,7 +1,7 @@
 //! The lists of the four types, asked for and not.
 use crate::tables::read;
 use cover::Cover;
-use pla::{OutType, Sets, Taken, open_dc, open_off, write_pla};
+use pla::{OutType, Pla, Sets, Taken, open_dc, open_off, write_pla};
 use std::alloc::Global;
 use std::test::Fail;
 
@@ -69,14 +69,18 @@ fn has_rows(sets: &Sets, on: usize, dc: usize, off: usize) -> bool {
     sets.on().len() == on && sets.dc().len() == dc && sets.off().len() == off
 }
 
+/// Whether sets hold the lists of the file, first OFF in place of ON, and then ON itself.
+fn are_put_together(pla: &Pla) -> Result<bool, Fail> {
+    let off = pla.off().try_clone()?;
+    let sets = Sets::new(off, pla.dc().try_clone()?, pla.off().try_clone()?);
+    let first = has_rows(&sets, 1, 2, 1);
+    let sets = sets.with_on(pla.on().try_clone()?);
+    Ok(first && has_rows(&sets, 3, 2, 1))
+}
+
 #[test]
 fn lists_are_put_together(rt: HostRuntime) -> Result<(), Fail> {
     let text = b".i 1\n.o 1\n.type fdr\n1 1\n1 1\n1 1\n1 -\n1 -\n0 0\n";
-    let pla = read(rt.alloc(), text)?;
-    let off = pla.off().try_clone()?;
-    let sets = Sets::new(off, pla.dc().try_clone()?, pla.off().try_clone()?);
-    assert!(rt; has_rows(&sets, 1, 2, 1));
-    let sets = sets.with_on(pla.on().try_clone()?);
-    assert!(rt; has_rows(&sets, 3, 2, 1));
+    assert!(rt; are_put_together(&read(rt.alloc(), text)?)?);
     Ok(())
 }

@@ -65,24 +65,32 @@ fn is_printed(alloc: Global, pla: &Pla, list: &Cover, text: &[u8]) -> Result<boo
 /// taken.
 const THREE_POINTS: &[u8] = b".i 3\n.o 1\n000 1\n001 1\n011 1\n100 -\n.e\n";
 
+/// Whether the file's minimum is printed so.
+fn minimum_is(alloc: Global, pla: &Pla, text: &[u8]) -> Result<bool, Fail> {
+    let sets = Sets::of(alloc, pla, true, false)?;
+    is_printed(alloc, pla, &exact(alloc, &sets, Choice::First)?, text)
+}
+
+/// Whether the file's essential primes are printed so.
+fn essential_primes_are(alloc: Global, pla: &Pla, text: &[u8]) -> Result<bool, Fail> {
+    let sets = Sets::of(alloc, pla, true, false)?;
+    let found = essential(alloc, &sets, &primes(&sets)?)?;
+    is_printed(alloc, pla, &found, text)
+}
+
 #[test]
 fn a_minimum_is_printed(rt: HostRuntime) -> Result<(), Fail> {
     let pla = read(rt.alloc(), THREE_POINTS)?;
-    let sets = Sets::of(rt.alloc(), &pla, true, false)?;
-    let least = exact(rt.alloc(), &sets, Choice::First)?;
     let text = b".i 3\n.o 1\n.p 2\n-00 1\n0-1 1\n.e\n";
-    assert!(rt; is_printed(rt.alloc(), &pla, &least, text)?);
+    assert!(rt; minimum_is(rt.alloc(), &pla, text)?);
     Ok(())
 }
 
 #[test]
 fn essential_primes_are_printed(rt: HostRuntime) -> Result<(), Fail> {
     let pla = read(rt.alloc(), THREE_POINTS)?;
-    let sets = Sets::of(rt.alloc(), &pla, true, false)?;
-    let primes = primes(&sets)?;
-    let found = essential(rt.alloc(), &sets, &primes)?;
     let text = b".i 3\n.o 1\n.p 1\n0-1 1\n.e\n";
-    assert!(rt; is_printed(rt.alloc(), &pla, &found, text)?);
+    assert!(rt; essential_primes_are(rt.alloc(), &pla, text)?);
     Ok(())
 }
 
