@@ -131,11 +131,6 @@ module _ (rows lent : List (Bor Cube)) (region : Cube) (sizes : All (λ d. SameS
   sizes_behind : (d : Cube) → Contains (behind rows) d → SameSize d region
   sizes_behind = behind_all (λ d. SameSize d region) rows sizes
 
-  pub lent_sizes : (d : Cube) → Contains (behind lent) d → SameSize d region
-  lent_sizes d h =
-      sizes_behind d (Contains-filter_cases (λ d. not (is_disjoint (size_of region) (holds d) (holds region))) (behind rows) d
-      (subst (λ l. Contains l d) inside h)).0
-
   pub lent_meets : (d : Cube) → Contains (behind lent) d → IsDisjoint (holds d) (holds region) → ⊥
   lent_meets d h apart =
       false≢true (sym (not-true (is_disjoint (size_of region) (holds d) (holds region))

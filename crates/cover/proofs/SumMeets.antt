@@ -37,17 +37,6 @@ module _ (size : Size) where
   pub IsMeets-none : (others : List Cube) → IsMeets size [] others []
   IsMeets-none others = record { are_cubes = All-nil (IsCube size); places = λ p. refl; literals = λ k h g. refl }
 
-  pub IsMeets-no_others : (rows : List Cube) → IsMeets size rows [] []
-  IsMeets-no_others rows = record {
-    are_cubes = All-nil (IsCube size);
-    places = λ p. none' (places rows p);
-    literals = λ k h g. refl;
-  }
-    where
-      none' : (x : Bool) → false ≡ (x && false)
-      none' true = refl
-      none' false = refl
-
   pub IsMeets-rows : (rows rows' others meets meets' : List Cube) → IsMeets size rows others meets → IsMeets size rows' others meets'
       → IsMeets size (rows ++ rows') others (meets ++ meets')
   IsMeets-rows rows rows' others meets meets' a b = record {

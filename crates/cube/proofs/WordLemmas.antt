@@ -225,14 +225,6 @@ module _ (words : List ℕ) (from w bit clear : ℕ) (begins : bit ≡ from - 64
       ap (λ v. bit_at (get_or words v 0) (k % 64)) here
       ∙ omega (arith, from_on (k % 64) above small, bit_at-lt (get_or words w 0) (k % 64))
 
-  pub set_more : clear ≡ 0 → (k : ℕ) → from ≤ k → k < 64 * (w + 1) → bit_of_words words k ≡ 1
-  set_more none' k le lt = elim (cases_lt k (64 * w)) [
-    | inl earlier ↦ set k le earlier
-    | inr late ↦
-        let here : k / 64 ≡ w = omega arith in
-        set_here k le here (ap (λ x. bit_at x (k % 64)) none' ∙ bit_at-zero (k % 64))
-  ]
-
   pub IsFirstClear-from_word : w < length words → clear < 2 ^ 64 → clear ≢ 0 → IsFirstClear words from (64 * w + trailing_zeros w64 clear)
   IsFirstClear-from_word lt fits ne =
       let first = bit_at-trailing_zeros w64 clear (omega arith) fits in

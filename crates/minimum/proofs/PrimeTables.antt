@@ -155,9 +155,6 @@ module _ (size : Size) (primes on dc : List Cube) (primes_are : AreCubes size pr
     dc_candidates = all_candidates dc (region_of j) ndc c;
   })
 
-  pub rows_none : RowsSoFar primes on dc 0 []
-  rows_none = record { demands = tt; has_rows = λ p low want. absurd (let l = ltb-true p.output 0 low in omega arith) }
-
   pub rows_more : (j : ℕ) (region : Cube) (old new : List (List ℕ)) → j < size.outputs → region ≡ region_of j → RowsSoFar primes on dc j old → AddsRows primes on dc (holds region) old new → RowsSoFar primes on dc (j + 1) new
   rows_more j region old new lt e before adds = record {
     demands = adds.demands before.demands;

@@ -55,10 +55,6 @@ abbrev pub among : List Cube → Cube → List ℕ → ℕ → Place → Bool
 among cubes region numbers k = intersection (holds region) (λ p. list_any (λ i. holds_at cubes i p) (take k numbers))
 
 module _ (primes on dc : List Cube) (region : Cube) (numbers : List ℕ) where
-  pub parted_none : (rows : List (List ℕ)) → AddsRows primes on dc (among on region numbers 0) rows rows
-  parted_none rows = adds_nothing primes on dc (among on region numbers 0) rows
-      (λ p h want. absurd (false≢true ((and_parts (holds region p) false h).1)))
-
   module _ (k : ℕ) (lt : k < length numbers) (c : Cube) (below : get_or numbers k 0 < length on) (at : c ≡ get_or on (get_or numbers k 0) c) where
     next_cases : (p : Place) → among on region numbers (k + 1) p ≡ true → (among on region numbers k p ≡ true) ⊎ (holds c p ≡ true)
     next_cases p h =

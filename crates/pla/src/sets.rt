@@ -166,10 +166,6 @@ fn outside_both(list: &Cover, other: &Cover) -> Result<Cover, AllocError>
     }) }
 {
     let mut both = list.try_clone()?;
-    for cube in other.as_slice() {
-        if both.push(cube.try_clone()?).is_err() {
-            return Err(AllocError);
-        }
-    }
+    both.append(other)?;
     both.complement()
 }
