@@ -1,26 +1,12 @@
-//! Tests of the public calls of `pla` and `minimum`.
+//! Tests of the public calls of `minimum`.
 //!
-//! They stand in a crate of their own, as those of `cube` and `cover` do, since the crate that a
+//! They stand in a crate of their own, as those of the crates below do, since the crate that a
 //! test stands in is proved a second time with it.
 #![tactic(auto)]
 
 #[cfg(test)]
-mod devices;
-#[cfg(test)]
-mod laws;
-#[cfg(test)]
-mod over_std;
-#[cfg(test)]
 mod primes;
-#[cfg(test)]
-mod printing;
-#[cfg(test)]
-mod reading;
-#[cfg(test)]
-mod sets;
 #[cfg(test)]
 mod solutions;
 #[cfg(test)]
 mod tables;
-#[cfg(test)]
-mod writing;

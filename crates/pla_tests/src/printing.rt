@@ -1,5 +1,5 @@
 //! Lists printed on an output that takes them and on one that fails.
-use crate::tables::read;
+use crate::reading::read;
 use pla::{OutType, Taken, write_covers};
 use std::alloc::Global;
 use std::test::Fail;

@@ -1,5 +1,5 @@
 //! The lists of the four types, asked for and not.
-use crate::tables::read;
+use crate::reading::read;
 use cover::Cover;
 use pla::{OutType, Pla, Sets, Taken, open_dc, open_off, write_pla};
 use std::alloc::Global;

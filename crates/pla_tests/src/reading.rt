@@ -2,10 +2,17 @@
 //! program.
 ghost use Rattle.std.specs.Prelude.{◌<◌};
 
-use crate::tables::read;
-use pla::{Echo, Ending, FileType, Given, ReadFault, ReadKind, Scan, Taken, read_pla};
+use pla::{Echo, Ending, FileType, Given, Pla, ReadFault, ReadKind, Scan, Taken, read_pla};
 use std::alloc::Global;
 use std::test::Fail;
+
+/// What a file describes.
+pub(crate) fn read(alloc: Global, text: &[u8]) -> Result<Pla, Fail> {
+    let mut input = Given::new(text.to_vec(alloc)?, 4096, Ending::End);
+    let mut output = Taken::new(alloc, 0, 1, false)?;
+    let read = read_pla(alloc, &mut input, &mut output, Echo::Eat);
+    Ok(read.ok().ok_or("the file has a fault")?)
+}
 
 /// A small file: comments, an unknown keyword, names, and rows that go over lines.
 const TEXT: &[u8] =
