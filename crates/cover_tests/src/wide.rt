@@ -27,7 +27,7 @@ const KINDS: [Kind; 6] = [
     Kind::Universal,
 ];
 
-// A row that is told element by element, with the input where its kind's symbol is replaced.
+// A row whose elements are computed one by one, with the input where its kind's symbol is replaced.
 #[derive(Clone, Copy)]
 struct Row {
     inputs: usize,

@@ -253,7 +253,7 @@ fn an_output_takes_the_whole_echo(rt: HostRuntime) -> Result<(), Fail> {
 }
 
 #[test]
-fn a_flush_that_fails_at_the_end_is_told(rt: HostRuntime) -> Result<(), Fail> {
+fn a_flush_that_fails_at_the_end_is_reported(rt: HostRuntime) -> Result<(), Fail> {
     let output = Taken::new(rt.alloc(), 100, 100, true)?;
     let fault = Status::Fault;
     assert!(rt; echo_leaves(rt.alloc(), TEXT, output, PRINTED, WRITE_FAILED, fault)?);
@@ -261,7 +261,7 @@ fn a_flush_that_fails_at_the_end_is_told(rt: HostRuntime) -> Result<(), Fail> {
 }
 
 #[test]
-fn a_flush_that_fails_behind_a_fault_is_not_told(rt: HostRuntime) -> Result<(), Fail> {
+fn a_flush_that_fails_after_a_fault_is_not_reported(rt: HostRuntime) -> Result<(), Fail> {
     let output = Taken::new(rt.alloc(), 100, 100, true)?;
     let message = b"espresso: (stdin):0: .i or .o missing\n";
     assert!(rt; echo_leaves(rt.alloc(), b"", output, b"", message, Status::Fault)?);
