@@ -389,23 +389,66 @@ impl Table {
         join(alloc, self.taken_columns(), self.live_columns())
     }
 
-    /// A cover that a local search comes upon.
-    fn some_cover(&self, alloc: Global, choice: Choice) -> Result<Vec<usize>, AllocError>
+    /// A cover that a local search comes upon in so many steps a row, in fewer if it comes to so few
+    /// columns and nothing is counted.
+    fn some_cover(
+        &self,
+        alloc: Global,
+        choice: Choice,
+        columns: usize,
+        steps: usize,
+    ) -> Result<Vec<usize>, AllocError>
         ensures { IfOk result (λ v. IsCover self.now v.items) }
     {
         let budget = Budget {
             columns: self.columns(),
             counts: u128::MAX,
         };
+        let others = columns.saturating_sub(self.taken_columns().len());
         let goal = Goal {
-            columns: 0,
+            columns: i64::try_from(others).unwrap_or(0),
             counts: 0,
         };
         let all = self.all_columns(alloc)?;
-        match self.witness(alloc, choice, budget, goal, 200)? {
+        match self.witness(alloc, choice, budget, goal, steps)? {
             None => Ok(all),
             Some(cover) => Ok(cover),
         }
+    }
+
+    /// How many columns each cover has, where one has so many, as far as row weights show: a wish.
+    fn least_length(
+        &self,
+        alloc: Global,
+        columns: usize,
+        warm_start: &mut WarmStart,
+    ) -> Result<usize, AllocError> {
+        let asked = columns.saturating_sub(1);
+        let budget = Budget {
+            columns: asked,
+            counts: 0,
+        };
+        match self.columns_within_budget(alloc, Choice::First, budget, warm_start)? {
+            None => Ok(columns),
+            Some(_) => {
+                let missing = usize::try_from(warm_start.missing).unwrap_or(usize::MAX);
+                Ok(asked.saturating_sub(missing))
+            }
+        }
+    }
+
+    /// A cover that is likely short: a bound on the length says when a local search is at its end.
+    fn short_cover(
+        &self,
+        alloc: Global,
+        choice: Choice,
+        warm_start: &mut WarmStart,
+    ) -> Result<Vec<usize>, AllocError>
+        ensures { IfOk result (λ v. IsCover self.now v.items) }
+    {
+        let greedy = self.some_cover(alloc, Choice::First, 0, 1)?;
+        let least = self.least_length(alloc, greedy.len(), warm_start)?;
+        self.some_cover(alloc, choice, least, 200)
     }
 
     /// A cover of the least length.
@@ -417,7 +460,7 @@ impl Table {
     ) -> Result<Vec<usize>, AllocError>
         ensures { IfOk result (λ v. IsBest Choice.First self.now v.items) }
     {
-        let mut cover = self.some_cover(alloc, choice)?;
+        let mut cover = self.short_cover(alloc, choice, warm_start)?;
         while let Some(shorter) = self.shorter(alloc, cover.len(), warm_start)? {
             cover = shorter;
         }

@@ -10,6 +10,8 @@
 //! quarter of the way to their mean. A search hands its weights on. The cost is that of reading all
 //! rows some times a step; whatever comes out is looked at before it is used.
 
+ghost use Rattle.std.specs.Prelude.{◌≤◌};
+
 use crate::choice::Choice;
 use crate::covering::columns::{copy_rows, count};
 use std::alloc::{AllocError, Global};
@@ -20,8 +22,10 @@ pub(crate) const UNIT: i64 = 16777216;
 /// How likely a column is thought to be at most.
 const LIKELIEST: i64 = 1048576;
 
-/// How many steps are made for a bound.
-const STEPS: u32 = 150;
+/// How many steps are made for a bound on the length, and for one on what is counted.
+const STEPS: u32 = 100;
+
+const COUNT_STEPS: u32 = 150;
 
 /// The first length of a step; a step that is shorter than the last brings nothing.
 const PACE: i64 = 1024;
@@ -87,9 +91,14 @@ fn rows_by_column(
     rows: &[Vec<usize>],
     columns: usize,
 ) -> Result<Vec<Vec<usize>>, AllocError> {
+    let mut counts: Vec<i64> = vec![in alloc; 0; columns]?;
+    for row in rows {
+        shift(&mut counts, row, 1);
+    }
     let mut column_rows: Vec<Vec<usize>> = Vec::with_capacity(alloc, columns)?;
-    for _ in 0..columns {
-        column_rows.push(Vec::new(alloc))?;
+    for number in &counts {
+        let number = usize::try_from(*number).unwrap_or(0);
+        column_rows.push(Vec::with_capacity(alloc, number)?)?;
     }
     for (i, row) in rows.iter().enumerate() {
         for column in row {
@@ -199,13 +208,14 @@ struct Course {
     again: bool,
 }
 
-/// What each column bears.
-fn load(loads: &mut Vec<i64>, rows: &[Vec<usize>], weights: &[i64]) {
-    for load in loads.iter_mut() {
-        *load = 0;
-    }
-    for (i, row) in rows.iter().enumerate() {
-        shift(loads, row, at(weights, i));
+/// What each column bears: the weights of its rows.
+fn load(loads: &mut Vec<i64>, column_rows: &[Vec<usize>], weights: &[i64]) {
+    for (column, rows) in column_rows.iter().enumerate() {
+        let mut sum: i64 = 0;
+        for row in rows {
+            sum = sum.wrapping_add(at(weights, *row));
+        }
+        put(loads, column, sum);
     }
 }
 
@@ -242,16 +252,6 @@ fn room(row: &[usize], loads: &[i64], scaled_costs: &[i64]) -> i64 {
     if row.is_empty() { 0 } else { least.max(0) }
 }
 
-/// How far the relaxed choice falls short of one column for the row: less than nothing if it has
-/// more.
-fn violation(row: &[usize], relaxed: &[i64]) -> i64 {
-    let mut violation: i64 = 1;
-    for column in row {
-        violation = violation.wrapping_sub(at(relaxed, *column));
-    }
-    violation
-}
-
 /// The rows by rising weight.
 fn by_weight(alloc: Global, weights: &[i64]) -> Result<Vec<(i64, usize)>, AllocError> {
     let mut order: Vec<(i64, usize)> = Vec::with_capacity(alloc, weights.len())?;
@@ -263,7 +263,14 @@ fn by_weight(alloc: Global, weights: &[i64]) -> Result<Vec<(i64, usize)>, AllocE
 }
 
 impl Ascent {
-    /// The scaled costs under the multiplier of a column.
+    /// How many steps are made.
+    fn steps(&self) -> u32
+        ensures { 4 ≤ result }
+    {
+        if self.count > 0 { COUNT_STEPS } else { STEPS }
+    }
+
+    /// The scaled costs under the multiplier of a column, which stays where nothing is counted.
     fn set_scaled_costs(&mut self, costs: &[i64], column: i64) {
         let count = self.count;
         for (i, scaled_cost) in self.scaled_costs.iter_mut().enumerate() {
@@ -289,8 +296,10 @@ impl Ascent {
         goal: Goal,
     ) -> Result<(), AllocError> {
         let mut weights = weights;
-        self.set_scaled_costs(&table.costs, column);
-        load(&mut self.loads, &table.rows, &weights);
+        if self.count > 0 {
+            self.set_scaled_costs(&table.costs, column);
+        }
+        load(&mut self.loads, &table.column_rows, &weights);
         let order = by_weight(alloc, &weights)?;
         for (_, i) in order.iter() {
             if *i < table.rows.len() {
@@ -319,6 +328,20 @@ impl Ascent {
         Ok(())
     }
 
+    /// How many columns of the relaxed choice, those that bear more than their scaled costs, each
+    /// row has, and how many there are.
+    fn relaxed(&self, alloc: Global, table: &Compact) -> Result<(Vec<i64>, i64), AllocError> {
+        let mut held: Vec<i64> = vec![in alloc; 0; table.rows.len()]?;
+        let mut chosen: i64 = 0;
+        for (i, rows) in table.column_rows.iter().enumerate() {
+            if at(&self.loads, i) > at(&self.scaled_costs, i) {
+                shift(&mut held, rows, 1);
+                chosen = chosen.wrapping_add(1);
+            }
+        }
+        Ok((held, chosen))
+    }
+
     /// A step in the direction, which is the violation with three quarters of the last direction.
     fn step(
         &mut self,
@@ -327,17 +350,10 @@ impl Ascent {
         goal: Goal,
         far: i64,
     ) -> Result<(), AllocError> {
-        let mut relaxed: Vec<i64> = Vec::with_capacity(alloc, self.loads.len())?;
-        for (i, load) in self.loads.iter().enumerate() {
-            relaxed.push(if *load > at(&self.scaled_costs, i) {
-                1
-            } else {
-                0
-            })?;
-        }
+        let (held, chosen) = self.relaxed(alloc, table)?;
         let mut square: i64 = 0;
-        for (i, row) in table.rows.iter().enumerate() {
-            let slope = violation(row, &relaxed).wrapping_mul(16);
+        for (i, number) in held.iter().enumerate() {
+            let slope = 1i64.wrapping_sub(*number).wrapping_mul(16);
             let last = at(&self.direction, i).wrapping_mul(12) >> 4;
             let direction = slope.wrapping_add(last);
             put(&mut self.direction, i, direction);
@@ -346,7 +362,7 @@ impl Ascent {
             }
         }
         if self.count > 0 {
-            let slope = total(&relaxed).wrapping_sub(goal.columns).wrapping_mul(16);
+            let slope = chosen.wrapping_sub(goal.columns).wrapping_mul(16);
             self.column_direction = slope.wrapping_add(self.column_direction.wrapping_mul(12) >> 4);
             square = square.wrapping_add(self.column_direction.wrapping_mul(self.column_direction));
         }
@@ -380,8 +396,10 @@ impl Ascent {
 
     /// What the weights say of a cover now, with what each column bears.
     fn weigh(&mut self, table: &Compact, goal: Goal) -> i64 {
-        self.set_scaled_costs(&table.costs, self.column);
-        load(&mut self.loads, &table.rows, &self.weights);
+        if self.count > 0 {
+            self.set_scaled_costs(&table.costs, self.column);
+        }
+        load(&mut self.loads, &table.column_rows, &self.weights);
         self.value(&self.weights, self.column, goal)
     }
 
@@ -408,7 +426,7 @@ impl Ascent {
         step: u32,
         value: i64,
     ) -> Result<bool, AllocError> {
-        if step % (STEPS / 4) == 0 {
+        if step % (self.steps() / 4) == 0 {
             let weights = self.weights.to_vec(alloc)?;
             self.polish(alloc, table, weights, self.column, goal)?;
             if self.best_value > 0 {
@@ -443,7 +461,7 @@ impl Ascent {
             return Ok(true);
         }
         course.again = true;
-        course.last = step.wrapping_add(STEPS);
+        course.last = step.wrapping_add(self.steps());
         self.kick(alloc)?;
         Ok(false)
     }
@@ -651,10 +669,10 @@ impl WarmStart {
         ascent: &mut Ascent,
     ) -> Result<(), AllocError> {
         let mut course = Course {
-            last: STEPS,
+            last: ascent.steps(),
             again: false,
         };
-        for step in 0..STEPS * 2 + 2 {
+        for step in 0..COUNT_STEPS * 2 + 2 {
             let value = ascent.weigh(table, goal);
             self.note_likely(live, ascent, step == 0);
             ascent.note(alloc, value)?;
@@ -697,11 +715,14 @@ impl WarmStart {
     ) -> Result<(), AllocError> {
         self.rows = copy_rows(alloc, rows)?;
         self.weights = ascent.top_weights.to_vec(alloc)?;
-        if ascent.count > 0 {
+        let short = 0i64.wrapping_sub(ascent.best_value).max(0);
+        let missing = if ascent.count > 0 {
             self.column = ascent.top_column;
-            let missing = 0i64.wrapping_sub(ascent.best_value).max(0) / ascent.count.max(1);
-            self.missing = u64::try_from(missing).unwrap_or(0);
-        }
+            short / ascent.count.max(1)
+        } else {
+            short / UNIT
+        };
+        self.missing = u64::try_from(missing).unwrap_or(0);
         Ok(())
     }
 }
