@@ -169,10 +169,13 @@ fn result_of(operation: Operation, list: &Cover, other: &Cover) -> Result<Cover,
     }
 }
 
+// So many inputs stand before those of a case, once none and once more than four words have.
+const BEFORE: [usize; 2] = [0, 140];
+
 // Whether the operation of the case makes its last rows of the others.
-fn makes(alloc: Global, case: &Made) -> Result<bool, Fail> {
+fn makes(alloc: Global, case: &Made, before: usize) -> Result<bool, Fail> {
     let (operation, inputs, outputs, rows, others, made) = *case;
-    let shape = Shape::new(inputs, outputs).ok_or("limits")?;
+    let shape = Shape::new(inputs.saturating_add(before), outputs).ok_or("limits")?;
     let list = cover_of(alloc, shape, rows)?;
     let other = cover_of(alloc, shape, others)?;
     Ok(are_written(result_of(operation, &list, &other)?.as_slice(), made))
@@ -180,8 +183,10 @@ fn makes(alloc: Global, case: &Made) -> Result<bool, Fail> {
 
 #[test]
 fn lists_make_lists(rt: HostRuntime) -> Result<(), Fail> {
-    for case in &MADE {
-        assert!(rt; makes(rt.alloc(), case)?);
+    for before in BEFORE {
+        for case in &MADE {
+            assert!(rt; makes(rt.alloc(), case, before)?);
+        }
     }
     Ok(())
 }
@@ -294,7 +299,8 @@ const ANSWERS: [Answer; 13] = [
 fn lists_rows(list: &Cover) -> bool {
     match list.get(1) {
         Some(cube) => {
-            let is_rest = list.get(2).is_none() && list.shape().inputs() == 2;
+            let inputs = list.shape().inputs();
+            let is_rest = list.get(2).is_none() && (inputs == 2 || inputs == 142);
             is_rest && list.len() == 2 && !list.is_empty() && is_written(cube, "01 1")
         }
         None => false,
@@ -319,9 +325,9 @@ fn answer(question: Question, list: &Cover, other: &Cover, free: &Cover) -> Resu
 }
 
 // Whether the lists of the case answer its question so.
-fn answers(alloc: Global, case: &Answer) -> Result<bool, Fail> {
+fn answers(alloc: Global, case: &Answer, before: usize) -> Result<bool, Fail> {
     let (question, inputs, outputs, rows, others, frees, yes) = *case;
-    let shape = Shape::new(inputs, outputs).ok_or("limits")?;
+    let shape = Shape::new(inputs.saturating_add(before), outputs).ok_or("limits")?;
     let list = cover_of(alloc, shape, rows)?;
     let other = cover_of(alloc, shape, others)?;
     let free = cover_of(alloc, shape, frees)?;
@@ -330,8 +336,10 @@ fn answers(alloc: Global, case: &Answer) -> Result<bool, Fail> {
 
 #[test]
 fn lists_answer(rt: HostRuntime) -> Result<(), Fail> {
-    for case in &ANSWERS {
-        assert!(rt; answers(rt.alloc(), case)?);
+    for before in BEFORE {
+        for case in &ANSWERS {
+            assert!(rt; answers(rt.alloc(), case, before)?);
+        }
     }
     Ok(())
 }

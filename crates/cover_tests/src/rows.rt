@@ -45,14 +45,26 @@ fn inputs_of(row: &[u8]) -> usize {
     row.len()
 }
 
-// The cube of a row: symbols, a space, outputs.
-pub(crate) fn cube_of(alloc: Global, row: &str) -> Result<Cube, Fail> {
+// The cube of a row, with so many inputs before those of the row, at which it has `-`.
+fn wide_cube_of(alloc: Global, row: &str, more: usize) -> Result<Cube, Fail> {
     let row = row.as_bytes();
     let inputs = inputs_of(row);
     if inputs >= row.len() {
         return Err("no space")?;
     }
-    Ok(cube_of_bytes(alloc, &row[..inputs], &row[inputs + 1..], 1)?.ok_or("no output")?)
+    let mut symbols: Vec<u8> = vec![in alloc; b'-'; more]?;
+    symbols.extend_from_slice(&row[..inputs])?;
+    Ok(cube_of_bytes(alloc, &symbols, &row[inputs + 1..], 1)?.ok_or("no output")?)
+}
+
+// The cube of a row: symbols, a space, outputs.
+pub(crate) fn cube_of(alloc: Global, row: &str) -> Result<Cube, Fail> {
+    wide_cube_of(alloc, row, 0)
+}
+
+// How many inputs stand before those of the row in a list of so many.
+fn inputs_before(inputs: usize, row: &str) -> usize {
+    inputs.saturating_sub(inputs_of(row.as_bytes()))
 }
 
 // Fails where the shapes are not the same.
@@ -76,13 +88,14 @@ pub(crate) fn holds(list: &Cover, cube: &Cube) -> Result<bool, Fail> {
     Ok(list.holds_cube(cube)?)
 }
 
-// The list of these rows.
+// The list of these rows, wider ones where the shape has more inputs.
 pub(crate) fn cover_of(alloc: Global, shape: Shape, rows: &[&str]) -> Result<Cover, Fail>
     ensures { IfOk result (λ c. c.size ≡ shape) }
 {
     let mut list = Cover::new(alloc, shape);
     for row in rows {
-        push(&mut list, cube_of(alloc, row)?)?;
+        let more = inputs_before(shape.inputs(), row);
+        push(&mut list, wide_cube_of(alloc, row, more)?)?;
     }
     same_shape(shape, list.shape())?;
     Ok(list)
@@ -113,15 +126,21 @@ fn byte_at(cube: &Cube, k: usize) -> u8 {
     }
 }
 
-// Whether the cube is written so.
+// Whether the cube is written so, after `-` for the inputs that the row lacks.
 pub(crate) fn is_written(cube: &Cube, row: &str) -> bool {
-    let row = row.as_bytes();
-    for k in 0..row.len() {
-        if row[k] != byte_at(cube, k) {
+    let more = inputs_before(cube.shape().inputs(), row);
+    for k in 0..more {
+        if byte_at(cube, k) != b'-' {
             return false;
         }
     }
-    byte_at(cube, row.len()) == b'\n'
+    let row = row.as_bytes();
+    for k in 0..row.len() {
+        if row[k] != byte_at(cube, k.saturating_add(more)) {
+            return false;
+        }
+    }
+    byte_at(cube, row.len().saturating_add(more)) == b'\n'
 }
 
 // Whether the cubes are written so, each as a row.

@@ -347,11 +347,15 @@ fn replaced_agrees(cube: &Cube, row: Row, i: usize) -> Result<bool, Fail> {
     Ok(is_row(&other, Row { replaced, ..row }))
 }
 
-// Whether each call agrees on the cube and on it beside those of each kind.
+// Whether each call agrees on the cube and on it beside those of each kind, and nothing is left of
+// it without itself.
 fn all_agree(alloc: Global, row: Row, cube: &Cube) -> Result<bool, Fail> {
     let middle = row.inputs / 2;
     let is_alike = row_agrees(cube, row) && copy_agrees(cube, row, middle)?;
     if !is_alike || !replaced_agrees(cube, row, middle)? {
+        return Ok(false);
+    }
+    if !cube.sharp(cube)?.is_empty() {
         return Ok(false);
     }
     for kind in KINDS {

@@ -94,6 +94,20 @@ fn essential_primes_are_printed(rt: HostRuntime) -> Result<(), Fail> {
     Ok(())
 }
 
+#[test]
+fn a_wide_cube_alone_is_essential(rt: HostRuntime) -> Result<(), Fail> {
+    let mut text = b".i 140\n.o 1\n".to_vec(rt.alloc())?;
+    for _ in 0..140 {
+        text.push(b'1')?;
+    }
+    text.extend_from_slice(b" 1\n.e\n")?;
+    let pla = read(rt.alloc(), &text)?;
+    let sets = Sets::of(rt.alloc(), &pla, true, false)?;
+    let found = essential(rt.alloc(), &sets, &primes(&sets)?)?;
+    assert!(rt; found.len() == 1);
+    Ok(())
+}
+
 /// The function of three inputs that gives point k the k-th of these digits: on, free or off.
 fn function(alloc: Global, code: usize) -> Result<Vec<u8>, AllocError> {
     let mut text = b".i 3\n.o 1\n".to_vec(alloc)?;
