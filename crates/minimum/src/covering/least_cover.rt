@@ -389,7 +389,7 @@ impl Table {
         join(alloc, self.taken_columns(), self.live_columns())
     }
 
-    /// A cover that a local search comes upon in so many steps a row, in fewer if it comes to so few
+    /// A cover that a local search comes upon in so many steps a row, or in fewer once it has so few
     /// columns and nothing is counted.
     fn some_cover(
         &self,
