@@ -389,8 +389,8 @@ impl Table {
         join(alloc, self.taken_columns(), self.live_columns())
     }
 
-    /// A cover that a local search comes upon in so many steps a row, or in fewer once it has so few
-    /// columns and nothing is counted.
+    /// A cover that a local search comes upon, in so many steps a row or once it has so few columns
+    /// and nothing is counted.
     fn some_cover(
         &self,
         alloc: Global,
