@@ -169,8 +169,11 @@ fn result_of(operation: Operation, list: &Cover, other: &Cover) -> Result<Cover,
     }
 }
 
-// So many inputs stand before those of a case, once none and once more than four words have.
-const BEFORE: [usize; 2] = [0, 140];
+// More inputs than four words have.
+const MANY: usize = 140;
+
+// So many inputs stand before those of a case, each time.
+const BEFORE: [usize; 2] = [0, MANY];
 
 // Whether the operation of the case makes its last rows of the others.
 fn makes(alloc: Global, case: &Made, before: usize) -> Result<bool, Fail> {
@@ -300,7 +303,7 @@ fn lists_rows(list: &Cover) -> bool {
     match list.get(1) {
         Some(cube) => {
             let inputs = list.shape().inputs();
-            let is_rest = list.get(2).is_none() && (inputs == 2 || inputs == 142);
+            let is_rest = list.get(2).is_none() && (inputs == 2 || inputs == MANY + 2);
             is_rest && list.len() == 2 && !list.is_empty() && is_written(cube, "01 1")
         }
         None => false,

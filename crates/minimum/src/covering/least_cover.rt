@@ -416,7 +416,8 @@ impl Table {
         }
     }
 
-    /// How many columns each cover has, where one has so many, as far as row weights show: a wish.
+    /// How many columns each cover has at least, if one has so many, as far as row weights show: a
+    /// wish.
     fn least_length(
         &self,
         alloc: Global,

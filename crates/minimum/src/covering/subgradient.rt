@@ -10,8 +10,6 @@
 //! quarter of the way to their mean. A search hands its weights on. The cost is that of reading all
 //! rows some times a step; whatever comes out is looked at before it is used.
 
-ghost use Rattle.std.specs.Prelude.{◌≤◌};
-
 use crate::choice::Choice;
 use crate::covering::columns::{copy_rows, count};
 use std::alloc::{AllocError, Global};
@@ -22,9 +20,10 @@ pub(crate) const UNIT: i64 = 16777216;
 /// How likely a column is thought to be at most.
 const LIKELIEST: i64 = 1048576;
 
-/// How many steps are made for a bound on the length, and for one on what is counted.
+/// How many steps are made for a bound on the length.
 const STEPS: u32 = 100;
 
+/// How many are made for a bound on what is counted.
 const COUNT_STEPS: u32 = 150;
 
 /// The first length of a step; a step that is shorter than the last brings nothing.
@@ -264,9 +263,7 @@ fn by_weight(alloc: Global, weights: &[i64]) -> Result<Vec<(i64, usize)>, AllocE
 
 impl Ascent {
     /// How many steps are made.
-    fn steps(&self) -> u32
-        ensures { 4 ≤ result }
-    {
+    fn steps(&self) -> u32 {
         if self.count > 0 { COUNT_STEPS } else { STEPS }
     }
 
@@ -426,7 +423,7 @@ impl Ascent {
         step: u32,
         value: i64,
     ) -> Result<bool, AllocError> {
-        if step % (self.steps() / 4) == 0 {
+        if step % (self.steps() / 4).max(1) == 0 {
             let weights = self.weights.to_vec(alloc)?;
             self.polish(alloc, table, weights, self.column, goal)?;
             if self.best_value > 0 {
