@@ -1,7 +1,7 @@
 -- What packed words stand for.
-use Rattle.std.proofs.Common.{◌≡◌, ◌≢◌, ℕ, ◌+◌, ◌*◌, ◌/◌, ◌%◌, ◌^◌, ◌<◌, ◌≤◌, Bool, true, false, cond, eq-eqb, ne_eqb, List, length, take, drop, get_or, slice_get, Some, refl, ap, sym, subst, ◌∙◌, arith, eqb, bit_and, inl, inr}
+use Rattle.std.proofs.Common.{◌≡◌, ◌≢◌, ℕ, ◌+◌, ◌*◌, ◌/◌, ◌%◌, ◌^◌, ◌<◌, ◌≤◌, Bool, true, false, cond, eq-eqb, ne_eqb, List, [], ◌∷◌, ◌++◌, length, length-append, take, drop, get_or, slice_get, Some, refl, ap, sym, subst, ◌∙◌, arith, eqb, bit_and, inl, inr}
 use Rattle.std.specs.Int.{bit_at}
-use Rattle.std.proofs.lemmas.List.{same_lists, get_or_default, get_or_past, get_or-take, get_or-drop, length-take, length-drop}
+use Rattle.std.proofs.lemmas.List.{same_lists, get_or_append_left, get_or_push, get_or_default, get_or_past, get_or-take, get_or-drop, length-take, length-drop}
 use Rattle.std.proofs.lemmas.Bool.{cond-true, cond-false, cases_lt, false≢true}
 use Rattle.std.proofs.lemmas.List.FromFn.{length-map-range_with_len, get_or-map-range_with_len}
 use Rattle.std.proofs.lemmas.Option.{slice_get-get_or}
@@ -9,7 +9,7 @@ use Rattle.std.proofs.lemmas.Nat.Bits.{shr_and_one}
 use Rattle.cube.specs.declared.symbol.Symbol.{Symbol}
 use Rattle.cube.specs.declared.symbol.Symbol.TheVariants.{Dash, Zero, One}
 use Rattle.cube.specs.Pattern.{agrees}
-use Rattle.cube.specs.Cube.{Cube}
+use Rattle.cube.specs.Cube.{Cube, SameSize, word_count}
 use Rattle.cube.specs.Packing.{input_words, output_words, low_bit, high_bit, output_bit, bit_of, IsInputWord, IsOutputWord, PacksInputs, PacksOutputs, symbol_of, symbols_of, outputs_of, unpacked, Packs, IsPacked}
 
 pub symbol_of-agrees : (s : Symbol) → symbol_of (bit_of (agrees s false)) (bit_of (agrees s true)) ≡ s
@@ -31,6 +31,11 @@ length-symbols n m ws c e =
 pub length-outputs : (n m : ℕ) (ws : List ℕ) (c : Cube) → unpacked n m ws ≡ c → length c.outputs ≡ m
 length-outputs n m ws c e =
     ap (λ v. length v.outputs) (sym e) ∙ length-map-range_with_len (λ j. eqb (output_bit (input_words n) ws j) 1) 0 m
+
+-- what is kept under one shape has one size
+pub SameSize-of_shape : (n m : ℕ) (ws vs : List ℕ) (c : Cube) → unpacked n m ws ≡ c → SameSize (unpacked n m vs) c
+SameSize-of_shape n m ws vs c e =
+    (length-symbols n m vs _ refl ∙ sym (length-symbols n m ws c e), length-outputs n m vs _ refl ∙ sym (length-outputs n m ws c e))
 
 -- a symbol, as its two bits are read
 pub slice_get-symbols : (n m : ℕ) (ws : List ℕ) (c : Cube) (i : ℕ) (s : Symbol) → unpacked n m ws ≡ c
@@ -135,6 +140,15 @@ length-words c ws p =
       length-take (input_words (length c.symbols)) ws,
       length-drop (input_words (length c.symbols)) ws,
     )
+
+pub word_within : (c : Cube) (ws : List ℕ) → Packs c ws → (i : ℕ) → i < length c.symbols → i / 32 < length ws
+word_within c ws p i lt = omega (arith, length-words c ws p)
+
+pub few_words : (c : Cube) (ws : List ℕ) → Packs c ws → word_count c ≤ 4 → length ws ≤ 4
+few_words c ws p few = omega (arith, length-words c ws p, few)
+
+pub same_words : (a b : Cube) (ws vs : List ℕ) → SameSize a b → Packs a ws → Packs b vs → length ws ≡ length vs
+same_words a b ws vs size pa pb = omega (arith, length-words a ws pa, length-words b vs pb, size.0, size.1)
 
 pub input_word_of : (c : Cube) (ws : List ℕ) → Packs c ws → (v : ℕ) → v < input_words (length c.symbols)
     → IsInputWord c.symbols v (get_or ws v 0)
@@ -270,3 +284,20 @@ IsOutputWord-from_loop os v count word done clear past = record {
     | inr after ↦ clear k lt after ∙ ap (λ b. bit_of b) (sym (get_or_past os (64 * v + k) false (past k lt after)))
   ];
 }
+
+-- what holds of each word holds of each after a push
+pub each_pushed : (P : ℕ → ℕ → Type 0) (xs ys : List ℕ) (x w : ℕ) → length xs ≡ w → ys ≡ xs ++ (x ∷ [])
+    → ((v : ℕ) → v < w → P v (get_or xs v 0)) → P w x → (length ys ≡ w + 1) × ((v : ℕ) → v < w + 1 → P v (get_or ys v 0))
+each_pushed P xs ys x w len is before here = (omega (arith, ap (λ l. length l) is, length-append xs (x ∷ [])), each)
+  where
+    each : (v : ℕ) → v < w + 1 → P v (get_or ys v 0)
+    each v lt = elim (cases_lt v w) [
+      | inl less ↦
+          let Q : ℕ → Type 0 = λ z. P v z in
+          subst Q (sym (get_or_append_left xs (x ∷ []) 0 v (omega arith)) ∙ ap (λ l. get_or l v 0) (sym is)) (before v less)
+      | inr above ↦
+          let e : w ≡ v = omega arith in
+          let Q : ℕ → Type 0 = λ z. P w z in
+          let R : ℕ → Type 0 = λ z. P z (get_or ys z 0) in
+          subst R e (subst Q (sym (get_or_push xs x 0 w len) ∙ ap (λ l. get_or l w 0) (sym is)) here)
+    ]

@@ -1,9 +1,10 @@
 //! A cube, kept in words.
-ghost use Rattle.std.specs.Prelude.{◌≡◌, ℕ, ◌+◌, ◌*◌, ◌<◌, ◌≤◌, ◌↔◌, IsTrue, IsOk, IsSome, IsNone, IfOk, IfSome, IfNone, OnOk, MatchOption, if◌then◌else◌, ◌++◌, length, map, take, drop, slice_get, slice_index_or, Some, Contains, not, true, false, List, Bool, ◌&&◌, ◌||◌};
+ghost use Rattle.std.specs.Prelude.{◌≡◌, ℕ, ◌+◌, ◌-◌, ◌*◌, max, ◌<◌, ◌≤◌, ◌↔◌, IsTrue, IsOk, IsSome, IsNone, IfOk, IfSome, IfNone, OnOk, MatchOption, if◌then◌else◌, ◌++◌, length, map, take, drop, slice_get, slice_index_or, Some, Contains, not, true, false, List, Bool, ◌&&◌, ◌||◌};
 ghost use Rattle.cube.specs.Cube.{HasSize, IsCube, SameSize, IsSubset, IsDisjoint, Place, holds, intersection, difference, word_count, size_of, with_symbol as cube_with_symbol, literals as literals_of, IsUniversal, IsNextLiteral, IsPlace};
 ghost use Rattle.cube.specs.Pattern.{agrees, matches};
 ghost use Rattle.cube.specs.Size.{words_of_size};
 ghost use Rattle.std.specs.Int.{bit_at};
+ghost use Rattle.cube.specs.Words.{IsBitDifference, freed_bit};
 ghost use Rattle.cube.specs.Join.{supercube};
 ghost use Rattle.cube.specs.Cofactor.{cofactor as cofactor_of};
 ghost use Rattle.cube.specs.Sharp.{minus, rest_row, rest_rows, pieces_below, splits, piece as piece_row};
@@ -340,7 +341,16 @@ impl Cube {
             *self.words.allocator(),
             self.words(),
             other.words(),
-            |k, mine, theirs| {
+            |k, mine, theirs|
+                ensures low { k < start → (i : ℕ) → i < 32
+                    → bit_at result (2 * i) ≡ freed_bit (bit_at mine (2 * i)) theirs i }
+                ensures high { k < start → (i : ℕ) → i < 32
+                    → bit_at result (2 * i + 1) ≡ freed_bit (bit_at mine (2 * i + 1)) theirs i }
+                ensures within { start ≤ k → (i : ℕ) → i < 64 → 64 * (k - start) + i < outputs
+                    → bit_at result i ≡ max (bit_at mine i) (1 - bit_at theirs i) }
+                ensures past { start ≤ k → (i : ℕ) → i < 64 → outputs ≤ 64 * (k - start) + i
+                    → bit_at result i ≡ bit_at mine i }
+            {
                 if k < start {
                     freed_word(mine, theirs)
                 } else {
@@ -587,7 +597,10 @@ impl Cube {
             *self.words.allocator(),
             self.words(),
             other.words(),
-            |k, mine, theirs| {
+            |k, mine, theirs|
+                ensures inputs { k < start → result ≡ mine }
+                ensures outputs { start ≤ k → IsBitDifference result mine theirs }
+            {
                 if k < start {
                     mine
                 } else {

@@ -1,6 +1,7 @@
-use Rattle.std.proofs.Common.{ap, ◌∙◌, rules}
+use Rattle.std.proofs.Common.{refl, ap, sym, ◌∙◌, rules}
+use Rattle.std.proofs.lemmas.Bool.{false≢true}
 use Rattle.cube.specs.Cube.{holds}
-use Rattle.cube.proofs.PackingLemmas.{length-symbols, length-outputs}
+use Rattle.cube.proofs.PackingLemmas.{length-symbols, length-outputs, few_words, same_words, SameSize-of_shape}
 use Rattle.cube.proofs.MeetLemmas.{meet-from_not_disjoint, IsPacked-common_row, holds-common_row}
 use Rattle.cube.proofs.cube.Cube.meet.Goals as goal
 
@@ -19,3 +20,21 @@ returns-clause-places c p =
     c.words.ensures.packs c.words-2.ensures.packs both.0 both.1 c.in_ok-words.ensures.len
     (λ k lt. let h = c.in_ok-words.ensures.words k lt in search (rules, h))).1
     ∙ holds-common_row _ _ c.requires both.0 p
+
+pub zip_words-requires-clause-same_len : goal.zip_words-requires-clause-same_len
+zip_words-requires-clause-same_len c = same_words _ _ _ _ c.requires c.words.ensures.packs c.words-2.ensures.packs
+
+pub returns-then-disjoint-clause-none : goal.returns-then-disjoint-clause-none
+returns-then-disjoint-clause-none c = (λ _. c.disjoint.ensures.0 c.if-disjoint.true, λ _. refl)
+
+pub returns-in_err-words-clause-inline : goal.returns-in_err-words-clause-inline
+returns-in_err-words-clause-inline c few = absurd (false≢true (c.in_err-words.ensures.inline (few_words _ _ c.words.ensures.packs few)))
+
+pub returns-clause-none : goal.returns-clause-none
+returns-clause-none c = (λ e _ _ _. false≢true (sym e), λ apart. sym (c.disjoint.ensures.1 apart) ∙ c.if-disjoint.false)
+
+pub returns-clause-size : goal.returns-clause-size
+returns-clause-size c = SameSize-of_shape _ _ _ c.in_ok-words.words.items _ c.self.view_is
+
+pub returns-clause-inline : goal.returns-clause-inline
+returns-clause-inline c _ = refl

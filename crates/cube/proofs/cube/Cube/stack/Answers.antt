@@ -1,8 +1,8 @@
-use Rattle.std.proofs.Common.{◌≡◌, ◌<◌, ◌≤◌, rules, length, ap, sym, ◌∙◌, arith}
+use Rattle.std.proofs.Common.{◌≡◌, ◌<◌, ◌≤◌, rules, length, refl, ap, sym, ◌∙◌, arith}
 use Rattle.std.proofs.lemmas.Bool.{false≢true}
 use Rattle.cube.specs.Cube.{holds}
 use Rattle.cube.specs.Packing.{input_words, IsPacked, unpacked}
-use Rattle.cube.proofs.PackingLemmas.{length-symbols, length-outputs, length-words}
+use Rattle.cube.proofs.PackingLemmas.{length-symbols, length-outputs, length-words, few_words, same_words, SameSize-of_shape}
 use Rattle.cube.proofs.MeetLemmas.{InputsMeet, InputsMeet-from_words}
 use Rattle.cube.proofs.StackLemmas.{stacked_row, holds-stacked_row, IsPacked-stacked_row, no_common_point}
 use Rattle.cube.proofs.cube.Cube.stack.Goals as goal
@@ -40,3 +40,15 @@ pub returns-then-not-pairs_meet_by_lanes-clause-none : goal.returns-then-not-pai
 returns-then-not-pairs_meet_by_lanes-clause-none c point in_a in_b =
     no_common_point _ _ c.requires _ _ c.input_part.ensures.packs c.input_part-2.ensures.packs
     (λ meet. false≢true (sym c.if-not-pairs_meet_by_lanes.true ∙ c.pairs_meet_by_lanes.ensures.1 meet)) point in_a in_b
+
+pub zip_words-requires-clause-same_len : goal.zip_words-requires-clause-same_len
+zip_words-requires-clause-same_len c = same_words _ _ _ _ c.requires c.words.ensures.packs c.words-2.ensures.packs
+
+pub returns-in_err-words-clause-inline : goal.returns-in_err-words-clause-inline
+returns-in_err-words-clause-inline c few = absurd (false≢true (c.in_err-words.ensures.inline (few_words _ _ c.words.ensures.packs few)))
+
+pub returns-clause-size : goal.returns-clause-size
+returns-clause-size c = SameSize-of_shape _ _ _ c.in_ok-words.words.items _ c.self.view_is
+
+pub returns-clause-inline : goal.returns-clause-inline
+returns-clause-inline c _ = refl

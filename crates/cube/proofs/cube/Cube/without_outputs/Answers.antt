@@ -1,7 +1,7 @@
-use Rattle.std.proofs.Common.{◌≡◌, ◌<◌, ◌≤◌, rules, length, ap, sym, ◌∙◌, arith}
+use Rattle.std.proofs.Common.{◌≡◌, length, ap, sym, ◌∙◌, arith}
 use Rattle.cube.specs.Sharp.{rest_row}
 use Rattle.cube.specs.Packing.{input_words, IsPacked, unpacked}
-use Rattle.cube.proofs.PackingLemmas.{length-symbols, length-outputs, length-words}
+use Rattle.cube.proofs.PackingLemmas.{length-symbols, length-outputs, length-words, same_words}
 use Rattle.cube.proofs.RestLemmas.{IsPacked-rest_row}
 use Rattle.cube.proofs.cube.Cube.without_outputs.Goals as goal
 
@@ -13,18 +13,14 @@ packed c =
     c.input_words-start.ensures.value ∙ ap (λ n. input_words n) (sym (length-symbols _ _ _ _ c.self.view_is)) in
     IsPacked-rest_row _ _ _ _ _ _ _ c.requires.size (length-symbols _ _ _ _ c.self.view_is) (length-outputs _ _ _ _ c.self.view_is)
     c.words.ensures.packs c.words-2.ensures.packs c.requires.some c.in_ok-words.ensures.len
-    (λ k lt.
-    let within : k < length c.words.result.now = omega (arith, length-words _ _ c.words.ensures.packs) in
-    let below : k < c.input_words-start.result = omega arith in
-    let h = c.in_ok-words.ensures.words k within in
-    search (rules, h))
-    (λ k le lt.
-    let above : c.input_words-start.result ≤ k = omega arith in
-    let h = c.in_ok-words.ensures.words k lt in
-    search (rules, h))
+    (λ k lt. (c.in_ok-words.ensures.words k (omega (arith, length-words _ _ c.words.ensures.packs))).0 (omega arith))
+    (λ k le lt. (c.in_ok-words.ensures.words k lt).1 (omega arith))
 
 pub invariant_of-result : goal.invariant_of-result
 invariant_of-result c = (packed c).0
 
 pub returns : goal.returns
 returns c = (packed c).1
+
+pub zip_words-requires-clause-same_len : goal.zip_words-requires-clause-same_len
+zip_words-requires-clause-same_len c = same_words _ _ _ _ c.requires.size c.words.ensures.packs c.words-2.ensures.packs
