@@ -7,7 +7,7 @@ ghost use Rattle.pla.specs.Echoes.{echo_of, kept_comment};
 
 use crate::device::Output;
 use crate::fault::Echo;
-use crate::header::{is_end, is_outside_profile};
+use crate::header::{is, is_end, is_outside_profile};
 use crate::line::{LineKind, keyword_code_of, keyword_of, kind_of};
 use crate::writing::{WriteFault, write_bytes, write_next};
 
@@ -45,14 +45,14 @@ fn is_known(keyword: &[u8]) -> bool
     ensures { result
         ≡ is_one_of (settings ++ endings ++ refused_keywords ++ codes ".p" ∷ []) keyword.now }
 {
-    keyword == b".i".as_slice()
-        || keyword == b".o".as_slice()
-        || keyword == b".ilb".as_slice()
-        || keyword == b".ob".as_slice()
-        || keyword == b".type".as_slice()
+    is(keyword, b".i")
+        || is(keyword, b".o")
+        || is(keyword, b".ilb")
+        || is(keyword, b".ob")
+        || is(keyword, b".type")
         || is_end(keyword)
         || is_outside_profile(keyword)
-        || keyword == b".p".as_slice()
+        || is(keyword, b".p")
 }
 
 /// What is passed on of a line, without a line feed.

@@ -1,5 +1,5 @@
 //! What the lines so far have given, and the tests of a line under it.
-ghost use Rattle.std.specs.Prelude.{◌≡◌, ℕ, ◌<◌, ◌≤◌, [], IfOk, OnOk, OnErr, Some, None, slice_index_or, drop, false};
+ghost use Rattle.std.specs.Prelude.{◌≡◌, ℕ, ◌<◌, ◌≤◌, [], IfOk, OnOk, OnErr, Some, None, slice_index_or, drop, false, bytes_eq};
 ghost use Rattle.std.specs.Option.{ForSome};
 ghost use Rattle.cube.specs.Limits.{format_limits};
 ghost use Rattle.pla.specs.Keywords.{texts, is_one_of, endings, refused_keywords, type_named, type_by};
@@ -54,17 +54,24 @@ fn is_other(count: usize, wanted: Option<usize>) -> bool
     }
 }
 
+/// Whether a word is this text.
+pub(crate) fn is(word: &[u8], text: &[u8]) -> bool
+    ensures { result ≡ bytes_eq word.now text.now }
+{
+    word == text
+}
+
 /// The type of this name.
 fn named_type(word: &[u8]) -> Option<FileType>
     ensures { result ≡ type_named word.now }
 {
-    if word == b"f".as_slice() {
+    if is(word, b"f") {
         Some(FileType::F)
-    } else if word == b"fd".as_slice() {
+    } else if is(word, b"fd") {
         Some(FileType::Fd)
-    } else if word == b"fr".as_slice() {
+    } else if is(word, b"fr") {
         Some(FileType::Fr)
-    } else if word == b"fdr".as_slice() {
+    } else if is(word, b"fdr") {
         Some(FileType::Fdr)
     } else {
         None
@@ -96,20 +103,20 @@ fn names_of(alloc: Global, words: &[&[u8]]) -> Result<Vec<Vec<u8>>, AllocError>
 pub fn is_end(keyword: &[u8]) -> bool
     ensures { result ≡ is_one_of endings keyword.now }
 {
-    keyword == b".e".as_slice() || keyword == b".end".as_slice()
+    is(keyword, b".e") || is(keyword, b".end")
 }
 
 /// Whether the keyword is one that this format refuses.
 pub(crate) fn is_outside_profile(keyword: &[u8]) -> bool
     ensures { result ≡ is_one_of refused_keywords keyword.now }
 {
-    keyword == b".mv".as_slice()
-        || keyword == b".label".as_slice()
-        || keyword == b".phase".as_slice()
-        || keyword == b".pair".as_slice()
-        || keyword == b".symbolic".as_slice()
-        || keyword == b".symbolic-output".as_slice()
-        || keyword == b".kiss".as_slice()
+    is(keyword, b".mv")
+        || is(keyword, b".label")
+        || is(keyword, b".phase")
+        || is(keyword, b".pair")
+        || is(keyword, b".symbolic")
+        || is(keyword, b".symbolic-output")
+        || is(keyword, b".kiss")
 }
 
 impl Head {
@@ -189,11 +196,11 @@ impl Head {
         requires { keyword.now ≡ keyword_on line.now }
         ensures { result ≡ is_repeated (seen self.now unfinished) line.now }
     {
-        keyword == b".i".as_slice() && self.inputs.is_some()
-            || keyword == b".o".as_slice() && self.outputs.is_some()
-            || keyword == b".ilb".as_slice() && self.input_names.is_some()
-            || keyword == b".ob".as_slice() && self.output_names.is_some()
-            || keyword == b".type".as_slice() && self.file_type.is_some()
+        is(keyword, b".i") && self.inputs.is_some()
+            || is(keyword, b".o") && self.outputs.is_some()
+            || is(keyword, b".ilb") && self.input_names.is_some()
+            || is(keyword, b".ob") && self.output_names.is_some()
+            || is(keyword, b".type") && self.file_type.is_some()
     }
 
     #[tactic(auto, unfolding(crate::specs::Fault::is_bad_number))]
@@ -208,8 +215,8 @@ impl Head {
         requires arguments { texts arguments.now ≡ arguments_on line.now }
         ensures { result ≡ is_bad_number format_limits (seen self.now unfinished) line.now }
     {
-        keyword == b".i".as_slice() && number_in(0, INPUTS, arguments).is_none()
-            || keyword == b".o".as_slice() && number_in(1, OUTPUTS, arguments).is_none()
+        is(keyword, b".i") && number_in(0, INPUTS, arguments).is_none()
+            || is(keyword, b".o") && number_in(1, OUTPUTS, arguments).is_none()
     }
 
     #[tactic(auto, unfolding(crate::specs::Fault::is_name_too_early))]
@@ -217,7 +224,7 @@ impl Head {
         requires { keyword.now ≡ keyword_on line.now }
         ensures { result ≡ is_name_too_early (seen self.now unfinished) line.now }
     {
-        (keyword == b".ilb".as_slice() || keyword == b".ob".as_slice())
+        (is(keyword, b".ilb") || is(keyword, b".ob"))
             && (self.inputs.is_none() || self.outputs.is_none())
     }
 
@@ -234,8 +241,8 @@ impl Head {
         ensures { result ≡ is_wrong_count (seen self.now unfinished) line.now }
     {
         let count = arguments.len();
-        keyword == b".ilb".as_slice() && is_other(count, self.inputs)
-            || keyword == b".ob".as_slice() && is_other(count, self.outputs)
+        is(keyword, b".ilb") && is_other(count, self.inputs)
+            || is(keyword, b".ob") && is_other(count, self.outputs)
     }
 
     #[tactic(auto, unfolding(crate::specs::Fault::is_type_too_late))]
@@ -243,7 +250,7 @@ impl Head {
         requires { keyword.now ≡ keyword_on line.now }
         ensures { result ≡ is_type_too_late (seen self.now unfinished) line.now }
     {
-        keyword == b".type".as_slice() && self.has_symbols
+        is(keyword, b".type") && self.has_symbols
     }
 
     #[tactic(auto, unfolding(crate::specs::Fault::is_bad_type))]
@@ -252,7 +259,7 @@ impl Head {
         requires arguments { texts arguments.now ≡ arguments_on line.now }
         ensures { result ≡ is_bad_type (seen self.now unfinished) line.now }
     {
-        keyword == b".type".as_slice() && type_of(arguments).is_none()
+        is(keyword, b".type") && type_of(arguments).is_none()
     }
 
     /// The first kind that stands on a keyword line of these words.
@@ -303,15 +310,15 @@ impl Head {
     {
         let keyword = first(words);
         let arguments = rest(words);
-        if keyword == b".i".as_slice() {
+        if is(keyword, b".i") {
             self.inputs = number_in(0, INPUTS, arguments);
-        } else if keyword == b".o".as_slice() {
+        } else if is(keyword, b".o") {
             self.outputs = number_in(1, OUTPUTS, arguments);
-        } else if keyword == b".ilb".as_slice() {
+        } else if is(keyword, b".ilb") {
             self.input_names = Some(names_of(alloc, arguments)?);
-        } else if keyword == b".ob".as_slice() {
+        } else if is(keyword, b".ob") {
             self.output_names = Some(names_of(alloc, arguments)?);
-        } else if keyword == b".type".as_slice() {
+        } else if is(keyword, b".type") {
             self.file_type = type_of(arguments);
         } else {
             self.ended = is_end(keyword);

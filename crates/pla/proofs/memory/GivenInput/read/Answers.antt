@@ -14,9 +14,12 @@ returns-clause-bytes c =
     let at = c.self.inside.at in
     let n = c.min-count.result in
     let bs = c.self.inside.bytes.items in
-    let bound : n ≤ length bs - at = omega (arith, c.len.ensures, c.min.ensures, c.min-count.ensures) in
     let len : length c.copy_from_slice.new.self ≡ n = c.copy_from_slice.ensures.len ∙ length-take-le n c.args.buffer.now (omega (arith, c.min-count.ensures)) in
     let is : c.copy_from_slice.new.self ≡ take n (drop at bs) = c.copy_from_slice.ensures.after ∙ ap (λ k. take k (drop at c.deref.result.now)) (omega arith) ∙ ap (λ z. take n (drop at z)) c.deref.ensures.value in (
       ap (λ store. store.left) (sym c.self.view_is) ∙ moved bs c.copy_from_slice.new.self (drop n c.args.buffer.now) at n len is,
       λ none room. drop_all (at + n) bs (omega (arith, c.len.ensures, c.min.ensures, c.min-count.ensures, length-append c.copy_from_slice.new.self (drop n c.args.buffer.now), length-drop n c.args.buffer.now, len)),
     )
+
+pub returns-clause-most : goal.returns-clause-most
+returns-clause-most c =
+    omega (arith, ap (λ store. length store.left) c.self.view_is, ap (λ store. store.most) c.self.view_is, length-drop c.self.inside.at c.self.inside.bytes.items, c.len.ensures, c.min.ensures, c.min-count.ensures)
