@@ -5,9 +5,10 @@
 //! one, in list order. If the witness, a cover within the budget, has the next column, so has the
 //! least cover; else it is asked whether some cover within the budget has it, which gives a new
 //! witness or drops the column. Many columns are asked for at once, by a further row of them: if no
-//! cover has one of them all are dropped.
+//! cover has one of them all are dropped. Such a question may look at a few tables only, and is else
+//! given up for the first column alone.
 
-ghost use Rattle.std.specs.Prelude.{◌≡◌, ◌≢◌, ◌≤◌, ◌<◌, ◌+◌, ◌++◌, ◌∷◌, [], ℕ, IfOk, MatchOption, filter, length, option_map, ◌==◌, true, false};
+ghost use Rattle.std.specs.Prelude.{◌≡◌, ◌≢◌, ◌≤◌, ◌<◌, ◌+◌, ◌++◌, ◌∷◌, [], ℕ, IfOk, IfSome, MatchOption, filter, length, option_map, ◌==◌, true, false};
 ghost use Rattle.std.specs.List.{list_all};
 ghost use Rattle.minimum.specs.Table.{has, IsWithin, RisesFrom};
 ghost use Rattle.minimum.specs.Cover.{IsCover, IsLeast, counted};
@@ -18,12 +19,16 @@ use crate::choice::Choice;
 use crate::covering::bound::Budget;
 use crate::covering::columns::{contains, copy_of, copy_rows, count, join, sum};
 use crate::covering::marks::{all_but, marked_columns, others};
+use crate::covering::search::Stop;
 use crate::covering::subgradient::{Goal, WarmStart};
 use crate::covering::table::Table;
 use std::alloc::{AllocError, Global};
 
 /// A table with so few live columns is solved by trying all choices.
 const FEW: usize = 8;
+
+/// A question about several columns looks at so many tables, and is then given up.
+const BATCH_TABLES: u64 = 200;
 
 /// What is left to settle: a table, and a cover of it within the budget.
 #[derive(Drop)]
@@ -40,8 +45,16 @@ struct Help {
 }
 
 impl Help {
-    /// A cover within the budget, or none if there is none; after a yes one column is asked for at
-    /// once, and after a no twice as many.
+    /// After a yes one column is asked for at once, and after a no twice as many.
+    fn adapt(&mut self, is_yes: bool) {
+        self.most = if is_yes {
+            1
+        } else {
+            self.most.saturating_mul(2)
+        };
+    }
+
+    /// A cover within the budget, or none if there is none.
     fn decide(
         &mut self,
         alloc: Global,
@@ -54,12 +67,34 @@ impl Help {
     {
         let mut warm_start = self.warm_start.copy(alloc)?;
         let witness = table.decide(alloc, choice, budget, &mut warm_start)?;
-        self.most = if witness.is_some() {
-            1
-        } else {
-            self.most.saturating_mul(2)
-        };
+        self.adapt(witness.is_some());
         Ok(witness)
+    }
+
+    /// The same of a batch, or no answer where that takes too many tables: a cover that has one of
+    /// many columns can be far harder to rule out than a cover that has the first of them.
+    fn decide_batch(
+        &mut self,
+        alloc: Global,
+        choice: Choice,
+        budget: Budget,
+        table: &Table,
+    ) -> Result<Option<Option<Vec<usize>>>, AllocError>
+        ensures { IfOk result (λ r. IfSome r (λ o. Answers choice table.now budget.columns
+            budget.counts (option_map (λ v. v.items) o))) }
+    {
+        let mut warm_start = self.warm_start.copy(alloc)?;
+        match table.decide_within(alloc, choice, budget, &mut warm_start, BATCH_TABLES) {
+            Ok(witness) => {
+                self.adapt(witness.is_some());
+                Ok(Some(witness))
+            }
+            Err(Stop::Cut) => {
+                self.most = 1;
+                Ok(None)
+            }
+            Err(Stop::Memory) => Err(AllocError),
+        }
     }
 }
 
@@ -187,7 +222,10 @@ impl Stage {
         let Some(asked) = self.table.with_marked_row(alloc, &marks)? else {
             return Ok(self);
         };
-        match help.decide(alloc, choice, budget, &asked)? {
+        let Some(answer) = help.decide_batch(alloc, choice, budget, &asked)? else {
+            return Ok(self);
+        };
+        match answer {
             Some(witness) => Ok(Stage {
                 table: self.table,
                 witness,

@@ -25,6 +25,25 @@ use crate::covering::subgradient::{Compact, Goal, Multipliers, WarmStart, at, pu
 use crate::covering::table::Table;
 use std::alloc::{AllocError, Global};
 
+/// Why a question has no answer.
+#[derive(Drop)]
+pub(crate) enum Stop {
+    /// A growth of memory was refused.
+    Memory,
+    /// The search would look at more tables than it may.
+    Cut,
+}
+
+impl From<AllocError> for Stop {
+    ghost use Rattle.minimum.specs.declared.covering.search.Stop.TheVariants.{Memory};
+
+    ghost from_gives = { λ _ e. e ≡ Memory };
+
+    fn from(_: AllocError) -> Stop {
+        Stop::Memory
+    }
+}
+
 fn without_column(alloc: Global, xs: &[usize], column: usize) -> Result<Vec<usize>, AllocError>
     ensures { IfOk result (λ v. v.items ≡ without column xs.now) }
 {
@@ -397,7 +416,8 @@ impl Table {
         Ok(self.live.first().copied())
     }
 
-    /// A cover within the budget, or none if there is none.
+    /// A cover within the budget, or none if there is none; each table that is looked at takes one
+    /// of those left.
     #[cycle(search)]
     fn search(
         &self,
@@ -405,14 +425,19 @@ impl Table {
         choice: Choice,
         budget: Budget,
         warm_start: &WarmStart,
-    ) -> Result<Option<Vec<usize>>, AllocError>
+        left: &mut u64,
+    ) -> Result<Option<Vec<usize>>, Stop>
         ensures { IfOk result (λ o. Answers choice self.now budget.columns budget.counts
             (option_map (λ v. v.items) o)) }
     {
+        let Some(rest) = left.checked_sub(1) else {
+            return Err(Stop::Cut);
+        };
+        *left = rest;
         let mut warm_start = warm_start.copy(alloc)?;
         match self.narrow(alloc, choice, budget, &mut warm_start)? {
             None => Ok(None),
-            Some(table) => table.branch(alloc, choice, budget, &warm_start),
+            Some(table) => table.branch(alloc, choice, budget, &warm_start, left),
         }
     }
 
@@ -424,7 +449,8 @@ impl Table {
         choice: Choice,
         budget: Budget,
         warm_start: &WarmStart,
-    ) -> Result<Option<Vec<usize>>, AllocError>
+        left: &mut u64,
+    ) -> Result<Option<Vec<usize>>, Stop>
         ensures { IfOk result (λ o. Answers choice self.now budget.columns budget.counts
             (option_map (λ v. v.items) o)) }
     {
@@ -438,12 +464,12 @@ impl Table {
             return Ok(None);
         };
         let with = self.take(alloc, column)?;
-        if let Some(cover) = with.search(alloc, choice, budget, warm_start)? {
+        if let Some(cover) = with.search(alloc, choice, budget, warm_start, left)? {
             return Ok(Some(cover));
         }
         match self.drop_live(alloc, column)? {
             None => Ok(None),
-            Some(rest) => rest.search(alloc, choice, budget, warm_start),
+            Some(rest) => rest.search(alloc, choice, budget, warm_start, left),
         }
     }
 
@@ -497,14 +523,15 @@ impl Table {
     }
 
     /// A cover within the budget, or none if there is none: a local search looks for one before the
-    /// branches.
-    pub(crate) fn decide(
+    /// branches, in which as many tables are looked at as given.
+    pub(crate) fn decide_within(
         &self,
         alloc: Global,
         choice: Choice,
         budget: Budget,
         warm_start: &mut WarmStart,
-    ) -> Result<Option<Vec<usize>>, AllocError>
+        most: u64,
+    ) -> Result<Option<Vec<usize>>, Stop>
         ensures { IfOk result (λ o. Answers choice self.now budget.columns budget.counts
             (option_map (λ v. v.items) o)) }
     {
@@ -515,6 +542,25 @@ impl Table {
         if let Some(cover) = table.witness(alloc, choice, budget, goal, 30)? {
             return Ok(Some(cover));
         }
-        table.branch(alloc, choice, budget, warm_start)
+        let mut left = most;
+        table.branch(alloc, choice, budget, warm_start, &mut left)
+    }
+
+    /// A cover within the budget, or none if there is none.
+    pub(crate) fn decide(
+        &self,
+        alloc: Global,
+        choice: Choice,
+        budget: Budget,
+        warm_start: &mut WarmStart,
+    ) -> Result<Option<Vec<usize>>, AllocError>
+        ensures { IfOk result (λ o. Answers choice self.now budget.columns budget.counts
+            (option_map (λ v. v.items) o)) }
+    {
+        // No search lives to look at 2^64 tables.
+        match self.decide_within(alloc, choice, budget, warm_start, u64::MAX) {
+            Ok(cover) => Ok(cover),
+            Err(_) => Err(AllocError),
+        }
     }
 }

@@ -51,7 +51,7 @@ branch-returns t c =
 
 pub search-branch-table-requires : goal.search-branch-table-requires
 search-branch-table-requires t c =
-    let n = rw c.in-Some.is at c.in_ok-narrow.ensures in
+    let n = rw c.in-Some-2.is at c.in_ok-narrow.ensures in
     (omega (arith, n.live, c.decreases), tt)
 
 pub search-returns-in-None : goal.search-returns-in-None

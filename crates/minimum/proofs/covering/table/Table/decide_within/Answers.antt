@@ -1,5 +1,5 @@
 use Rattle.std.proofs.Common.{Some}
-use Rattle.minimum.proofs.covering.table.Table.decide.Goals as goal
+use Rattle.minimum.proofs.covering.table.Table.decide_within.Goals as goal
 
 pub returns-in-Some-2 : goal.returns-in-Some-2
 returns-in-Some-2 c =
