@@ -1,8 +1,9 @@
 //! The parse of the words by `clap`, and the line that its matches say.
 ghost use Rattle.std.specs.Prelude.{◌≡◌, IfOk, Some, None, Err, map, string_bytes, codes, false, option_and_then};
 ghost use Rattle.std.specs.Option.{option_map_or};
+ghost use Rattle.clap.specs.Simple.{with_rule};
 ghost use Rattle.clap.specs.Words.{app_of, first_value, found_of, kind_of};
-ghost use Rattle.espresso.specs.Parser.{espresso_app};
+ghost use Rattle.espresso.specs.Parser.{bare_app, espresso_app, files_arg, literals_arg, option_arg};
 ghost use Rattle.espresso.specs.Matches.{choice_in, meaning_in};
 ghost use Rattle.espresso.specs.Words.{eat_named, fits, meaning, command_named, type_named};
 
@@ -16,23 +17,60 @@ use minimum::Choice;
 use pla::OutType;
 use std::alloc::{AllocError, Global};
 
-// Three options with a value each, files, and an option without a value.
-pub(crate) fn espresso_command<'a>(alloc: Global) -> Result<clap::Command<'a>, AllocError>
-    ensures { IfOk result (λ c. app_of c ≡ espresso_app) }
+// The command before its options.
+fn bare_command<'a>(alloc: Global) -> clap::Command<'a>
+    ensures { app_of result ≡ bare_app }
 {
     clap::Command::new(alloc, "espresso")
         .no_binary_name(true)
         .disable_help_flag(true)
         .disable_version_flag(true)
-        .arg(Arg::new(alloc, "command").short('D'))?
-        .arg(Arg::new(alloc, "type").short('o'))?
-        .arg(Arg::new(alloc, "eat").short('e'))?
-        .arg(Arg::new(alloc, "files").action(ArgAction::Append))?
-        .arg(
-            Arg::new(alloc, "literals")
-                .long("literals")
-                .action(ArgAction::SetTrue),
-        )
+}
+
+// The command with one more option, which has a value.
+fn with_option<'a>(
+    alloc: Global,
+    command: clap::Command<'a>,
+    name: &'a str,
+    letter: char,
+) -> Result<clap::Command<'a>, AllocError>
+    ensures { IfOk result
+        (λ c. app_of c ≡ with_rule (app_of command.entry) (option_arg name.entry.now letter)) }
+{
+    command.arg(Arg::new(alloc, name).short(letter))
+}
+
+// The command with files.
+fn with_files<'a>(
+    alloc: Global,
+    command: clap::Command<'a>,
+) -> Result<clap::Command<'a>, AllocError>
+    ensures { IfOk result (λ c. app_of c ≡ with_rule (app_of command.entry) files_arg) }
+{
+    command.arg(Arg::new(alloc, "files").action(ArgAction::Append))
+}
+
+// The command with the option without a value.
+fn with_literals<'a>(
+    alloc: Global,
+    command: clap::Command<'a>,
+) -> Result<clap::Command<'a>, AllocError>
+    ensures { IfOk result (λ c. app_of c ≡ with_rule (app_of command.entry) literals_arg) }
+{
+    let literals = Arg::new(alloc, "literals").long("literals");
+    command.arg(literals.action(ArgAction::SetTrue))
+}
+
+// Three options with a value each, files, and an option without a value.
+pub(crate) fn espresso_command<'a>(alloc: Global) -> Result<clap::Command<'a>, AllocError>
+    ensures { IfOk result (λ c. app_of c ≡ espresso_app) }
+{
+    let command = bare_command(alloc);
+    let command = with_option(alloc, command, "command", 'D')?;
+    let command = with_option(alloc, command, "type", 'o')?;
+    let command = with_option(alloc, command, "eat", 'e')?;
+    let command = with_files(alloc, command)?;
+    with_literals(alloc, command)
 }
 
 // Out of memory if the parse was, and else a usage fault.
