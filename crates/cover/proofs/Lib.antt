@@ -14,6 +14,7 @@ pub mod ContainmentLemmas
 pub mod Agreement
 pub mod Relations
 pub mod Cofactors
+pub mod Chosen
 pub mod SumMeets
 pub mod SumSorted
 pub mod SumAbsorb

@@ -1,5 +1,5 @@
 -- Cubes that say why a region is held.
-use Rattle.std.proofs.Common.{◌≡◌, ℕ, zero, suc, ◌<◌, ◌≤◌, Bool, true, false, not, ◌&&◌, ◌||◌, cond, List, [], ◌∷◌, ◌++◌, length, map, get_or, set, slice_get, Option, Some, None, is_some, All, refl, ap, sym, subst, ◌∙◌, arith, inl, inr, ◌⊎◌, ◌↔◌, IsTrue}
+use Rattle.std.proofs.Common.{◌≡◌, ℕ, zero, suc, ◌<◌, ◌≤◌, Bool, true, false, not, ◌&&◌, ◌||◌, cond, List, [], ◌∷◌, ◌++◌, length, map, get_or, set, slice_get, Option, Some, None, is_some, IsNone, IfSome, IfNone, Result, Ok, Err, IfOk, All, refl, ap, sym, subst, ◌∙◌, arith, inl, inr, ◌⊎◌, ◌↔◌, IsTrue}
 use Rattle.std.specs.List.{Contains, list_any}
 use Rattle.std.specs.Borrow.{Bor}
 use Rattle.std.specs.Bool.{◌==◌}
@@ -13,13 +13,13 @@ use Rattle.cube.specs.declared.symbol.Symbol.TheVariants.{Dash, Zero, One}
 use Rattle.cube.specs.Pattern.{agrees, matches}
 use Rattle.cube.specs.Sharp.{opposite, minus, rest_row}
 use Rattle.cube.specs.Cube.{Cube, Place, holds, SameSize, IsSubset, IsDisjoint, size_of, with_symbol}
-use Rattle.cube.proofs.HoldsLemmas.{length-matches, pick, Covers-from_IsSubset}
+use Rattle.cube.proofs.HoldsLemmas.{length-matches, pick, matches-map_pick, Covers-from_IsSubset}
 use Rattle.cube.proofs.SharpLemmas.{get_or-minus, length-minus, some_true, true_some}
 use Rattle.cube.proofs.MeetLemmas.{decide_outputs}
 use Rattle.cube.proofs.Members.{Contains-here, Contains-nil, Contains-cases, Contains-filter_cases}
 use Rattle.cover.specs.Places.{places, is_disjoint, meeting, behind}
 use Rattle.cover.specs.Splits.{dashes}
-use Rattle.cover.specs.Reason.{IsReason, Explains, IsClosed, Leads, Share, AreAmong, set_bits, extent}
+use Rattle.cover.specs.Reason.{IsReason, Explains, Joins, IsClosed, Leads, Share, AreAmong, set_bits, extent}
 use Rattle.cover.specs.declared.cube_in_cover.Step.TheVariants.{Row}
 use Rattle.cover.proofs.Inputs.{matches-set_bit, matches-own}
 use Rattle.cover.proofs.Lists.{list_any_from, list_any_witness, length-behind, behind_at, behind_member, behind_all, all_behind}
@@ -64,8 +64,17 @@ freed_half region half c i t dash literal size e sub p h =
 
 -- ---- the consensus of two cubes
 
+-- cubes that hold a region share a place
+not_apart : (region low high : Cube) → IsTrue (list_any (λ b. b) region.outputs) → IsSubset (holds region) (holds low)
+    → IsSubset (holds region) (holds high) → IsDisjoint (holds low) (holds high) → ⊥
+not_apart region low high some in_low in_high apart =
+    let on = some_true region.outputs some in
+    let p : Place = record { point = map pick region.symbols; output = on.0 } in
+    let h = place_at region on.0 on.1 in
+    apart p (in_low p h) (in_high p h)
+
 -- what lies within both without their literals lies within one of them
-pub within_either : (one other low high c : Cube) (i : ℕ) → i < length one.symbols → i < length other.symbols
+within_either : (one other low high c : Cube) (i : ℕ) → i < length one.symbols → i < length other.symbols
     → Share (get_or one.symbols i Dash) (get_or other.symbols i Dash)
     → low ≡ with_symbol one i Dash → high ≡ with_symbol other i Dash → ((p : Place) → holds c p ≡ (holds low p && holds high p))
     → IsSubset (holds c) (λ p. holds one p || holds other p)
@@ -76,14 +85,56 @@ within_either one other low high c i lt_one lt_other share e_low e_high e p h =
       | inr a ↦ or_right (holds one p) (holds other p) (refilled other i lt_other p (ap (λ x. holds x p) (sym e_high) ∙ both.1) a)
     ]
 
--- cubes that hold a region share a place
-pub not_apart : (region low high : Cube) → IsTrue (list_any (λ b. b) region.outputs) → IsSubset (holds region) (holds low)
-    → IsSubset (holds region) (holds high) → IsDisjoint (holds low) (holds high) → ⊥
-not_apart region low high some in_low in_high apart =
-    let on = some_true region.outputs some in
-    let p : Place = record { point = map pick region.symbols; output = on.0 } in
-    let h = place_at region on.0 on.1 in
-    apart p (in_low p h) (in_high p h)
+-- what both share without their literals
+pub joined_meet : {E : Type 0} (region one other low high : Cube) (i : ℕ) → IsTrue (list_any (λ b. b) region.outputs) → i < length region.symbols
+    → SameSize one region → SameSize other region → IsSubset (holds region) (holds (with_symbol one i Dash))
+    → IsSubset (holds region) (holds (with_symbol other i Dash)) → Share (get_or one.symbols i Dash) (get_or other.symbols i Dash)
+    → low ≡ with_symbol one i Dash → high ≡ with_symbol other i Dash → SameSize low one → (found : Result (Option Cube) E)
+    → IfOk found (λ o. IsNone o ↔ IsDisjoint (holds low) (holds high)) → IfOk found (λ o. IfSome o (λ c. SameSize c low))
+    → IfOk found (λ o. IfSome o (λ c. (p : Place) → holds c p ≡ (holds low p && holds high p))) → IfOk found (Joins region one other)
+joined_meet region one other low high i some lt s_one s_other in_one in_other share e_low e_high s_low (Ok None) none' size places' =
+    absurd (not_apart region low high some (λ p h. ap (λ x. holds x p) e_low ∙ in_one p h) (λ p h. ap (λ x. holds x p) e_high ∙ in_other p h) (none'.0 refl))
+joined_meet region one other low high i some lt s_one s_other in_one in_other share e_low e_high s_low (Ok (Some c)) none' size places' = (
+  (size.0 ∙ s_low.0 ∙ s_one.0, size.1 ∙ s_low.1 ∙ s_one.1),
+  (
+    λ p h. places' p ∙ and_from (holds low p) (holds high p) (ap (λ x. holds x p) e_low ∙ in_one p h) (ap (λ x. holds x p) e_high ∙ in_other p h),
+    within_either one other low high c i (omega (arith, lt, s_one.0)) (omega (arith, lt, s_other.0)) share e_low e_high places',
+  ),
+)
+joined_meet region one other low high i some lt s_one s_other in_one in_other share e_low e_high s_low (Err e) none' size places' = tt
+
+-- what both share, with the outputs of both
+pub joined_stack : {E : Type 0} (region one other : Cube) → SameSize one region
+    → ((point : List Bool) → IsTrue (matches region.symbols point) → IsTrue (matches one.symbols point))
+    → ((point : List Bool) → IsTrue (matches region.symbols point) → IsTrue (matches other.symbols point))
+    → ((j : ℕ) → IsTrue (get_or region.outputs j false) → IsTrue (get_or one.outputs j false || get_or other.outputs j false))
+    → (found : Result (Option Cube) E)
+    → IfOk found (λ o. IfNone o ((point : List Bool) → IsTrue (matches one.symbols point) → IsTrue (matches other.symbols point) → ⊥))
+    → IfOk found (λ o. IfSome o (λ c. SameSize c one))
+    → IfOk found (λ o. IfSome o (λ c. (p : Place) → holds c p
+    ≡ ((matches one.symbols p.point && matches other.symbols p.point) && (get_or one.outputs p.output false || get_or other.outputs p.output false))))
+    → IfOk found (Joins region one other)
+joined_stack region one other s_one in_one in_other outputs (Ok None) none' size places' =
+    let point = map pick region.symbols in
+    let own = matches-map_pick region.symbols in
+    absurd (none' point (in_one point own) (in_other point own))
+joined_stack region one other s_one in_one in_other outputs (Ok (Some c)) none' size places' = (
+  (size.0 ∙ s_one.0, size.1 ∙ s_one.1),
+  (
+    λ p h.
+        let parts = and_parts (matches region.symbols p.point) (get_or region.outputs p.output false) h in
+        places' p ∙ and_from (matches one.symbols p.point && matches other.symbols p.point) (get_or one.outputs p.output false || get_or other.outputs p.output false)
+        (and_from (matches one.symbols p.point) (matches other.symbols p.point) (in_one p.point parts.0) (in_other p.point parts.0)) (outputs p.output parts.1),
+    λ p h.
+        let parts = and_parts (matches one.symbols p.point && matches other.symbols p.point) (get_or one.outputs p.output false || get_or other.outputs p.output false) (sym (places' p) ∙ h) in
+        let both = and_parts (matches one.symbols p.point) (matches other.symbols p.point) parts.0 in
+        elim (or_cases (get_or one.outputs p.output false) (get_or other.outputs p.output false) parts.1) [
+          | inl a ↦ or_left (holds one p) (holds other p) (and_from (matches one.symbols p.point) (get_or one.outputs p.output false) both.0 a)
+          | inr b ↦ or_right (holds one p) (holds other p) (and_from (matches other.symbols p.point) (get_or other.outputs p.output false) both.1 b)
+        ],
+  ),
+)
+joined_stack region one other s_one in_one in_other outputs (Err e) none' size places' = tt
 
 either_side : (t : Symbol) (b : Bool) → (agrees t b ≡ true) ⊎ (agrees (opposite t) b ≡ true)
 either_side Dash b = inl refl
@@ -131,14 +182,14 @@ pub reason_of_more : (rows : List Cube) (part region c : Cube) → SameSize part
     → IsReason region rows c
 reason_of_more rows part region c s r h = record { size = SameSize-part c part region r.size s; above = h; within = r.within }
 
--- a cube that lies within two that the rows hold
-pub reason_of_both : (rows : List Cube) (region one other c : Cube) → SameSize c region → IsSubset (holds region) (holds c)
-    → IsSubset (holds c) (λ p. holds one p || holds other p) → IsSubset (holds one) (places rows) → IsSubset (holds other) (places rows)
-    → IsReason region rows c
-reason_of_both rows region one other c s above within in_one in_other = record {
-  size = s;
-  above = above;
-  within = λ p h. elim (or_cases (holds one p) (holds other p) (within p h)) [ inl a ↦ in_one p a | inr b ↦ in_other p b ];
+-- a cube that is found for two that the rows hold
+pub reason_joined : (rows : List Cube) (region one other : Cube) → IsSubset (holds one) (places rows) → IsSubset (holds other) (places rows)
+    → (found : Option Cube) → Joins region one other found → Explains region rows found
+reason_joined rows region one other in_one in_other None h = absurd h
+reason_joined rows region one other in_one in_other (Some c) h = record {
+  size = h.0;
+  above = h.1.0;
+  within = λ p in_c. elim (or_cases (holds one p) (holds other p) (h.1.1 p in_c)) [ inl a ↦ in_one p a | inr b ↦ in_other p b ];
 }
 
 pub within_rows : (rows : List Cube) (row : Cube) → Contains rows row → IsSubset (holds row) (places rows)

@@ -1,6 +1,7 @@
 -- One more row put to those with its symbol.
-use Rattle.std.proofs.Common.{◌≡◌, ℕ, suc, ◌+◌, ◌<◌, true, false, cond, List, [], ◌∷◌, ◌++◌, length, drop, get_or, slice_get, Some, refl, ap, sym, ◌∙◌, add-one, append_assoc}
+use Rattle.std.proofs.Common.{◌≡◌, ℕ, suc, ◌+◌, ◌<◌, ◌≤◌, true, false, cond, List, [], ◌∷◌, ◌++◌, length, drop, get_or, slice_get, Some, refl, ap, sym, ◌∙◌, add-one, append_assoc, append-nil}
 use Rattle.std.proofs.Math.Seq.{drop-cons}
+use Rattle.std.proofs.lemmas.List.{drop_all}
 use Rattle.std.proofs.lemmas.Option.{get_or_from_slice_get}
 use Rattle.cube.specs.declared.symbol.Symbol.{Symbol}
 use Rattle.cube.specs.declared.symbol.Symbol.TheVariants.{Dash, Zero, One}
@@ -37,3 +38,8 @@ module _ (i : ℕ) (rows : List Cube) (k : ℕ) (row : Cube) (s : Symbol) (lt : 
       let rest = part i t (drop (k + 1) rows) in
       let test : is_symbol t (get_or row.symbols i Dash) ≡ false = ap (is_symbol t) symbol_is ∙ other in
       ap (λ b. kept ++ cond b (with_symbol row i Dash ∷ rest) rest) (sym test) ∙ ap (λ l. kept ++ part i t l) (sym next) ∙ before
+
+-- after the last row
+pub part-all : (i : ℕ) (rows : List Cube) (k : ℕ) (t : Symbol) (kept : List Cube) → length rows ≤ k
+    → kept ++ part i t (drop k rows) ≡ part i t rows → kept ≡ part i t rows
+part-all i rows k t kept le before = sym (append-nil kept) ∙ ap (λ l. kept ++ part i t l) (sym (drop_all k rows le)) ∙ before

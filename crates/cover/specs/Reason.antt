@@ -22,6 +22,12 @@ abbrev pub Explains : Cube → List Cube → Option Cube → Type 0
 Explains region rows None = IsSubset (holds region) (places rows) → ⊥
 Explains region rows (Some c) = IsReason region rows c
 
+-- a cube is found that holds the region, and of which one of the two holds each place
+abbrev pub Joins : Cube → Cube → Cube → Option Cube → Type 0
+Joins region one other None = ⊥
+Joins region one other (Some c) =
+    SameSize c region × (IsSubset (holds region) (holds c) × IsSubset (holds c) (λ p. holds one p || holds other p))
+
 -- each of the references is to one of the rows
 abbrev pub AreAmong : List (Bor Cube) → List (Bor Cube) → Type 0
 AreAmong some rows = (d : Cube) → Contains (behind some) d → Contains (behind rows) d

@@ -17,7 +17,7 @@ ghost use Rattle.cube.specs.Cube.{SameSize, IsSubset, IsDisjoint, holds, with_sy
 ghost use Rattle.cube.specs.Pattern.{matches};
 ghost use Rattle.cube.specs.Sharp.{opposite as opposite_of};
 ghost use Rattle.cover.specs.Places.{places, meeting as meeting_of, behind};
-ghost use Rattle.cover.specs.Reason.{IsReason, Explains, IsClosed, Leads, Share, AreAmong};
+ghost use Rattle.cover.specs.Reason.{IsReason, Explains, Joins, IsClosed, Leads, Share, AreAmong};
 
 use crate::splitting_input::{Wish, next_wish, open_literals};
 use cube::{Cube, Symbol};
@@ -166,7 +166,7 @@ fn opposite(symbol: Symbol) -> Symbol
 }
 
 // The cube that has `-` at the input and elsewhere what either of the two asks.
-fn consensus(region: &Cube, i: usize, one: &Cube, other: &Cube) -> Result<Cube, AllocError>
+fn consensus(region: &Cube, i: usize, one: &Cube, other: &Cube) -> Result<Option<Cube>, AllocError>
     requires input { i < length region.now.symbols }
     requires one_size { SameSize one.now region.now }
     requires other_size { SameSize other.now region.now }
@@ -174,22 +174,16 @@ fn consensus(region: &Cube, i: usize, one: &Cube, other: &Cube) -> Result<Cube, 
     requires other { IsSubset (holds region.now) (holds (with_symbol other.now i Symbol.Dash)) }
     requires sides { Share (slice_index_or one.now.symbols i Symbol.Dash)
         (slice_index_or other.now.symbols i Symbol.Dash) }
-    ensures size { IfOk result (λ c. SameSize c region.now) }
-    ensures above { IfOk result (λ c. IsSubset (holds region.now) (holds c)) }
-    ensures within { IfOk result
-        (λ c. IsSubset (holds c) (λ p. holds one.now p || holds other.now p)) }
+    ensures { IfOk result (λ found. Joins region.now one.now other.now found) }
 {
     let _shape = region.shape();
     let low = one.with_symbol(i, Symbol::Dash)?;
     let high = other.with_symbol(i, Symbol::Dash)?;
-    match low.meet(&high)? {
-        Some(cube) => Ok(cube),
-        None => unreachable!(),
-    }
+    low.meet(&high)
 }
 
 // The cube that asks what either of the two asks, with the outputs of both.
-fn stack_all(region: &Cube, one: &Cube, other: &Cube) -> Result<Cube, AllocError>
+fn stack_all(region: &Cube, one: &Cube, other: &Cube) -> Result<Option<Cube>, AllocError>
     requires one_size { SameSize one.now region.now }
     requires other_size { SameSize other.now region.now }
     requires one { (point : List Bool) → IsTrue (matches region.now.symbols point)
@@ -199,16 +193,9 @@ fn stack_all(region: &Cube, one: &Cube, other: &Cube) -> Result<Cube, AllocError
     requires outputs { (j : ℕ) → IsTrue (slice_index_or region.now.outputs j false)
         → IsTrue (slice_index_or one.now.outputs j false
         || slice_index_or other.now.outputs j false) }
-    ensures size { IfOk result (λ c. SameSize c region.now) }
-    ensures above { IfOk result (λ c. IsSubset (holds region.now) (holds c)) }
-    ensures within { IfOk result
-        (λ c. IsSubset (holds c) (λ p. holds one.now p || holds other.now p)) }
+    ensures { IfOk result (λ found. Joins region.now one.now other.now found) }
 {
-    let _shape = region.shape();
-    match one.stack(other)? {
-        Some(cube) => Ok(cube),
-        None => unreachable!(),
-    }
+    one.stack(other)
 }
 
 // A cube that holds the region and of which the rows hold each place, or `None` if they lack a
@@ -307,14 +294,17 @@ fn by_outputs(
     if !region.has_more_outputs(row) {
         return Ok(Some(row.try_clone()?));
     }
-    let rest = region.without_outputs(row)?;
-    let Some(other) = reason(alloc, rows, near, bound, &rest)? else {
+    let found = {
+        let rest = region.without_outputs(row)?;
+        reason(alloc, rows, near, bound, &rest)?
+    };
+    let Some(other) = found else {
         return Ok(None);
     };
     if other.contains(region) {
         return Ok(Some(other));
     }
-    Ok(Some(stack_all(region, row, &other)?))
+    stack_all(region, row, &other)
 }
 
 // The reason by halves, that with the literal first.
@@ -334,8 +324,11 @@ fn by_input(
     ensures { IfOk result (λ found. Explains region.now (behind rows.now) found) }
 {
     let (i, literal) = at;
-    let first = region.with_symbol(i, literal)?;
-    let Some(one) = reason(alloc, rows, near, bound, &first)? else {
+    let found = {
+        let first = region.with_symbol(i, literal)?;
+        reason(alloc, rows, near, bound, &first)?
+    };
+    let Some(one) = found else {
         return Ok(None);
     };
     if one.contains(region) {
@@ -365,14 +358,17 @@ fn by_other_half(
 {
     let _shape = region.shape();
     let (i, literal) = at;
-    let second = region.with_symbol(i, opposite(literal))?;
-    let Some(other) = reason(alloc, rows, near, bound, &second)? else {
+    let found = {
+        let second = region.with_symbol(i, opposite(literal))?;
+        reason(alloc, rows, near, bound, &second)?
+    };
+    let Some(other) = found else {
         return Ok(None);
     };
     if other.contains(region) {
         return Ok(Some(other));
     }
-    Ok(Some(consensus(region, i, one, &other)?))
+    consensus(region, i, one, &other)
 }
 
 /// Whether the rows hold each place of the region.

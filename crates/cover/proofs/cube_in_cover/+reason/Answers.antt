@@ -7,7 +7,7 @@ use Rattle.cube.specs.Cube.{SameSize, IsDisjoint, holds, with_symbol, size_of}
 use Rattle.cover.specs.Places.{behind, meeting}
 use Rattle.cover.specs.Reason.{IsReason, Explains, Leads, AreAmong}
 use Rattle.cover.specs.declared.cube_in_cover.Step.TheVariants.{Row}
-use Rattle.cover.proofs.Reasons.{freed_half, share_sides, opposite_literal, sizes_part, SameSize-part, reason_of_more, reason_of_both, within_rows, reason_of_row, unexplained_half, extent_half, row_inputs, row_above, size_rest, extent_rest, unexplained_rest, other_inputs, either_output, explains_lent, unexplained_none, row_leads, reason_of_some, sizes_among, meets_among, among_lent, none_left, some_left}
+use Rattle.cover.proofs.Reasons.{freed_half, share_sides, opposite_literal, sizes_part, SameSize-part, reason_of_more, reason_joined, within_rows, reason_of_row, unexplained_half, extent_half, row_inputs, row_above, size_rest, extent_rest, unexplained_rest, other_inputs, either_output, explains_lent, unexplained_none, row_leads, reason_of_some, sizes_among, meets_among, among_lent, none_left, some_left}
 use Rattle.cover.proofs.cube_in_cover.+reason.Goals as goal
 
 pub by_input-reason-requires : goal.by_input-reason-requires
@@ -18,12 +18,12 @@ by_input-reason-requires t c =
 pub by_input-returns-in_default : goal.by_input-returns-in_default
 by_input-returns-in_default t c =
     unexplained_half (behind c.args.rows.now) c.args.region.now c.in_ok-first.first c.args.at.0 c.args.at.1 c.requires.dash c.in_ok-first.ensures.value
-    (subst (λ o. Explains c.in_ok-first.first (behind c.args.rows.now) o) c.in_default.is c.in_ok-one.ensures)
+    (subst (λ o. Explains c.in_ok-first.first (behind c.args.rows.now) o) c.in_default.is c.in_ok-found.ensures)
 
 pub by_input-by_other_half-requires : goal.by_input-by_other_half-requires
 by_input-by_other_half-requires t c =
     let r : IsReason c.in_ok-first.first (behind c.args.rows.now) c.in-Some.one =
-    subst (λ o. Explains c.in_ok-first.first (behind c.args.rows.now) o) c.in-Some.is c.in_ok-one.ensures in
+    subst (λ o. Explains c.in_ok-first.first (behind c.args.rows.now) o) c.in-Some.is c.in_ok-found.ensures in
     let size = SameSize-part c.in-Some.one c.in_ok-first.first c.args.region.now r.size c.in_ok-first.ensures.size in
     let half = subst (λ h. IsReason h (behind c.args.rows.now) c.in-Some.one) c.in_ok-first.ensures.value r in
     (omega arith, (c.requires.sizes, (c.requires.near, (c.requires.dash, (c.requires.literal, (size, half))))))
@@ -37,7 +37,7 @@ by_other_half-reason-requires t c =
 pub by_other_half-returns-in_default : goal.by_other_half-returns-in_default
 by_other_half-returns-in_default t c =
     unexplained_half (behind c.args.rows.now) c.args.region.now c.in_ok-second.second c.args.at.0 c.opposite.result c.requires.dash c.in_ok-second.ensures.value
-    (subst (λ o. Explains c.in_ok-second.second (behind c.args.rows.now) o) c.in_default.is c.in_ok-other.ensures)
+    (subst (λ o. Explains c.in_ok-second.second (behind c.args.rows.now) o) c.in_default.is c.in_ok-found.ensures)
 
 pub by_other_half-consensus-requires-clause-input : goal.by_other_half-consensus-requires-clause-input
 by_other_half-consensus-requires-clause-input t c = slice_get_within c.args.region.now.symbols c.args.at.0 Dash c.requires.dash
@@ -50,7 +50,7 @@ by_other_half-consensus-requires-clause-one t c =
 pub by_other_half-consensus-requires-clause-other : goal.by_other_half-consensus-requires-clause-other
 by_other_half-consensus-requires-clause-other t c =
     let r : IsReason c.in_ok-second.second (behind c.args.rows.now) c.in-Some.other =
-    subst (λ o. Explains c.in_ok-second.second (behind c.args.rows.now) o) c.in-Some.is c.in_ok-other.ensures in
+    subst (λ o. Explains c.in_ok-second.second (behind c.args.rows.now) o) c.in-Some.is c.in_ok-found.ensures in
     freed_half c.args.region.now c.in_ok-second.second c.in-Some.other c.args.at.0 c.opposite.result c.requires.dash
     (subst (λ s. s ≡ Dash → ⊥) (sym c.opposite.ensures) (opposite_literal c.args.at.1 c.requires.literal))
     (SameSize-part c.in-Some.other c.in_ok-second.second c.args.region.now r.size c.in_ok-second.ensures.size) c.in_ok-second.ensures.value r.above
@@ -58,10 +58,18 @@ by_other_half-consensus-requires-clause-other t c =
 pub by_other_half-consensus-requires-clause-sides : goal.by_other_half-consensus-requires-clause-sides
 by_other_half-consensus-requires-clause-sides t c =
     let q : IsReason c.in_ok-second.second (behind c.args.rows.now) c.in-Some.other =
-    subst (λ o. Explains c.in_ok-second.second (behind c.args.rows.now) o) c.in-Some.is c.in_ok-other.ensures in
+    subst (λ o. Explains c.in_ok-second.second (behind c.args.rows.now) o) c.in-Some.is c.in_ok-found.ensures in
     share_sides c.args.region.now (with_symbol c.args.region.now c.args.at.0 c.args.at.1) c.in_ok-second.second c.args.one.now c.in-Some.other c.args.at.0 c.args.at.1
     c.shape-shape.ensures.is_cube.some_output c.requires.dash refl
     (c.in_ok-second.ensures.value ∙ ap (λ s. with_symbol c.args.region.now c.args.at.0 s) c.opposite.ensures) c.requires.one.size q.size c.requires.one.above q.above
+
+pub by_other_half-returns : goal.by_other_half-returns
+by_other_half-returns t c =
+    let r : IsReason c.in_ok-second.second (behind c.args.rows.now) c.in-Some.other =
+    subst (λ o. Explains c.in_ok-second.second (behind c.args.rows.now) o) c.in-Some.is c.in_ok-found.ensures in
+    IfOk-weaker c.consensus.result _ _
+    (reason_joined (behind c.args.rows.now) c.args.region.now c.args.one.now c.in-Some.other c.requires.one.within r.within)
+    c.consensus.ensures
 
 pub by_outputs-returns-then-not-has_more_outputs : goal.by_outputs-returns-then-not-has_more_outputs
 by_outputs-returns-then-not-has_more_outputs t c =
@@ -83,19 +91,19 @@ by_outputs-reason-requires t c =
 pub by_outputs-returns-in_default : goal.by_outputs-returns-in_default
 by_outputs-returns-in_default t c =
     unexplained_rest (behind c.args.rows.now) c.args.region.now c.args.row.now c.in_ok-rest.rest c.requires.size c.requires.meets c.requires.closed c.in_ok-rest.ensures
-    (subst (λ o. Explains c.in_ok-rest.rest (behind c.args.rows.now) o) c.in_default.is c.in_ok-other.ensures)
+    (subst (λ o. Explains c.in_ok-rest.rest (behind c.args.rows.now) o) c.in_default.is c.in_ok-found.ensures)
 
 pub by_outputs-contains-requires : goal.by_outputs-contains-requires
 by_outputs-contains-requires t c =
     let r : IsReason c.in_ok-rest.rest (behind c.args.rows.now) c.in-Some.other =
-    subst (λ o. Explains c.in_ok-rest.rest (behind c.args.rows.now) o) c.in-Some.is c.in_ok-other.ensures in
+    subst (λ o. Explains c.in_ok-rest.rest (behind c.args.rows.now) o) c.in-Some.is c.in_ok-found.ensures in
     SameSize-part c.in-Some.other c.in_ok-rest.rest c.args.region.now r.size
     (size_rest (behind c.args.rows.now) c.args.region.now c.args.row.now c.in_ok-rest.rest c.requires.size c.requires.meets c.requires.closed c.in_ok-rest.ensures)
 
 pub by_outputs-returns-then-contains : goal.by_outputs-returns-then-contains
 by_outputs-returns-then-contains t c =
     let r : IsReason c.in_ok-rest.rest (behind c.args.rows.now) c.in-Some.other =
-    subst (λ o. Explains c.in_ok-rest.rest (behind c.args.rows.now) o) c.in-Some.is c.in_ok-other.ensures in
+    subst (λ o. Explains c.in_ok-rest.rest (behind c.args.rows.now) o) c.in-Some.is c.in_ok-found.ensures in
     reason_of_more (behind c.args.rows.now) c.in_ok-rest.rest c.args.region.now c.in-Some.other
     (size_rest (behind c.args.rows.now) c.args.region.now c.args.row.now c.in_ok-rest.rest c.requires.size c.requires.meets c.requires.closed c.in_ok-rest.ensures)
     r (c.contains.ensures.0 c.if-contains.true)
@@ -103,7 +111,7 @@ by_outputs-returns-then-contains t c =
 pub by_outputs-stack_all-requires-clause-other_size : goal.by_outputs-stack_all-requires-clause-other_size
 by_outputs-stack_all-requires-clause-other_size t c =
     let r : IsReason c.in_ok-rest.rest (behind c.args.rows.now) c.in-Some.other =
-    subst (λ o. Explains c.in_ok-rest.rest (behind c.args.rows.now) o) c.in-Some.is c.in_ok-other.ensures in
+    subst (λ o. Explains c.in_ok-rest.rest (behind c.args.rows.now) o) c.in-Some.is c.in_ok-found.ensures in
     SameSize-part c.in-Some.other c.in_ok-rest.rest c.args.region.now r.size
     (size_rest (behind c.args.rows.now) c.args.region.now c.args.row.now c.in_ok-rest.rest c.requires.size c.requires.meets c.requires.closed c.in_ok-rest.ensures)
 
@@ -114,24 +122,25 @@ by_outputs-stack_all-requires-clause-one t c =
 pub by_outputs-stack_all-requires-clause-other : goal.by_outputs-stack_all-requires-clause-other
 by_outputs-stack_all-requires-clause-other t c =
     let r : IsReason c.in_ok-rest.rest (behind c.args.rows.now) c.in-Some.other =
-    subst (λ o. Explains c.in_ok-rest.rest (behind c.args.rows.now) o) c.in-Some.is c.in_ok-other.ensures in
+    subst (λ o. Explains c.in_ok-rest.rest (behind c.args.rows.now) o) c.in-Some.is c.in_ok-found.ensures in
     other_inputs (behind c.args.rows.now) c.args.region.now c.args.row.now c.in_ok-rest.rest c.requires.size c.requires.meets c.requires.closed c.in_ok-rest.ensures
     c.in-Some.other r.above (c.has_more_outputs.ensures.0 c.if-not-has_more_outputs.false)
 
 pub by_outputs-stack_all-requires-clause-outputs : goal.by_outputs-stack_all-requires-clause-outputs
 by_outputs-stack_all-requires-clause-outputs t c =
     let r : IsReason c.in_ok-rest.rest (behind c.args.rows.now) c.in-Some.other =
-    subst (λ o. Explains c.in_ok-rest.rest (behind c.args.rows.now) o) c.in-Some.is c.in_ok-other.ensures in
+    subst (λ o. Explains c.in_ok-rest.rest (behind c.args.rows.now) o) c.in-Some.is c.in_ok-found.ensures in
     either_output (behind c.args.rows.now) c.args.region.now c.args.row.now c.in_ok-rest.rest c.requires.size c.requires.meets c.requires.closed c.in_ok-rest.ensures
     c.in-Some.other r.above
 
 pub by_outputs-returns : goal.by_outputs-returns
 by_outputs-returns t c =
     let r : IsReason c.in_ok-rest.rest (behind c.args.rows.now) c.in-Some.other =
-    subst (λ o. Explains c.in_ok-rest.rest (behind c.args.rows.now) o) c.in-Some.is c.in_ok-other.ensures in
-    reason_of_both (behind c.args.rows.now) c.args.region.now c.args.row.now c.in-Some.other c.in_ok-stack_all.field-0
-    c.in_ok-stack_all.ensures.size c.in_ok-stack_all.ensures.above c.in_ok-stack_all.ensures.within
-    (within_rows (behind c.args.rows.now) c.args.row.now c.requires.member) r.within
+    subst (λ o. Explains c.in_ok-rest.rest (behind c.args.rows.now) o) c.in-Some.is c.in_ok-found.ensures in
+    IfOk-weaker c.stack_all.result _ _
+    (reason_joined (behind c.args.rows.now) c.args.region.now c.args.row.now c.in-Some.other
+    (within_rows (behind c.args.rows.now) c.args.row.now c.requires.member) r.within)
+    c.stack_all.ensures
 
 pub by_step-next_step-requires-clause-sizes : goal.by_step-next_step-requires-clause-sizes
 by_step-next_step-requires-clause-sizes t c = sizes_among c.args.near.now c.args.rows.now c.args.region.now c.requires.sizes c.requires.near

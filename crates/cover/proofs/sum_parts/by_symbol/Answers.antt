@@ -1,9 +1,9 @@
-use Rattle.std.proofs.Common.{◌∙◌, ◌+◌, ◌++◌, ap, drop}
+use Rattle.std.proofs.Common.{◌∙◌, ◌+◌, ◌++◌, ◌<◌, length, ap, sym, subst, drop}
 use Rattle.cube.specs.declared.symbol.Symbol.TheVariants.{Dash, Zero, One}
 use Rattle.cube.specs.Cube.{with_symbol}
 use Rattle.cover.specs.Marks.{is_symbol}
 use Rattle.cover.specs.Parts.{part}
-use Rattle.cover.proofs.SumSymbols.{part-kept, part-skipped}
+use Rattle.cover.proofs.SumSymbols.{part-kept, part-skipped, part-all}
 use Rattle.cover.proofs.sum_parts.by_symbol.Goals as goal
 use Rattle.cover.proofs.sum_parts.by_symbol.Goals.{in-Dash+in_ok-push-in-Dash, in-Zero+in_ok-push-in-Zero, in-One+in_ok-push-in-One}
 
@@ -33,3 +33,32 @@ loop-row-preserved c =
         ones = ap (λ v. v.items ++ part i One (drop (k + 1) rows)) w.ones-is ∙ part-kept i rows k row s c.loop-row-test.true c.row-item.is c.symbol.ensures One c.loop-row.ones.items w.push-in-One.new.self.items freed w.in-One.is is w.in_ok-push-in-One.ensures.items c.loop-row.invariant.ones;
       }
     ]
+
+pub loop-row-init : goal.loop-row-init
+loop-row-init c =
+    let i = c.args.i in
+    let rows = c.args.rows.now in record {
+      dashes = ap (λ l. l ++ part i Dash rows) c.new-dashes.ensures.items;
+      zeros = ap (λ l. l ++ part i Zero rows) c.in_ok-zeros.ensures.items;
+      ones = ap (λ l. l ++ part i One rows) c.in_ok-ones.ensures.items;
+    }
+
+pub symbol-requires : goal.symbol-requires
+symbol-requires c =
+    subst (λ d. c.args.i < length d.symbols) (sym c.row-item.is) (c.requires c.loop-row.row-index c.row-item.result c.loop-row-test.true)
+
+pub set_symbol-requires : goal.set_symbol-requires
+set_symbol-requires c =
+    subst (λ d. c.args.i < length d.symbols) (sym (c.in_ok-freed.ensures.value ∙ c.row-item.is)) (c.requires c.loop-row.row-index c.row-item.result c.loop-row-test.true)
+
+pub returns-clause-dashes : goal.returns-clause-dashes
+returns-clause-dashes c =
+    part-all c.args.i c.args.rows.now c.loop-row.row-index Dash c.loop-row.dashes.items c.loop-row-test.false c.loop-row.invariant.dashes
+
+pub returns-clause-zeros : goal.returns-clause-zeros
+returns-clause-zeros c =
+    part-all c.args.i c.args.rows.now c.loop-row.row-index Zero c.loop-row.zeros.items c.loop-row-test.false c.loop-row.invariant.zeros
+
+pub returns-clause-ones : goal.returns-clause-ones
+returns-clause-ones c =
+    part-all c.args.i c.args.rows.now c.loop-row.row-index One c.loop-row.ones.items c.loop-row-test.false c.loop-row.invariant.ones
