@@ -52,6 +52,41 @@ fn sizes(
     Ok(sizes)
 }
 
+/// Marks groups of columns, at those that stand for them, until these have half of the rows;
+/// `None` if one group has all rows.
+fn wished_groups(
+    alloc: Global,
+    sizes: &[usize],
+    rows: usize,
+) -> Result<Option<Vec<bool>>, AllocError> {
+    let mut chosen: Vec<bool> = vec![in alloc; false; sizes.len()]?;
+    let mut taken: usize = 0;
+    for (column, size) in sizes.iter().enumerate() {
+        if *size == rows {
+            return Ok(None);
+        }
+        if *size > 0 && taken < rows / 2 && column < chosen.len() {
+            taken = taken.saturating_add(*size);
+            chosen[column] = true;
+        }
+    }
+    Ok(Some(chosen))
+}
+
+/// Marks the columns of the chosen groups.
+fn columns_of(
+    alloc: Global,
+    leaders: &mut Vec<usize>,
+    chosen: &[bool],
+) -> Result<Vec<bool>, AllocError> {
+    let mut side: Vec<bool> = Vec::with_capacity(alloc, chosen.len())?;
+    for column in 0..chosen.len() {
+        let group = leader(leaders, column);
+        side.push(group < chosen.len() && chosen[group])?;
+    }
+    Ok(side)
+}
+
 /// Marks the columns of one side, or `None` if all rows hang together.
 pub(crate) fn wished_side(
     alloc: Global,
@@ -62,22 +97,12 @@ pub(crate) fn wished_side(
     for row in rows {
         join_columns(&mut leaders, row);
     }
-    let sizes = sizes(alloc, rows, &mut leaders)?;
-    let mut chosen: Vec<bool> = vec![in alloc; false; columns]?;
-    let mut taken: usize = 0;
-    for (column, size) in sizes.iter().enumerate() {
-        if *size == rows.len() {
-            return Ok(None);
-        }
-        if *size > 0 && taken < rows.len() / 2 && column < chosen.len() {
-            taken = taken.saturating_add(*size);
-            chosen[column] = true;
-        }
+    let groups = {
+        let sizes = sizes(alloc, rows, &mut leaders)?;
+        wished_groups(alloc, &sizes, rows.len())?
+    };
+    match groups {
+        Some(chosen) => Ok(Some(columns_of(alloc, &mut leaders, &chosen)?)),
+        None => Ok(None),
     }
-    let mut side: Vec<bool> = Vec::with_capacity(alloc, columns)?;
-    for column in 0..columns {
-        let group = leader(&mut leaders, column);
-        side.push(group < chosen.len() && chosen[group])?;
-    }
-    Ok(Some(side))
 }

@@ -32,7 +32,8 @@ fn mark(flags: &mut Vec<bool>, place: usize, to: bool) {
     }
 }
 
-/// A list of columns, which rows it leaves open, and what a change of each column would bring.
+/// A list of columns, which rows it leaves open, what a change of each column would bring, and the
+/// best list that was met.
 #[derive(Drop)]
 struct LocalSearch {
     weights: Vec<i64>,
@@ -44,27 +45,41 @@ struct LocalSearch {
     chosen: Vec<usize>,
     fresh: Vec<bool>,
     stamps: Vec<usize>,
+    best: Vec<usize>,
 }
 
 impl LocalSearch {
-    fn new(alloc: Global, table: &Compact) -> Result<LocalSearch, AllocError> {
+    /// A search of no table yet.
+    fn new(alloc: Global) -> LocalSearch {
+        LocalSearch {
+            weights: Vec::new(alloc),
+            held: Vec::new(alloc),
+            open: Vec::new(alloc),
+            places: Vec::new(alloc),
+            scores: Vec::new(alloc),
+            inside: Vec::new(alloc),
+            chosen: Vec::new(alloc),
+            fresh: Vec::new(alloc),
+            stamps: Vec::new(alloc),
+            best: Vec::new(alloc),
+        }
+    }
+
+    /// Begins with no column: each row is open, and weighs one.
+    fn start(&mut self, alloc: Global, table: &Compact) -> Result<(), AllocError> {
         let columns = table.costs.len();
         let rows = table.rows.len();
-        let mut scores: Vec<i64> = Vec::with_capacity(alloc, columns)?;
+        self.weights = vec![in alloc; 1; rows]?;
+        self.held = vec![in alloc; 0; rows]?;
+        self.open = (0..rows).collect(alloc)?;
+        self.places = (0..rows).collect(alloc)?;
+        self.inside = vec![in alloc; false; columns]?;
+        self.fresh = vec![in alloc; true; columns]?;
+        self.stamps = vec![in alloc; 0; columns]?;
         for rows in &table.column_rows {
-            scores.push(i64::try_from(rows.len()).unwrap_or(0))?;
+            self.scores.push(i64::try_from(rows.len()).unwrap_or(0))?;
         }
-        Ok(LocalSearch {
-            weights: vec![in alloc; 1; rows]?,
-            held: vec![in alloc; 0; rows]?,
-            open: (0..rows).collect(alloc)?,
-            places: (0..rows).collect(alloc)?,
-            scores,
-            inside: vec![in alloc; false; columns]?,
-            chosen: Vec::new(alloc),
-            fresh: vec![in alloc; true; columns]?,
-            stamps: vec![in alloc; 0; columns]?,
-        })
+        Ok(())
     }
 
     /// The other columns of a row, or those inside, score so much more.
@@ -284,6 +299,48 @@ impl LocalSearch {
         self.weigh(table);
         Ok(column)
     }
+
+    /// The list is the best one so far.
+    fn keep(&mut self, alloc: Global) -> Result<(), AllocError> {
+        self.best = self.chosen.to_vec(alloc)?;
+        Ok(())
+    }
+
+    /// The best list that is met, at once where it reaches the goal.
+    fn best_list(
+        &mut self,
+        alloc: Global,
+        table: &Compact,
+        goal: Goal,
+        steps: usize,
+    ) -> Result<Vec<usize>, AllocError> {
+        self.fill(table)?;
+        self.keep(alloc)?;
+        let mut least = (i64::MAX, i64::MAX);
+        let mut last = usize::MAX;
+        let mut seed = SEED;
+        for now in 1..steps {
+            if self.open.is_empty() {
+                let counts = self.counts(table);
+                if (self.size(), counts) < least {
+                    least = (self.size(), counts);
+                    self.keep(alloc)?;
+                }
+                if self.reaches(table, goal) {
+                    break;
+                }
+                let column = self.column_to_drop(table, usize::MAX);
+                if column == usize::MAX {
+                    break;
+                }
+                self.remove(table, column, now)?;
+                continue;
+            }
+            seed = next_random(seed);
+            last = self.swap(table, goal, last, now, seed)?;
+        }
+        self.best.to_vec(alloc)
+    }
 }
 
 /// The best list that is met, at once where it reaches the goal.
@@ -293,31 +350,7 @@ pub(crate) fn local_search(
     goal: Goal,
     steps: usize,
 ) -> Result<Vec<usize>, AllocError> {
-    let mut local_search = LocalSearch::new(alloc, table)?;
-    local_search.fill(table)?;
-    let mut best = local_search.chosen.to_vec(alloc)?;
-    let mut least = (i64::MAX, i64::MAX);
-    let mut last = usize::MAX;
-    let mut seed = SEED;
-    for now in 1..steps {
-        if local_search.open.is_empty() {
-            let counts = local_search.counts(table);
-            if (local_search.size(), counts) < least {
-                least = (local_search.size(), counts);
-                best = local_search.chosen.to_vec(alloc)?;
-            }
-            if local_search.reaches(table, goal) {
-                break;
-            }
-            let column = local_search.column_to_drop(table, usize::MAX);
-            if column == usize::MAX {
-                break;
-            }
-            local_search.remove(table, column, now)?;
-            continue;
-        }
-        seed = next_random(seed);
-        last = local_search.swap(table, goal, last, now, seed)?;
-    }
-    Ok(best)
+    let mut search = LocalSearch::new(alloc);
+    search.start(alloc, table)?;
+    search.best_list(alloc, table, goal, steps)
 }

@@ -130,6 +130,33 @@ fn renumber_row(alloc: Global, row: &[usize], places: &[usize]) -> Result<Vec<us
     Ok(renumbered)
 }
 
+/// The rows in places of the live columns.
+fn renumber_rows(
+    alloc: Global,
+    rows: &[Vec<usize>],
+    places: &[usize],
+) -> Result<Vec<Vec<usize>>, AllocError> {
+    let mut renumbered = Vec::with_capacity(alloc, rows.len())?;
+    for row in rows {
+        renumbered.push(renumber_row(alloc, row, places)?)?;
+    }
+    Ok(renumbered)
+}
+
+/// What each live column counts.
+fn costs(
+    alloc: Global,
+    choice: Choice,
+    weights: &[u32],
+    live: &[usize],
+) -> Result<Vec<i64>, AllocError> {
+    let mut costs = Vec::with_capacity(alloc, live.len())?;
+    for column in live {
+        costs.push(i64::from(count(choice, weights, *column)))?;
+    }
+    Ok(costs)
+}
+
 impl Compact {
     pub(crate) fn of(
         alloc: Global,
@@ -138,18 +165,15 @@ impl Compact {
         live: &[usize],
         rows: &[Vec<usize>],
     ) -> Result<Compact, AllocError> {
-        let places = places(alloc, live, weights.len())?;
-        let mut lists = Vec::with_capacity(alloc, rows.len())?;
-        for row in rows {
-            lists.push(renumber_row(alloc, row, &places)?)?;
-        }
-        let mut costs = Vec::with_capacity(alloc, live.len())?;
-        for column in live {
-            costs.push(i64::from(count(choice, weights, *column)))?;
-        }
+        let rows = {
+            let places = places(alloc, live, weights.len())?;
+            renumber_rows(alloc, rows, &places)?
+        };
+        let column_rows = rows_by_column(alloc, &rows, live.len())?;
+        let costs = costs(alloc, choice, weights, live)?;
         Ok(Compact {
-            column_rows: rows_by_column(alloc, &lists, live.len())?,
-            rows: lists,
+            column_rows,
+            rows,
             costs,
         })
     }
@@ -283,6 +307,32 @@ impl Ascent {
             .wrapping_sub(self.count.wrapping_mul(goal.counts))
     }
 
+    /// Takes what overbears the columns of a row from its weight, the least weight first.
+    fn lower(&mut self, table: &Compact, order: &[(i64, usize)], weights: &mut Vec<i64>) {
+        for (_, i) in order {
+            if *i < table.rows.len() {
+                let row = &table.rows[*i];
+                let weight = at(weights, *i);
+                let less = excess(row, weight, &self.loads, &self.scaled_costs);
+                put(weights, *i, weight.wrapping_sub(less));
+                shift(&mut self.loads, row, 0i64.wrapping_sub(less));
+            }
+        }
+    }
+
+    /// Adds what the columns of a row can still bear to its weight, the largest weight first.
+    fn raise(&mut self, table: &Compact, order: &[(i64, usize)], weights: &mut Vec<i64>) {
+        for (_, i) in order.iter().rev() {
+            if *i < table.rows.len() {
+                let row = &table.rows[*i];
+                let more = room(row, &self.loads, &self.scaled_costs);
+                let weight = at(weights, *i);
+                put(weights, *i, weight.wrapping_add(more));
+                shift(&mut self.loads, row, more);
+            }
+        }
+    }
+
     /// Polishes the weights, and keeps them if they say more than the best so far.
     fn polish(
         &mut self,
@@ -297,24 +347,10 @@ impl Ascent {
             self.set_scaled_costs(&table.costs, column);
         }
         load(&mut self.loads, &table.column_rows, &weights);
-        let order = by_weight(alloc, &weights)?;
-        for (_, i) in order.iter() {
-            if *i < table.rows.len() {
-                let row = &table.rows[*i];
-                let weight = at(&weights, *i);
-                let less = excess(row, weight, &self.loads, &self.scaled_costs);
-                put(&mut weights, *i, weight.wrapping_sub(less));
-                shift(&mut self.loads, row, 0i64.wrapping_sub(less));
-            }
-        }
-        for (_, i) in order.iter().rev() {
-            if *i < table.rows.len() {
-                let row = &table.rows[*i];
-                let more = room(row, &self.loads, &self.scaled_costs);
-                let weight = at(&weights, *i);
-                put(&mut weights, *i, weight.wrapping_add(more));
-                shift(&mut self.loads, row, more);
-            }
+        {
+            let order = by_weight(alloc, &weights)?;
+            self.lower(table, &order, &mut weights);
+            self.raise(table, &order, &mut weights);
         }
         let value = self.value(&weights, column, goal);
         if value > self.best_value {
