@@ -176,20 +176,23 @@ fn refuses(
     Ok(status.code() == code && message.bytes() == text)
 }
 
+// A fault, the room for its message, what is written of it and the status.
+const REFUSALS: [(LineFault, usize, &[u8], u8); 3] = [
+    (
+        LineFault::Usage,
+        200,
+        b"usage: espresso -Dcommand [-o type] [-e eat] [file [file]]\n",
+        2,
+    ),
+    (LineFault::Memory, 200, b"espresso: out of memory\n", 3),
+    (LineFault::Usage, 5, b"usage", 2),
+];
+
 #[test]
 fn a_refusal_is_one_line_and_a_status(rt: HostRuntime) -> Result<(), Fail> {
-    let usage = b"usage: espresso -Dcommand [-o type] [-e eat] [file [file]]\n";
-    assert!(rt; refuses(rt.alloc(), LineFault::Usage, 200, usage, 2)?);
-    assert!(rt;
-        refuses(
-            rt.alloc(),
-            LineFault::Memory,
-            200,
-            b"espresso: out of memory\n",
-            3
-        )?
-    );
-    assert!(rt; refuses(rt.alloc(), LineFault::Usage, 5, b"usage", 2)?);
+    for (fault, room, text, code) in REFUSALS {
+        assert!(rt; refuses(rt.alloc(), fault, room, text, code)?);
+    }
     Ok(())
 }
 
@@ -245,25 +248,25 @@ fn an_output_that_fails_has_taken_a_beginning(rt: HostRuntime) -> Result<(), Fai
     Ok(())
 }
 
-#[test]
-fn an_output_takes_the_whole_echo(rt: HostRuntime) -> Result<(), Fail> {
-    let output = Taken::new(rt.alloc(), 100, 100, false)?;
-    assert!(rt; echo_leaves(rt.alloc(), TEXT, output, PRINTED, b"", Status::Done)?);
-    Ok(())
-}
+// A text, whether the flush fails, and what an echo of the text leaves.
+const ECHOES: [(&[u8], bool, &[u8], &[u8], Status); 3] = [
+    (TEXT, false, PRINTED, b"", Status::Done),
+    // A flush that fails at the end is reported, and not after a fault.
+    (TEXT, true, PRINTED, WRITE_FAILED, Status::Fault),
+    (
+        b"",
+        true,
+        b"",
+        b"espresso: (stdin):0: .i or .o missing\n",
+        Status::Fault,
+    ),
+];
 
 #[test]
-fn a_flush_that_fails_at_the_end_is_reported(rt: HostRuntime) -> Result<(), Fail> {
-    let output = Taken::new(rt.alloc(), 100, 100, true)?;
-    let fault = Status::Fault;
-    assert!(rt; echo_leaves(rt.alloc(), TEXT, output, PRINTED, WRITE_FAILED, fault)?);
-    Ok(())
-}
-
-#[test]
-fn a_flush_that_fails_after_a_fault_is_not_reported(rt: HostRuntime) -> Result<(), Fail> {
-    let output = Taken::new(rt.alloc(), 100, 100, true)?;
-    let message = b"espresso: (stdin):0: .i or .o missing\n";
-    assert!(rt; echo_leaves(rt.alloc(), b"", output, b"", message, Status::Fault)?);
+fn an_echo_leaves_what_its_output_has_taken(rt: HostRuntime) -> Result<(), Fail> {
+    for (text, fails, printed, message, status) in ECHOES {
+        let output = Taken::new(rt.alloc(), 100, 100, fails)?;
+        assert!(rt; echo_leaves(rt.alloc(), text, output, printed, message, status)?);
+    }
     Ok(())
 }

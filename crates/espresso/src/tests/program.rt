@@ -108,53 +108,44 @@ const WRITE_FAILED: &[u8] = b"espresso: write failed\n";
 
 const CLOSED: &str = "espresso: cannot open c\n";
 
-#[test]
-fn a_word_names_its_file(rt: HostRuntime) -> Result<(), Fail> {
-    let a = ".i 1\n.o 1\n.p 1\n1 1\n.e\n";
-    assert!(rt; answers(rt.alloc(), &["x", "-Decho", "a"], a, "", 0)?);
-    let b = "# b\n.i 1\n.o 1\n.p 1\n0 1\n.e\n";
-    assert!(rt; answers(rt.alloc(), &["-Decho", "-Decho", "b"], b, "", 0)?);
-    Ok(())
-}
+const B: &str = "# b\n.i 1\n.o 1\n.p 1\n0 1\n.e\n";
+
+const INPUT: &str = "# in\n.i 1\n.o 1\n.p 1\n- 1\n.e\n";
+
+const INPUT_WITHOUT_A: &str = "# in\n.i 1\n.o 1\n.p 1\n0 1\n.e\n";
+
+const B_WITHOUT_INPUT: &str = "# b\n# in\n.i 1\n.o 1\n.p 0\n.e\n";
+
+// Words, and what a process with them leaves: its output, its message and its status.
+const ANSWERS: [(&[&str], &str, &str, u8); 11] = [
+    // A word names its file.
+    (&["x", "-Decho", "a"], ".i 1\n.o 1\n.p 1\n1 1\n.e\n", "", 0),
+    (&["-Decho", "-Decho", "b"], B, "", 0),
+    // A hyphen is standard input, and so is no word.
+    (&["x", "-Decho", "-"], INPUT, "", 0),
+    (&["x", "-D", "echo"], INPUT, "", 0),
+    // A run does not answer yes.
+    (&["x", "-Decho", "c"], "", CLOSED, 2),
+    (
+        &["x", "-Dtautology", "a"],
+        "ON-set is not a tautology\n",
+        "",
+        1,
+    ),
+    (&["x", "-Decho", "-Decho"], "", USAGE, 2),
+    // Each of two words names its own source.
+    (&["x", "-Dsharp", "-", "a"], INPUT_WITHOUT_A, "", 0),
+    (&["x", "-Dsharp", "b", "-"], B_WITHOUT_INPUT, "", 0),
+    // One of two cannot be opened.
+    (&["x", "-Dsharp", "a", "c"], "", CLOSED, 2),
+    (&["x", "-Dsharp", "c", "a"], "", CLOSED, 2),
+];
 
 #[test]
-fn no_word_is_standard_input(rt: HostRuntime) -> Result<(), Fail> {
-    let input = "# in\n.i 1\n.o 1\n.p 1\n- 1\n.e\n";
-    assert!(rt; answers(rt.alloc(), &["x", "-Decho", "-"], input, "", 0)?);
-    assert!(rt; answers(rt.alloc(), &["x", "-D", "echo"], input, "", 0)?);
-    Ok(())
-}
-
-#[test]
-fn a_run_that_does_not_answer_yes(rt: HostRuntime) -> Result<(), Fail> {
-    assert!(rt; answers(rt.alloc(), &["x", "-Decho", "c"], "", CLOSED, 2)?);
-    let no = "ON-set is not a tautology\n";
-    assert!(rt; answers(rt.alloc(), &["x", "-Dtautology", "a"], no, "", 1)?);
-    assert!(rt; answers(rt.alloc(), &["x", "-Decho", "-Decho"], "", USAGE, 2)?);
-    Ok(())
-}
-
-#[test]
-fn each_of_two_words_names_its_own_source(rt: HostRuntime) -> Result<(), Fail> {
-    let without_a = "# in\n.i 1\n.o 1\n.p 1\n0 1\n.e\n";
-    assert!(rt; answers(rt.alloc(), &["x", "-Dsharp", "-", "a"], without_a, "", 0)?);
-    let without_input = "# b\n# in\n.i 1\n.o 1\n.p 0\n.e\n";
-    assert!(rt;
-        answers(
-            rt.alloc(),
-            &["x", "-Dsharp", "b", "-"],
-            without_input,
-            "",
-            0
-        )?
-    );
-    Ok(())
-}
-
-#[test]
-fn one_of_two_words_cannot_be_opened(rt: HostRuntime) -> Result<(), Fail> {
-    assert!(rt; answers(rt.alloc(), &["x", "-Dsharp", "a", "c"], "", CLOSED, 2)?);
-    assert!(rt; answers(rt.alloc(), &["x", "-Dsharp", "c", "a"], "", CLOSED, 2)?);
+fn a_process_answers(rt: HostRuntime) -> Result<(), Fail> {
+    for (words, output, message, code) in ANSWERS {
+        assert!(rt; answers(rt.alloc(), words, output, message, code)?);
+    }
     Ok(())
 }
 
@@ -265,36 +256,25 @@ fn marks_of(alloc: Global, words: &[&str]) -> Result<u64, Fail> {
     Ok(slate.get())
 }
 
-// Whether a process with these words makes these calls.
-fn calls(alloc: Global, words: &[&str], marks: u64) -> Result<bool, Fail> {
-    Ok(marks_of(alloc, words)? == marks)
-}
+// Words, and the marks of a process with them.
+const MARKS: [(&[&str], u64); 8] = [
+    // A message comes after the flush, and after the echoes.
+    (&["x", "-Decho", "a"], 412),
+    (&["x", "-Decho", "c"], 62333),
+    (&["x", "-Dsharp", "b", "c"], 5162333),
+    (&["x", "-Dsharp"], 3),
+    // A second file is opened after a first without a fault, and stays closed after one with a fault.
+    (&["x", "-Dverify", "b", "a"], 51412),
+    (&["x", "-Dverify", "a", "-"], 47112),
+    (&["x", "-Dverify", "c", "a"], 62333),
+    (&["x", "-Dverify", "fault", "a"], 623333333),
+];
 
 #[test]
-fn a_message_comes_behind_the_flush(rt: HostRuntime) -> Result<(), Fail> {
-    assert!(rt; calls(rt.alloc(), &["x", "-Decho", "a"], 412)?);
-    assert!(rt; calls(rt.alloc(), &["x", "-Decho", "c"], 62333)?);
-    Ok(())
-}
-
-#[test]
-fn a_message_comes_behind_the_echoes(rt: HostRuntime) -> Result<(), Fail> {
-    assert!(rt; calls(rt.alloc(), &["x", "-Dsharp", "b", "c"], 5162333)?);
-    assert!(rt; calls(rt.alloc(), &["x", "-Dsharp"], 3)?);
-    Ok(())
-}
-
-#[test]
-fn a_second_file_is_opened_behind_a_first_without_a_fault(rt: HostRuntime) -> Result<(), Fail> {
-    assert!(rt; calls(rt.alloc(), &["x", "-Dverify", "b", "a"], 51412)?);
-    assert!(rt; calls(rt.alloc(), &["x", "-Dverify", "a", "-"], 47112)?);
-    Ok(())
-}
-
-#[test]
-fn a_second_file_stays_closed_behind_a_fault(rt: HostRuntime) -> Result<(), Fail> {
-    assert!(rt; calls(rt.alloc(), &["x", "-Dverify", "c", "a"], 62333)?);
-    assert!(rt; calls(rt.alloc(), &["x", "-Dverify", "fault", "a"], 623333333)?);
+fn calls_come_in_order(rt: HostRuntime) -> Result<(), Fail> {
+    for (words, marks) in MARKS {
+        assert!(rt; marks_of(rt.alloc(), words)? == marks);
+    }
     Ok(())
 }
 
@@ -328,7 +308,7 @@ fn is_flushed_after_a_failure(calls: WriteCalls) -> bool {
 }
 
 #[test]
-fn a_second_file_stays_closed_behind_a_failed_write(rt: HostRuntime) -> Result<(), Fail> {
+fn a_second_file_stays_closed_after_a_failed_write(rt: HostRuntime) -> Result<(), Fail> {
     let alloc = rt.alloc();
     let slate = Cell::new(0);
     let files = Watched {
