@@ -263,7 +263,8 @@ const MARKS: [(&[&str], u64); 8] = [
     (&["x", "-Decho", "c"], 62333),
     (&["x", "-Dsharp", "b", "c"], 5162333),
     (&["x", "-Dsharp"], 3),
-    // A second file is opened after a first without a fault, and stays closed after one with a fault.
+    // A second file is opened after a first without a fault, and stays closed after one with a
+    // fault.
     (&["x", "-Dverify", "b", "a"], 51412),
     (&["x", "-Dverify", "a", "-"], 47112),
     (&["x", "-Dverify", "c", "a"], 62333),
