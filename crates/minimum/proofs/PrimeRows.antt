@@ -256,6 +256,10 @@ module _ (primes on dc : List Cube) where
       }
 
 -- what a question says where its answer is no
+pub match_true : (P Q : Type 0) (b : Bool) → b ≡ true → MatchBool b P Q → P
+match_true P Q true e h = h
+match_true P Q false e h = absurd (false≢true e)
+
 pub match_false : (P Q : Type 0) (b : Bool) → b ≡ false → MatchBool b P Q → Q
 match_false P Q true e h = absurd (false≢true (sym e))
 match_false P Q false e h = h

@@ -118,6 +118,9 @@ module _ (sets : SetLists) (on_cubes : AreCubes sets.size sets.on) where
 none_set : (m k : ℕ) → get_or (replicate m false) k false ≡ false
 none_set m k = elim (cases_lt k m) [ inl lt ↦ get_or-replicate m k false false lt | inr past ↦ get_or_past (replicate m false) k false (omega (arith, length-replicate m false)) ]
 
+pub rows_none : (primes on dc : List Cube) → RowsSoFar primes on dc 0 []
+rows_none primes on dc = record { demands = tt; has_rows = λ p low _. absurd (let l = ltb-true p.output 0 low in omega arith) }
+
 pub one_set : (m j : ℕ) → j < m → Contains (set (replicate m false) j true) true
 one_set m j lt = (j, omega (arith, length-set (replicate m false) j true, length-replicate m false), get_or-set_same (replicate m false) j true true (omega (arith, length-replicate m false)))
 

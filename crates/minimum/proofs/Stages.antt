@@ -117,6 +117,9 @@ outside_asked choice t row k w c h none x g there = none x (record {
 
 -- ---- from one table to the next
 
+pub next_self : (choice : Choice) (t : Table) → Continues choice t t
+next_self choice t = record { least = λ _ l. l; live = λ _ l. l }
+
 pub next_join : (choice : Choice) (t u v : Table) → Continues choice t u → Continues choice u v → Continues choice t v
 next_join choice t u v h g = record { least = λ x l. h.least x (g.least x l); live = λ n l. h.live n (g.live n l) }
 

@@ -255,8 +255,10 @@ impl<'a> Lists<'a> {
             rows.push(candidates.primes)?;
             return Ok(());
         };
-        let low = region.with_symbol(i, Symbol::Zero)?;
-        self.add_rows(alloc, &candidates, &low, rows)?;
+        {
+            let low = region.with_symbol(i, Symbol::Zero)?;
+            self.add_rows(alloc, &candidates, &low, rows)?;
+        }
         let high = region.with_symbol(i, Symbol::One)?;
         self.add_rows(alloc, &candidates, &high, rows)
     }
@@ -312,8 +314,10 @@ impl<'a> Lists<'a> {
         let Some(i) = self.halving_input(&candidates, region) else {
             return self.add_rows_by_cubes(alloc, &candidates, region, rows);
         };
-        let low = region.with_symbol(i, Symbol::Zero)?;
-        self.add_rows_by_halves(alloc, &candidates, &low, rows)?;
+        {
+            let low = region.with_symbol(i, Symbol::Zero)?;
+            self.add_rows_by_halves(alloc, &candidates, &low, rows)?;
+        }
         let high = region.with_symbol(i, Symbol::One)?;
         self.add_rows_by_halves(alloc, &candidates, &high, rows)
     }

@@ -1,7 +1,19 @@
-use Rattle.std.proofs.Common.{arith}
+use Rattle.std.proofs.Common.{arith, sym, subst}
 use Rattle.minimum.specs.Table.{items_of}
-use Rattle.minimum.proofs.PrimeTables.{region_split, rows_more}
+use Rattle.minimum.specs.PrimeRows.{RowsSoFar}
+use Rattle.minimum.proofs.PrimeTables.{region_split, rows_none, rows_more, rows_all}
 use Rattle.minimum.proofs.prime_table.rows_of.Goals as goal
+
+pub loop-j-init : goal.loop-j-init
+loop-j-init c =
+    let lists = c.args.lists.now in
+    subst (λ rows. RowsSoFar lists.primes.now lists.on.now lists.dc.now 0 (items_of rows)) (sym c.new-rows.ensures.items) (rows_none lists.primes.now lists.on.now lists.dc.now)
+
+pub returns : goal.returns
+returns c =
+    let lists = c.args.lists.now in
+    rows_all c.args.shape lists.primes.now lists.on.now lists.dc.now c.requires.primes c.requires.on c.requires.dc c.requires.enough c.loop-j.j (items_of c.loop-j.rows.items)
+    (let l = c.loop-j-test.false in let n = c.outputs-j-end.ensures.value in omega arith) c.loop-j.invariant
 
 pub add_rows_by_halves-requires : goal.add_rows_by_halves-requires
 add_rows_by_halves-requires c =

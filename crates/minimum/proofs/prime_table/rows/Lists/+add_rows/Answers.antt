@@ -1,12 +1,33 @@
-use Rattle.std.proofs.Common.{◌∙◌, ap, arith}
+use Rattle.std.proofs.Common.{◌∙◌, ap, subst, arith}
 use Rattle.std.proofs.lemmas.Option.{slice_get_within}
 use Rattle.std.proofs.lemmas.Result.{IfOk-weaker}
 use Rattle.std.proofs.lemmas.List.{map-append}
 use Rattle.cube.specs.declared.symbol.Symbol.TheVariants.{Dash, Zero, One}
 use Rattle.cover.proofs.Regions.{fewer_dashes, zero_literal, one_literal}
+use Rattle.cube.specs.Cube.{holds}
 use Rattle.minimum.specs.Table.{items_of}
-use Rattle.minimum.proofs.PrimeRows.{adds_row, adds_halves, split_half, match_false}
+use Rattle.minimum.specs.PrimeRows.{HasRowsFor}
+use Rattle.minimum.proofs.PrimeRows.{adds_nothing, adds_row, adds_halves, split_half, match_true, match_false}
 use Rattle.minimum.proofs.prime_table.rows.Lists.+add_rows.Goals as goal
+
+pub candidates-requires : goal.candidates-requires
+candidates-requires t c = c.requires
+
+pub needs_no_row-requires : goal.needs_no_row-requires
+needs_no_row-requires t c = c.in_ok-candidates.ensures
+
+pub returns-then-branch : goal.returns-then-branch
+returns-then-branch t c =
+    let lists = c.args.self.now in
+    adds_nothing lists.primes.now lists.on.now lists.dc.now (holds c.args.region.now) (items_of c.args.rows.now.items)
+    (subst (λ rows. HasRowsFor lists.primes.now lists.on.now lists.dc.now (holds c.args.region.now) (items_of rows)) c.deref.ensures.value
+    (match_true _ _ c.in_ok-needs_no_row.field-0 c.if-branch.true c.in_ok-needs_no_row.ensures))
+
+pub split-requires-clause-touched : goal.split-requires-clause-touched
+split-requires-clause-touched t c = c.in_ok-candidates.ensures
+
+pub split-requires-clause-open : goal.split-requires-clause-open
+split-requires-clause-open t c = match_false _ _ c.in_ok-needs_no_row.field-0 c.if-branch.false c.in_ok-needs_no_row.ensures
 
 pub returns-in_default : goal.returns-in_default
 returns-in_default t c =

@@ -7,6 +7,15 @@ use Rattle.minimum.specs.Table.{items_of}
 use Rattle.minimum.proofs.PrimeRows.{adds_halves, split_half}
 use Rattle.minimum.proofs.prime_table.rows.Lists.+add_rows_by_halves.Goals as goal
 
+pub candidates-requires : goal.candidates-requires
+candidates-requires t c = c.requires
+
+pub add_rows_by_cubes-requires : goal.add_rows_by_cubes-requires
+add_rows_by_cubes-requires t c = c.in_ok-candidates.ensures.split
+
+pub returns-in_default : goal.returns-in_default
+returns-in_default t c = c.add_rows_by_cubes.ensures
+
 pub with_symbol-requires : goal.with_symbol-requires
 with_symbol-requires t c = slice_get_within c.args.region.now.symbols c.in-Some.i Dash c.in-Some.ensures
 

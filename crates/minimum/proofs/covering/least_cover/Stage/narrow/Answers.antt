@@ -1,0 +1,20 @@
+use Rattle.minimum.proofs.Stages.{next_self, next_join}
+use Rattle.minimum.proofs.covering.least_cover.Stage.narrow.Goals as goal
+
+pub loop-stage-init : goal.loop-stage-init
+loop-stage-init c = record { stage = c.requires; next = next_self c.args.choice c.args.self.table }
+
+pub drop_by_bound-requires : goal.drop_by_bound-requires
+drop_by_bound-requires c = c.loop-stage.invariant.stage
+
+pub returns-then-live-live_columns-clause-stage : goal.returns-then-live-live_columns-clause-stage
+returns-then-live-live_columns-clause-stage c = c.in_ok-stage.ensures.stage
+
+pub returns-then-live-live_columns-clause-next : goal.returns-then-live-live_columns-clause-next
+returns-then-live-live_columns-clause-next c = next_join c.args.choice c.args.self.table c.loop-stage.stage.table c.in_ok-stage.stage.table c.loop-stage.invariant.next c.in_ok-stage.ensures.next
+
+pub loop-stage-preserved : goal.loop-stage-preserved
+loop-stage-preserved c = record {
+  stage = c.in_ok-stage.ensures.stage;
+  next = next_join c.args.choice c.args.self.table c.loop-stage.stage.table c.in_ok-stage.stage.table c.loop-stage.invariant.next c.in_ok-stage.ensures.next;
+}
