@@ -2,7 +2,8 @@
 //!
 //! The first weights are disturbed, since with even ones all columns of a symmetric table would
 //! cross their scaled costs together. A later table begins with the weights of the table that it
-//! came from, row by row.
+//! came from, row by row. A row keeps its number from table to table, so that a branch that is over
+//! can hand back what it has learned.
 
 use crate::branching::entanglement;
 use crate::compact::Compact;
@@ -78,11 +79,12 @@ fn first_weights(alloc: Global, table: &Compact) -> Result<Vec<i64>, AllocError>
     Ok(weights)
 }
 
-/// What a search remembers: the rows and weights of the last bound, the multiplier of a column, and
-/// how likely each column is thought to be in a cover.
+/// What a search remembers: the rows of the last bound with their numbers, the weights of rows by
+/// number, the multiplier of a column, and how likely each column is thought to be in a cover.
 #[derive(Drop)]
 pub struct WarmStart {
     rows: Vec<Vec<usize>>,
+    numbers: Vec<usize>,
     weights: Vec<i64>,
     column: i64,
     likely: Vec<i64>,
@@ -94,6 +96,7 @@ impl WarmStart {
     pub fn new(alloc: Global) -> WarmStart {
         WarmStart {
             rows: Vec::new(alloc),
+            numbers: Vec::new(alloc),
             weights: Vec::new(alloc),
             column: 67108864,
             likely: Vec::new(alloc),
@@ -116,6 +119,7 @@ impl WarmStart {
     pub fn copy(&self, alloc: Global) -> Result<WarmStart, AllocError> {
         Ok(WarmStart {
             rows: copy_rows(alloc, &self.rows)?,
+            numbers: self.numbers.to_vec(alloc)?,
             weights: self.weights.to_vec(alloc)?,
             column: self.column,
             likely: self.likely.to_vec(alloc)?,
@@ -123,24 +127,45 @@ impl WarmStart {
         })
     }
 
-    /// The remembered weights of rows that come from the remembered ones, in their order, where
-    /// some left, some have lost columns and some came at the end.
-    fn inherited_weights(
-        &self,
-        alloc: Global,
-        rows: &[Vec<usize>],
-    ) -> Result<Vec<i64>, AllocError> {
-        let mut weights = Vec::with_capacity(alloc, rows.len())?;
+    /// Takes over what a branch has learned, which began with a copy: the weights of the rows that
+    /// are known here, and the multiplier of a column.
+    pub fn learn(&mut self, branch: &WarmStart) {
+        for (number, weight) in self.weights.iter_mut().enumerate() {
+            if number < branch.weights.len() {
+                *weight = branch.weights[number];
+            }
+        }
+        self.column = branch.column;
+    }
+
+    /// The numbers of the remembered rows that these rows come from, in their order, where some
+    /// left, some have lost columns and some came at the end; those that come from none have new
+    /// ones.
+    fn numbers_of(&self, alloc: Global, rows: &[Vec<usize>]) -> Result<Vec<usize>, AllocError> {
+        let mut numbers = Vec::with_capacity(alloc, rows.len())?;
         let mut from: usize = 0;
+        let mut next = self.weights.len();
         for row in rows {
             let place = matching_row(&self.rows, row, from);
-            if place < self.weights.len() {
-                weights.push(self.weights[place])?;
+            if place < self.numbers.len() {
+                numbers.push(self.numbers[place])?;
+                from = place.saturating_add(1);
+            } else {
+                numbers.push(next)?;
+                next = next.saturating_add(1);
+            }
+        }
+        Ok(numbers)
+    }
+
+    /// The weights of the rows with these numbers.
+    fn weights_of(&self, alloc: Global, numbers: &[usize]) -> Result<Vec<i64>, AllocError> {
+        let mut weights = Vec::with_capacity(alloc, numbers.len())?;
+        for number in numbers {
+            if *number < self.weights.len() {
+                weights.push(self.weights[*number])?;
             } else {
                 weights.push(UNIT / 2)?;
-            }
-            if place < self.rows.len() {
-                from = place.saturating_add(1);
             }
         }
         Ok(weights)
@@ -151,12 +176,12 @@ impl WarmStart {
         &self,
         alloc: Global,
         table: &Compact,
-        rows: &[Vec<usize>],
+        numbers: &[usize],
     ) -> Result<Ascent, AllocError> {
         let weights = if self.rows.is_empty() {
             first_weights(alloc, table)?
         } else {
-            self.inherited_weights(alloc, rows)?
+            self.weights_of(alloc, numbers)?
         };
         Ascent::new(alloc, table, weights, self.column)
     }
@@ -179,13 +204,12 @@ impl WarmStart {
         }
     }
 
-    /// Makes the steps, until they say enough or bring nothing, and remembers where they end.
+    /// Makes the steps, until they say enough or bring nothing.
     fn climb(
         &mut self,
         alloc: Global,
         table: &Compact,
         live: &[usize],
-        rows: &[Vec<usize>],
         goal: Goal,
         ascent: &mut Ascent,
     ) -> Result<(), AllocError> {
@@ -206,7 +230,7 @@ impl WarmStart {
                 break;
             }
         }
-        self.remember(alloc, rows, ascent)
+        Ok(())
     }
 
     /// Multipliers that are wished for, to show that no cover reaches the goal, and which columns
@@ -224,23 +248,41 @@ impl WarmStart {
         columns: usize,
         goal: Goal,
     ) -> Result<Multipliers, AllocError> {
-        let mut ascent = self.ascent(alloc, table, rows)?;
+        let numbers = self.numbers_of(alloc, rows)?;
+        let mut ascent = self.ascent(alloc, table, &numbers)?;
         if !rows.is_empty() {
             self.likely = vec![in alloc; 0; columns]?;
-            self.climb(alloc, table, live, rows, goal, &mut ascent)?;
+            self.climb(alloc, table, live, goal, &mut ascent)?;
+            self.keep_weights(&numbers, &ascent)?;
+            self.remember(alloc, rows, numbers, &ascent)?;
         }
         ascent.multipliers(alloc)
     }
 
-    /// Remembers the rows and the weights that the steps came to.
+    /// Keeps the weights that the steps came to, at the numbers of their rows; new numbers follow
+    /// one another.
+    fn keep_weights(&mut self, numbers: &[usize], ascent: &Ascent) -> Result<(), AllocError> {
+        for (i, number) in numbers.iter().enumerate() {
+            let weight = at(&ascent.top_weights, i);
+            if *number < self.weights.len() {
+                self.weights[*number] = weight;
+            } else {
+                self.weights.push(weight)?;
+            }
+        }
+        Ok(())
+    }
+
+    /// Remembers the rows, their numbers, and what the steps came to.
     fn remember(
         &mut self,
         alloc: Global,
         rows: &[Vec<usize>],
+        numbers: Vec<usize>,
         ascent: &Ascent,
     ) -> Result<(), AllocError> {
         self.rows = copy_rows(alloc, rows)?;
-        self.weights = ascent.top_weights.to_vec(alloc)?;
+        self.numbers = numbers;
         let short = 0i64.wrapping_sub(ascent.best_value).max(0);
         let missing = if ascent.count > 0 {
             self.column = ascent.top_column;

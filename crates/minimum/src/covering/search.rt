@@ -357,14 +357,14 @@ impl Table {
     }
 
     /// A cover within the budget, or none if there is none; each table that is looked at takes one
-    /// of those left.
+    /// of those left. What the search learns of row weights goes back once it is over.
     #[cycle(search)]
     fn search(
         &self,
         alloc: Global,
         choice: Choice,
         budget: Budget,
-        warm_start: &WarmStart,
+        warm_start: &mut WarmStart,
         left: &mut u64,
     ) -> Result<Option<Vec<usize>>, Stop>
         ensures { IfOk result (λ o. Answers choice self.now budget.columns budget.counts
@@ -374,10 +374,28 @@ impl Table {
             return Err(Stop::Cut);
         };
         *left = rest;
-        let mut warm_start = warm_start.copy(alloc)?;
-        match self.narrow(alloc, choice, budget, &mut warm_start)? {
+        let mut own = warm_start.copy(alloc)?;
+        let found = self.search_on(alloc, choice, budget, &mut own, left)?;
+        warm_start.learn(&own);
+        Ok(found)
+    }
+
+    /// The same, with a warm start of its own.
+    #[cycle(search)]
+    fn search_on(
+        &self,
+        alloc: Global,
+        choice: Choice,
+        budget: Budget,
+        warm_start: &mut WarmStart,
+        left: &mut u64,
+    ) -> Result<Option<Vec<usize>>, Stop>
+        ensures { IfOk result (λ o. Answers choice self.now budget.columns budget.counts
+            (option_map (λ v. v.items) o)) }
+    {
+        match self.narrow(alloc, choice, budget, warm_start)? {
             None => Ok(None),
-            Some(table) => table.branch(alloc, choice, budget, &warm_start, left),
+            Some(table) => table.branch(alloc, choice, budget, warm_start, left),
         }
     }
 
@@ -388,7 +406,7 @@ impl Table {
         alloc: Global,
         choice: Choice,
         budget: Budget,
-        warm_start: &WarmStart,
+        warm_start: &mut WarmStart,
         left: &mut u64,
     ) -> Result<Option<Vec<usize>>, Stop>
         ensures { IfOk result (λ o. Answers choice self.now budget.columns budget.counts
