@@ -20,8 +20,8 @@ use crate::covering::bound::Budget;
 use crate::covering::columns::{contains, copy_of, copy_rows, count, join, sum};
 use crate::covering::marks::{all_but, marked_columns, others};
 use crate::covering::search::Stop;
-use crate::covering::subgradient::{Goal, WarmStart};
 use crate::covering::table::Table;
+use heuristics::{Goal, WarmStart, batch};
 use std::alloc::{AllocError, Global};
 
 /// A table with so few live columns is solved by trying all choices.
@@ -96,31 +96,6 @@ impl Help {
             Err(Stop::Memory) => Err(AllocError),
         }
     }
-}
-
-/// Marks the first live columns from one on that the witness has not, at most so many: a wish.
-fn batch(
-    alloc: Global,
-    live: &[usize],
-    witness: &[usize],
-    column: usize,
-    most: usize,
-    end: usize,
-) -> Result<Vec<bool>, AllocError> {
-    let mut marks = vec![in alloc; false; end]?;
-    let mut number: usize = 0;
-    for other in live {
-        if column <= *other {
-            if number >= most || contains(witness, *other) {
-                return Ok(marks);
-            }
-            number = number.saturating_add(1);
-            if *other < marks.len() {
-                marks[*other] = true;
-            }
-        }
-    }
-    Ok(marks)
 }
 
 /// Whether each of the columns counts so much.
@@ -470,7 +445,7 @@ impl Table {
         match self.columns_within_budget(alloc, Choice::First, budget, warm_start)? {
             None => Ok(columns),
             Some(_) => {
-                let missing = usize::try_from(warm_start.missing).unwrap_or(usize::MAX);
+                let missing = usize::try_from(warm_start.shortfall()).unwrap_or(usize::MAX);
                 Ok(asked.saturating_sub(missing))
             }
         }
@@ -563,7 +538,7 @@ impl Table {
     ) -> Result<u128, AllocError> {
         let budget = Budget { columns, counts };
         let _keep = self.columns_within_budget(alloc, Choice::Literals, budget, warm_start)?;
-        Ok(counts.saturating_sub(u128::from(warm_start.missing)))
+        Ok(counts.saturating_sub(u128::from(warm_start.shortfall())))
     }
 
     fn best(&self, alloc: Global, choice: Choice) -> Result<Vec<usize>, AllocError>

@@ -16,9 +16,9 @@ ghost use Rattle.minimum.specs.Parts.{AreParts, is_on_one_side, part_of};
 
 use crate::choice::Choice;
 use crate::covering::columns::{copy_of, join};
-use crate::covering::components::wished_side;
 use crate::covering::marks::{all_kept, marked_columns, others, untouched_rows};
 use crate::covering::table::Table;
+use heuristics::wished_side;
 use std::alloc::{AllocError, Global};
 
 /// Two tables of parts that share no column.

@@ -17,12 +17,13 @@ ghost use Rattle.minimum.specs.Search.{NoneWithin, Answers, IsAnswer, IsNarrowed
 
 use crate::choice::Choice;
 use crate::covering::bound::{Budget, columns_within_gap, limit_of, scaled_costs};
-use crate::covering::columns::{contains, copy_of, holds, is_blank, sum, with_column};
+use crate::covering::columns::{contains, copy_of, count, holds, is_blank, sum, with_column};
 use crate::covering::lagrangian::lagrangian;
-use crate::covering::local_search::local_search;
 use crate::covering::marks::{all_marked, is_marked, marked_columns, rows_of_marked};
-use crate::covering::subgradient::{Compact, Goal, Multipliers, WarmStart, at, put};
 use crate::covering::table::Table;
+use heuristics::{
+    Compact, Goal, Multipliers, WarmStart, entanglement, likeliest, local_search, marks_of,
+};
 use std::alloc::{AllocError, Global};
 
 /// Why a question has no answer.
@@ -124,75 +125,18 @@ fn all_held(columns: &[usize], rows: &[Vec<usize>]) -> bool
     rows.iter().all(|row| is_held(columns, row))
 }
 
-/// Marks the live columns with these places among them.
-fn marks_of(
+/// What each live column counts, for those who wish.
+fn live_costs(
     alloc: Global,
+    choice: Choice,
+    weights: &[u32],
     live: &[usize],
-    places: &[usize],
-    end: usize,
-) -> Result<Vec<bool>, AllocError> {
-    let mut marks = vec![in alloc; false; end]?;
-    for place in places {
-        if *place < live.len() && live[*place] < marks.len() {
-            marks[live[*place]] = true;
-        }
-    }
-    Ok(marks)
-}
-
-/// In how many rows each column stands.
-fn entanglement(
-    alloc: Global,
-    rows: &[Vec<usize>],
-    columns: usize,
 ) -> Result<Vec<i64>, AllocError> {
-    let mut numbers: Vec<i64> = vec![in alloc; 0; columns]?;
-    for row in rows {
-        for column in row {
-            let number = at(&numbers, *column).wrapping_add(1);
-            put(&mut numbers, *column, number);
-        }
+    let mut costs = Vec::with_capacity(alloc, live.len())?;
+    for column in live {
+        costs.push(i64::from(count(choice, weights, *column)))?;
     }
-    Ok(numbers)
-}
-
-/// The sum of the numbers of the row's columns.
-fn row_entanglement(row: &[usize], numbers: &[i64]) -> i64 {
-    let mut sum: i64 = 0;
-    for column in row {
-        sum = sum.wrapping_add(at(numbers, *column));
-    }
-    sum
-}
-
-/// The likeliest column of the row, the one of more rows among equals.
-fn likeliest_of(row: &[usize], likely: &[i64], numbers: &[i64]) -> usize {
-    let mut best = 0;
-    let mut most = (i64::MIN, i64::MIN);
-    for column in row {
-        let here = (at(likely, *column), at(numbers, *column));
-        if here > most {
-            most = here;
-            best = *column;
-        }
-    }
-    best
-}
-
-/// The likeliest column of a shortest row, the most entangled among those.
-fn likeliest(rows: &[Vec<usize>], likely: &[i64], numbers: &[i64]) -> usize {
-    let mut shortest = usize::MAX;
-    let mut most = i64::MIN;
-    let mut best = 0;
-    for row in rows {
-        let here = row_entanglement(row, numbers);
-        if row.len() < shortest || (row.len() == shortest && here > most) {
-            shortest = row.len();
-            most = here;
-            best = likeliest_of(row, likely, numbers);
-        }
-    }
-    best
+    Ok(costs)
 }
 
 impl Table {
@@ -273,13 +217,9 @@ impl Table {
 
     /// The live columns and the rows, for those who wish.
     fn compact(&self, alloc: Global, choice: Choice) -> Result<Compact, AllocError> {
-        Compact::of(
-            alloc,
-            choice,
-            self.literals(),
-            self.live_columns(),
-            self.row_lists(),
-        )
+        let live = self.live_columns();
+        let costs = live_costs(alloc, choice, self.literals(), live)?;
+        Compact::of(alloc, self.row_lists(), live, self.columns(), costs)
     }
 
     /// All columns marked.
@@ -409,7 +349,7 @@ impl Table {
         ensures table { IsTable self.now }
     {
         let numbers = entanglement(alloc, self.row_lists(), self.columns())?;
-        let wished = likeliest(self.row_lists(), &warm_start.likely, &numbers);
+        let wished = likeliest(self.row_lists(), warm_start.likely(), &numbers);
         if contains(self.live_columns(), wished) {
             return Ok(Some(wished));
         }
@@ -417,14 +357,14 @@ impl Table {
     }
 
     /// A cover within the budget, or none if there is none; each table that is looked at takes one
-    /// of those left.
+    /// of those left. What the search learns of row weights goes back once it is over.
     #[cycle(search)]
     fn search(
         &self,
         alloc: Global,
         choice: Choice,
         budget: Budget,
-        warm_start: &WarmStart,
+        warm_start: &mut WarmStart,
         left: &mut u64,
     ) -> Result<Option<Vec<usize>>, Stop>
         ensures { IfOk result (λ o. Answers choice self.now budget.columns budget.counts
@@ -434,10 +374,28 @@ impl Table {
             return Err(Stop::Cut);
         };
         *left = rest;
-        let mut warm_start = warm_start.copy(alloc)?;
-        match self.narrow(alloc, choice, budget, &mut warm_start)? {
+        let mut own = warm_start.copy(alloc)?;
+        let found = self.search_on(alloc, choice, budget, &mut own, left)?;
+        warm_start.learn(&own);
+        Ok(found)
+    }
+
+    /// The same, with a warm start of its own.
+    #[cycle(search)]
+    fn search_on(
+        &self,
+        alloc: Global,
+        choice: Choice,
+        budget: Budget,
+        warm_start: &mut WarmStart,
+        left: &mut u64,
+    ) -> Result<Option<Vec<usize>>, Stop>
+        ensures { IfOk result (λ o. Answers choice self.now budget.columns budget.counts
+            (option_map (λ v. v.items) o)) }
+    {
+        match self.narrow(alloc, choice, budget, warm_start)? {
             None => Ok(None),
-            Some(table) => table.branch(alloc, choice, budget, &warm_start, left),
+            Some(table) => table.branch(alloc, choice, budget, warm_start, left),
         }
     }
 
@@ -448,7 +406,7 @@ impl Table {
         alloc: Global,
         choice: Choice,
         budget: Budget,
-        warm_start: &WarmStart,
+        warm_start: &mut WarmStart,
         left: &mut u64,
     ) -> Result<Option<Vec<usize>>, Stop>
         ensures { IfOk result (λ o. Answers choice self.now budget.columns budget.counts

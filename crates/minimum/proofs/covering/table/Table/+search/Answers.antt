@@ -49,10 +49,10 @@ branch-returns t c =
     (λ o a. answers_dropped c.args.choice c.args.self.now c.in-Some.column c.args.budget.columns c.args.budget.counts (option_map (λ v. v.items) o) c.in_ok-column.ensures.table (rw c.in-Some.is at c.in_ok-column.ensures.live) (subst (λ g. NoneWithin c.args.choice g c.args.budget.columns c.args.budget.counts) c.in_ok-with.ensures none) (subst (λ g. Answers c.args.choice g c.args.budget.columns c.args.budget.counts (option_map (λ v. v.items) o)) is a))
     c.search-in-Some-3.ensures
 
-pub search-branch-table-requires : goal.search-branch-table-requires
-search-branch-table-requires t c =
-    let n = rw c.in-Some-2.is at c.in_ok-narrow.ensures in
+pub search_on-branch-table-requires : goal.search_on-branch-table-requires
+search_on-branch-table-requires t c =
+    let n = rw c.in-Some.is at c.in_ok-narrow.ensures in
     (omega (arith, n.live, c.decreases), tt)
 
-pub search-returns-in-None : goal.search-returns-in-None
-search-returns-in-None t c = rw c.in-None.is at c.in_ok-narrow.ensures
+pub search_on-returns-in-None : goal.search_on-returns-in-None
+search_on-returns-in-None t c = rw c.in-None.is at c.in_ok-narrow.ensures

@@ -1,36 +1,15 @@
-//! Wishes for a cover: a local search, which owes nothing to anyone.
+//! A local search for a cover.
 //!
 //! It adds columns until each row is held, takes one away, and goes on by swaps: a column leaves
 //! that holds the least alone, and a column of some open row comes in. Rows that stay open weigh
-//! more and more, so that the search does not turn in circles. Whatever it finds is looked at
-//! before it is used.
+//! more and more, so that the search does not turn in circles, and a column that left comes in
+//! again only after another column of its rows did (Cai, Su, Luo and Sattar, NuMVC: an efficient
+//! local search algorithm for minimum vertex cover, 2013).
 
-use crate::covering::subgradient::{Compact, Goal, SEED, at, next_random, put};
+use crate::compact::Compact;
+use crate::goal::Goal;
+use crate::numbers::{SEED, at, flag, mark, next_random, number, put, set};
 use std::alloc::{AllocError, Global};
-
-pub(crate) fn number(numbers: &[usize], place: usize) -> usize {
-    if place < numbers.len() {
-        numbers[place]
-    } else {
-        0
-    }
-}
-
-pub(crate) fn set(numbers: &mut Vec<usize>, place: usize, number: usize) {
-    if place < numbers.len() {
-        numbers[place] = number;
-    }
-}
-
-fn flag(flags: &[bool], place: usize) -> bool {
-    place < flags.len() && flags[place]
-}
-
-fn mark(flags: &mut Vec<bool>, place: usize, to: bool) {
-    if place < flags.len() {
-        flags[place] = to;
-    }
-}
 
 /// A list of columns, which rows it leaves open, what a change of each column would bring, and the
 /// best list that was met.
@@ -343,8 +322,9 @@ impl LocalSearch {
     }
 }
 
-/// The best list that is met, at once where it reaches the goal.
-pub(crate) fn local_search(
+/// The best list of columns that is met in so many steps, by their places among the live ones, at
+/// once where it reaches the goal. A step reads some rows of two columns.
+pub fn local_search(
     alloc: Global,
     table: &Compact,
     goal: Goal,

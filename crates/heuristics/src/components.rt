@@ -1,9 +1,10 @@
-//! A wish: columns on two sides, such that no row has columns on both.
+//! Columns on two sides, such that no row has columns on both.
 //!
-//! Columns hang together if a row has both. They are joined row by row, and whole groups are then
-//! put on one side until it has half of the rows. What comes out is looked at before it is used.
+//! Columns hang together if a row has both. They are joined row by row (Tarjan, Efficiency of a
+//! good but not linear set union algorithm, 1975), and whole groups are then put on one side until
+//! it has half of the rows.
 
-use crate::covering::local_search::{number, set};
+use crate::numbers::{flag, mark, number, set};
 use std::alloc::{AllocError, Global};
 
 /// The column that stands for those that hang together with this one; the way there becomes
@@ -65,9 +66,9 @@ fn wished_groups(
         if *size == rows {
             return Ok(None);
         }
-        if *size > 0 && taken < rows / 2 && column < chosen.len() {
+        if *size > 0 && taken < rows / 2 {
             taken = taken.saturating_add(*size);
-            chosen[column] = true;
+            mark(&mut chosen, column, true);
         }
     }
     Ok(Some(chosen))
@@ -82,13 +83,14 @@ fn columns_of(
     let mut side: Vec<bool> = Vec::with_capacity(alloc, chosen.len())?;
     for column in 0..chosen.len() {
         let group = leader(leaders, column);
-        side.push(group < chosen.len() && chosen[group])?;
+        side.push(flag(chosen, group))?;
     }
     Ok(side)
 }
 
-/// Marks the columns of one side, or `None` if all rows hang together.
-pub(crate) fn wished_side(
+/// Marks the columns of one side, or `None` if all rows hang together. The columns are below the
+/// number given. It takes about three passes over the rows.
+pub fn wished_side(
     alloc: Global,
     rows: &[Vec<usize>],
     columns: usize,

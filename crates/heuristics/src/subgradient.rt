@@ -1,0 +1,413 @@
+//! Multipliers of the Lagrangian relaxation of the covering problem, by subgradient steps.
+//!
+//! Whole-number subgradient steps with momentum (Held and Karp, The traveling-salesman problem and
+//! minimum spanning trees, 1970 and 1971). A column has a scaled cost: a multiplier for itself, and
+//! one for each thing that it counts. A step lowers the rows of columns that bear more than their
+//! scaled costs and raises the others. From time to time the weights are polished: cut if more than
+//! one column bears too much, and raised by the least room of the row's columns. If the steps end
+//! just short of what is wished for, they go on from weights a quarter of the way to their mean.
+//! The cost is that of reading all rows some times a step.
+
+use crate::compact::Compact;
+use crate::goal::Goal;
+use crate::numbers::{at, put, shift, total};
+use std::alloc::{AllocError, Global};
+
+/// The multiplier of a column if it is not itself asked for.
+pub(crate) const UNIT: i64 = 16777216;
+
+/// How many steps are made for a bound on the length.
+const STEPS: u32 = 100;
+
+/// How many are made for a bound on what is counted.
+pub(crate) const COUNT_STEPS: u32 = 150;
+
+/// The first length of a step; a step that is shorter than the last brings nothing.
+const PACE: i64 = 1024;
+
+const LAST_PACE: i64 = 16;
+
+/// After so many steps that bring nothing they become shorter.
+const PATIENCE: u32 = 10;
+
+/// The multipliers of the relaxation: weights of rows, and the parts of a column's scaled cost, for
+/// itself and for each thing that it counts.
+#[derive(Drop)]
+pub struct Multipliers {
+    /// The weight of each row.
+    pub weights: Vec<u64>,
+    /// What a column costs for itself.
+    pub column: u32,
+    /// What it costs for each thing that it counts.
+    pub count: u32,
+}
+
+/// The ascent: the weights and the multiplier of a column, their direction, and the best so far.
+#[derive(Drop)]
+pub(crate) struct Ascent {
+    weights: Vec<i64>,
+    column: i64,
+    direction: Vec<i64>,
+    column_direction: i64,
+    pub(crate) scaled_costs: Vec<i64>,
+    pub(crate) loads: Vec<i64>,
+    pub(crate) count: i64,
+    top: i64,
+    pub(crate) top_weights: Vec<i64>,
+    pub(crate) top_column: i64,
+    pub(crate) best_value: i64,
+    best_weights: Vec<i64>,
+    best_column: i64,
+    pace: i64,
+    idle: u32,
+}
+
+/// The last step, and whether the steps have begun anew.
+#[derive(Clone, Copy)]
+pub(crate) struct Course {
+    pub(crate) last: u32,
+    pub(crate) again: bool,
+}
+
+/// What each column bears: the weights of its rows.
+fn load(loads: &mut Vec<i64>, column_rows: &[Vec<usize>], weights: &[i64]) {
+    for (column, rows) in column_rows.iter().enumerate() {
+        let mut sum: i64 = 0;
+        for row in rows {
+            sum = sum.wrapping_add(at(weights, *row));
+        }
+        put(loads, column, sum);
+    }
+}
+
+/// What columns bear beyond their scaled costs.
+fn beyond(loads: &[i64], scaled_costs: &[i64]) -> i64 {
+    let mut beyond: i64 = 0;
+    for (i, load) in loads.iter().enumerate() {
+        beyond = beyond.wrapping_add(load.wrapping_sub(at(scaled_costs, i)).max(0));
+    }
+    beyond
+}
+
+/// How much a row has to leave so that one more of its columns bears no more than its scaled cost;
+/// nothing if one bears more at most.
+fn excess(row: &[usize], weight: i64, loads: &[i64], scaled_costs: &[i64]) -> i64 {
+    let mut number: u32 = 0;
+    let mut least = weight;
+    for column in row {
+        let over = at(loads, *column).wrapping_sub(at(scaled_costs, *column));
+        if over > 0 {
+            number = number.wrapping_add(1);
+            least = least.min(over);
+        }
+    }
+    if number > 1 { least } else { 0 }
+}
+
+/// How much more each column of the row can bear.
+fn room(row: &[usize], loads: &[i64], scaled_costs: &[i64]) -> i64 {
+    let mut least = i64::MAX;
+    for column in row {
+        least = least.min(at(scaled_costs, *column).wrapping_sub(at(loads, *column)));
+    }
+    if row.is_empty() { 0 } else { least.max(0) }
+}
+
+/// The rows by rising weight.
+fn by_weight(alloc: Global, weights: &[i64]) -> Result<Vec<(i64, usize)>, AllocError> {
+    let mut order: Vec<(i64, usize)> = Vec::with_capacity(alloc, weights.len())?;
+    for (i, weight) in weights.iter().enumerate() {
+        order.push((*weight, i))?;
+    }
+    order.sort_unstable();
+    Ok(order)
+}
+
+/// The multiplier of each thing that a column counts: columns cost a unit on the average.
+fn count_multiplier(table: &Compact) -> i64 {
+    let number = i64::try_from(table.costs.len()).unwrap_or(i64::MAX);
+    UNIT.wrapping_mul(number)
+        .wrapping_div(total(&table.costs).max(1))
+        .max(1)
+        .min(4294967295)
+}
+
+impl Ascent {
+    /// The start of the steps, at these weights and at this multiplier of a column where columns
+    /// do not all cost alike.
+    pub(crate) fn new(
+        alloc: Global,
+        table: &Compact,
+        weights: Vec<i64>,
+        column: i64,
+    ) -> Result<Ascent, AllocError> {
+        let uneven = table.is_uneven();
+        let column = if uneven { column } else { UNIT };
+        let mut ascent = Ascent {
+            direction: vec![in alloc; 0; weights.len()]?,
+            column,
+            column_direction: 0,
+            scaled_costs: vec![in alloc; 0; table.costs.len()]?,
+            loads: vec![in alloc; 0; table.costs.len()]?,
+            count: if uneven { count_multiplier(table) } else { 0 },
+            top: i64::MIN,
+            top_weights: weights.to_vec(alloc)?,
+            top_column: column,
+            best_value: i64::MIN,
+            best_weights: weights.to_vec(alloc)?,
+            best_column: column,
+            pace: PACE,
+            idle: 0,
+            weights,
+        };
+        ascent.set_scaled_costs(&table.costs, column);
+        Ok(ascent)
+    }
+
+    /// How many steps are made.
+    pub(crate) fn steps(&self) -> u32 {
+        if self.count > 0 { COUNT_STEPS } else { STEPS }
+    }
+
+    /// The scaled costs under the multiplier of a column, which stays where nothing is counted.
+    fn set_scaled_costs(&mut self, costs: &[i64], column: i64) {
+        let count = self.count;
+        for (i, scaled_cost) in self.scaled_costs.iter_mut().enumerate() {
+            *scaled_cost = column.wrapping_add(count.wrapping_mul(at(costs, i)));
+        }
+    }
+
+    /// What weights say of a cover: more than nothing if no cover reaches the goal.
+    fn value(&self, weights: &[i64], column: i64, goal: Goal) -> i64 {
+        total(weights)
+            .wrapping_sub(beyond(&self.loads, &self.scaled_costs))
+            .wrapping_sub(column.wrapping_mul(goal.columns))
+            .wrapping_sub(self.count.wrapping_mul(goal.counts))
+    }
+
+    /// Takes what overbears the columns of a row from its weight, the least weight first.
+    fn lower(&mut self, table: &Compact, order: &[(i64, usize)], weights: &mut Vec<i64>) {
+        for (_, i) in order {
+            if *i < table.rows.len() {
+                let row = &table.rows[*i];
+                let weight = at(weights, *i);
+                let less = excess(row, weight, &self.loads, &self.scaled_costs);
+                put(weights, *i, weight.wrapping_sub(less));
+                shift(&mut self.loads, row, 0i64.wrapping_sub(less));
+            }
+        }
+    }
+
+    /// Adds what the columns of a row can still bear to its weight, the largest weight first.
+    fn raise(&mut self, table: &Compact, order: &[(i64, usize)], weights: &mut Vec<i64>) {
+        for (_, i) in order.iter().rev() {
+            if *i < table.rows.len() {
+                let row = &table.rows[*i];
+                let more = room(row, &self.loads, &self.scaled_costs);
+                let weight = at(weights, *i);
+                put(weights, *i, weight.wrapping_add(more));
+                shift(&mut self.loads, row, more);
+            }
+        }
+    }
+
+    /// Polishes the weights, and keeps them if they say more than the best so far.
+    fn polish(
+        &mut self,
+        alloc: Global,
+        table: &Compact,
+        weights: Vec<i64>,
+        column: i64,
+        goal: Goal,
+    ) -> Result<(), AllocError> {
+        let mut weights = weights;
+        if self.count > 0 {
+            self.set_scaled_costs(&table.costs, column);
+        }
+        load(&mut self.loads, &table.column_rows, &weights);
+        {
+            let order = by_weight(alloc, &weights)?;
+            self.lower(table, &order, &mut weights);
+            self.raise(table, &order, &mut weights);
+        }
+        let value = self.value(&weights, column, goal);
+        if value > self.best_value {
+            self.best_value = value;
+            self.best_weights = weights;
+            self.best_column = column;
+        }
+        Ok(())
+    }
+
+    /// How many columns of the relaxed choice, those that bear more than their scaled costs, each
+    /// row has, and how many there are.
+    fn relaxed(&self, alloc: Global, table: &Compact) -> Result<(Vec<i64>, i64), AllocError> {
+        let mut held: Vec<i64> = vec![in alloc; 0; table.rows.len()]?;
+        let mut chosen: i64 = 0;
+        for (i, rows) in table.column_rows.iter().enumerate() {
+            if at(&self.loads, i) > at(&self.scaled_costs, i) {
+                shift(&mut held, rows, 1);
+                chosen = chosen.wrapping_add(1);
+            }
+        }
+        Ok((held, chosen))
+    }
+
+    /// A step in the direction, which is the violation with three quarters of the last direction.
+    fn step(
+        &mut self,
+        alloc: Global,
+        table: &Compact,
+        goal: Goal,
+        far: i64,
+    ) -> Result<(), AllocError> {
+        let (held, chosen) = self.relaxed(alloc, table)?;
+        let mut square: i64 = 0;
+        for (i, number) in held.iter().enumerate() {
+            let slope = 1i64.wrapping_sub(*number).wrapping_mul(16);
+            let last = at(&self.direction, i).wrapping_mul(12) >> 4;
+            let direction = slope.wrapping_add(last);
+            put(&mut self.direction, i, direction);
+            if direction > 0 || at(&self.weights, i) > 0 {
+                square = square.wrapping_add(direction.wrapping_mul(direction));
+            }
+        }
+        if self.count > 0 {
+            let slope = chosen.wrapping_sub(goal.columns).wrapping_mul(16);
+            self.column_direction = slope.wrapping_add(self.column_direction.wrapping_mul(12) >> 4);
+            square = square.wrapping_add(self.column_direction.wrapping_mul(self.column_direction));
+        }
+        if square <= 0 {
+            return Ok(());
+        }
+        let pace = far.wrapping_div(square.max(1));
+        for (i, weight) in self.weights.iter_mut().enumerate() {
+            let more = pace.wrapping_mul(at(&self.direction, i)) >> 8;
+            *weight = weight.wrapping_add(more).max(0);
+        }
+        let more = pace.wrapping_mul(self.column_direction) >> 8;
+        self.column = self.column.wrapping_add(more).max(0);
+        Ok(())
+    }
+
+    /// Notes what the weights say.
+    pub(crate) fn note(&mut self, alloc: Global, value: i64) -> Result<(), AllocError> {
+        if value > self.top.saturating_add(UNIT / 1000) {
+            self.idle = 0;
+        } else {
+            self.idle = self.idle.wrapping_add(1);
+        }
+        if value > self.top {
+            self.top = value;
+            self.top_weights = self.weights.to_vec(alloc)?;
+            self.top_column = self.column;
+        }
+        Ok(())
+    }
+
+    /// What the weights say of a cover now, with what each column bears.
+    pub(crate) fn weigh(&mut self, table: &Compact, goal: Goal) -> i64 {
+        if self.count > 0 {
+            self.set_scaled_costs(&table.costs, self.column);
+        }
+        load(&mut self.loads, &table.column_rows, &self.weights);
+        self.value(&self.weights, self.column, goal)
+    }
+
+    /// Whether the steps bring nothing and cannot become shorter.
+    pub(crate) fn is_slow(&self) -> bool {
+        self.idle > PATIENCE && self.pace.wrapping_mul(3) / 5 < LAST_PACE
+    }
+
+    /// Makes the steps shorter, from the best weights.
+    fn slow_down(&mut self, alloc: Global) -> Result<(), AllocError> {
+        self.idle = 0;
+        self.pace = self.pace.wrapping_mul(3) / 5;
+        self.column = self.top_column;
+        self.weights = self.top_weights.to_vec(alloc)?;
+        Ok(())
+    }
+
+    /// Polishes from time to time and makes a step, or says that the goal is reached.
+    pub(crate) fn go_on(
+        &mut self,
+        alloc: Global,
+        table: &Compact,
+        goal: Goal,
+        step: u32,
+        value: i64,
+    ) -> Result<bool, AllocError> {
+        if step % (self.steps() / 4).max(1) == 0 {
+            let weights = self.weights.to_vec(alloc)?;
+            self.polish(alloc, table, weights, self.column, goal)?;
+            if self.best_value > 0 {
+                return Ok(true);
+            }
+            self.weigh(table, goal);
+        }
+        if self.idle > PATIENCE {
+            self.slow_down(alloc)?;
+        }
+        let far = UNIT
+            .wrapping_sub(value)
+            .max(UNIT / 50)
+            .wrapping_mul(self.pace);
+        self.step(alloc, table, goal, far)?;
+        Ok(false)
+    }
+
+    /// Polishes the best weights and, once and if they end just short of the goal, begins anew;
+    /// says whether the steps are over.
+    pub(crate) fn stop(
+        &mut self,
+        alloc: Global,
+        table: &Compact,
+        goal: Goal,
+        step: u32,
+        course: &mut Course,
+    ) -> Result<bool, AllocError> {
+        let weights = self.top_weights.to_vec(alloc)?;
+        self.polish(alloc, table, weights, self.top_column, goal)?;
+        if course.again || self.best_value > 0 || self.best_value <= 0 - UNIT / 8 {
+            return Ok(true);
+        }
+        course.again = true;
+        course.last = step.wrapping_add(self.steps());
+        self.kick(alloc)?;
+        Ok(false)
+    }
+
+    /// Goes a quarter of the way from the best weights to their mean, to begin anew.
+    fn kick(&mut self, alloc: Global) -> Result<(), AllocError> {
+        let number = self.top_weights.len();
+        let mean = match i64::try_from(number.max(1)) {
+            Ok(number) => total(&self.top_weights).wrapping_div(number.max(1)),
+            Err(_) => 0,
+        };
+        let mut weights = Vec::with_capacity(alloc, number)?;
+        for weight in &self.top_weights {
+            weights.push(weight.wrapping_mul(3).wrapping_add(mean) >> 2)?;
+        }
+        self.weights = weights;
+        self.direction = vec![in alloc; 0; number]?;
+        self.column_direction = 0;
+        self.column = self.top_column;
+        self.pace = PACE;
+        self.idle = 0;
+        self.top = i64::MIN;
+        Ok(())
+    }
+
+    /// The best weights, in the form that is looked at.
+    pub(crate) fn multipliers(&self, alloc: Global) -> Result<Multipliers, AllocError> {
+        let mut weights = Vec::with_capacity(alloc, self.best_weights.len())?;
+        for weight in &self.best_weights {
+            weights.push(u64::try_from((*weight).max(0)).unwrap_or(0))?;
+        }
+        Ok(Multipliers {
+            weights,
+            column: u32::try_from(self.best_column).unwrap_or(u32::MAX),
+            count: u32::try_from(self.count).unwrap_or(u32::MAX),
+        })
+    }
+}
