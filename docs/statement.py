@@ -15,24 +15,23 @@ sys.path.insert(0, HERE)
 from definitions import Book, Entry  # noqa: E402
 
 # The contracts that are to be believed.
-CONTRACTS = ("espresso::execute", "espresso::Status::code", "espresso::Line::read", "espresso::run", "espresso::refuse",
-             "espresso::tool_in_parts")
+CONTRACTS = ("tool::execute", "tool::Status::code", "tool::Line::read", "tool::run", "tool::refuse", "tool::tool_in_parts")
 
 # The subjects in reading order: a title, what it is about, and its modules (`crate.Module`) and items of src
 # (`crate::item`). An enum or struct that is not listed stands before the first module that names it, and a module that is
 # not listed at the end.
 SUBJECTS = (
     ("What a process does", "Which files a process opens for its words, and how it ends.",
-     ("espresso::execute", "espresso.Program")),
+     ("tool::execute", "tool.Program")),
     ("The tool", "What a run prints, says and answers, as a function of the words and of what the files give.",
-     ("espresso.Tool",)),
+     ("tool.Tool",)),
     ("How a run ends", "In one of three ways: as `tool` says, without memory, or with an output that failed.",
-     ("espresso.Run",)),
+     ("tool.Run",)),
     ("The parts of a process", "What `execute` promises, its parts promise too: words are read, a line is run, words are refused.",
-     ("espresso::Line::read", "espresso::Line", "espresso::run", "espresso::refuse", "espresso::tool_in_parts")),
-    ("The words of a command line", "Which words say which line.", ("espresso.Words",)),
-    ("Messages and statuses", "", ("espresso::Status::code", "espresso.Messages")),
-    ("What each command answers", "", ("espresso.Answer", "espresso.Check")),
+     ("tool::Line::read", "tool::Line", "tool::run", "tool::refuse", "tool::tool_in_parts")),
+    ("The words of a command line", "Which words say which line.", ("tool.Words",)),
+    ("Messages and statuses", "", ("tool::Status::code", "tool.Messages")),
+    ("What each command answers", "", ("tool.Answer", "tool.Check")),
     ("Lines of a file", "", ("pla.Lines", "pla.Keywords", "pla.Symbols", "pla.Header")),
     ("Faults, and what is passed on", "", ("pla::ReadKind", "pla::ReadFault", "pla.Fault", "pla::Echo", "pla.Echoes")),
     ("What a file describes", "", ("pla.Lists", "pla.Description", "pla.Sets", "pla.Completed")),
@@ -41,9 +40,9 @@ SUBJECTS = (
     ("Lists of cubes", "", ("cover.Cubes", "cover.Places", "cover.Contained")),
     ("Primes and covers by primes", "", ("minimum.Primes", "minimum.Cover", "minimum.Table")),
     ("The printed text", "", ("pla.Text",)),
-    ("Devices", "What a contract sees of files, of outputs, and of the calls to them. `main` gives `execute` the files and streams of\n"
+    ("Devices", "What a contract sees of files, of outputs, and of the calls to them. `start` gives `execute` the files and streams of\n"
      "the system, of which no contract tells what they hold.",
-     ("espresso::Opener", "pla::Input", "pla::Output", "pla::Broken", "pla::ReadCalls", "pla::WriteCalls", "pla::Counts",
+     ("tool::Opener", "pla::Input", "pla::Output", "pla::Broken", "pla::ReadCalls", "pla::WriteCalls", "pla::Counts",
       "pla.Device", "pla.Reads")),
 )
 

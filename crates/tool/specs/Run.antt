@@ -1,0 +1,229 @@
+-- How a run ends, by what its devices report: in one of three ways.
+use Rattle.std.specs.Prelude.{◌≡◌, ◌≤◌, ℕ, true, List, [], ◌++◌, length, Option, Some, None, ⊤, ◌⊎◌, string_bytes, MatchOption, IsTrue}
+use Rattle.std.specs.Io.KnownBytes.{Appends, Consumes}
+use Rattle.cube.specs.Limits.{format_limits}
+use Rattle.pla.specs.declared.calls.ReadCalls.{ReadCalls}
+use Rattle.pla.specs.declared.calls.WriteCalls.{WriteCalls}
+use Rattle.pla.specs.declared.ending.Ending.{Ending}
+use Rattle.pla.specs.Device.{AllWritten, AppendsFront, LastUnwritten, NoneFailed, one_more}
+use Rattle.pla.specs.Echoes.{due}
+use Rattle.pla.specs.Fault.{fault_of}
+use Rattle.pla.specs.Reads.{GoesOn, MayEnd, Meets, piece_bytes}
+use Rattle.tool.specs.declared.sources.Source.{Source}
+use Rattle.tool.specs.declared.sources.Source.TheVariants.{Open, Closed}
+use Rattle.tool.specs.declared.status.Status.{Status}
+use Rattle.tool.specs.declared.status.Status.TheVariants.{Fault, Memory}
+use Rattle.tool.specs.Messages.{is_answer, memory_message, write_failed_message}
+use Rattle.tool.specs.Tool.{File, Outcome, echo_by, outcome_of}
+use Rattle.tool.specs.Tool as tool
+use Rattle.tool.specs.Words.{Meaning, Text}
+
+-- ---- the files of the sources
+
+-- what a run took from a source: it was closed, or it delivered these bytes, and reading met this
+-- ending, or came to its end before it met one
+pub data Intake : Type 0 where
+  Nothing : Intake
+  Bytes : List ℕ → Option Ending → Intake
+
+-- what a run took from its second source: there is none, or it stayed as it was, since the run was
+-- stopped before, or the run asked for it
+pub data SecondIntake : Type 0 where
+  Absent : SecondIntake
+  Untouched : SecondIntake
+  Asked : Intake → SecondIntake
+
+-- what a run took from its sources
+pub record Intakes : Type 0 where
+  pub first : Intake
+  pub second : SecondIntake
+
+-- the file of what was taken: with either ending, if reading met none
+abbrev pub IsFileOf : Intake → File → Type 0
+IsFileOf Nothing tool.Closed = ⊤
+IsFileOf Nothing (tool.Delivered delivered ending) = ⊥
+IsFileOf (Bytes bytes met) tool.Closed = ⊥
+IsFileOf (Bytes bytes met) (tool.Delivered delivered ending) =
+    (delivered ≡ bytes) × MayEnd met ending
+
+-- the second file of what was taken: any, if the source was not asked for
+abbrev pub IsSecondOf : SecondIntake → Option File → Type 0
+IsSecondOf Absent None = ⊤
+IsSecondOf Untouched (Some file) = ⊤
+IsSecondOf (Asked intake) (Some file) = IsFileOf intake file
+IsSecondOf _ _ = ⊥
+
+-- what holds of each two files of what was taken
+abbrev pub OnFiles : Intakes → (File → Option File → Type 0) → Type 0
+OnFiles taken P = (first : File) (second : Option File)
+    → IsFileOf taken.first first → IsSecondOf taken.second second → P first second
+
+-- the name that a source has in messages
+abbrev pub name_of : {R : Type 0} → Source R → Text
+name_of (Open name input) = string_bytes name
+name_of (Closed name) = string_bytes name
+
+-- what an input reports of the bytes that it delivered and of the ending that was met
+pub record Delivers (left left_after : Option (List ℕ)) (calls calls_after : ReadCalls)
+    (bytes : List ℕ) (met : Option Ending) : Type 0 where
+  pub consumed : Consumes left left_after bytes
+  pub ended : MatchOption met (NoneFailed calls calls_after) (Meets left_after calls calls_after)
+  -- no more than a piece was asked for beyond a line that ends the description or a fault
+  pub front : List ℕ
+  pub piece : List ℕ
+  pub bounded : (bytes ≡ front ++ piece) × (length piece ≤ piece_bytes) × GoesOn front
+
+-- what was taken of a source, which keeps its case and its name
+abbrev pub Takes : {R : Type 0} → (R → Option (List ℕ)) → (R → ReadCalls) → Source R
+    → Source R → Intake → Type 0
+Takes left calls (Closed name) (Closed name_after) Nothing = name_after ≡ name
+Takes left calls (Open name input) (Open name_after input_after) (Bytes bytes met) =
+    (name_after ≡ name)
+    × Delivers (left input) (left input_after) (calls input) (calls input_after) bytes met
+Takes left calls _ _ _ = ⊥
+
+-- a source that was read whole and has no fault
+abbrev pub IsFaultless : Intake → Type 0
+IsFaultless Nothing = ⊥
+IsFaultless (Bytes bytes met) =
+    (ending : Ending) → MayEnd met ending → fault_of format_limits ending bytes ≡ None
+
+-- what was taken of the second source, which is asked for only after a first one without a fault
+abbrev pub TakesSecond : {R : Type 0} → (R → Option (List ℕ)) → (R → ReadCalls)
+    → Intake → Option (Source R) → Option (Source R) → SecondIntake → Type 0
+TakesSecond left calls first None None Absent = ⊤
+TakesSecond left calls first (Some source) after Untouched = after ≡ Some source
+TakesSecond left calls first (Some source) (Some after) (Asked intake) =
+    IsFaultless first × Takes left calls source after intake
+TakesSecond left calls first _ _ _ = ⊥
+
+-- ---- what the outputs took
+
+-- the trace of a run in an output: what it reports before and after
+pub record Trace : Type 0 where
+  pub taken : Option (List ℕ)
+  pub taken_after : Option (List ℕ)
+  pub calls : WriteCalls
+  pub calls_after : WriteCalls
+
+-- the trace of these reports
+abbrev pub trace : Option (List ℕ) → Option (List ℕ) → WriteCalls → WriteCalls → Trace
+trace taken taken_after calls calls_after = record {
+  taken = taken;
+  taken_after = taken_after;
+  calls = calls;
+  calls_after = calls_after;
+}
+
+-- the run wrote this to the output
+abbrev pub Wrote : Trace → List ℕ → Type 0
+Wrote out text = Appends out.taken out.taken_after text
+
+-- the run wrote a prefix of this
+abbrev pub WrotePrefix : Trace → List ℕ → Type 0
+WrotePrefix out text = AppendsFront out.taken out.taken_after text
+
+-- no write failed, and no flush was asked for
+abbrev pub Unbroken : Trace → Type 0
+Unbroken out = AllWritten out.calls out.calls_after
+
+-- one write failed, and none came after it; no flush was asked for
+abbrev pub Failed : Trace → Type 0
+Failed out = LastUnwritten out.calls out.calls_after
+
+-- the run wrote the message to standard error, or a prefix of it if a write failed, and nothing
+-- else
+abbrev pub WroteOrFailed : Trace → List ℕ → Type 0
+WroteOrFailed err message =
+    (Wrote err message × Unbroken err) ⊎ (WrotePrefix err message × Failed err)
+
+-- ---- the calls of a whole run
+
+-- one flush was asked for, as the last call
+abbrev pub FlushedLast : Trace → Type 0
+FlushedLast out = (out.calls_after.counts.flushes ≡ one_more out.calls.counts.flushes)
+    × (out.calls_after.flushed ≡ true)
+
+-- it went well
+abbrev pub FlushWent : Trace → Type 0
+FlushWent out = out.calls_after.counts.failed_flushes ≡ out.calls.counts.failed_flushes
+
+-- it failed
+abbrev pub FlushBroke : Trace → Type 0
+FlushBroke out = out.calls_after.counts.failed_flushes ≡ one_more out.calls.counts.failed_flushes
+
+-- no write failed
+abbrev pub WritesWent : Trace → Type 0
+WritesWent out = out.calls_after.counts.failures ≡ out.calls.counts.failures
+
+-- one write failed, and none came after it
+abbrev pub LastWriteBroke : Trace → Type 0
+LastWriteBroke out = (out.calls_after.counts.failures ≡ one_more out.calls.counts.failures)
+    × (out.calls_after.broken ≡ true)
+
+-- the echoes that are due of what was taken, whose ending may be open
+abbrev pub echoes_due : Meaning → Intake → List ℕ
+echoes_due line Nothing = []
+echoes_due line (Bytes bytes met) = due format_limits (echo_by line.eat) met bytes
+
+-- those of the second source
+abbrev pub second_due : Meaning → SecondIntake → List ℕ
+second_due line (Asked intake) = echoes_due line intake
+second_due line _ = []
+
+-- ---- the three ways, by what the tool answers on the files
+
+-- the output took what the tool prints
+abbrev pub WroteWhole : (File → Option File → Outcome) → Intakes → Trace → Type 0
+WroteWhole answer taken out = OnFiles taken (λ first second. Wrote out (answer first second).output)
+
+-- the output took a prefix of it, or of the echoes of files that were still being read
+abbrev pub WrotePart : (File → Option File → Outcome) → List ℕ → Intakes → Trace → Type 0
+WrotePart answer echoes taken out = WrotePrefix out echoes
+    ⊎ OnFiles taken (λ first second. WrotePrefix out (answer first second).output)
+
+-- output, message and status are these
+pub record HasOutcome (outcome : Outcome) (out err : Trace) (status : Status) : Type 0 where
+  pub output : Wrote out outcome.output
+  pub message : WroteOrFailed err outcome.message
+  pub same_status : status ≡ outcome.status
+
+-- output, message and status are the tool's; no write failed, and after an answer no flush
+pub record Finishes (answer : File → Option File → Outcome) (taken : Intakes)
+    (out err : Trace) (status : Status) : Type 0 where
+  pub outcome : OnFiles taken (λ first second. HasOutcome (answer first second) out err status)
+  pub written : WritesWent out
+  pub flushed : FlushedLast out
+  pub unbroken : IsTrue (is_answer status) → FlushWent out
+
+-- memory was refused on the way
+pub record RanOut (answer : File → Option File → Outcome) (echoes : List ℕ)
+    (taken : Intakes) (out err : Trace) (status : Status) : Type 0 where
+  pub beginning : WrotePart answer echoes taken out
+  pub written : WritesWent out
+  pub flushed : FlushedLast out
+  pub message : WroteOrFailed err memory_message
+  pub same_status : status ≡ Memory
+
+-- a write failed on the way, or all was written and the flush failed
+pub record CouldNotWrite (answer : File → Option File → Outcome) (echoes : List ℕ)
+    (taken : Intakes) (out err : Trace) (status : Status) : Type 0 where
+  pub beginning : WrotePart answer echoes taken out
+  pub failed : LastWriteBroke out ⊎ (WroteWhole answer taken out × WritesWent out × FlushBroke out)
+  pub flushed : FlushedLast out
+  pub message : WroteOrFailed err write_failed_message
+  pub same_status : status ≡ Fault
+
+-- a run that took this from its sources, and on whose files the tool answers this
+abbrev pub EndsAs : (File → Option File → Outcome) → List ℕ → Intakes → Trace
+    → Trace → Status → Type 0
+EndsAs answer echoes taken out err status = Finishes answer taken out err status
+    ⊎ (RanOut answer echoes taken out err status ⊎ CouldNotWrite answer echoes taken out err status)
+
+-- the echoes that are due of all that was taken
+abbrev pub all_due : Meaning → Intakes → List ℕ
+all_due line taken = echoes_due line taken.first ++ second_due line taken.second
+
+-- a run with this line, which took this from its sources
+abbrev pub Ends : Meaning → Intakes → Trace → Trace → Status → Type 0
+Ends line taken = EndsAs (outcome_of line) (all_due line taken) taken

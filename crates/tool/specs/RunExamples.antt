@@ -1,0 +1,269 @@
+-- What a run takes from its sources, which files a process opens, and what it says if it has no
+-- line: on small runs.
+use Rattle.std.specs.Prelude.{◌≡◌, ℕ, true, false, List, [], ◌∷◌, Option, None, Some, Ok, Err, ⊤, String, codes, refl}
+use Rattle.std.specs.Global.{Global}
+use Rattle.minimum.specs.declared.choice.Choice.TheVariants.{First}
+use Rattle.pla.specs.declared.calls.ReadCalls.{ReadCalls}
+use Rattle.pla.specs.declared.calls.WriteCalls.{WriteCalls}
+use Rattle.pla.specs.declared.ending.Ending.TheVariants.{End, Failed}
+use Rattle.pla.specs.declared.out_type.OutType.TheVariants.{F}
+use Rattle.pla.specs.Device.{flush_went, flush_broke, write_went, write_broke}
+use Rattle.pla.specs.Fault.{fault_in, is_past_limit, is_too_long, is_refused, is_inside_row, is_repeated, is_bad_number, is_name_too_early, is_wrong_count, is_type_too_late, is_bad_type, is_row_too_early, is_bad_symbol}
+use Rattle.tool.specs.declared.command.Command.{Command}
+use Rattle.tool.specs.declared.command.Command.TheVariants.{Echo, Verify}
+use Rattle.tool.specs.declared.line.LineFault.TheVariants as line_fault
+use Rattle.tool.specs.declared.sources.Source.{Source}
+use Rattle.tool.specs.declared.sources.Source.TheVariants.{Open, Closed}
+use Rattle.tool.specs.declared.status.Status.TheVariants.{Fault, Memory}
+use Rattle.tool.specs.Program.{IsOpenedAs, GivesUp, OpensSecond, Stops, line_said, named_file, names_said, tool_on, words_behind}
+use Rattle.tool.specs.Run.{Absent, Asked, Bytes, CouldNotWrite, FlushBroke, FlushedLast, FlushWent, Intake, Intakes, IsFaultless, IsFileOf, IsSecondOf, LastWriteBroke, Nothing, RanOut, Takes, TakesSecond, Trace, Untouched, WritesWent, all_due, trace}
+use Rattle.tool.specs.Tool.{File, Outcome}
+use Rattle.tool.specs.Tool as tool
+use Rattle.tool.specs.Words.{Meaning, Text, meaning_by}
+
+-- a line of a command on the files a and b
+abbrev on_two : Command → Meaning
+on_two command = meaning_by command F false First (codes "a" ∷ codes "b" ∷ [])
+
+-- ---- the files of what was taken
+
+pub record Files : Type 0 where
+  pub closed : IsFileOf Nothing tool.Closed
+  pub never_delivered : IsFileOf Nothing (tool.Delivered [] End) → ⊥
+  pub never_closed : IsFileOf (Bytes [] None) tool.Closed → ⊥
+  pub either_ending : IsFileOf (Bytes (codes "a") None) (tool.Delivered (codes "a") Failed)
+  pub other_ending : IsFileOf (Bytes [] (Some End)) (tool.Delivered [] Failed) → ⊥
+  pub none : IsSecondOf Absent None
+  pub none_given : IsSecondOf Absent (Some tool.Closed) → ⊥
+  pub any : IsSecondOf Untouched (Some tool.Closed)
+  pub any_given : IsSecondOf Untouched None → ⊥
+  pub asked : IsSecondOf (Asked Nothing) None → ⊥
+
+files : Files
+files = record {
+  closed = tt;
+  never_delivered = λ h. h;
+  never_closed = λ h. h;
+  either_ending = (refl, tt);
+  other_ending = λ h. let same : Failed ≡ End = h.1 in cc;
+  none = tt;
+  none_given = λ h. h;
+  any = tt;
+  any_given = λ h. h;
+  asked = λ h. h;
+}
+
+-- ---- the calls of a whole run
+
+-- no call so far
+abbrev fresh : WriteCalls
+fresh = record {
+  counts = record { failures = 0; flushes = 0; failed_flushes = 0 };
+  broken = false;
+  flushed = false;
+}
+
+-- what an output reports of these calls
+abbrev called : WriteCalls → Trace
+called calls = trace None None fresh calls
+
+pub record Calls : Type 0 where
+  pub flushed_last : FlushedLast (called (flush_went (write_went fresh)))
+  pub flushed_twice : FlushedLast (called (flush_went (flush_went fresh))) → ⊥
+  pub never_flushed : FlushedLast (called (write_went fresh)) → ⊥
+  pub written_behind : FlushedLast (called (write_went (flush_went fresh))) → ⊥
+  pub flush_went_well : FlushWent (called (flush_went fresh))
+  pub flush_that_broke : FlushBroke (called (flush_broke fresh))
+  pub write_that_broke : LastWriteBroke (called (flush_went (write_broke fresh)))
+  pub tried_again : LastWriteBroke (called (write_went (write_broke fresh))) → ⊥
+  pub two_broke : LastWriteBroke (called (write_broke (write_broke fresh))) → ⊥
+  pub writes_went_well : WritesWent (called (flush_broke (write_went fresh)))
+
+calls : Calls
+calls = record {
+  flushed_last = (refl, refl);
+  flushed_twice = λ h. let twice : 2 ≡ 1 = h.0 in cc;
+  never_flushed = λ h. let never : 0 ≡ 1 = h.0 in cc;
+  written_behind = λ h. let behind : false ≡ true = h.1 in cc;
+  flush_went_well = refl;
+  flush_that_broke = refl;
+  write_that_broke = (refl, refl);
+  tried_again = λ h. let again : false ≡ true = h.1 in cc;
+  two_broke = λ h. let twice : 2 ≡ 1 = h.0 in cc;
+  writes_went_well = refl;
+}
+
+-- ---- the words, and the files that they name
+
+pub record Named : Type 0 where
+  pub no_word : named_file [] ≡ None
+  pub a_hyphen : named_file (codes "-" ∷ []) ≡ None
+  pub a_name : named_file (codes "a" ∷ codes "-" ∷ []) ≡ Some (codes "a")
+  pub behind_the_program : words_behind (λ texts. texts)
+      (Ok (codes "espresso" ∷ codes "a" ∷ codes "b" ∷ [])) ≡ Ok (codes "a" ∷ codes "b" ∷ [])
+  pub no_text : line_said (Err line_fault.Usage) ≡ None
+  pub no_line : line_said (Ok (codes "a" ∷ [])) ≡ None
+  pub a_line : line_said (Ok (codes "-Dverify" ∷ codes "a" ∷ codes "b" ∷ [])) ≡ Some (on_two Verify)
+  pub refused : tool_on (Err line_fault.Usage) tool.Closed None
+      ≡ record {
+        output = [];
+        message = codes "usage: espresso -Dcommand [-o type] [-e eat] [file [file]]\n";
+        status = Fault;
+      }
+  pub no_memory : tool_on (Err line_fault.Memory) tool.Closed None
+      ≡ record { output = []; message = codes "espresso: out of memory\n"; status = Memory }
+  pub first_name : (names_said (on_two Verify)).first ≡ codes "a"
+  pub second_name : (names_said (on_two Verify)).second ≡ codes "b"
+
+named : Named
+named = record {
+  no_word = refl;
+  a_hyphen = refl;
+  a_name = refl;
+  behind_the_program = refl;
+  no_text = refl;
+  no_line = refl;
+  a_line = refl;
+  refused = refl;
+  no_memory = refl;
+  first_name = refl;
+  second_name = refl;
+}
+
+-- the echoes of the first file come before those of the second
+echoes_in_order : all_due (on_two Verify)
+    (record { first = Bytes (codes "#a\n") (Some End); second = Asked (Bytes (codes "#b\n") None) })
+    ≡ codes "#a\n#b\n"
+unfolding fault_in is_past_limit is_too_long is_refused is_inside_row is_repeated
+    is_bad_number is_name_too_early is_wrong_count is_type_too_late is_bad_type
+    is_row_too_early is_bad_symbol
+echoes_in_order = refl
+
+-- ---- the sources, which are numbers here
+
+-- a file of this name is opened as 1, and standard input is 0
+abbrev opens : Text → Text → Option ℕ → Type 0
+opens name word device = (word ≡ name) × (device ≡ Some 1)
+
+abbrev is_input : ℕ → Type 0
+is_input device = device ≡ 0
+
+abbrev untold : ℕ → Option (List ℕ)
+untold device = None
+
+abbrev uncalled : ℕ → ReadCalls
+uncalled device = record { failures = 0; broken = false }
+
+pub record Opened (name : String Global) : Type 0 where
+  pub input : IsOpenedAs (opens (codes "a")) is_input None (Open name 0)
+  pub another_input : IsOpenedAs (opens (codes "a")) is_input None (Open name 1) → ⊥
+  pub closed_input : IsOpenedAs (opens (codes "a")) is_input None (Closed name) → ⊥
+  pub file : IsOpenedAs (opens (codes "a")) is_input (Some (codes "a")) (Open name 1)
+  pub another_file : IsOpenedAs (opens (codes "a")) is_input (Some (codes "a")) (Open name 0) → ⊥
+  pub closed_file : IsOpenedAs (opens (codes "a")) is_input (Some (codes "a")) (Closed name) → ⊥
+  -- what was taken
+  pub of_closed : Takes untold uncalled (Closed name) (Closed name) Nothing
+  pub bytes_of_closed : Takes untold uncalled (Closed name) (Closed name) (Bytes [] None) → ⊥
+  pub nothing_of_open : Takes untold uncalled (Open name 0) (Open name 0) Nothing → ⊥
+  pub closed_then : Takes untold uncalled (Open name 0) (Closed name) (Bytes [] None) → ⊥
+  -- of the second source
+  pub no_second : TakesSecond untold uncalled Nothing None None Absent
+  pub not_asked : TakesSecond untold uncalled Nothing (Some (Closed name))
+      (Some (Closed name)) Untouched
+  pub lost : TakesSecond untold uncalled Nothing (Some (Closed name)) None Untouched → ⊥
+  pub unsaid : TakesSecond untold uncalled Nothing (Some (Closed name)) (Some (Closed name)) Absent
+      → ⊥
+  pub behind_closed : TakesSecond untold uncalled Nothing (Some (Closed name))
+      (Some (Closed name)) (Asked Nothing) → ⊥
+  -- and when it is opened
+  pub takes_one : OpensSecond (opens (codes "b")) is_input untold uncalled
+      (on_two Echo) Nothing ⊥ None None Absent
+  pub takes_two : OpensSecond (opens (codes "b")) is_input untold uncalled
+      (on_two Verify) Nothing ⊤ None None Absent → ⊥
+  pub stopped : OpensSecond (opens (codes "b")) is_input untold uncalled
+      (on_two Verify) Nothing ⊤ None None Untouched
+  pub not_stopped : OpensSecond (opens (codes "b")) is_input untold uncalled
+      (on_two Verify) Nothing ⊥ None None Untouched → ⊥
+  pub stopped_one : OpensSecond (opens (codes "b")) is_input untold uncalled
+      (on_two Echo) Nothing ⊤ None None Untouched → ⊥
+  pub unasked : OpensSecond (opens (codes "b")) is_input untold uncalled
+      (on_two Verify) Nothing ⊤ (Some (Open name 1)) (Some (Open name 1)) Untouched → ⊥
+
+opened : (name : String Global) → Opened name
+opened name = record {
+  input = refl;
+  another_input = λ h. let one : 1 ≡ 0 = h in cc;
+  closed_input = λ h. h;
+  file = (refl, refl);
+  another_file = λ h. let other : Some 0 ≡ Some 1 = h.1 in cc;
+  closed_file = λ h. let none : (let closed : Option ℕ = None in closed) ≡ Some 1 = h.1 in cc;
+  of_closed = refl;
+  bytes_of_closed = λ h. h;
+  nothing_of_open = λ h. h;
+  closed_then = λ h. h;
+  no_second = tt;
+  not_asked = refl;
+  lost = λ h. let none : (let gone : Option (Source ℕ) = None in gone)
+      ≡ Some (Closed name) = h in cc;
+  unsaid = λ h. h;
+  behind_closed = λ h. h.0;
+  takes_one = refl;
+  takes_two = λ h. let two : true ≡ false = h in cc;
+  stopped = (refl, tt);
+  not_stopped = λ h. h.1;
+  stopped_one = λ h. let one : false ≡ true = h.0 in cc;
+  unasked = λ h. h;
+}
+
+-- a text without a fault goes on, and one with a fault stops the run
+abbrev faultless : Intake
+faultless = Bytes (codes ".i 1\n.o 1\n") (Some End)
+
+abbrev faulty : Intake
+faulty = Bytes (codes "1\n") (Some End)
+
+it_goes_on : IsFaultless faultless
+unfolding fault_in is_past_limit is_too_long is_refused is_inside_row is_repeated
+    is_bad_number is_name_too_early is_wrong_count is_type_too_late is_bad_type
+    is_row_too_early is_bad_symbol
+it_goes_on ending met = rw met refl
+
+it_does_not_stop : Stops faultless → ⊥
+unfolding fault_in is_past_limit is_too_long is_refused is_inside_row is_repeated
+    is_bad_number is_name_too_early is_wrong_count is_type_too_late is_bad_type
+    is_row_too_early is_bad_symbol
+it_does_not_stop stops = let said : false ≡ true = stops End refl in cc
+
+it_stops : Stops faulty
+unfolding fault_in is_past_limit is_too_long is_refused is_inside_row is_repeated
+    is_bad_number is_name_too_early is_wrong_count is_type_too_late is_bad_type
+    is_row_too_early is_bad_symbol
+it_stops ending met = rw met refl
+
+a_closed_one_stops : Stops Nothing
+a_closed_one_stops = tt
+
+a_closed_one_has_no_text : IsFaultless Nothing → ⊥
+a_closed_one_has_no_text h = h
+
+-- the second file is opened after it
+opened_behind : (name : String Global)
+    → OpensSecond (λ word device. (word ≡ codes "b") × (device ≡ None)) is_input untold uncalled
+    (on_two Verify) faultless ⊥ (Some (Closed name)) (Some (Closed name)) (Asked Nothing)
+opened_behind name = (refl, (refl, refl), (it_goes_on, refl))
+
+-- ---- the statuses of the ways to end
+
+pub record Ends (answer : File → Option File → Outcome) (echoes : List ℕ)
+    (taken : Intakes) (out err : Trace) : Type 0 where
+  pub ran_out : RanOut answer echoes taken out err Fault → ⊥
+  pub could_not_write : CouldNotWrite answer echoes taken out err Memory → ⊥
+  pub gave_up : GivesUp out err Fault → ⊥
+
+ends : (answer : File → Option File → Outcome) (echoes : List ℕ) (taken : Intakes) (out err : Trace)
+    → Ends answer echoes taken out err
+ends answer echoes taken out err = record {
+  ran_out = λ h. let other : Fault ≡ Memory = h.same_status in cc;
+  could_not_write = λ h. let other : Memory ≡ Fault = h.same_status in cc;
+  gave_up = λ h. let other : Fault ≡ Memory = h.same_status in cc;
+}

@@ -1,0 +1,179 @@
+-- The steps of a run: what stopped it, and what the devices report by then.
+use Rattle.std.specs.Prelude.{◌≡◌, ◌⊎◌, ℕ, List, [], ◌++◌, Option, Some, None, Result, Ok, Err}
+use Rattle.pla.specs.declared.calls.WriteCalls.{WriteCalls}
+use Rattle.pla.specs.declared.fault.ReadFault.{ReadFault}
+use Rattle.pla.specs.declared.fault.ReadKind.{ReadKind}
+use Rattle.pla.specs.declared.fault.ReadKind.TheVariants.{WriteFailed, OutOfMemory}
+use Rattle.pla.specs.Description.{Description}
+use Rattle.tool.specs.declared.sources.Source.{Source}
+use Rattle.tool.specs.declared.failure.Operand.{Operand}
+use Rattle.tool.specs.declared.failure.Operand.TheVariants.{First, Second}
+use Rattle.tool.specs.declared.failure.Failure.{Failure}
+use Rattle.tool.specs.declared.failure.Failure.TheVariants as failure
+use Rattle.tool.specs.declared.status.Status.{Status}
+use Rattle.tool.specs.declared.status.Status.TheVariants.{Fault, Memory}
+use Rattle.tool.specs.Answer.{Answer}
+use Rattle.tool.specs.Messages.{closed_message, fault_message, memory_message, sizes_message, write_failed_message}
+use Rattle.tool.specs.Run.{Failed, FlushBroke, FlushedLast, FlushWent, Intake, Intakes, IsFaultless, IsFileOf, IsSecondOf, LastWriteBroke, WroteOrFailed, Trace, Wrote, WrotePrefix, Unbroken, WritesWent, echoes_due, name_of, second_due, trace}
+use Rattle.tool.specs.Tool.{File, Outcome, outcome_of, passed_on, reading_of, reading_then, with_both}
+use Rattle.tool.specs.Words.{Meaning, Text}
+
+-- ---- what stops a run
+
+-- what stops a run, by the fault of its reading
+abbrev pub failure_by : Operand → ReadFault → ReadKind → Failure
+failure_by operand fault WriteFailed = failure.WriteFailed
+failure_by operand fault OutOfMemory = failure.OutOfMemory
+failure_by operand fault _ = failure.Faulty operand fault
+
+-- the status that it gives
+abbrev pub status_of : Failure → Status
+status_of failure.OutOfMemory = Memory
+status_of _ = Fault
+
+-- the names of the sources
+pub record Names : Type 0 where
+  pub first : Text
+  pub second : Text
+
+-- the name of a source
+abbrev pub name_at : Operand → Names → Text
+name_at First names = names.first
+name_at Second names = names.second
+
+-- the name of a second source, if there is one
+abbrev pub second_text : {R : Type 0} → Option (Source R) → Text
+second_text None = []
+second_text (Some source) = name_of source
+
+-- what is said on standard error
+abbrev pub message_of : Names → Failure → List ℕ
+message_of names (failure.NotOpened operand) = closed_message (name_at operand names)
+message_of names (failure.Faulty operand fault) = fault_message (name_at operand names) fault
+message_of names failure.SizesDiffer = sizes_message
+message_of names failure.WriteFailed = write_failed_message
+message_of names failure.OutOfMemory = memory_message
+
+-- ---- the reading of a source
+
+-- its echoes went out, and each file of what was taken comes to this
+pub record PassesOn (line : Meaning) (name : Text) (taken : Intake) (out : Trace)
+    (reading : Result Description (List ℕ)) : Type 0 where
+  pub wrote : Wrote out (echoes_due line taken)
+  pub passed : (file : File) → IsFileOf taken file → passed_on line file ≡ echoes_due line taken
+  pub comes_to : (file : File) → IsFileOf taken file → reading_of name file ≡ reading
+
+-- what came of it
+abbrev pub IsReadAs : Meaning → Operand → Text → Intake → Trace → Result Description Failure
+    → Type 0
+IsReadAs line operand name taken out (Ok pla) =
+    PassesOn line name taken out (Ok pla) × Unbroken out × IsFaultless taken
+IsReadAs line operand name taken out (Err (failure.NotOpened at)) =
+    PassesOn line name taken out (Err (closed_message name)) × (at ≡ operand) × Unbroken out
+IsReadAs line operand name taken out (Err (failure.Faulty at fault)) =
+    PassesOn line name taken out (Err (fault_message name fault)) × (at ≡ operand) × Unbroken out
+IsReadAs line operand name taken out (Err failure.SizesDiffer) = ⊥
+IsReadAs line operand name taken out (Err failure.WriteFailed) =
+    WrotePrefix out (echoes_due line taken) × Failed out
+IsReadAs line operand name taken out (Err failure.OutOfMemory) =
+    WrotePrefix out (echoes_due line taken) × Unbroken out
+
+-- ---- where a run stands
+
+-- the output took what this outcome prints, which has this message and status
+pub record Prints (outcome : Outcome) (out : Trace) (message : List ℕ)
+    (status : Status) : Type 0 where
+  pub output : Wrote out outcome.output
+  pub same_message : outcome.message ≡ message
+  pub same_status : outcome.status ≡ status
+
+-- the output took a prefix of these echoes, or of what each outcome prints
+abbrev pub Began : (X : Type 0) → (X → Outcome) → List ℕ → Trace → Type 0
+Began X outcome echoes out = WrotePrefix out echoes ⊎ ((x : X) → WrotePrefix out (outcome x).output)
+
+-- where a run stands, stopped or not, whose outcome is one of these
+abbrev pub StandsAt : (X : Type 0) → (X → Outcome) → List ℕ → Names → Trace
+    → Result Status Failure → Type 0
+StandsAt X outcome echoes names out (Ok status) =
+    ((x : X) → Prints (outcome x) out [] status) × Unbroken out
+StandsAt X outcome echoes names out (Err failure.WriteFailed) =
+    Began X outcome echoes out × Failed out
+StandsAt X outcome echoes names out (Err failure.OutOfMemory) =
+    Began X outcome echoes out × Unbroken out
+StandsAt X outcome echoes names out (Err stopped) =
+    ((x : X) → Prints (outcome x) out (message_of names stopped) Fault) × Unbroken out
+
+-- two files of what was taken
+pub record FilesOf (taken : Intakes) : Type 0 where
+  pub first : File
+  pub second : Option File
+  pub is_first : IsFileOf taken.first first
+  pub is_second : IsSecondOf taken.second second
+
+-- where a run with this line stands
+abbrev pub Stands : Meaning → Intakes → Names → Trace → Result Status Failure → Type 0
+Stands line taken = StandsAt (FilesOf taken) (λ files. outcome_of line files.first files.second)
+    (echoes_due line taken.first ++ second_due line taken.second)
+
+-- a file of what was taken
+pub record FileOf (taken : Intake) : Type 0 where
+  pub file : File
+  pub is_file : IsFileOf taken file
+
+-- where a run stands whose first file was read, whatever its name, and whose second has this name
+abbrev pub StandsBehind : Meaning → Description → Intake → Text → Trace
+    → Result Status Failure → Type 0
+StandsBehind line pla taken name out result = (first : Text)
+    → StandsAt (FileOf taken) (λ second. reading_then line name second.file (with_both line pla))
+    (echoes_due line taken) (record { first = first; second = name }) out result
+
+-- what came of printing an answer
+abbrev pub PutsOut : Answer → Trace → Result Status Failure → Type 0
+PutsOut answer out (Ok status) =
+    Wrote out answer.text × Unbroken out × (answer.status ≡ status)
+PutsOut answer out (Err failure.WriteFailed) = WrotePrefix out answer.text × Failed out
+PutsOut answer out (Err failure.OutOfMemory) = WrotePrefix out answer.text × Unbroken out
+PutsOut answer out (Err _) = ⊥
+
+-- what came of what was left of a run, whose outcome is this
+abbrev pub Answers : Outcome → Trace → Result Status Failure → Type 0
+Answers outcome out (Ok status) = Prints outcome out [] status × Unbroken out
+Answers outcome out (Err failure.SizesDiffer) =
+    Prints outcome out sizes_message Fault × Unbroken out
+Answers outcome out (Err failure.WriteFailed) = WrotePrefix out outcome.output × Failed out
+Answers outcome out (Err failure.OutOfMemory) = WrotePrefix out outcome.output × Unbroken out
+Answers outcome out (Err _) = ⊥
+
+-- where a run stands whose output was flushed, stopped or not, whose outcome is one of these
+abbrev pub ClosesAt : (X : Type 0) → (X → Outcome) → List ℕ → Names → Trace
+    → Result Status Failure → Type 0
+ClosesAt X outcome echoes names out (Ok status) =
+    ((x : X) → Prints (outcome x) out [] status) × WritesWent out × FlushWent out
+ClosesAt X outcome echoes names out (Err failure.WriteFailed) = Began X outcome echoes out
+    × (LastWriteBroke out
+    ⊎ (((x : X) → Wrote out (outcome x).output) × WritesWent out × FlushBroke out))
+ClosesAt X outcome echoes names out (Err failure.OutOfMemory) =
+    Began X outcome echoes out × WritesWent out
+ClosesAt X outcome echoes names out (Err stopped) =
+    ((x : X) → Prints (outcome x) out (message_of names stopped) Fault) × WritesWent out
+
+-- where a run with this line stands, after its flush
+abbrev pub Closes : Meaning → Intakes → Names → Trace → Result Status Failure → Type 0
+Closes line taken names out result =
+    ClosesAt (FilesOf taken) (λ files. outcome_of line files.first files.second)
+    (echoes_due line taken.first ++ second_due line taken.second) names out result × FlushedLast out
+
+-- a run is flushed where it stands, and stops if that fails and nothing stopped it before
+abbrev pub Passes : Option (List ℕ) → Option (List ℕ) → WriteCalls → WriteCalls
+    → Result Status Failure → Result Status Failure → Type 0
+Passes taken taken_after calls calls_after done result =
+    (line : Meaning) (intakes : Intakes) (names : Names) (old : Option (List ℕ))
+    (before : WriteCalls)
+    → Stands line intakes names (trace old taken before calls) done
+    → Closes line intakes names (trace old taken_after before calls_after) result
+
+-- the status and the message at the end
+abbrev pub Reports : Names → Trace → Result Status Failure → Status → Type 0
+Reports names err (Ok done) status = (status ≡ done) × WroteOrFailed err []
+Reports names err (Err failure) status =
+    (status ≡ status_of failure) × WroteOrFailed err (message_of names failure)

@@ -1,0 +1,18 @@
+//! Laws of the definitions.
+ghost use Rattle.std.specs.Prelude.{◌≡◌, List, Option, Some, None};
+ghost use Rattle.tool.specs.Tool.{File, outcome_of, refusal_of, tool};
+ghost use Rattle.tool.specs.Words.{Meaning, Text, line_of};
+
+use crate::line::LineFault;
+
+/// What [`Line::read`](crate::Line::read), [`run`](crate::run) and [`refuse`](crate::refuse)
+/// promise one by one is together what the tool answers: if the words say a line, its outcome on
+/// the files, and otherwise the usage.
+pub fn tool_in_parts()
+    ensures lines { (words : List Text) (line : Meaning) → line_of words ≡ Some line
+        → (first : File) (second : Option File)
+        → tool words first second ≡ outcome_of line first second }
+    ensures refusals { (words : List Text) → line_of words ≡ None
+        → (first : File) (second : Option File)
+        → tool words first second ≡ refusal_of LineFault.Usage }
+{}

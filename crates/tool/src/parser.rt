@@ -1,0 +1,197 @@
+//! The parse of the words by `clap`, and the line that its matches say.
+ghost use Rattle.std.specs.Prelude.{◌≡◌, IfOk, Some, None, Err, map, string_bytes, codes, false, option_and_then};
+ghost use Rattle.std.specs.Option.{option_map_or};
+ghost use Rattle.clap.specs.Simple.{with_rule};
+ghost use Rattle.clap.specs.Words.{app_of, first_value, found_of, kind_of};
+ghost use Rattle.tool.specs.Parser.{bare_app, espresso_app, files_arg, literals_arg, option_arg};
+ghost use Rattle.tool.specs.Matches.{choice_in, meaning_in};
+ghost use Rattle.tool.specs.Words.{eat_named, fits, meaning, command_named, type_named};
+
+use crate::command::{
+    Command, command_of, eat_of, is_choosing, is_f, is_f_only, is_first, is_pair, out_type_of,
+};
+use crate::line::{Line, LineFault};
+use clap::error::ErrorKind;
+use clap::{Arg, ArgAction, ArgMatches, Error};
+use minimum::Choice;
+use pla::OutType;
+use std::alloc::{AllocError, Global};
+
+// The command before its options.
+fn bare_command<'a>(alloc: Global) -> clap::Command<'a>
+    ensures { app_of result ≡ bare_app }
+{
+    clap::Command::new(alloc, "espresso")
+        .no_binary_name(true)
+        .disable_help_flag(true)
+        .disable_version_flag(true)
+}
+
+// The command with one more option, which has a value.
+fn with_option<'a>(
+    alloc: Global,
+    command: clap::Command<'a>,
+    name: &'a str,
+    letter: char,
+) -> Result<clap::Command<'a>, AllocError>
+    ensures { IfOk result
+        (λ c. app_of c ≡ with_rule (app_of command.entry) (option_arg name.entry.now letter)) }
+{
+    command.arg(Arg::new(alloc, name).short(letter))
+}
+
+// The command with files.
+fn with_files<'a>(
+    alloc: Global,
+    command: clap::Command<'a>,
+) -> Result<clap::Command<'a>, AllocError>
+    ensures { IfOk result (λ c. app_of c ≡ with_rule (app_of command.entry) files_arg) }
+{
+    command.arg(Arg::new(alloc, "files").action(ArgAction::Append))
+}
+
+// The command with the option without a value.
+fn with_literals<'a>(
+    alloc: Global,
+    command: clap::Command<'a>,
+) -> Result<clap::Command<'a>, AllocError>
+    ensures { IfOk result (λ c. app_of c ≡ with_rule (app_of command.entry) literals_arg) }
+{
+    let literals = Arg::new(alloc, "literals").long("literals");
+    command.arg(literals.action(ArgAction::SetTrue))
+}
+
+// Three options with a value each, files, and an option without a value.
+pub(crate) fn espresso_command<'a>(alloc: Global) -> Result<clap::Command<'a>, AllocError>
+    ensures { IfOk result (λ c. app_of c ≡ espresso_app) }
+{
+    let command = bare_command(alloc);
+    let command = with_option(alloc, command, "command", 'D')?;
+    let command = with_option(alloc, command, "type", 'o')?;
+    let command = with_option(alloc, command, "eat", 'e')?;
+    let command = with_files(alloc, command)?;
+    with_literals(alloc, command)
+}
+
+// Out of memory if the parse was, and else a usage fault.
+pub(crate) fn fault_from(error: &Error) -> LineFault
+    ensures { result ≡ LineFault.Usage → kind_of error.now ≡ ErrorKind.OutOfMemory → ⊥ }
+{
+    match error.kind() {
+        ErrorKind::OutOfMemory => LineFault::Memory,
+        _ => LineFault::Usage,
+    }
+}
+
+// The line that the matches say.
+pub(crate) fn line_in(alloc: Global, matches: &ArgMatches<'_>) -> Result<Line, LineFault>
+    ensures ok { IfOk result (λ l. meaning_in (found_of matches.now) ≡ Some l) }
+    ensures usage { result ≡ Err LineFault.Usage → meaning_in (found_of matches.now) ≡ None }
+{
+    let command = given_command(matches);
+    let out = given_type(matches);
+    let eat = given_eat(matches);
+    let choice = given_choice(matches);
+    match matches.get_raw("files") {
+        Some(names) => line_with(alloc, command, out, eat, choice, names),
+        None => line_with(alloc, command, out, eat, choice, &[]),
+    }
+}
+
+fn given_command(matches: &ArgMatches<'_>) -> Option<Command>
+    ensures { result
+        ≡ option_and_then command_named (first_value (found_of matches.now) (codes "command")) }
+{
+    match matches.get_str("command") {
+        Some(name) => command_of(name),
+        None => None,
+    }
+}
+
+fn given_type(matches: &ArgMatches<'_>) -> Option<OutType>
+    ensures { result
+        ≡ option_map_or type_named (first_value (found_of matches.now) (codes "type"))
+        (Some OutType.F) }
+{
+    match matches.get_str("type") {
+        Some(name) => out_type_of(name),
+        None => Some(OutType::F),
+    }
+}
+
+fn given_eat(matches: &ArgMatches<'_>) -> Option<bool>
+    ensures { result
+        ≡ option_map_or eat_named (first_value (found_of matches.now) (codes "eat")) (Some false) }
+{
+    match matches.get_str("eat") {
+        Some(name) => eat_of(name),
+        None => Some(false),
+    }
+}
+
+fn given_choice(matches: &ArgMatches<'_>) -> Choice
+    ensures { result ≡ choice_in (found_of matches.now) }
+{
+    match matches.get_str("literals") {
+        Some("true") => Choice::Literals,
+        _ => Choice::First,
+    }
+}
+
+// The line of these values, if they make one.
+fn line_with(
+    alloc: Global,
+    command: Option<Command>,
+    out: Option<OutType>,
+    eat: Option<bool>,
+    choice: Choice,
+    names: &[&str],
+) -> Result<Line, LineFault>
+    ensures ok { IfOk result
+        (λ l. meaning command out eat (Some choice) (map (λ s. s.now) names.now) ≡ Some l) }
+    ensures usage { result ≡ Err LineFault.Usage
+        → meaning command out eat (Some choice) (map (λ s. s.now) names.now) ≡ None }
+{
+    let Some(command) = command else {
+        return Err(LineFault::Usage);
+    };
+    let Some(out) = out else {
+        return Err(LineFault::Usage);
+    };
+    let Some(eat) = eat else {
+        return Err(LineFault::Usage);
+    };
+    if !is_fitting(command, out, choice, names) {
+        return Err(LineFault::Usage);
+    }
+    match copy_names(alloc, names) {
+        Ok(files) => Ok(Line::new(command, out, eat, choice, files)),
+        Err(_) => Err(LineFault::Memory),
+    }
+}
+
+// A type that the command prints, a choice that it makes, and as many files as it takes, with
+// standard input once at most.
+fn is_fitting(command: Command, out: OutType, choice: Choice, files: &[&str]) -> bool
+    ensures { result ≡ fits command out choice (map (λ s. s.now) files.now) }
+{
+    let is_printed = is_f(out) || !is_f_only(command);
+    let is_count = if is_pair(command) {
+        files.len() == 2
+    } else {
+        files.len() <= 1
+    };
+    let inputs = files.iter().filter(|file| **file == "-").count();
+    let is_chosen = is_first(choice) || is_choosing(command);
+    is_printed && is_chosen && is_count && inputs <= 1
+}
+
+fn copy_names(alloc: Global, names: &[&str]) -> Result<Vec<String>, AllocError>
+    ensures { IfOk result (λ v. map string_bytes v.items ≡ map (λ s. s.now) names.now) }
+{
+    let mut files = Vec::new(alloc);
+    for name in names {
+        files.push(String::from_str(alloc, name)?)?;
+    }
+    Ok(files)
+}
