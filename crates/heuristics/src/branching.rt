@@ -73,6 +73,12 @@ pub fn likeliest(rows: &[Vec<usize>], likely: &[i64], numbers: &[i64]) -> usize 
     best
 }
 
+/// Whether a bound is worth taking again where so many columns are left of those before: an eighth
+/// of them has left.
+pub fn is_worth_a_bound(before: usize, left: usize) -> bool {
+    left <= before.saturating_sub(before / 8)
+}
+
 /// Whether the list has the column.
 fn has(columns: &[usize], column: usize) -> bool {
     columns.iter().any(|other| *other == column)

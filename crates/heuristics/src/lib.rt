@@ -7,7 +7,8 @@
 //! - [`Compact`] is a table in numbers of its own, on which the others work.
 //! - [`WarmStart`] wishes for multipliers of the Lagrangian relaxation, which bound covers from
 //!   below, and remembers them from table to table; it reaches them by subgradient steps (Held and
-//!   Karp, The traveling-salesman problem and minimum spanning trees, 1970 and 1971).
+//!   Karp, The traveling-salesman problem and minimum spanning trees, 1970 and 1971). It counts
+//!   what was done too, as an [`Effort`].
 //! - [`local_search`] wishes for a cover within a [`Goal`]: swaps under row weights (Cai, Su, Luo
 //!   and Sattar, NuMVC: an efficient local search algorithm for minimum vertex cover, 2013).
 //! - [`wished_side`] wishes for columns that share no row with the others.
@@ -22,15 +23,17 @@
 mod branching;
 mod compact;
 mod components;
+mod effort;
 mod goal;
 mod numbers;
 mod subgradient;
 mod swaps;
 mod warm_start;
 
-pub use branching::{batch, entanglement, likeliest, marks_of};
+pub use branching::{batch, entanglement, is_worth_a_bound, likeliest, marks_of};
 pub use compact::Compact;
 pub use components::wished_side;
+pub use effort::Effort;
 pub use goal::Goal;
 pub use subgradient::Multipliers;
 pub use swaps::local_search;

@@ -17,7 +17,7 @@ use std::alloc::{AllocError, Global};
 pub(crate) const UNIT: i64 = 16777216;
 
 /// How many steps are made for a bound on the length.
-const STEPS: u32 = 100;
+const STEPS: u32 = 150;
 
 /// How many are made for a bound on what is counted.
 pub(crate) const COUNT_STEPS: u32 = 150;
@@ -69,15 +69,27 @@ pub(crate) struct Course {
     pub(crate) again: bool,
 }
 
-/// What each column bears: the weights of its rows.
-fn load(loads: &mut Vec<i64>, column_rows: &[Vec<usize>], weights: &[i64]) {
+/// Notes what each column bears, the weights of its rows, and answers what columns bear beyond their
+/// scaled costs.
+fn load(
+    loads: &mut Vec<i64>,
+    column_rows: &[Vec<usize>],
+    weights: &[i64],
+    scaled_costs: &[i64],
+) -> i64 {
+    let mut beyond: i64 = 0;
     for (column, rows) in column_rows.iter().enumerate() {
         let mut sum: i64 = 0;
         for row in rows {
             sum = sum.wrapping_add(at(weights, *row));
         }
         put(loads, column, sum);
+        let over = sum.wrapping_sub(at(scaled_costs, column));
+        if over > 0 {
+            beyond = beyond.wrapping_add(over);
+        }
     }
+    beyond
 }
 
 /// What columns bear beyond their scaled costs.
@@ -177,10 +189,11 @@ impl Ascent {
         }
     }
 
-    /// What weights say of a cover: more than nothing if no cover reaches the goal.
-    fn value(&self, weights: &[i64], column: i64, goal: Goal) -> i64 {
+    /// What weights say of a cover, where columns bear so much beyond their scaled costs: more than
+    /// nothing if no cover reaches the goal.
+    fn value(&self, weights: &[i64], beyond: i64, column: i64, goal: Goal) -> i64 {
         total(weights)
-            .wrapping_sub(beyond(&self.loads, &self.scaled_costs))
+            .wrapping_sub(beyond)
             .wrapping_sub(column.wrapping_mul(goal.columns))
             .wrapping_sub(self.count.wrapping_mul(goal.counts))
     }
@@ -224,13 +237,19 @@ impl Ascent {
         if self.count > 0 {
             self.set_scaled_costs(&table.costs, column);
         }
-        load(&mut self.loads, &table.column_rows, &weights);
+        load(
+            &mut self.loads,
+            &table.column_rows,
+            &weights,
+            &self.scaled_costs,
+        );
         {
             let order = by_weight(alloc, &weights)?;
             self.lower(table, &order, &mut weights);
             self.raise(table, &order, &mut weights);
         }
-        let value = self.value(&weights, column, goal);
+        let beyond = beyond(&self.loads, &self.scaled_costs);
+        let value = self.value(&weights, beyond, column, goal);
         if value > self.best_value {
             self.best_value = value;
             self.best_weights = weights;
@@ -310,8 +329,13 @@ impl Ascent {
         if self.count > 0 {
             self.set_scaled_costs(&table.costs, self.column);
         }
-        load(&mut self.loads, &table.column_rows, &self.weights);
-        self.value(&self.weights, self.column, goal)
+        let beyond = load(
+            &mut self.loads,
+            &table.column_rows,
+            &self.weights,
+            &self.scaled_costs,
+        );
+        self.value(&self.weights, beyond, self.column, goal)
     }
 
     /// Whether the steps bring nothing and cannot become shorter.

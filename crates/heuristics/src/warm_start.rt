@@ -7,6 +7,7 @@
 
 use crate::branching::entanglement;
 use crate::compact::Compact;
+use crate::effort::Effort;
 use crate::goal::Goal;
 use crate::numbers::{SEED, at, next_random, put};
 use crate::subgradient::{Ascent, COUNT_STEPS, Course, Multipliers, UNIT};
@@ -89,11 +90,12 @@ pub struct WarmStart {
     column: i64,
     likely: Vec<i64>,
     missing: u64,
+    effort: Effort,
 }
 
 impl WarmStart {
-    /// Nothing is remembered yet.
-    pub fn new(alloc: Global) -> WarmStart {
+    /// Nothing is remembered yet, after so much was done.
+    pub fn new(alloc: Global, effort: Effort) -> WarmStart {
         WarmStart {
             rows: Vec::new(alloc),
             numbers: Vec::new(alloc),
@@ -101,7 +103,23 @@ impl WarmStart {
             column: 67108864,
             likely: Vec::new(alloc),
             missing: 0,
+            effort,
         }
+    }
+
+    /// What was done so far.
+    pub fn effort(&self) -> Effort {
+        self.effort
+    }
+
+    /// A table is looked at.
+    pub fn count_table(&mut self) {
+        self.effort.tables = self.effort.tables.saturating_add(1);
+    }
+
+    /// A question is asked.
+    pub fn count_question(&mut self) {
+        self.effort.questions = self.effort.questions.saturating_add(1);
     }
 
     /// How likely each column is thought to be in a cover.
@@ -124,11 +142,17 @@ impl WarmStart {
             column: self.column,
             likely: self.likely.to_vec(alloc)?,
             missing: self.missing,
+            effort: self.effort,
         })
     }
 
+    /// Takes over what a question, which began with a copy, has done.
+    pub fn count_as(&mut self, question: &WarmStart) {
+        self.effort = question.effort;
+    }
+
     /// Takes over what a branch has learned, which began with a copy: the weights of the rows that
-    /// are known here, and the multiplier of a column.
+    /// are known here, the multiplier of a column, and what was done.
     pub fn learn(&mut self, branch: &WarmStart) {
         for (number, weight) in self.weights.iter_mut().enumerate() {
             if number < branch.weights.len() {
@@ -136,6 +160,7 @@ impl WarmStart {
             }
         }
         self.column = branch.column;
+        self.effort = branch.effort;
     }
 
     /// The numbers of the remembered rows that these rows come from, in their order, where some
@@ -198,7 +223,7 @@ impl WarmStart {
             let next = if fresh {
                 now
             } else {
-                before.wrapping_add(now.wrapping_sub(before) >> 3)
+                before.wrapping_add(now.wrapping_sub(before) >> 1)
             };
             put(&mut self.likely, *column, next);
         }
@@ -219,7 +244,9 @@ impl WarmStart {
         };
         for step in 0..COUNT_STEPS * 2 + 2 {
             let value = ascent.weigh(table, goal);
-            self.note_likely(live, ascent, step == 0);
+            if step % 4 == 0 {
+                self.note_likely(live, ascent, step == 0);
+            }
             ascent.note(alloc, value)?;
             let over = if step >= course.last || ascent.is_slow() {
                 ascent.stop(alloc, table, goal, step, &mut course)?
@@ -248,6 +275,7 @@ impl WarmStart {
         columns: usize,
         goal: Goal,
     ) -> Result<Multipliers, AllocError> {
+        self.effort.rounds = self.effort.rounds.saturating_add(1);
         let numbers = self.numbers_of(alloc, rows)?;
         let mut ascent = self.ascent(alloc, table, &numbers)?;
         if !rows.is_empty() {

@@ -505,3 +505,6 @@ lightened_narrowed choice k w t u h = record { leads = h.leads k w; live = h.liv
 
 pub narrowed_join : (choice : Choice) (k w : ℕ) (t u v : Table) → IsNarrowed choice k w t u → IsNarrowed choice k w u v → IsNarrowed choice k w t v
 narrowed_join choice k w t u v h g = record { leads = λ o a. h.leads o (g.leads o a); live = (let a = h.live in let b = g.live in omega arith) }
+
+pub narrowed_lightened : (choice : Choice) (k w : ℕ) (t u v x : Table) → IsNarrowed choice k w t u → IsNarrowed choice k w u v → IsLightened choice v x → IsNarrowed choice k w t x
+narrowed_lightened choice k w t u v x h g l = narrowed_join choice k w t v x (narrowed_join choice k w t u v h g) (lightened_narrowed choice k w v x l)

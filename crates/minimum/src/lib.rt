@@ -13,8 +13,8 @@
 //! - `Table::build` makes the table of the primes, whose covers are the covers by primes.
 //!   `Table::new` makes a table of rows and of each column's number of literals.
 //! - `reduce` applies the steps of a reduction until none applies; the least cover stays.
-//! - `Table::least_cover` gives the least cover. `Table::least_cover_plain` gives it too, by trying
-//!   all choices.
+//! - `Table::least_cover` gives the least cover, and `Table::least_cover_with_effort` counts what was
+//!   done to find it. `Table::least_cover_plain` gives it too, by trying all choices.
 //!
 //! The function 000, 001, 010, 101, 110, 111 of three inputs has six primes, each of two points, in
 //! a ring. Its table has the rows {0,3}, {0,4}, {1,2}, {1,5}, {2,3} and {4,5}; no step reduces it,
@@ -49,5 +49,6 @@ pub use covering::reduce::reduce;
 pub use covering::table::Table;
 pub use essential_primes::essential;
 pub use exact_minimum::exact;
+pub use heuristics::Effort;
 pub use laws::{least_difference_decides, least_is_unique, weights_bound_covers};
 pub use prime_implicants::primes;

@@ -21,7 +21,7 @@ use crate::covering::columns::{contains, copy_of, copy_rows, count, join, sum};
 use crate::covering::marks::{all_but, marked_columns, others};
 use crate::covering::search::Stop;
 use crate::covering::table::Table;
-use heuristics::{Goal, WarmStart, batch};
+use heuristics::{Effort, Goal, WarmStart, batch, is_worth_a_bound};
 use std::alloc::{AllocError, Global};
 
 /// A table with so few live columns is solved by trying all choices.
@@ -67,6 +67,7 @@ impl Help {
     {
         let mut warm_start = self.warm_start.copy(alloc)?;
         let witness = table.decide(alloc, choice, budget, &mut warm_start)?;
+        self.warm_start.count_as(&warm_start);
         self.adapt(witness.is_some());
         Ok(witness)
     }
@@ -84,7 +85,9 @@ impl Help {
             budget.counts (option_map (λ v. v.items) o))) }
     {
         let mut warm_start = self.warm_start.copy(alloc)?;
-        match table.decide_within(alloc, choice, budget, &mut warm_start, BATCH_TABLES) {
+        let decided = table.decide_within(alloc, choice, budget, &mut warm_start, BATCH_TABLES);
+        self.warm_start.count_as(&warm_start);
+        match decided {
             Ok(witness) => {
                 self.adapt(witness.is_some());
                 Ok(Some(witness))
@@ -265,7 +268,7 @@ impl Stage {
         }
     }
 
-    /// Drops such columns until weights show no more.
+    /// Drops such columns until weights show few more.
     fn narrow(
         self,
         alloc: Global,
@@ -282,7 +285,8 @@ impl Stage {
         loop {
             let live = stage.table.live_columns().len();
             stage = stage.drop_by_bound(alloc, choice, budget, help)?;
-            if live <= stage.table.live_columns().len() {
+            let left = stage.table.live_columns().len();
+            if live <= left || !is_worth_a_bound(live, left) {
                 return Ok(stage);
             }
         }
@@ -352,6 +356,7 @@ impl Table {
         alloc: Global,
         choice: Choice,
         best: Vec<usize>,
+        help: &mut Help,
     ) -> Result<Vec<usize>, AllocError>
         requires { IsBest choice self.now best.items }
         ensures { IfOk result (λ v. IsLeast choice self.now v.items) }
@@ -360,20 +365,16 @@ impl Table {
             columns: best.len(),
             counts: sum(choice, self.literals(), &best),
         };
-        let mut help = Help {
-            warm_start: WarmStart::new(alloc),
-            most: 1,
-        };
         let mut stage = Stage {
             table: self.copy(alloc)?,
             witness: best,
         };
-        stage = stage.narrow(alloc, choice, budget, &mut help)?;
+        stage = stage.narrow(alloc, choice, budget, help)?;
         for column in 0..self.columns() {
             if stage.table.is_solved() {
                 return copy_of(alloc, stage.table.taken_columns());
             }
-            stage = stage.settle(alloc, choice, budget, column, &mut help)?;
+            stage = stage.settle(alloc, choice, budget, column, help)?;
         }
         copy_of(alloc, stage.table.taken_columns())
     }
@@ -462,7 +463,7 @@ impl Table {
     {
         let greedy = self.some_cover(alloc, Choice::First, 0, 1)?;
         let least = self.least_length(alloc, greedy.len(), warm_start)?;
-        self.some_cover(alloc, choice, least, 200)
+        self.some_cover(alloc, choice, least, 100)
     }
 
     /// A cover of the least length.
@@ -541,14 +542,19 @@ impl Table {
         Ok(counts.saturating_sub(u128::from(warm_start.shortfall())))
     }
 
-    fn best(&self, alloc: Global, choice: Choice) -> Result<Vec<usize>, AllocError>
+    /// A cover of the least length, and with literals of the fewest among those.
+    fn best(
+        &self,
+        alloc: Global,
+        choice: Choice,
+        warm_start: &mut WarmStart,
+    ) -> Result<Vec<usize>, AllocError>
         ensures { IfOk result (λ v. IsBest choice self.now v.items) }
     {
-        let mut warm_start = WarmStart::new(alloc);
-        let cover = self.shortest(alloc, choice, &mut warm_start)?;
+        let cover = self.shortest(alloc, choice, warm_start)?;
         match choice {
             Choice::First => Ok(cover),
-            Choice::Literals => self.fewest(alloc, cover, &mut warm_start),
+            Choice::Literals => self.fewest(alloc, cover, warm_start),
         }
     }
 
@@ -558,6 +564,7 @@ impl Table {
         &self,
         alloc: Global,
         choice: Choice,
+        effort: &mut Effort,
     ) -> Result<Vec<usize>, AllocError>
         ensures { IfOk result (λ v. IsLeast choice self.now v.items) }
     {
@@ -571,17 +578,29 @@ impl Table {
             live,
             count(choice, self.literals(), live[0]),
         ) {
-            return self.first_of_best(alloc, Choice::First);
+            return self.first_of_best(alloc, Choice::First, effort);
         }
-        self.first_of_best(alloc, choice)
+        self.first_of_best(alloc, choice, effort)
     }
 
     /// The first of the best covers.
-    fn first_of_best(&self, alloc: Global, choice: Choice) -> Result<Vec<usize>, AllocError>
+    fn first_of_best(
+        &self,
+        alloc: Global,
+        choice: Choice,
+        effort: &mut Effort,
+    ) -> Result<Vec<usize>, AllocError>
         ensures { IfOk result (λ v. IsLeast choice self.now v.items) }
     {
-        let best = self.best(alloc, choice)?;
-        self.first_of(alloc, choice, best)
+        let mut warm_start = WarmStart::new(alloc, *effort);
+        let best = self.best(alloc, choice, &mut warm_start)?;
+        let mut help = Help {
+            warm_start: WarmStart::new(alloc, warm_start.effort()),
+            most: 1,
+        };
+        let first = self.first_of(alloc, choice, best, &mut help)?;
+        *effort = help.warm_start.effort();
+        Ok(first)
     }
 
     /// The least cover: the first of the shortest; with `Choice::Literals`, of those with the
@@ -589,8 +608,20 @@ impl Table {
     pub fn least_cover(&self, choice: Choice) -> Result<Vec<usize>, AllocError>
         ensures { IfOk result (λ v. IsLeast choice self.now v.items) }
     {
+        let mut effort = Effort::none();
+        self.least_cover_with_effort(choice, &mut effort)
+    }
+
+    /// The least cover, as `least_cover` gives it; adds what was done to find it.
+    pub fn least_cover_with_effort(
+        &self,
+        choice: Choice,
+        effort: &mut Effort,
+    ) -> Result<Vec<usize>, AllocError>
+        ensures { IfOk result (λ v. IsLeast choice self.now v.items) }
+    {
         let alloc = *self.rows.allocator();
         let table = self.cyclic_core(alloc, choice)?;
-        table.least_by_parts(alloc, choice)
+        table.least_by_parts(alloc, choice, effort)
     }
 }

@@ -18,7 +18,7 @@ use crate::choice::Choice;
 use crate::covering::columns::{copy_of, join};
 use crate::covering::marks::{all_kept, marked_columns, others, untouched_rows};
 use crate::covering::table::Table;
-use heuristics::wished_side;
+use heuristics::{Effort, wished_side};
 use std::alloc::{AllocError, Global};
 
 /// Two tables of parts that share no column.
@@ -82,13 +82,14 @@ impl Table {
         &self,
         alloc: Global,
         choice: Choice,
+        effort: &mut Effort,
     ) -> Result<Vec<usize>, AllocError>
         ensures { IfOk result (λ v. IsLeast choice self.now v.items) }
     {
         match self.renumber(alloc)? {
-            None => self.least_of_parts(alloc, choice),
+            None => self.least_of_parts(alloc, choice, effort),
             Some(table) => {
-                let numbers = table.least_of_parts(alloc, choice)?;
+                let numbers = table.least_of_parts(alloc, choice, effort)?;
                 self.with_numbers(alloc, &numbers)
             }
         }
@@ -96,14 +97,19 @@ impl Table {
 
     /// The least cover, of each part by itself.
     #[cycle(parts)]
-    fn least_of_parts(&self, alloc: Global, choice: Choice) -> Result<Vec<usize>, AllocError>
+    fn least_of_parts(
+        &self,
+        alloc: Global,
+        choice: Choice,
+        effort: &mut Effort,
+    ) -> Result<Vec<usize>, AllocError>
         ensures { IfOk result (λ v. IsLeast choice self.now v.items) }
     {
         match self.parts(alloc)? {
-            None => self.least_of_whole(alloc, choice),
+            None => self.least_of_whole(alloc, choice, effort),
             Some(Parts { one, other }) => {
-                let first = one.least_by_parts(alloc, choice)?;
-                let second = other.least_by_parts(alloc, choice)?;
+                let first = one.least_by_parts(alloc, choice, effort)?;
+                let second = other.least_by_parts(alloc, choice, effort)?;
                 join(alloc, &first, &second)
             }
         }

@@ -22,7 +22,8 @@ use crate::covering::lagrangian::lagrangian;
 use crate::covering::marks::{all_marked, is_marked, marked_columns, rows_of_marked};
 use crate::covering::table::Table;
 use heuristics::{
-    Compact, Goal, Multipliers, WarmStart, entanglement, likeliest, local_search, marks_of,
+    Compact, Goal, Multipliers, WarmStart, entanglement, is_worth_a_bound, likeliest, local_search,
+    marks_of,
 };
 use std::alloc::{AllocError, Global};
 
@@ -332,13 +333,17 @@ impl Table {
     {
         let mut table = self.lighten(alloc, choice)?;
         loop {
+            let live = table.live_columns().len();
             let Some(next) = table.drop_by_bound(alloc, choice, budget, warm_start)? else {
                 return Ok(None);
             };
-            if table.live_columns().len() <= next.live_columns().len() {
+            if live <= next.live_columns().len() {
                 return Ok(Some(next));
             }
             table = next.lighten(alloc, choice)?;
+            if !is_worth_a_bound(live, table.live_columns().len()) {
+                return Ok(Some(table));
+            }
         }
     }
 
@@ -375,9 +380,10 @@ impl Table {
         };
         *left = rest;
         let mut own = warm_start.copy(alloc)?;
-        let found = self.search_on(alloc, choice, budget, &mut own, left)?;
+        own.count_table();
+        let found = self.search_on(alloc, choice, budget, &mut own, left);
         warm_start.learn(&own);
-        Ok(found)
+        found
     }
 
     /// The same, with a warm start of its own.
@@ -493,6 +499,8 @@ impl Table {
         ensures { IfOk result (λ o. Answers choice self.now budget.columns budget.counts
             (option_map (λ v. v.items) o)) }
     {
+        warm_start.count_question();
+        warm_start.count_table();
         let Some(table) = self.narrow(alloc, choice, budget, warm_start)? else {
             return Ok(None);
         };
