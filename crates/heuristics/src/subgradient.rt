@@ -16,11 +16,8 @@ use std::alloc::{AllocError, Global};
 /// The multiplier of a column if it is not itself asked for.
 pub(crate) const UNIT: i64 = 16777216;
 
-/// How many steps are made for a bound on the length.
-const STEPS: u32 = 150;
-
-/// How many are made for a bound on what is counted.
-pub(crate) const COUNT_STEPS: u32 = 150;
+/// How many steps are made for a bound.
+pub(crate) const STEPS: u32 = 150;
 
 /// The first length of a step; a step that is shorter than the last brings nothing.
 const PACE: i64 = 1024;
@@ -174,11 +171,6 @@ impl Ascent {
         };
         ascent.set_scaled_costs(&table.costs, column);
         Ok(ascent)
-    }
-
-    /// How many steps are made.
-    pub(crate) fn steps(&self) -> u32 {
-        if self.count > 0 { COUNT_STEPS } else { STEPS }
     }
 
     /// The scaled costs under the multiplier of a column, which stays where nothing is counted.
@@ -361,7 +353,7 @@ impl Ascent {
         step: u32,
         value: i64,
     ) -> Result<bool, AllocError> {
-        if step % (self.steps() / 4).max(1) == 0 {
+        if step % (STEPS / 4) == 0 {
             let weights = self.weights.to_vec(alloc)?;
             self.polish(alloc, table, weights, self.column, goal)?;
             if self.best_value > 0 {
@@ -396,7 +388,7 @@ impl Ascent {
             return Ok(true);
         }
         course.again = true;
-        course.last = step.wrapping_add(self.steps());
+        course.last = step.wrapping_add(STEPS);
         self.kick(alloc)?;
         Ok(false)
     }

@@ -10,7 +10,7 @@ use crate::compact::Compact;
 use crate::effort::Effort;
 use crate::goal::Goal;
 use crate::numbers::{SEED, at, next_random, put};
-use crate::subgradient::{Ascent, COUNT_STEPS, Course, Multipliers, UNIT};
+use crate::subgradient::{Ascent, Course, Multipliers, STEPS, UNIT};
 use std::alloc::{AllocError, Global};
 
 /// How likely a column is thought to be at most.
@@ -146,12 +146,7 @@ impl WarmStart {
         })
     }
 
-    /// Takes over what a question, which began with a copy, has done.
-    pub fn count_as(&mut self, question: &WarmStart) {
-        self.effort = question.effort;
-    }
-
-    /// Takes over what a branch has learned, which began with a copy: the weights of the rows that
+    /// Takes over what a branch or a question has learned, which began with a copy: the weights of the rows that
     /// are known here, the multiplier of a column, and what was done.
     pub fn learn(&mut self, branch: &WarmStart) {
         for (number, weight) in self.weights.iter_mut().enumerate() {
@@ -239,10 +234,10 @@ impl WarmStart {
         ascent: &mut Ascent,
     ) -> Result<(), AllocError> {
         let mut course = Course {
-            last: ascent.steps(),
+            last: STEPS,
             again: false,
         };
-        for step in 0..COUNT_STEPS * 2 + 2 {
+        for step in 0..STEPS * 2 + 2 {
             let value = ascent.weigh(table, goal);
             if step % 4 == 0 {
                 self.note_likely(live, ascent, step == 0);

@@ -12,7 +12,6 @@ use Rattle.cover.proofs.Lists.{list_any_from}
 use Rattle.cover.proofs.ContainmentLemmas.{cube_at-is}
 use Rattle.minimum.specs.PrimeRows.{holds_at, AreCandidates, IsSplit, AddsRows}
 use Rattle.minimum.proofs.Numbers.{numbered, has_member}
-use Rattle.minimum.proofs.PrimeRows.{adds_nothing}
 
 -- ---- a part of a region
 

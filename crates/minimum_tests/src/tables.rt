@@ -1,5 +1,5 @@
 //! Tables of worked functions, written as rows.
-use minimum::{Choice, Table, reduce};
+use minimum::{Choice, Effort, Table, reduce};
 use pla::{Echo, Ending, Given, Pla, Taken, read_pla};
 use std::alloc::{AllocError, Global};
 use std::test::Fail;
@@ -203,7 +203,8 @@ pub(crate) fn searches_agree(made: Table, choice: Choice) -> Result<bool, AllocE
     let plain = made.least_cover_plain(choice)?;
     let least = made.least_cover(choice)?;
     let reduced = reduce(made, choice)?;
-    let again = reduced.least_cover(choice)?;
+    let mut effort = Effort::none();
+    let again = reduced.least_cover_with_effort(choice, &mut effort)?;
     let plainly = reduced.least_cover_plain(choice)?;
     Ok(
         least.as_slice() == plain.as_slice()

@@ -67,7 +67,7 @@ impl Help {
     {
         let mut warm_start = self.warm_start.copy(alloc)?;
         let witness = table.decide(alloc, choice, budget, &mut warm_start)?;
-        self.warm_start.count_as(&warm_start);
+        self.warm_start.learn(&warm_start);
         self.adapt(witness.is_some());
         Ok(witness)
     }
@@ -86,7 +86,7 @@ impl Help {
     {
         let mut warm_start = self.warm_start.copy(alloc)?;
         let decided = table.decide_within(alloc, choice, budget, &mut warm_start, BATCH_TABLES);
-        self.warm_start.count_as(&warm_start);
+        self.warm_start.learn(&warm_start);
         match decided {
             Ok(witness) => {
                 self.adapt(witness.is_some());
@@ -463,7 +463,7 @@ impl Table {
     {
         let greedy = self.some_cover(alloc, Choice::First, 0, 1)?;
         let least = self.least_length(alloc, greedy.len(), warm_start)?;
-        self.some_cover(alloc, choice, least, 100)
+        self.some_cover(alloc, choice, least, 50)
     }
 
     /// A cover of the least length.
