@@ -252,7 +252,11 @@ impl Ascent {
 
     /// How many columns of the relaxed choice, those that bear more than their scaled costs, each
     /// row has, and how many there are.
-    fn relaxed(&self, alloc: Global, table: &Compact) -> Result<(Vec<i64>, i64), AllocError> {
+    fn relaxed_choice(
+        &self,
+        alloc: Global,
+        table: &Compact,
+    ) -> Result<(Vec<i64>, i64), AllocError> {
         let mut held: Vec<i64> = vec![in alloc; 0; table.rows.len()]?;
         let mut chosen: i64 = 0;
         for (i, rows) in table.column_rows.iter().enumerate() {
@@ -272,7 +276,7 @@ impl Ascent {
         goal: Goal,
         far: i64,
     ) -> Result<(), AllocError> {
-        let (held, chosen) = self.relaxed(alloc, table)?;
+        let (held, chosen) = self.relaxed_choice(alloc, table)?;
         let mut square: i64 = 0;
         for (i, number) in held.iter().enumerate() {
             let slope = 1i64.wrapping_sub(*number).wrapping_mul(16);
