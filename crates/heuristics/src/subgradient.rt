@@ -66,8 +66,8 @@ pub(crate) struct Course {
     pub(crate) again: bool,
 }
 
-/// Notes what each column bears, the weights of its rows, and answers what columns bear beyond their
-/// scaled costs.
+/// Notes what each column bears, the weights of its rows, and answers what columns bear beyond
+/// their scaled costs.
 fn load(
     loads: &mut Vec<i64>,
     column_rows: &[Vec<usize>],

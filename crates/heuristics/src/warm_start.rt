@@ -146,8 +146,8 @@ impl WarmStart {
         })
     }
 
-    /// Takes over what a branch or a question has learned, which began with a copy: the weights of the rows that
-    /// are known here, the multiplier of a column, and what was done.
+    /// Takes over what a branch or a question has learned, which began with a copy: the weights of
+    /// the rows that are known here, the multiplier of a column, and what was done.
     pub fn learn(&mut self, branch: &WarmStart) {
         for (number, weight) in self.weights.iter_mut().enumerate() {
             if number < branch.weights.len() {

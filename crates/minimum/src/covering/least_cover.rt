@@ -612,7 +612,8 @@ impl Table {
         self.least_cover_with_effort(choice, &mut effort)
     }
 
-    /// The least cover, as `least_cover` gives it; adds what was done to find it.
+    /// The least cover, as `least_cover` gives it; adds what was done to find it, figures that no
+    /// contract speaks of.
     pub fn least_cover_with_effort(
         &self,
         choice: Choice,
