@@ -1,10 +1,14 @@
-//! Tests of the public calls of `cube` and `cover`.
+//! Tests of the public calls of `cube`, `cover` and `pla`.
 //!
 //! They stand in a crate of their own, since the crate that a test stands in is proved a second
 //! time with it. Each public function is called once with ample memory, each generic one at a
 //! concrete type; what whole texts come to is tested on the built program. The functions here are
 //! kept plain, as each has to be proved, and that is dear where it holds many cubes or lists: so
 //! the tests hold none, and go over tables.
+//!
+//! - Cubes and lists, from rows of text (`rows`): `cubes`, `covers`, `reasons`, `wide`.
+//! - The format: `devices`, `over_std` and `writing` of its devices, `reading`, `sets`, `printing`
+//!   and `laws` of its files.
 #![tactic(auto)]
 
 #[cfg(test)]
@@ -12,8 +16,22 @@ mod covers;
 #[cfg(test)]
 mod cubes;
 #[cfg(test)]
+mod devices;
+#[cfg(test)]
+mod laws;
+#[cfg(test)]
+mod over_std;
+#[cfg(test)]
+mod printing;
+#[cfg(test)]
+mod reading;
+#[cfg(test)]
 mod reasons;
 #[cfg(test)]
 mod rows;
 #[cfg(test)]
+mod sets;
+#[cfg(test)]
 mod wide;
+#[cfg(test)]
+mod writing;

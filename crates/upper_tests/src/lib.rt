@@ -1,0 +1,19 @@
+//! Tests of the public calls of `minimum` and `tool`.
+//!
+//! They stand in a crate of their own, as those of the crates below do (`lower_tests`), since the
+//! crate that a test stands in is proved a second time with it.
+//!
+//! - Minima: `primes`, `tables` of rows, `solutions` of whole files.
+//! - Runs: `runs` on devices that fail, `processes` from their words to their status.
+#![tactic(auto)]
+
+#[cfg(test)]
+mod primes;
+#[cfg(test)]
+mod processes;
+#[cfg(test)]
+mod runs;
+#[cfg(test)]
+mod solutions;
+#[cfg(test)]
+mod tables;
