@@ -119,6 +119,58 @@ fn a_row_that_does_not_rise_is_refused(rt: HostRuntime) -> Result<(), Fail> {
     Ok(())
 }
 
+/// A row for each two of nine columns: a half of each column holds every row, and no cover lacks
+/// two columns. So nothing is reduced, and no bound tells that eight columns are the fewest.
+fn pairs(alloc: Global) -> Result<Table, Fail> {
+    let rows = b"01 02 03 04 05 06 07 08 12 13 14 15 16 17 18 23 24 25 26 27 28 \
+        34 35 36 37 38 45 46 47 48 56 57 58 67 68 78";
+    Ok(table(alloc, rows, &[2, 2, 2, 2, 2, 2, 2, 2, 2])?.ok_or("rows")?)
+}
+
+/// Whether the search answers these columns; what it did is added.
+fn least_is_counted(
+    table: &Table,
+    columns: &[usize],
+    effort: &mut Effort,
+) -> Result<bool, AllocError> {
+    let least = table.least_cover_with_effort(Choice::First, effort)?;
+    Ok(least.as_slice() == columns)
+}
+
+/// Whether nothing was done.
+fn is_none(effort: Effort) -> bool {
+    effort.tables == 0 && effort.questions == 0 && effort.rounds == 0
+}
+
+/// Whether the figures are twice those of the other.
+fn is_twice(effort: Effort, other: Effort) -> bool {
+    effort.tables == other.tables.wrapping_mul(2)
+        && effort.questions == other.questions.wrapping_mul(2)
+        && effort.rounds == other.rounds.wrapping_mul(2)
+}
+
+#[test]
+fn an_effort_adds_up(rt: HostRuntime) -> Result<(), Fail> {
+    let pairs = pairs(rt.alloc())?;
+    let mut effort = Effort::none();
+    assert!(rt; is_none(effort));
+    assert!(rt; least_is_counted(&pairs, &[0, 1, 2, 3, 4, 5, 6, 7], &mut effort)?);
+    let once = effort;
+    assert!(rt; once.tables > 0 && once.questions > 0 && once.rounds > 0);
+    assert!(rt; least_is_counted(&pairs, &[0, 1, 2, 3, 4, 5, 6, 7], &mut effort)?);
+    assert!(rt; is_twice(effort, once));
+    Ok(())
+}
+
+#[test]
+fn no_rows_take_no_effort(rt: HostRuntime) -> Result<(), Fail> {
+    let reduced = reduce(three_columns(rt.alloc())?, Choice::First)?;
+    let mut effort = Effort::none();
+    assert!(rt; least_is_counted(&reduced, &[0, 1], &mut effort)?);
+    assert!(rt; is_none(effort));
+    Ok(())
+}
+
 /// Eight rings side by side.
 fn rings(alloc: Global) -> Result<Option<Table>, AllocError> {
     let ring: [[usize; 2]; 6] = [[2, 3], [0, 3], [1, 2], [0, 4], [1, 5], [4, 5]];
