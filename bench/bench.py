@@ -1,15 +1,21 @@
 #!/usr/bin/env python3
 """Times the built program on generated files, and prints wall time and peak memory.
 
-usage: bench/bench.py [--instructions] PROGRAM [CASE ..]      (no case: all; else those that begin so)
+usage: bench/bench.py [--instructions] [--effort EFFORT] PROGRAM [CASE ..]
+       (no case: all; else those that begin so)
 
 The files are written to bench/data by fixed seeds, once. Each case runs three
 times and the best wall time counts; the peak is the largest resident set of one
 more run, where GNU time is installed. The third column is the time that the case
 is meant to stay within. Some cases also run berkeley-abc's `cec` or minisat on the
 same question, where these are installed. With --instructions, callgrind counts the
-instructions of one more run of each case, where valgrind is installed.
+instructions of one more run of each case, where valgrind is installed. With --effort,
+EFFORT, the program of crates/effort (crates/effort/out/effort, once the gate has
+built it), prints for each case of `exact` what its search did: primes, rows and live
+columns of the reduced table, tables that were looked at (the nodes of the search),
+questions, rounds of steps, and products of the answer.
 """
+import argparse
 import functools
 import os
 import random
@@ -278,14 +284,23 @@ def comment_stream(pipe):
     pipe.write(b".i 1\n.o 1\n.e\n")
 
 
-COUNTING = "--instructions" in sys.argv
+OPTIONS = argparse.Namespace(instructions=False, effort=None)
 
 
 @functools.cache
 def count(words):
     """Prints the instructions of a run, once, where that is asked for."""
-    if COUNTING:
+    if OPTIONS.instructions:
         print(f"  {instructions(words)}")
+
+
+@functools.cache
+def tell_effort(words, path):
+    """Prints what the search of `exact` under these words does on the file, once, where that is asked for."""
+    if OPTIONS.effort:
+        with open(path) as file:
+            told = subprocess.run([OPTIONS.effort, *words], stdin=file, stdout=subprocess.PIPE, text=True, check=True)
+        print("  " + ", ".join(told.stdout.splitlines()))
 
 
 def file_case(words, path, goal):
@@ -295,6 +310,8 @@ def file_case(words, path, goal):
 def pair_case(words, paths, goal):
     def run(program):
         count((program, *words, *paths()))
+        if words[0] == "-Dexact":
+            tell_effort(tuple(words[1:]), *paths())
         return (*measured(program, [*words, *paths()]), goal)
     return run
 
@@ -500,17 +517,25 @@ def cases():
     yield from wide_verifies()
 
 
+def read_words():
+    reader = argparse.ArgumentParser(usage=argparse.SUPPRESS)
+    reader.add_argument("--instructions", action="store_true")
+    reader.add_argument("--effort")
+    reader.add_argument("program")
+    reader.add_argument("cases", nargs="*")
+    reader.parse_intermixed_args(namespace=OPTIONS)
+
+
 def main():
-    words = [word for word in sys.argv[1:] if word != "--instructions"]
-    if not words:
+    if len(sys.argv) < 2:
         sys.exit(__doc__)
-    program, wanted = words[0], words[1:]
+    read_words()
     for name, run in cases():
-        if wanted and not any(name.startswith(word) for word in wanted):
+        if OPTIONS.cases and not any(name.startswith(word) for word in OPTIONS.cases):
             continue
         times, kilobytes, status, goal = [], 0, 0, None
         for _ in range(3):
-            seconds, kilobytes, status, goal = run(program)
+            seconds, kilobytes, status, goal = run(OPTIONS.program)
             times.append(seconds)
         within = "" if goal is None else f"within {goal:.3f} s"
         print(f"{name:32} {min(times):9.3f} s {kilobytes / 1024:8.1f} MB  {within}  status {status}", flush=True)
