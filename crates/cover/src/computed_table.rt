@@ -55,20 +55,28 @@ impl Entry {
     }
 }
 
-/// Sums that were found. No answer depends on how many are kept, and no contract speaks of it.
+/// Sums that were found, and the order in which inputs are split at, where they weigh as much. No
+/// answer depends on the order or on how many sums are kept, and no contract speaks of them.
 #[derive(Drop)]
 pub(crate) struct ComputedTable {
     slots: Vec<Option<Entry>>,
     rows: usize,
+    order: Vec<usize>,
 }
 
 impl ComputedTable {
     /// No sum yet. Memory is taken with the first one kept.
-    pub(crate) fn new(alloc: Global) -> ComputedTable {
+    pub(crate) fn new(alloc: Global, order: Vec<usize>) -> ComputedTable {
         ComputedTable {
             slots: Vec::new(alloc),
             rows: 0,
+            order,
         }
+    }
+
+    /// The order of the inputs.
+    pub(crate) fn order(&self) -> &[usize] {
+        self.order.as_slice()
     }
 
     /// The complete sum of the places of the first list that are not in the second, if it is kept.

@@ -35,7 +35,9 @@ use crate::sum_leaf::free_sum;
 use crate::sum_meets::pairwise_meets;
 use crate::sum_parts::has_symbol;
 use crate::sum_rows::{combine, merge, sort_rows};
-use crate::sum_splitting_input::{has_literal_in_each, hold_everything, is_unate, splitting_input};
+use crate::sum_splitting_input::{
+    has_literal_in_each, hold_everything, is_unate, splitting_input, wished_order,
+};
 use crate::tautology::universal;
 use cube::{Cube, Shape};
 use std::alloc::{AllocError, Global};
@@ -117,7 +119,7 @@ fn split_sum(
         (λ rows. rows.items
         ≡ complete_sum_of shape (difference_of (places minuend.now) (places subtrahend.now))) }
 {
-    let Some(i) = splitting_input(shape, minuend, subtrahend) else {
+    let Some(i) = splitting_input(shape, minuend, subtrahend, found.order()) else {
         return free_sum(alloc, shape, minuend, subtrahend);
     };
     if subtrahend.is_empty() && !has_literal_in_each(shape, minuend, i) {
@@ -228,10 +230,11 @@ fn sum_in_order(
 {
     let minuend = sort_rows(alloc, shape, minuend)?;
     let subtrahend = sort_rows(alloc, shape, subtrahend)?;
+    let order = wished_order(alloc, shape, &minuend, &subtrahend)?;
     sum_between(
         alloc,
         shape,
-        &mut ComputedTable::new(alloc),
+        &mut ComputedTable::new(alloc, order),
         minuend,
         subtrahend,
     )

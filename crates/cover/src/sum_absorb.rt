@@ -47,22 +47,22 @@ fn absorb_sorted(alloc: Global, shape: Shape, rows: &[Cube]) -> Result<Vec<Cube>
     Ok(kept)
 }
 
-// Whether all rows have as many literals and, as far as the first 64 show, outputs. Of such rows
-// none lies in another.
+// Whether all rows have as many literals. Of such rows in row order none lies in one before it: it
+// would have the same symbols, and then the one with more outputs comes later.
 fn have_one_size(rows: &[Cube]) -> bool {
     let Some(first) = rows.first() else {
         return true;
     };
-    let (literals, outputs) = (first.literals(), first.output_bits(0).count_ones());
+    let literals = first.literals();
     for row in rows {
-        if row.literals() != literals || row.output_bits(0).count_ones() != outputs {
+        if row.literals() != literals {
             return false;
         }
     }
     true
 }
 
-// Whether some row lies in one before it.
+// Whether some row lies in one before it, in row order.
 fn has_absorbed(shape: Shape, rows: &[Cube]) -> bool
     requires { AreCubes shape rows.now }
 {
