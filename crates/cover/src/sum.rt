@@ -32,7 +32,7 @@ use crate::sum_absorb::{absorb, absorb_if_short, without_absorbed};
 use crate::sum_apart::{Parts, has_free_row, parts_apart};
 use crate::sum_branch::{Branches, absorbed_cofactor_at, branches_at, literal, smoothing_at};
 use crate::sum_leaf::free_sum;
-use crate::sum_meets::pairwise_meets;
+use crate::sum_meets::meets;
 use crate::sum_parts::has_symbol;
 use crate::sum_rows::{combine, merge, sort_rows};
 use crate::sum_splitting_input::{
@@ -287,7 +287,7 @@ pub fn intersect(list: &Cover, other: &Cover) -> Result<Cover, AllocError>
     let _shape = other.shape();
     let mine = sort_rows(alloc, shape, list.try_clone()?.into_cubes())?;
     let theirs = sort_rows(alloc, shape, other.try_clone()?.into_cubes())?;
-    let rows = pairwise_meets(alloc, shape, 0, &mine, &theirs)?;
+    let rows = meets(alloc, shape, &mine, &theirs)?;
     let rows = absorb(alloc, shape, rows)?;
     let sum = sum_in_order(alloc, shape, rows, Vec::new(alloc))?;
     Ok(Cover::from_cubes(shape, sum))
