@@ -7,6 +7,7 @@ ghost use Rattle.cover.specs.Cubes.{AreCubes};
 ghost use Rattle.cover.specs.Reduced.{IsAbsorbed, IsPartlyAbsorbed, IsWithoutAbsorbed};
 
 use crate::sum_rows::sort_rows;
+use crate::sum_splitting_input::inputs_of;
 use cube::{Cube, Shape};
 use std::alloc::{AllocError, Global};
 
@@ -58,6 +59,27 @@ fn have_one_size(rows: &[Cube]) -> bool {
         if row.literals() != literals {
             return false;
         }
+    }
+    true
+}
+
+// Whether the rows are seen to rise and to have literals at the same inputs, as points do that a
+// longer list was split into. So none lies in another.
+fn rise_alike(shape: Shape, rows: &[Cube]) -> bool {
+    if shape.inputs() > 32 {
+        return false;
+    }
+    let inputs = match rows.first() {
+        Some(first) => inputs_of(first, 0),
+        None => 0,
+    };
+    let mut last = 0u64;
+    for row in rows {
+        let key = row.literal_bits(0).reverse_bits();
+        if inputs_of(row, 0) != inputs || key <= last {
+            return false;
+        }
+        last = key;
     }
     true
 }
@@ -142,6 +164,9 @@ pub(crate) fn absorb_if_short(
     requires { AreCubes shape rows.items }
     ensures { IfOk result (λ kept. IsPartlyAbsorbed rows.items kept.items) }
 {
+    if rise_alike(shape, &rows) {
+        return Ok(rows);
+    }
     let rows = sort_rows(alloc, shape, rows)?;
     if rows.len() > MANY {
         return Ok(rows);
