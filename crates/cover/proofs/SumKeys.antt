@@ -1,6 +1,6 @@
 -- Rows met by their numbers.
 use Rattle.std.proofs.Common.{◌≡◌, ℕ, ◌+◌, ◌*◌, ◌/◌, ◌%◌, ◌<◌, ◌≤◌, Bool, true, false, not, if◌then◌else◌, max, ◌&&◌, ◌||◌, List, [], ◌∷◌, ◌++◌, length, take, drop, get_or, refl, ap, sym, subst, ◌∙◌, arith, bit_and, bit_or, inl, inr}
-use Rattle.std.specs.Int.{bit_at, w64, reverse_bits}
+use Rattle.std.specs.Int.{bit_at}
 use Rattle.std.specs.List.{Contains}
 use Rattle.std.proofs.lemmas.Bool.{cases_lt, cases_eq, cases_Bool, false≢true, and_parts}
 use Rattle.std.proofs.lemmas.Nat.Bits.{bit_at_and, bit_at-lt, same_from_bits_below}
@@ -16,7 +16,7 @@ use Rattle.cube.proofs.HoldsLemmas.{agrees_at-matches}
 use Rattle.cube.proofs.WordLemmas.{folded_bit, lower_bit_even}
 use Rattle.cover.specs.Cubes.{AreCubes}
 use Rattle.cover.specs.Places.{places}
-use Rattle.cover.specs.Keys.{IsKey, HasKeys}
+use Rattle.cover.specs.Keys.{IsKey, HasKeys, turned}
 use Rattle.cover.specs.Reduced.{IsMeets}
 use Rattle.cover.proofs.Lists.{list_any_witness}
 use Rattle.cover.proofs.SumMeets.{IsMeets-others}
@@ -91,7 +91,7 @@ module _ (inputs : ℕ) (c d : Cube) (n m : ℕ) (mine : IsKey inputs c n) (thei
       ]
 
   same_key : n ≡ m
-  same_key = mine.turned ∙ ap (λ x. reverse_bits w64 x) (same_from_bits_below 64 mine.word theirs.word mine.fits theirs.fits same_bit) ∙ sym theirs.turned
+  same_key = mine.key ∙ ap (λ x. turned x) (same_from_bits_below 64 mine.word theirs.word mine.fits theirs.fits same_bit) ∙ sym theirs.key
 
 -- ---- the numbers of one more row
 

@@ -75,11 +75,13 @@ fn rise_alike(shape: Shape, rows: &[Cube]) -> bool {
     };
     let mut last = 0u64;
     for row in rows {
-        let key = row.literal_bits(0).reverse_bits();
-        if inputs_of(row, 0) != inputs || key <= last {
+        let word = row.literal_bits(0);
+        let difference = word ^ last;
+        let lowest = difference & difference.wrapping_neg();
+        if inputs_of(row, 0) != inputs || word & lowest == 0 {
             return false;
         }
-        last = key;
+        last = word;
     }
     true
 }
