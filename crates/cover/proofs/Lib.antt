@@ -31,3 +31,4 @@ pub mod SumMixed
 pub mod SumApart
 pub mod Dividing
 pub mod SumSymbols
+pub mod SumKeys

@@ -11,3 +11,4 @@ pub mod Reduced
 pub mod Sides
 pub mod Reason
 pub mod Apart
+pub mod Keys

@@ -15,7 +15,9 @@ use cube::{Cube, Shape};
 use std::alloc::{AllocError, Global};
 use std::mem;
 
-// How many slots there are.
+// How many slots there are at first, and at most: they are doubled if half of them may be taken.
+const FIRST_SLOTS: usize = 1024;
+
 const SLOTS: usize = 16384;
 
 // If the rows that are kept would come to more than this with one more sum, all are forgotten.
@@ -55,20 +57,30 @@ impl Entry {
     }
 }
 
-/// Sums that were found. No answer depends on how many are kept, and no contract speaks of it.
+/// Sums that were found, and the order in which inputs are split at, where they weigh as much. No
+/// answer depends on the order or on how many sums are kept, and no contract speaks of them.
 #[derive(Drop)]
 pub(crate) struct ComputedTable {
     slots: Vec<Option<Entry>>,
+    kept: usize,
     rows: usize,
+    order: Vec<usize>,
 }
 
 impl ComputedTable {
     /// No sum yet. Memory is taken with the first one kept.
-    pub(crate) fn new(alloc: Global) -> ComputedTable {
+    pub(crate) fn new(alloc: Global, order: Vec<usize>) -> ComputedTable {
         ComputedTable {
             slots: Vec::new(alloc),
+            kept: 0,
             rows: 0,
+            order,
         }
+    }
+
+    /// The order of the inputs.
+    pub(crate) fn order(&self) -> &[usize] {
+        self.order.as_slice()
     }
 
     /// The complete sum of the places of the first list that are not in the second, if it is kept.
@@ -84,7 +96,7 @@ impl ComputedTable {
             rows.items ≡ complete_sum_of shape
             (difference_of (places minuend.now) (places subtrahend.now)))) }
     {
-        let Some(Some(known)) = self.slots.get(slot_of(hash)) else {
+        let Some(Some(known)) = self.slots.get(self.slot_of(hash)) else {
             return Ok(None);
         };
         if !known.is_of(shape, hash, minuend, subtrahend) {
@@ -115,19 +127,39 @@ impl ComputedTable {
             subtrahend,
             sum,
         };
-        self.make_room(known.rows())?;
+        self.make_room(alloc, known.rows())?;
         self.put(known);
         Ok(())
     }
 
-    // Makes the slots if there are none, and forgets all sums if so many rows more are too many.
-    fn make_room(&mut self, rows: usize) -> Result<(), AllocError> {
+    // Makes more slots if these may be too few, and forgets all sums if so many rows more are too
+    // many.
+    fn make_room(&mut self, alloc: Global, rows: usize) -> Result<(), AllocError> {
         if self.rows.saturating_add(rows) > ROWS {
             self.slots.clear();
+            self.kept = 0;
             self.rows = 0;
         }
-        for _ in self.slots.len()..SLOTS {
-            self.slots.push(None)?;
+        if self.kept >= self.slots.len() / 2 && self.slots.len() < SLOTS {
+            self.double_slots(alloc)?;
+        }
+        Ok(())
+    }
+
+    // Makes twice as many slots, and puts all sums into them.
+    fn double_slots(&mut self, alloc: Global) -> Result<(), AllocError> {
+        let len = self.slots.len().saturating_mul(2).max(FIRST_SLOTS);
+        let mut slots = Vec::with_capacity(alloc, len)?;
+        for _ in 0..len {
+            slots.push(None)?;
+        }
+        let old = mem::replace(&mut self.slots, slots);
+        self.kept = 0;
+        self.rows = 0;
+        for slot in old {
+            if let Some(known) = slot {
+                self.put(known);
+            }
         }
         Ok(())
     }
@@ -138,19 +170,21 @@ impl ComputedTable {
         if rows > ROWS {
             return;
         }
-        if let Some(slot) = self.slots.get_mut(slot_of(known.hash)) {
+        let at = self.slot_of(known.hash);
+        if let Some(slot) = self.slots.get_mut(at) {
             let old = match mem::replace(slot, Some(known)) {
                 Some(old) => old.rows(),
                 None => 0,
             };
+            self.kept = self.kept.saturating_add(1);
             self.rows = self.rows.saturating_sub(old).saturating_add(rows);
         }
     }
-}
 
-// The slot that a hash picks.
-fn slot_of(hash: u64) -> usize {
-    (hash % SLOTS as u64) as usize
+    // The slot that a hash picks. Their number is a power of two.
+    fn slot_of(&self, hash: u64) -> usize {
+        hash as usize & self.slots.len().saturating_sub(1)
+    }
 }
 
 /// A number of two lists, by which their sum is kept.

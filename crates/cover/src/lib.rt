@@ -39,6 +39,7 @@ mod sum;
 mod sum_absorb;
 mod sum_apart;
 mod sum_branch;
+mod sum_keys;
 mod sum_leaf;
 mod sum_meets;
 mod sum_parts;

@@ -32,10 +32,12 @@ use crate::sum_absorb::{absorb, absorb_if_short, without_absorbed};
 use crate::sum_apart::{Parts, has_free_row, parts_apart};
 use crate::sum_branch::{Branches, absorbed_cofactor_at, branches_at, literal, smoothing_at};
 use crate::sum_leaf::free_sum;
-use crate::sum_meets::pairwise_meets;
+use crate::sum_meets::meets;
 use crate::sum_parts::has_symbol;
 use crate::sum_rows::{combine, merge, sort_rows};
-use crate::sum_splitting_input::{has_literal_in_each, hold_everything, is_unate, splitting_input};
+use crate::sum_splitting_input::{
+    has_literal_in_each, hold_everything, is_unate, splitting_input, wished_order,
+};
 use crate::tautology::universal;
 use cube::{Cube, Shape};
 use std::alloc::{AllocError, Global};
@@ -117,7 +119,7 @@ fn split_sum(
         (λ rows. rows.items
         ≡ complete_sum_of shape (difference_of (places minuend.now) (places subtrahend.now))) }
 {
-    let Some(i) = splitting_input(shape, minuend, subtrahend) else {
+    let Some(i) = splitting_input(shape, minuend, subtrahend, found.order()) else {
         return free_sum(alloc, shape, minuend, subtrahend);
     };
     if subtrahend.is_empty() && !has_literal_in_each(shape, minuend, i) {
@@ -228,10 +230,11 @@ fn sum_in_order(
 {
     let minuend = sort_rows(alloc, shape, minuend)?;
     let subtrahend = sort_rows(alloc, shape, subtrahend)?;
+    let order = wished_order(alloc, shape, &minuend, &subtrahend)?;
     sum_between(
         alloc,
         shape,
-        &mut ComputedTable::new(alloc),
+        &mut ComputedTable::new(alloc, order),
         minuend,
         subtrahend,
     )
@@ -284,7 +287,7 @@ pub fn intersect(list: &Cover, other: &Cover) -> Result<Cover, AllocError>
     let _shape = other.shape();
     let mine = sort_rows(alloc, shape, list.try_clone()?.into_cubes())?;
     let theirs = sort_rows(alloc, shape, other.try_clone()?.into_cubes())?;
-    let rows = pairwise_meets(alloc, shape, 0, &mine, &theirs)?;
+    let rows = meets(alloc, shape, &mine, &theirs)?;
     let rows = absorb(alloc, shape, rows)?;
     let sum = sum_in_order(alloc, shape, rows, Vec::new(alloc))?;
     Ok(Cover::from_cubes(shape, sum))

@@ -7,6 +7,7 @@ ghost use Rattle.cover.specs.Cubes.{AreCubes};
 ghost use Rattle.cover.specs.Reduced.{IsAbsorbed, IsPartlyAbsorbed, IsWithoutAbsorbed};
 
 use crate::sum_rows::sort_rows;
+use crate::sum_splitting_input::inputs_of;
 use cube::{Cube, Shape};
 use std::alloc::{AllocError, Global};
 
@@ -47,22 +48,45 @@ fn absorb_sorted(alloc: Global, shape: Shape, rows: &[Cube]) -> Result<Vec<Cube>
     Ok(kept)
 }
 
-// Whether all rows have as many literals and, as far as the first 64 show, outputs. Of such rows
-// none lies in another.
+// Whether all rows have as many literals. Of such rows in row order none lies in one before it: it
+// would have the same symbols, and then the one with more outputs comes later.
 fn have_one_size(rows: &[Cube]) -> bool {
     let Some(first) = rows.first() else {
         return true;
     };
-    let (literals, outputs) = (first.literals(), first.output_bits(0).count_ones());
+    let literals = first.literals();
     for row in rows {
-        if row.literals() != literals || row.output_bits(0).count_ones() != outputs {
+        if row.literals() != literals {
             return false;
         }
     }
     true
 }
 
-// Whether some row lies in one before it.
+// Whether the rows are seen to rise and to have literals at the same inputs, as points do that a
+// longer list was split into. So none lies in another.
+fn rise_alike(shape: Shape, rows: &[Cube]) -> bool {
+    if shape.inputs() > 32 {
+        return false;
+    }
+    let inputs = match rows.first() {
+        Some(first) => inputs_of(first, 0),
+        None => 0,
+    };
+    let mut last = 0u64;
+    for row in rows {
+        let word = row.literal_bits(0);
+        let difference = word ^ last;
+        let lowest = difference & difference.wrapping_neg();
+        if inputs_of(row, 0) != inputs || word & lowest == 0 {
+            return false;
+        }
+        last = word;
+    }
+    true
+}
+
+// Whether some row lies in one before it, in row order.
 fn has_absorbed(shape: Shape, rows: &[Cube]) -> bool
     requires { AreCubes shape rows.now }
 {
@@ -142,6 +166,9 @@ pub(crate) fn absorb_if_short(
     requires { AreCubes shape rows.items }
     ensures { IfOk result (λ kept. IsPartlyAbsorbed rows.items kept.items) }
 {
+    if rise_alike(shape, &rows) {
+        return Ok(rows);
+    }
     let rows = sort_rows(alloc, shape, rows)?;
     if rows.len() > MANY {
         return Ok(rows);

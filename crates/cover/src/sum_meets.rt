@@ -2,17 +2,20 @@
 //!
 //! Of rows in row order with equal symbols at the inputs before one, those with `-`, with `0` and
 //! with `1` there stand one after the other. So both lists are cut in three at input after input,
-//! and rows with other literals never come together. Lists in another order are met pair by pair.
+//! and rows with other literals never come together. Lists in another order are met pair by pair, and
+//! lists whose rows have literals at the same inputs by numbers of their symbols.
 ghost use Rattle.std.specs.Prelude.{◌≡◌, ◌<◌, ◌≤◌, IfOk, IfSome, All, length, take, slice_index_or};
 ghost use Rattle.cover.specs.Cubes.{AreCubes};
 ghost use Rattle.cover.specs.Reduced.{IsMeets, IsMeetsWithBoth, IsInThirds};
 
+use crate::sum_keys::{keys_of, meets_by_keys};
 use crate::sum_parts::meets_by_pairs;
+use crate::sum_splitting_input::inputs_of;
 use crate::symbols::has_symbol_at;
 use cube::{Cube, Shape, Symbol};
 use std::alloc::{AllocError, Global};
 
-// Lists of so few pairs are not cut.
+// Lists of so few pairs are met pair by pair.
 const FEW: usize = 64;
 
 // The rows with `-`, with `0` and with `1` at an input.
@@ -57,9 +60,36 @@ fn cut_in_three<'a>(shape: Shape, rows: &'a [Cube], i: usize) -> Option<Thirds<'
     })
 }
 
-/// The meets of a row of each list. The lists are cut at the inputs from `at` on.
+/// The meets of a row of each list.
+pub(crate) fn meets(
+    alloc: Global,
+    shape: Shape,
+    rows: &[Cube],
+    others: &[Cube],
+) -> Result<Vec<Cube>, AllocError>
+    requires rows { AreCubes shape rows.now }
+    requires others { AreCubes shape others.now }
+    ensures { IfOk result (λ all. IsMeets shape rows.now others.now all.items) }
+{
+    if rows.len().saturating_mul(others.len()) <= FEW {
+        return meets_by_pairs(alloc, shape, rows, others);
+    }
+    let inputs = match rows.first() {
+        Some(first) => inputs_of(first, 0),
+        None => 0,
+    };
+    let Some(keys) = keys_of(alloc, rows, inputs)? else {
+        return pairwise_meets(alloc, shape, 0, rows, others);
+    };
+    let Some(other_keys) = keys_of(alloc, others, inputs)? else {
+        return pairwise_meets(alloc, shape, 0, rows, others);
+    };
+    meets_by_keys(alloc, shape, inputs, rows, &keys, others, &other_keys)
+}
+
+// The meets of a row of each list. The lists are cut at the inputs from `at` on.
 #[cycle(pairwise_meets)]
-pub(crate) fn pairwise_meets(
+fn pairwise_meets(
     alloc: Global,
     shape: Shape,
     at: usize,

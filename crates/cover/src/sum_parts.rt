@@ -57,8 +57,8 @@ pub(crate) fn has_symbol(rows: &[Cube], i: usize, symbol: Symbol) -> bool
     false
 }
 
-// Adds the meets of a row with the others.
-fn push_meets(row: &Cube, others: &[Cube], all: &mut Vec<Cube>) -> Result<(), AllocError>
+/// Adds the meets of a row with the others.
+pub(crate) fn push_meets(row: &Cube, others: &[Cube], all: &mut Vec<Cube>) -> Result<(), AllocError>
     requires { All (λ c. SameSize row.now c) others.now }
     ensures { OnOk result ((size : Size) → IsCube size row.now → AreCubes size others.now
         → (meets : List Row) × (all.new.items ≡ all.old.items ++ meets)

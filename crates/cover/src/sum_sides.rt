@@ -5,23 +5,15 @@
 //! inputs joined one by one, and whole groups are then put on one side until it has half of the
 //! rows.
 
+use crate::sum_splitting_input::inputs_of;
 use cube::{Cube, Shape};
 use std::alloc::{AllocError, Global};
-
-// The lower bit of each pair.
-const LOWER_BITS: u64 = 0x5555_5555_5555_5555;
 
 // The most words that the inputs of a cube take.
 const WORDS: usize = 32;
 
 // So often the rows are gone through for those that hang together with the first.
 const PASSES: usize = 8;
-
-// The inputs of word `w` at which the row has a literal, a bit each.
-fn inputs_of(row: &Cube, w: usize) -> u64 {
-    let bits = row.literal_bits(w);
-    (bits | (bits >> 1)) & LOWER_BITS
-}
 
 // Whether the row has a literal at one of these inputs.
 fn has_literal_among(row: &Cube, words: usize, reached: &[u64; WORDS]) -> bool {

@@ -1,5 +1,5 @@
 -- The first difference of two rows, in words and in symbols.
-use Rattle.std.proofs.Common.{◌≡◌, ◌≢◌, ℕ, zero, suc, ◌+◌, ◌*◌, ◌/◌, ◌%◌, ◌^◌, ◌<◌, ◌≤◌, Bool, true, false, List, [], ◌∷◌, length, get_or, refl, ap, sym, ◌∙◌, arith, eqb, inl, inr, bit_xor}
+use Rattle.std.proofs.Common.{◌≡◌, ◌≢◌, ℕ, zero, suc, ◌+◌, ◌*◌, ◌/◌, ◌%◌, ◌^◌, ◌<◌, ◌≤◌, Bool, true, false, List, [], ◌∷◌, length, get_or, refl, ap, sym, ◌∙◌, arith, eqb, cond, ◌==◌, ◌-◌, inl, inr, bit_xor}
 use Rattle.std.specs.Int.{bit_at, w64, trailing_zeros}
 use Rattle.std.specs.Ordering.{ordering_then, bool_cmp}
 use Rattle.std.specs.Cmp.Lexicographic.{slice_cmp}
@@ -93,6 +93,31 @@ symbol_differs One Dash ne e = cc e
 symbol_differs One Zero ne e = cc e
 symbol_differs One One ne e = ne refl
 
+-- the order of two symbols by the first of their two bits that differs: the one that has it is less
+by_low_bit : (s t : Symbol) → bit_of (agrees s false) ≢ bit_of (agrees t false)
+    → symbol_cmp s t ≡ cond (bit_of (agrees s false) == 1) Less Greater
+by_low_bit Dash Dash ne = absurd (ne refl)
+by_low_bit Dash Zero ne = absurd (ne refl)
+by_low_bit Dash One ne = refl
+by_low_bit Zero Dash ne = absurd (ne refl)
+by_low_bit Zero Zero ne = absurd (ne refl)
+by_low_bit Zero One ne = refl
+by_low_bit One Dash ne = refl
+by_low_bit One Zero ne = refl
+by_low_bit One One ne = absurd (ne refl)
+
+by_high_bit : (s t : Symbol) → bit_of (agrees s false) ≡ bit_of (agrees t false) → bit_of (agrees s true) ≢ bit_of (agrees t true)
+    → symbol_cmp s t ≡ cond (bit_of (agrees s true) == 1) Less Greater
+by_high_bit Dash Dash e ne = absurd (ne refl)
+by_high_bit Dash Zero e ne = refl
+by_high_bit Dash One e ne = absurd (ne refl)
+by_high_bit Zero Dash e ne = refl
+by_high_bit Zero Zero e ne = absurd (ne refl)
+by_high_bit Zero One e ne = absurd (omega (arith, e))
+by_high_bit One Dash e ne = absurd (ne refl)
+by_high_bit One Zero e ne = absurd (omega (arith, e))
+by_high_bit One One e ne = absurd (ne refl)
+
 module _ (ss ts : List Symbol) (e : length ss ≡ length ts) (ws vs : List ℕ) (p : PacksInputs ss ws) (q : PacksInputs ts vs) where
   same_symbol_at : (i : ℕ) → i < length ss → bit_of_words ws (2 * i) ≡ bit_of_words vs (2 * i)
       → bit_of_words ws (2 * i + 1) ≡ bit_of_words vs (2 * i + 1) → get_or ss i Dash ≡ get_or ts i Dash
@@ -128,6 +153,35 @@ module _ (ss ts : List Symbol) (e : length ss ≡ length ts) (ws vs : List ℕ) 
             (symbol_differs (get_or ss (at / 2) Dash) (get_or ts (at / 2) Dash) differ),
       )
 
+  -- so the bit settles the order
+  pub symbols_cmp-by_bit : (at : ℕ) → DiffersFirstAt ws vs at
+      → slice_cmp symbol_cmp ss ts ≡ cond (bit_of_words ws at == 1) Less Greater
+  symbols_cmp-by_bit at d =
+      let inside : at < 64 * length vs = omega (arith, d.within, p.words_len, q.words_len) in
+      let s = get_or ss (at / 2) Dash in
+      let t = get_or ts (at / 2) Dash in
+      let mine = input_bit ss ws p at d.within in
+      let theirs = input_bit ts vs q at inside in
+      (symbols_cmp-first at d).1
+      ∙ elim (cases_lt 0 (at % 2)) [
+        | inl odd ↦
+            let one : at % 2 ≡ 1 = omega arith in
+            let before : at - 1 < at = omega arith in
+            let half : (at - 1) / 2 ≡ at / 2 = omega arith in
+            let even : (at - 1) % 2 ≡ 0 = omega arith in
+            let low_s = input_bit ss ws p (at - 1) (omega (arith, d.within)) in
+            let low_t = input_bit ts vs q (at - 1) (omega (arith, inside)) in
+            let own : bit_of_words ws at ≡ bit_of (agrees s true) = rw one at mine in
+            let other : bit_of_words vs at ≡ bit_of (agrees t true) = rw one at theirs in
+            by_high_bit s t (rw (half, even) at (sym low_s ∙ d.before (at - 1) before ∙ low_t)) (λ same. d.differs (own ∙ same ∙ sym other))
+            ∙ ap (λ b. cond (b == 1) Less Greater) (sym own)
+        | inr even ↦
+            let zero : at % 2 ≡ 0 = omega arith in
+            let own : bit_of_words ws at ≡ bit_of (agrees s false) = rw zero at mine in
+            let other : bit_of_words vs at ≡ bit_of (agrees t false) = rw zero at theirs in
+            by_low_bit s t (λ same. d.differs (own ∙ same ∙ sym other)) ∙ ap (λ b. cond (b == 1) Less Greater) (sym own)
+      ]
+
   pub symbols_cmp-same : ws ≡ vs → slice_cmp symbol_cmp ss ts ≡ Equal
   symbols_cmp-same same =
       ap (λ l. slice_cmp symbol_cmp ss l)
@@ -154,6 +208,12 @@ output_differs true false ne e = cc e
 output_differs false true ne e = cc e
 output_differs false false ne e = ne refl
 
+output_by_bit : (x y : Bool) → x ≢ y → bool_cmp x y ≡ cond (bit_of x == 1) Greater Less
+output_by_bit true true ne = absurd (ne refl)
+output_by_bit true false ne = refl
+output_by_bit false true ne = refl
+output_by_bit false false ne = absurd (ne refl)
+
 module _ (bs os : List Bool) (e : length bs ≡ length os) (ws vs : List ℕ) (p : PacksOutputs bs ws) (q : PacksOutputs os vs) where
   same_output_at : (j : ℕ) → j < length bs → bit_of_words ws j ≡ bit_of_words vs j → get_or bs j false ≡ get_or os j false
   same_output_at j lt same =
@@ -177,6 +237,18 @@ module _ (bs os : List Bool) (e : length bs ≡ length os) (ws vs : List ℕ) (p
         first_settles bool_cmp bool_same bs os at false e within (λ k below. same_output_at k (omega arith) (d.before k below))
             (output_differs (get_or bs at false) (get_or os at false) differ),
       )
+
+  -- so the bit settles the order
+  pub outputs_cmp-by_bit : (at : ℕ) → DiffersFirstAt ws vs at
+      → slice_cmp bool_cmp bs os ≡ cond (bit_of_words ws at == 1) Greater Less
+  outputs_cmp-by_bit at d =
+      let inside : at < 64 * length vs = omega (arith, d.within, p.words_len, q.words_len) in
+      let own = output_bit_at bs ws p at d.within in
+      let differ : get_or bs at false ≢ get_or os at false =
+      λ same. d.differs (own ∙ ap (λ x. bit_of x) same ∙ sym (output_bit_at os vs q at inside)) in
+      (outputs_cmp-first at d).1
+      ∙ output_by_bit (get_or bs at false) (get_or os at false) differ
+      ∙ ap (λ b. cond (b == 1) Greater Less) (sym own)
 
   pub outputs_cmp-same : ws ≡ vs → slice_cmp bool_cmp bs os ≡ Equal
   outputs_cmp-same same =

@@ -24,7 +24,8 @@ use crate::shape::Shape;
 use crate::symbol::Symbol;
 use crate::words::{
     clear_from, copied_words, count_clear, covers_words, first_clear, first_difference, freed_word,
-    has_all, minus_word, set_word, share_bit, widened_word, with_bit, with_word, zip_words,
+    has_all, has_bit, minus_word, set_word, share_bit, widened_word, with_bit, with_word,
+    zip_words,
 };
 use smallvec::SmallVec;
 use std::alloc::{AllocError, Global};
@@ -492,14 +493,17 @@ impl Cube {
         mine.inputs() == theirs.inputs() && mine.outputs() == theirs.outputs()
     }
 
-    // By the symbols from the first on.
+    // By the symbols from the first on. The one that has the first bit that differs comes first:
+    // `-` has two, and `0` the lower one.
     fn symbols_cmp(&self, other: &Cube) -> Ordering
         requires { SameSize self.now other.now }
         ensures { result ≡ slice_cmp symbol_cmp self.now.symbols other.now.symbols }
     {
-        match first_difference(self.input_part(), other.input_part()) {
+        let mine = self.input_part();
+        match first_difference(mine, other.input_part()) {
             None => Ordering::Equal,
-            Some(at) => self.symbol(at / 2).order(other.symbol(at / 2)),
+            Some(at) if has_bit(mine, at) => Ordering::Less,
+            Some(_) => Ordering::Greater,
         }
     }
 
@@ -508,9 +512,11 @@ impl Cube {
         requires { SameSize self.now other.now }
         ensures { result ≡ slice_cmp bool_cmp self.now.outputs other.now.outputs }
     {
-        match first_difference(self.output_part(), other.output_part()) {
+        let mine = self.output_part();
+        match first_difference(mine, other.output_part()) {
             None => Ordering::Equal,
-            Some(at) => self.output(at).cmp(&other.output(at)),
+            Some(at) if has_bit(mine, at) => Ordering::Greater,
+            Some(_) => Ordering::Less,
         }
     }
 

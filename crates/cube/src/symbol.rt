@@ -1,6 +1,4 @@
 //! The symbol of one input.
-use std::cmp::Ordering;
-
 /// What a cube asks of one input, in the order of rows: nothing (`-`), `0` or `1`.
 ///
 /// `0` and `1` are the literals.
@@ -14,14 +12,6 @@ pub enum Symbol {
 impl Symbol {
     ghost use Rattle.std.specs.Prelude.{◌≡◌};
     ghost use Rattle.cube.specs.Pattern.{agrees};
-    ghost use Rattle.cube.specs.Order.{symbol_cmp};
-
-    /// `-` below `0` below `1`.
-    pub(crate) fn order(self, other: Symbol) -> Ordering
-        ensures { result ≡ symbol_cmp self other }
-    {
-        (self as u8).cmp(&(other as u8))
-    }
 
     /// Whether the symbol agrees with a bit.
     pub(crate) fn allows(self, bit: bool) -> bool

@@ -1,5 +1,5 @@
 //! Kernels over words, which know nothing of symbols. Each looks at each word once.
-ghost use Rattle.std.specs.Prelude.{◌≡◌, ℕ, ◌↔◌, ◌≤◌, ◌<◌, ◌+◌, ◌^◌, IsTrue, IsOk, IfOk, IfSome, IfNone, length, slice_index, slice_set, ◌≢◌, if◌then◌else◌, max, ◌-◌, ◌*◌, sum_by};
+ghost use Rattle.std.specs.Prelude.{◌≡◌, ◌==◌, ℕ, ◌↔◌, ◌≤◌, ◌<◌, ◌+◌, ◌^◌, IsTrue, IsOk, IfOk, IfSome, IfNone, length, slice_index, slice_set, ◌≢◌, if◌then◌else◌, max, ◌-◌, ◌*◌, sum_by};
 ghost use Rattle.std.specs.Int.{bit_at, count_zeros, w64};
 ghost use Rattle.cube.specs.Words.{CoversWords, PairsMeet, ShareBit, IsBitDifference, freed_bit, HasAll, DiffersFirstAt, IsFirstClear, bit_of_words};
 
@@ -210,6 +210,14 @@ pub(crate) fn first_difference(a: &[u64], b: &[u64]) -> Option<usize>
         }
     }
     None
+}
+
+/// Whether bit `at` is set, each word's lowest bit first.
+pub(crate) fn has_bit(words: &[u64], at: usize) -> bool
+    requires { at < 64 * length words.now }
+    ensures { result ≡ (bit_of_words words.now at == 1) }
+{
+    (words[at / 64] >> (at % 64)) & 1 == 1
 }
 
 /// The bits of a word from `bit` on that are clear, as bits that are set.

@@ -8,14 +8,14 @@ use Rattle.cover.proofs.SumSorted.{AreCubes-same}
 use Rattle.cover.proofs.SumStep.{AreCubes-complete_sum, Cubes-sum, sum_of_meets}
 use Rattle.cover.proofs.sum.intersect.Goals as goal
 
-pub pairwise_meets-requires-clause-rows : goal.pairwise_meets-requires-clause-rows
-pairwise_meets-requires-clause-rows c =
+pub meets-requires-clause-rows : goal.meets-requires-clause-rows
+meets-requires-clause-rows c =
     AreCubes-same c.shape-shape.result c.args.list.now.cubes c.deref.result.now
     (subst (HasSameCubes c.args.list.now.cubes) (sym c.deref.ensures.value) (subst (λ l. HasSameCubes l c.in_ok-mine.mine.items) (c.into_cubes.ensures.value ∙ ap (λ v. v.cubes) c.in_ok-try_clone.ensures) c.in_ok-mine.ensures.cubes))
     c.shape-shape.ensures.cubes
 
-pub pairwise_meets-requires-clause-others : goal.pairwise_meets-requires-clause-others
-pairwise_meets-requires-clause-others c =
+pub meets-requires-clause-others : goal.meets-requires-clause-others
+meets-requires-clause-others c =
     AreCubes-same c.shape-shape.result c.args.other.now.cubes c.deref-2.result.now
     (subst (HasSameCubes c.args.other.now.cubes) (sym c.deref-2.ensures.value) (subst (λ l. HasSameCubes l c.in_ok-theirs.theirs.items) (c.into_cubes-2.ensures.value ∙ ap (λ v. v.cubes) c.in_ok-try_clone-2.ensures) c.in_ok-theirs.ensures.cubes))
     (subst (λ z. AreCubes z c.args.other.now.cubes) (c.shape-shape-2.ensures.size ∙ c.requires ∙ sym c.shape-shape.ensures.size) c.shape-shape-2.ensures.cubes)

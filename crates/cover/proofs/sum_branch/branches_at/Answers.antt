@@ -9,13 +9,13 @@ use Rattle.cover.proofs.SumParts.{AreCubes-part}
 use Rattle.cover.proofs.SumBranches.{IsBranch-both_list, IsBranch-side, IsBranch-absorbed}
 use Rattle.cover.proofs.sum_branch.branches_at.Goals as goal
 
-pub pairwise_meets-requires-clause-rows : goal.pairwise_meets-requires-clause-rows
-pairwise_meets-requires-clause-rows c =
+pub meets-requires-clause-rows : goal.meets-requires-clause-rows
+meets-requires-clause-rows c =
     All-same (IsCube c.args.shape) c.deref-2.result.now (part c.args.i Zero c.args.rows.now) (c.deref-2.ensures.value ∙ c.in_ok-dashes.ensures.zeros)
     (AreCubes-part c.args.shape c.args.i Zero c.args.rows.now c.requires.rows)
 
-pub pairwise_meets-requires-clause-others : goal.pairwise_meets-requires-clause-others
-pairwise_meets-requires-clause-others c =
+pub meets-requires-clause-others : goal.meets-requires-clause-others
+meets-requires-clause-others c =
     All-same (IsCube c.args.shape) c.deref-3.result.now (part c.args.i One c.args.rows.now) (c.deref-3.ensures.value ∙ c.in_ok-dashes.ensures.ones)
     (AreCubes-part c.args.shape c.args.i One c.args.rows.now c.requires.rows)
 

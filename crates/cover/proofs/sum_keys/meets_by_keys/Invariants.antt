@@ -1,0 +1,10 @@
+use Rattle.std.proofs.Common.{ℕ, ◌<◌, ◌≤◌, length, take, get_or}
+use Rattle.cover.specs.Reduced.{IsMeets}
+use Rattle.cover.proofs.sum_keys.meets_by_keys.Given as goal
+
+abbrev pub invariant-loop-k : goal.invariant-loop-k
+invariant-loop-k l = record {
+  from : l.from ≤ length l.other_keys;
+  below : (j i : ℕ) → j < l.from → l.k ≤ i → i < length l.keys → get_or l.other_keys j 0 < get_or l.keys i 0;
+  meets : IsMeets l.fn.shape (take l.k l.rows) l.others l.all.items;
+}
