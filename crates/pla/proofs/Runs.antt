@@ -1,15 +1,13 @@
 -- Rows that take several symbols at once.
-use Rattle.std.proofs.Common.{◌≡◌, ◌≢◌, ℕ, ◌+◌, ◌<◌, ◌≤◌, Bool, true, false, cond, List, [], ◌∷◌, ◌++◌, length, take, drop, map, get_or, Option, None, eq-eqb, refl, ap, sym, ◌∙◌, append_assoc, length-append, take-append-drop, arith, eqb, ltb, ne_eqb, inl, inr, rules, tests, codes}
+use Rattle.std.proofs.Common.{◌≡◌, ◌≢◌, ℕ, ◌+◌, ◌<◌, ◌≤◌, Bool, true, false, cond, List, [], ◌∷◌, ◌++◌, length, take, drop, map, get_or, None, eq-eqb, refl, ap, sym, ◌∙◌, append_assoc, length-append, take-append-drop, arith, eqb, ltb, ne_eqb, inl, inr, rules, tests, codes}
 use Rattle.std.specs.Prelude.{◌&&◌, option_to_list}
 use Rattle.std.specs.List.{list_all}
 use Rattle.std.proofs.lemmas.Bool.{cond-true, cond-false, cases_lt, lt-ltb, le-ltb}
 use Rattle.std.proofs.lemmas.List.{drop-drop, drop_more, length-drop, length-take-le}
 use Rattle.std.proofs.Math.Seq.{take-append_seam, drop-append-add}
-use Rattle.cube.specs.Cube.{Cube}
 use Rattle.pla.specs.declared.fault.FileType.{FileType}
 use Rattle.pla.specs.Lines.{is_row_blank}
 use Rattle.pla.specs.Symbols.{is_byte_of, is_symbol_at, width}
-use Rattle.pla.specs.declared.rows.Part.{Part}
 use Rattle.pla.specs.declared.rows.Part.TheVariants.{On, DontCare, Off}
 use Rattle.pla.specs.Lists.{cube_by, given_cube, input_symbol, part_symbols}
 use Rattle.pla.specs.Reading.{RowsRead, with_row, with_symbol, with_run, read_code, BeginsRow, IsRun}

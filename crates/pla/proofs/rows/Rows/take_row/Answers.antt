@@ -1,4 +1,4 @@
-use Rattle.std.proofs.Common.{◌+◌, ◌-◌, take, drop, length, refl, ap, sym, ◌∙◌, subst, arith}
+use Rattle.std.proofs.Common.{◌+◌, take, drop, refl, ap, sym, ◌∙◌, subst, arith}
 use Rattle.pla.specs.Reading.{RowsRead, BeginsRow}
 use Rattle.pla.proofs.Moves.{drop_is}
 use Rattle.pla.proofs.Runs.{read_row_front}
