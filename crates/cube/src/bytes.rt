@@ -2,12 +2,18 @@
 //!
 //! A word is shifted in from its last symbol or output on, so that each byte costs a look at a
 //! table and no branch.
-ghost use Rattle.std.specs.Prelude.{◌≡◌, ℕ, ◌+◌, ◌<◌, ◌^◌, true, false, map};
+ghost use Rattle.std.specs.Prelude.{◌≡◌, ℕ, ◌+◌, ◌≤◌, ◌<◌, ◌^◌, true, false, IfOk, IsOk, length, map};
 ghost use Rattle.std.specs.Int.{bit_at};
 ghost use Rattle.std.specs.List.{list_any};
 ghost use Rattle.cube.specs.Bytes.{byte_symbol, has_mark};
-ghost use Rattle.cube.specs.Packing.{IsInputWord, IsOutputWord, bit_of};
+ghost use Rattle.cube.specs.Packing.{IsInputWord, IsOutputWord, Packs, bit_of, input_words as input_words_of, output_words as output_words_of};
 ghost use Rattle.cube.specs.Pattern.{agrees};
+ghost use Rattle.cube.specs.Size.{words_of_size};
+
+use crate::pack::{input_words, output_words};
+use crate::shape::Shape;
+use smallvec::SmallVec;
+use std::alloc::{AllocError, Global};
 
 // The two bits of the symbol that a byte asks for.
 static PAIRS: [u8; 256] = [
@@ -72,6 +78,58 @@ pub(crate) fn output_word_of(bytes: &[u8], w: usize, marks: &[u8; 256], mask: u8
         word = with_next(word, marks[bytes[64 * w + k] as usize] & mask != 0);
     }
     word
+}
+
+/// The words of the cube of a row's bytes.
+pub(crate) fn words_of(
+    alloc: Global,
+    shape: Shape,
+    inputs: &[u8],
+    outputs: &[u8],
+    marks: &[u8; 256],
+    mask: u8,
+) -> Result<SmallVec<u64, 4>, AllocError>
+    requires inputs { length inputs.now ≡ shape.inputs }
+    requires outputs { length outputs.now ≡ shape.outputs }
+    ensures words { IfOk result (λ v. Packs (record {
+      symbols = map byte_symbol inputs.now;
+      outputs = map (has_mark marks.now mask) outputs.now;
+    }) v.items) }
+    ensures inline { words_of_size shape ≤ 4 → IsOk result }
+{
+    let inputs_end = input_words(shape);
+    let outputs_end = output_words(shape);
+    let mut words = SmallVec::with_capacity(alloc, inputs_end + outputs_end)?;
+    for w in 0..inputs_end + outputs_end {
+        words.push_reserved(if w < inputs_end {
+            input_word_of(inputs, w)
+        } else {
+            output_word_of(outputs, w - inputs_end, marks, mask)
+        });
+    }
+    Ok(words)
+}
+
+/// The words of the cube of a row's bytes, if they are two: quicker than by a loop over words.
+pub(crate) fn two_words_of(
+    alloc: Global,
+    inputs: &[u8],
+    outputs: &[u8],
+    marks: &[u8; 256],
+    mask: u8,
+) -> Result<SmallVec<u64, 4>, AllocError>
+    requires inputs { input_words_of (length inputs.now) ≡ 1 }
+    requires outputs { output_words_of (length outputs.now) ≡ 1 }
+    ensures words { IfOk result (λ v. Packs (record {
+      symbols = map byte_symbol inputs.now;
+      outputs = map (has_mark marks.now mask) outputs.now;
+    }) v.items) }
+    ensures inline { IsOk result }
+{
+    let mut words = SmallVec::with_capacity(alloc, 2)?;
+    words.push_reserved(input_word_of(inputs, 0));
+    words.push_reserved(output_word_of(outputs, 0, marks, mask));
+    Ok(words)
 }
 
 /// Whether the mark of one of the bytes has a bit of the mask.

@@ -16,10 +16,12 @@ ghost use Rattle.std.specs.Ordering.{bool_cmp};
 ghost use Rattle.std.specs.Cmp.Lexicographic.{slice_cmp};
 ghost use Rattle.cube.specs.Packing.{Packs, PacksInputs, PacksOutputs};
 
-use crate::bytes::{has_any_mark, input_word_of, output_word_of};
+use crate::bytes::{has_any_mark, two_words_of, words_of};
 use crate::groups::group_by_bits;
 use crate::lanes::{covers_by_lanes, pairs_meet_by_lanes};
-use crate::pack::{byte_by_bits, input_word, input_words, output_word, output_words};
+use crate::pack::{
+    byte_by_bits, input_word, input_words, is_in_two_words, output_word, output_words,
+};
 use crate::shape::Shape;
 use crate::symbol::Symbol;
 use crate::words::{
@@ -116,16 +118,11 @@ impl Cube {
         if !has_any_mark(outputs, marks, mask) {
             return Ok(None);
         }
-        let inputs_end = input_words(shape);
-        let outputs_end = output_words(shape);
-        let mut words = SmallVec::with_capacity(alloc, inputs_end + outputs_end)?;
-        for w in 0..inputs_end + outputs_end {
-            words.push_reserved(if w < inputs_end {
-                input_word_of(inputs, w)
-            } else {
-                output_word_of(outputs, w - inputs_end, marks, mask)
-            });
-        }
+        let words = if is_in_two_words(shape) {
+            two_words_of(alloc, inputs, outputs, marks, mask)?
+        } else {
+            words_of(alloc, shape, inputs, outputs, marks, mask)?
+        };
         Ok(Some(Cube { shape, words }))
     }
 

@@ -5,7 +5,7 @@
 //! alone, `1` the higher alone, and `-` both, which the spare pairs of the last word have too.
 //! After the words of the inputs, output `j` is bit `j mod 64` of word `j div 64`, set if the
 //! cube has the output; the spare bits of the last word are clear. So equal cubes have equal words.
-ghost use Rattle.std.specs.Prelude.{◌≡◌, ◌<◌, ◌^◌};
+ghost use Rattle.std.specs.Prelude.{◌≡◌, ◌<◌, ◌^◌, true};
 ghost use Rattle.cube.specs.Packing.{input_words as input_words_of, output_words as output_words_of, IsInputWord, IsOutputWord, symbol_of};
 ghost use Rattle.cube.specs.Bytes.{symbol_byte};
 ghost use Rattle.cube.specs.Limits.{IsWithinLimits, format_limits};
@@ -28,6 +28,14 @@ pub(crate) fn output_words(shape: Shape) -> usize
     ensures limits { IsWithinLimits format_limits shape }
 {
     (shape.outputs() + 63) / 64
+}
+
+/// Whether one word holds the inputs, and one the outputs.
+pub(crate) fn is_in_two_words(shape: Shape) -> bool
+    ensures inputs { result ≡ true → input_words_of shape.inputs ≡ 1 }
+    ensures outputs { result ≡ true → output_words_of shape.outputs ≡ 1 }
+{
+    0 < shape.inputs() && shape.inputs() <= 32 && shape.outputs() <= 64
 }
 
 /// Word `w` of the inputs: two bits a symbol, and `-` past the last.

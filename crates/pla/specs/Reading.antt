@@ -1,5 +1,5 @@
 -- Rows, symbol by symbol.
-use Rattle.std.specs.Prelude.{◌≡◌, ⊤, ℕ, ◌+◌, ◌<◌, ◌≤◌, true, List, [], ◌∷◌, ◌++◌, length, ◌==◌, if◌then◌else◌, Option, Some, None, option_to_list}
+use Rattle.std.specs.Prelude.{◌≡◌, ⊤, ℕ, ◌+◌, ◌<◌, ◌≤◌, true, List, [], ◌∷◌, ◌++◌, length, take, drop, slice_index, ◌==◌, if◌then◌else◌, Option, Some, None, option_to_list}
 use Rattle.std.specs.List.{list_all}
 use Rattle.cube.specs.Cube.{Cube}
 use Rattle.cube.specs.Size.{Size}
@@ -57,6 +57,17 @@ pub record IsRun (r : RowsRead) (run : List ℕ) : Type 0 where
   pub each : list_all (λ b. is_symbol_at r.size.inputs (length r.pending) b) run ≡ true
   pub part : length r.pending < r.size.inputs → length r.pending + length run ≤ r.size.inputs
   pub row : 1 < length run → length r.pending + length run ≤ width r.size
+
+-- the code begins with a whole row, whose inputs and outputs stand apart by a blank
+pub record BeginsRow (r : RowsRead) (code : List ℕ) : Type 0 where
+  pub none : r.pending ≡ []
+  pub some : 0 < r.size.inputs
+  pub wide : 0 < r.size.outputs
+  pub fits : width r.size < length code
+  pub inputs : list_all (λ b. is_symbol_at r.size.inputs 0 b) (take r.size.inputs code) ≡ true
+  pub blank : is_row_blank (slice_index code r.size.inputs) ≡ true
+  pub outputs : list_all (λ b. is_symbol_at r.size.inputs r.size.inputs b)
+      (take r.size.outputs (drop (r.size.inputs + 1) code)) ≡ true
 
 -- more symbols, unless one isn't of its place
 abbrev pub read_symbols : FileType → RowsRead → List ℕ → Option RowsRead

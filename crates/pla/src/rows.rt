@@ -1,12 +1,13 @@
 //! The symbols of row lines, cut into rows, and the cubes of the rows.
-ghost use Rattle.std.specs.Prelude.{◌≡◌, ℕ, ◌++◌, ◌+◌, ◌<◌, ◌≤◌, ◌^◌, [], IfErr, OnOk, Some, false, length, map, take, slice_index, nat_lt, option_to_list};
+ghost use Rattle.std.specs.Prelude.{◌≡◌, ℕ, ◌++◌, ◌+◌, ◌<◌, ◌≤◌, ◌^◌, ◌≢◌, [], IfErr, IfOk, OnOk, Some, true, false, bit_and, length, map, take, slice_index, nat_lt, option_to_list};
+ghost use Rattle.std.specs.List.{list_all};
 ghost use Rattle.cube.specs.Bytes.{has_mark};
 ghost use Rattle.pla.specs.Symbols.{is_byte_of, is_symbol_at, width};
 ghost use Rattle.pla.specs.Lists.{part_symbols, input_symbol as symbol_of, cube_by};
 ghost use Rattle.pla.specs.Names.{owned_names};
 ghost use Rattle.pla.specs.Header.{type_in};
 ghost use Rattle.pla.specs.HeadView.{seen};
-ghost use Rattle.pla.specs.Reading.{rows_of, with_row, with_run, read_code, IsRun, IsBadCode};
+ghost use Rattle.pla.specs.Reading.{rows_of, with_row, with_run, read_code, BeginsRow, IsRun, IsBadCode};
 
 use crate::description::Pla;
 use crate::fault::{FileType, LineError, ReadKind};
@@ -26,23 +27,24 @@ pub enum Part {
     Off,
 }
 
-// What each byte is in a row: bit 4 if it is a symbol of an input, and else the list that it puts
-// an output into: bit 0 the OFF list, bit 1 the ON list, bit 2 the DC list, bit 3 none.
+// What each byte is in a row: bit 4 if it is a symbol of an input, bit 5 if it is one of an output,
+// and then the list that it puts the output into: bit 0 the OFF list, bit 1 the ON list, bit 2 the
+// DC list, bit 3 none.
 static MARKS: [u8; 256] = [
     0, 0, 0, 0, 0, 0, 0, 0, 0, 0, 0, 0, 0, 0, 0, 0, 0, 0, 0, 0, 0, 0, 0, 0, 0, 0, 0, 0, 0, 0, 0, 0,
-    0, 0, 0, 0, 0, 0, 0, 0, 0, 0, 0, 0, 0, 20, 0, 0, 17, 18, 20, 8, 2, 0, 0, 0, 0, 0, 0, 0, 0, 0,
+    0, 0, 0, 0, 0, 0, 0, 0, 0, 0, 0, 0, 0, 52, 0, 0, 49, 50, 52, 40, 34, 0, 0, 0, 0, 0, 0, 0, 0, 0,
     0, 0, 0, 0, 0, 0, 0, 0, 0, 0, 0, 0, 0, 0, 0, 0, 0, 0, 0, 0, 0, 0, 0, 0, 0, 0, 0, 0, 0, 0, 0, 0,
     0, 0, 0, 0, 0, 0, 0, 0, 0, 0, 0, 0, 0, 0, 0, 0, 0, 0, 0, 0, 0, 0, 0, 0, 0, 0, 0, 0, 0, 0, 0, 0,
-    8, 0, 0, 0, 0, 0, 0, 0, 0, 0, 0, 0, 0, 0, 0, 0, 0, 0, 0, 0, 0, 0, 0, 0, 0, 0, 0, 0, 0, 0, 0, 0,
+    40, 0, 0, 0, 0, 0, 0, 0, 0, 0, 0, 0, 0, 0, 0, 0, 0, 0, 0, 0, 0, 0, 0, 0, 0, 0, 0, 0, 0, 0, 0,
     0, 0, 0, 0, 0, 0, 0, 0, 0, 0, 0, 0, 0, 0, 0, 0, 0, 0, 0, 0, 0, 0, 0, 0, 0, 0, 0, 0, 0, 0, 0, 0,
     0, 0, 0, 0, 0, 0, 0, 0, 0, 0, 0, 0, 0, 0, 0, 0, 0, 0, 0, 0, 0, 0, 0, 0, 0, 0, 0, 0, 0, 0, 0, 0,
     0, 0, 0, 0, 0, 0, 0, 0, 0, 0, 0, 0, 0, 0, 0, 0, 0, 0, 0, 0, 0, 0, 0, 0, 0, 0, 0, 0, 0, 0, 0, 0,
-    0, 0,
+    0, 0, 0,
 ];
 
 const INPUT_MARK: u8 = 16;
 
-const OUTPUT_MARKS: u8 = 15;
+const OUTPUT_MARK: u8 = 32;
 
 /// The marks of the bytes that put an output into a list, under the type of the rows.
 fn marks_of(file_type: FileType, part: Part) -> u8
@@ -73,7 +75,31 @@ fn symbol_at(n: usize, place: usize, b: u8) -> bool
     if place < n {
         is_marked(INPUT_MARK, b)
     } else {
-        is_marked(OUTPUT_MARKS, b)
+        is_marked(OUTPUT_MARK, b)
+    }
+}
+
+/// The marks that all of the bytes have. It has no branch, so that each byte costs a look at a
+/// table.
+fn shared_marks(bytes: &[u8]) -> u8
+    ensures { (mask : ℕ) → bit_and result mask ≢ 0 → list_all (has_mark MARKS mask) bytes.now ≡ true }
+{
+    let mut shared = u8::MAX;
+    for k in 0..bytes.len() {
+        shared &= MARKS[bytes[k] as usize];
+    }
+    shared
+}
+
+/// Whether all of the bytes are symbols of the part of a row that has this place. May miss it.
+fn are_symbols(n: usize, place: usize, bytes: &[u8]) -> bool
+    ensures { result ≡ true → list_all (λ b. is_symbol_at n place b) bytes.now ≡ true }
+{
+    let shared = shared_marks(bytes);
+    if place < n {
+        shared & INPUT_MARK != 0
+    } else {
+        shared & OUTPUT_MARK != 0
     }
 }
 
@@ -150,6 +176,41 @@ fn push_cube(
     }
 }
 
+/// Adds the cubes that a row's bytes put into the lists.
+fn push_row(
+    on: &mut Cover,
+    dc: &mut Cover,
+    off: &mut Cover,
+    alloc: Global,
+    file_type: FileType,
+    inputs: &[u8],
+    outputs: &[u8],
+) -> Result<(), AllocError>
+    requires dc_size { dc.old.size ≡ on.old.size }
+    requires off_size { off.old.size ≡ on.old.size }
+    requires inputs { length inputs.now ≡ on.old.size.inputs }
+    requires outputs { length outputs.now ≡ on.old.size.outputs }
+    ensures on_size { on.new.size ≡ on.old.size }
+    ensures dc_size { dc.new.size ≡ dc.old.size }
+    ensures off_size { off.new.size ≡ off.old.size }
+    ensures on { OnOk result (on.new.cubes ≡ on.old.cubes
+        ++ option_to_list
+        (cube_by (map symbol_of inputs.now)
+        (map (is_byte_of (part_symbols file_type Part.On)) outputs.now))) }
+    ensures dc { OnOk result (dc.new.cubes ≡ dc.old.cubes
+        ++ option_to_list
+        (cube_by (map symbol_of inputs.now)
+        (map (is_byte_of (part_symbols file_type Part.DontCare)) outputs.now))) }
+    ensures off { OnOk result (off.new.cubes ≡ off.old.cubes
+        ++ option_to_list
+        (cube_by (map symbol_of inputs.now)
+        (map (is_byte_of (part_symbols file_type Part.Off)) outputs.now))) }
+{
+    push_cube(on, alloc, file_type, Part::On, inputs, outputs)?;
+    push_cube(dc, alloc, file_type, Part::DontCare, inputs, outputs)?;
+    push_cube(off, alloc, file_type, Part::Off, inputs, outputs)
+}
+
 impl Rows {
     /// No symbol yet.
     pub fn new(alloc: Global, shape: Shape) -> Rows
@@ -172,16 +233,15 @@ impl Rows {
     {
         let alloc = *self.pending.allocator();
         let (inputs, outputs) = self.pending.split_at(self.shape.inputs());
-        push_cube(&mut self.on, alloc, file_type, Part::On, inputs, outputs)?;
-        push_cube(
+        push_row(
+            &mut self.on,
             &mut self.dc,
+            &mut self.off,
             alloc,
             file_type,
-            Part::DontCare,
             inputs,
             outputs,
         )?;
-        push_cube(&mut self.off, alloc, file_type, Part::Off, inputs, outputs)?;
         self.pending.clear();
         Ok(())
     }
@@ -216,13 +276,52 @@ impl Rows {
         most
     }
 
+    /// Whether the code begins with a whole row, whose inputs and outputs stand apart by a blank. May
+    /// miss it.
+    fn begins_row(&self, code: &[u8]) -> bool
+        ensures { result ≡ true → BeginsRow self.now code.now }
+    {
+        let (n, m) = (self.shape.inputs(), self.shape.outputs());
+        if !self.pending.is_empty() || n == 0 || code.len() <= n + m {
+            return false;
+        }
+        if !row_blank(code[n]) || !are_symbols(n, 0, &code[..n]) {
+            return false;
+        }
+        are_symbols(n, n, &code[n + 1..n + 1 + m])
+    }
+
+    /// Takes the whole row that the code begins with, if it does, and answers what follows it. No
+    /// byte of such a row is kept apart.
+    fn take_row<'a>(&mut self, file_type: FileType, code: &'a [u8]) -> Result<&'a [u8], AllocError>
+        ensures size { self.new.size ≡ self.old.size }
+        ensures read { IfOk result (λ rest. read_code file_type self.old code.now
+            ≡ read_code file_type self.new rest.now) }
+    {
+        if !self.begins_row(code) {
+            return Ok(code);
+        }
+        let (n, m) = (self.shape.inputs(), self.shape.outputs());
+        let alloc = *self.pending.allocator();
+        push_row(
+            &mut self.on,
+            &mut self.dc,
+            &mut self.off,
+            alloc,
+            file_type,
+            &code[..n],
+            &code[n + 1..n + 1 + m],
+        )?;
+        Ok(&code[n + 1 + m..])
+    }
+
     /// Takes the symbols of a row line's code.
     pub fn take(&mut self, file_type: FileType, code: &[u8]) -> Result<(), LineError>
         ensures size { self.new.size ≡ self.old.size }
         ensures ok { OnOk result (read_code file_type self.old code.now ≡ Some self.new) }
         ensures err { IfErr result (IsBadCode file_type self.old code.now) }
     {
-        let mut rest = code;
+        let mut rest = self.take_row(file_type, code)?;
         while !rest.is_empty() {
             let count = self.run(rest);
             if count > 0 {

@@ -10,7 +10,7 @@ ghost use Rattle.pla.specs.Reads.{MatchCause, IsTold, CountsWrites, WritesGrowth
 ghost use Rattle.pla.specs.Steps.{Describes, TakesLine, WritesLine, NoFeed, position_in};
 ghost use Rattle.pla.specs.Fault.{at_line, rest_kind as kind_of_rest, open_fault, fault_of, end_fault};
 ghost use Rattle.pla.specs.Echoes.{due};
-ghost use Rattle.pla.specs.Lines.{lines_of};
+ghost use Rattle.pla.specs.Lines.{lines_of, row_code};
 ghost use Rattle.pla.specs.Description.{described, description_of};
 
 use crate::description::Pla;
@@ -22,17 +22,36 @@ use crate::line::row_code_of;
 use crate::parser::Parser;
 use crate::writing::WriteFault;
 use cube::limits::{LINE_BYTES, LINES};
-use memchr::memchr;
+use memchr::{memchr, memchr2};
 use std::alloc::Global;
 use std::marker::Model;
 
-/// The end of the line that begins the bytes, if one ends there.
-fn line_end(bytes: &[u8]) -> Option<usize>
+/// Where a line ends, and where the code of it ends as that of a row line.
+#[derive(Clone, Copy)]
+struct LineEnd {
+    line: usize,
+    code: usize,
+}
+
+/// The end of the line that begins the bytes, if one ends there. Without a comment one search finds
+/// both ends.
+fn line_end(bytes: &[u8]) -> Option<LineEnd>
     ensures { MatchOption result (NoFeed bytes.now)
-        (λ end. (end < length bytes.now) × NoFeed (take end bytes.now)
-        × (bytes.now ≡ take end bytes.now ++ 10 ∷ drop (end + 1) bytes.now)) }
+        (λ end. (end.line < length bytes.now) × NoFeed (take end.line bytes.now)
+        × (bytes.now ≡ take end.line bytes.now ++ 10 ∷ drop (end.line + 1) bytes.now)
+        × (end.code ≤ end.line) × (take end.code bytes.now ≡ row_code (take end.line bytes.now))) }
 {
-    memchr(b'\n', bytes)
+    let at = memchr2(b'\n', b'#', bytes)?;
+    if bytes[at] == b'\n' {
+        return Some(LineEnd { line: at, code: at });
+    }
+    match memchr(b'\n', &bytes[at..]) {
+        Some(further) => Some(LineEnd {
+            line: at + further,
+            code: at,
+        }),
+        None => None,
+    }
 }
 
 /// What is wrong with so many bytes after so many lines, whatever they are.
@@ -49,14 +68,16 @@ fn rest_kind(lines: u64, size: usize) -> Option<ReadKind>
     None
 }
 
-/// Takes a line and writes its echo.
-fn take_line<W: Output>(
+/// Takes a line, whose code this is if it is a row line, and writes its echo.
+fn take_with_code<W: Output>(
     parser: &mut Parser,
     echo: Echo,
     line: &[u8],
+    code: &[u8],
     output: &mut W,
 ) -> Result<(), ReadFault>
-    requires { parser.old.header.ended ≡ false }
+    requires open { parser.old.header.ended ≡ false }
+    requires code { code.now ≡ row_code line.now }
     ensures takes { (before : List (List ℕ)) → StandsForLines format_limits parser.old before →
         TakesLine format_limits before line.now parser.new result }
     ensures written { WritesLine (W.taken output.old) (W.taken output.new) result echo line.now }
@@ -64,7 +85,6 @@ fn take_line<W: Output>(
         CountsWrites (W.calls output.old) (W.calls output.new) result }
 {
     let number = parser.lines() + 1;
-    let code = row_code_of(line);
     match parser.take(line, code) {
         Ok(()) => match write_echo(echo, line, code, output) {
             Ok(()) => Ok(()),
@@ -79,6 +99,23 @@ fn take_line<W: Output>(
         }),
         Err(LineError::Fault(kind)) => Err(ReadFault { line: number, kind }),
     }
+}
+
+/// Takes a line and writes its echo.
+fn take_line<W: Output>(
+    parser: &mut Parser,
+    echo: Echo,
+    line: &[u8],
+    output: &mut W,
+) -> Result<(), ReadFault>
+    requires { parser.old.header.ended ≡ false }
+    ensures takes { (before : List (List ℕ)) → StandsForLines format_limits parser.old before →
+        TakesLine format_limits before line.now parser.new result }
+    ensures written { WritesLine (W.taken output.old) (W.taken output.new) result echo line.now }
+    ensures count { (before : List (List ℕ)) → StandsForLines format_limits parser.old before →
+        CountsWrites (W.calls output.old) (W.calls output.new) result }
+{
+    take_with_code(parser, echo, line, row_code_of(line), output)
 }
 
 /// Reading of a text that comes in pieces: what is kept between them.
@@ -148,10 +185,17 @@ impl Scan {
         }
     }
 
-    /// Takes the bytes that end a line: the line is what was kept and these.
-    fn end_line<W: Output>(&mut self, bytes: &[u8], output: &mut W) -> Result<(), ReadFault>
+    /// Takes the bytes that end a line: the line is what was kept and these, whose code this is if
+    /// they are a row line.
+    fn end_line<W: Output>(
+        &mut self,
+        bytes: &[u8],
+        code: &[u8],
+        output: &mut W,
+    ) -> Result<(), ReadFault>
         requires open { self.old.parsed.header.ended ≡ false }
         requires line { NoFeed bytes.now }
+        requires code { code.now ≡ row_code bytes.now }
         ensures echo { OnOk result (self.new.echo ≡ self.old.echo) }
         ensures stands { (text : List ℕ) → StandsFor format_limits self.old text →
             OnOk result (StandsFor format_limits self.new (text ++ (bytes.now ++ 10 ∷ []))) }
@@ -167,7 +211,7 @@ impl Scan {
             OnOk result (position_in self.old + length bytes.now + 1 ≤ position_in self.new) }
     {
         if self.rest.is_empty() {
-            return take_line(&mut self.parser, self.echo, bytes, output);
+            return take_with_code(&mut self.parser, self.echo, bytes, code, output);
         }
         self.hold(bytes)?;
         take_line(&mut self.parser, self.echo, &self.rest, output)?;
@@ -203,8 +247,8 @@ impl Scan {
         while !self.done() {
             match line_end(rest) {
                 Some(end) => {
-                    self.end_line(&rest[..end], output)?;
-                    rest = &rest[end + 1..];
+                    self.end_line(&rest[..end.line], &rest[..end.code], output)?;
+                    rest = &rest[end.line + 1..];
                 }
                 None => {
                     self.hold(rest)?;

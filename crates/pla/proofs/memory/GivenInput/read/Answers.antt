@@ -1,4 +1,4 @@
-use Rattle.std.proofs.Common.{arith, ◌≡◌, ◌+◌, ◌≤◌, take, drop, length, ℕ, ◌-◌, List, ◌++◌, sym, ap, ◌∙◌}
+use Rattle.std.proofs.Common.{arith, ◌≡◌, ◌+◌, take, drop, length, ℕ, List, ◌++◌, sym, ap, ◌∙◌}
 use Rattle.std.proofs.lemmas.List.{take-append-le, take-append-drop, drop-drop, length-take-le, drop_all, length-append, length-drop}
 use Rattle.std.proofs.Math.Seq.{take-length}
 use Rattle.pla.proofs.memory.GivenInput.read.Goals as goal

@@ -11,7 +11,7 @@ loop-rest-init g c = fed_nothing c.args.self c.args.piece.now _ _
 pub loop-rest-preserved : goal.loop-rest-preserved
 loop-rest-preserved g c =
     let rest = c.loop-rest.rest.now in
-    let end = c.in-Some.end in
+    let end = c.in-Some.end.line in
     let e = c.in_ok-end_line-in-Some.ensures in
     subst (λ r. Fed c.args.self c.end_line.new.self c.args.piece.now r (g.W.Output.taken c.args.output.now) (g.W.Output.taken c.end_line.new.output) (g.W.Output.calls c.args.output.now) (g.W.Output.calls c.end_line.new.output)) (drop_is (end + 1) rest)
     (fed_line c.args.self c.loop-rest.self c.end_line.new.self c.args.piece.now rest (take end rest) (drop (end + 1) rest) _ (g.W.Output.taken c.loop-rest.output) _ _ (g.W.Output.calls c.loop-rest.output) _
@@ -20,7 +20,7 @@ loop-rest-preserved g c =
 pub returns-in_err-end_line-in-Some-clause-fault : goal.returns-in_err-end_line-in-Some-clause-fault
 returns-in_err-end_line-in-Some-clause-fault g c =
     let rest = c.loop-rest.rest.now in
-    let end = c.in-Some.end in
+    let end = c.in-Some.end.line in
     let e = c.in_err-end_line-in-Some.ensures in
     let p = err_from_is_err_and c.from_residual.result c.from_residual.ensures.1 in
     rw (p.1, p.2) (λ text st. fed_fault c.in_err-end_line-in-Some.field-0.0 c.args.self c.loop-rest.self c.args.piece.now rest (take end rest ++ 10 ∷ []) (drop (end + 1) rest) _ _ _ _ text c.loop-rest.invariant
@@ -29,7 +29,7 @@ returns-in_err-end_line-in-Some-clause-fault g c =
 pub returns-in_err-end_line-in-Some-clause-written : goal.returns-in_err-end_line-in-Some-clause-written
 returns-in_err-end_line-in-Some-clause-written g c =
     let rest = c.loop-rest.rest.now in
-    let end = c.in-Some.end in
+    let end = c.in-Some.end.line in
     let e = c.in_err-end_line-in-Some.ensures in
     let p = err_from_is_err_and c.from_residual.result c.from_residual.ensures.1 in
     rw (p.1, p.2) (λ text st. fed_written c.in_err-end_line-in-Some.field-0.0 c.args.self c.loop-rest.self c.args.piece.now rest (take end rest ++ 10 ∷ []) (drop (end + 1) rest) _ _ (g.W.Output.taken c.end_line.new.output) _ _ text c.loop-rest.invariant

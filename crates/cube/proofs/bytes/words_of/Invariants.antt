@@ -1,7 +1,7 @@
 use Rattle.std.proofs.Common.{◌≡◌, ℕ, ◌+◌, ◌-◌, ◌<◌, ◌≤◌, length, get_or, map}
 use Rattle.cube.specs.Bytes.{byte_symbol, has_mark}
 use Rattle.cube.specs.Packing.{IsInputWord, IsOutputWord}
-use Rattle.cube.proofs.cube.Cube.from_bytes.Given as goal
+use Rattle.cube.proofs.bytes.words_of.Given as goal
 
 abbrev pub invariant-loop-w : goal.invariant-loop-w
 invariant-loop-w l = record {
