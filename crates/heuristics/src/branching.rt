@@ -1,6 +1,6 @@
 //! Which column a search branches on, and which columns it asks for together.
 
-use crate::numbers::{at, mark, shift};
+use crate::numbers::{at, mark};
 use std::alloc::{AllocError, Global};
 
 /// Marks the live columns with these places among them, of so many columns in all.
@@ -19,6 +19,15 @@ pub fn marks_of(
     Ok(marks)
 }
 
+/// Counts the row at each of its columns.
+fn count_columns(numbers: &mut Vec<i64>, row: &[usize]) {
+    for column in row {
+        if *column < numbers.len() {
+            numbers[*column] = numbers[*column].wrapping_add(1);
+        }
+    }
+}
+
 /// In how many rows each column stands: one pass over the rows.
 pub fn entanglement(
     alloc: Global,
@@ -27,7 +36,7 @@ pub fn entanglement(
 ) -> Result<Vec<i64>, AllocError> {
     let mut numbers: Vec<i64> = vec![in alloc; 0; columns]?;
     for row in rows {
-        shift(&mut numbers, row, 1);
+        count_columns(&mut numbers, row);
     }
     Ok(numbers)
 }

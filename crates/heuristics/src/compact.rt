@@ -1,77 +1,56 @@
 //! A table in numbers of its own.
 
-use crate::branching::entanglement;
+use crate::lists::{Lists, small};
 use crate::numbers::at;
 use std::alloc::{AllocError, Global};
 
 /// A table in numbers of its own: its live columns are numbered in their order.
 #[derive(Drop)]
 pub struct Compact {
-    pub(crate) rows: Vec<Vec<usize>>,
-    pub(crate) column_rows: Vec<Vec<usize>>,
+    pub(crate) rows: Lists,
+    pub(crate) column_rows: Lists,
     pub(crate) costs: Vec<i64>,
 }
 
-/// An empty list for each number, with room for so many.
-fn lists_of(alloc: Global, counts: &[i64]) -> Result<Vec<Vec<usize>>, AllocError> {
-    let mut lists: Vec<Vec<usize>> = Vec::with_capacity(alloc, counts.len())?;
-    for number in counts {
-        let number = usize::try_from(*number).unwrap_or(0);
-        lists.push(Vec::with_capacity(alloc, number)?)?;
-    }
-    Ok(lists)
-}
-
-/// The rows in which each column stands.
-fn rows_by_column(
-    alloc: Global,
-    rows: &[Vec<usize>],
-    columns: usize,
-) -> Result<Vec<Vec<usize>>, AllocError> {
-    let mut column_rows = {
-        let counts = entanglement(alloc, rows, columns)?;
-        lists_of(alloc, &counts)?
-    };
-    for (i, row) in rows.iter().enumerate() {
-        for column in row {
-            if *column < column_rows.len() {
-                column_rows[*column].push(i)?;
-            }
-        }
-    }
-    Ok(column_rows)
-}
-
 /// The place of each live column among them.
-fn places(alloc: Global, live: &[usize], columns: usize) -> Result<Vec<usize>, AllocError> {
-    let mut places: Vec<usize> = vec![in alloc; 0; columns]?;
+fn places(alloc: Global, live: &[usize], columns: usize) -> Result<Vec<u32>, AllocError> {
+    let mut places: Vec<u32> = vec![in alloc; 0; columns]?;
     for (i, column) in live.iter().enumerate() {
         if *column < places.len() {
-            places[*column] = i;
+            places[*column] = small(i);
         }
     }
     Ok(places)
 }
 
-fn renumber_row(alloc: Global, row: &[usize], places: &[usize]) -> Result<Vec<usize>, AllocError> {
-    let mut renumbered = Vec::with_capacity(alloc, row.len())?;
+/// Adds the row in places of the live columns.
+fn push_renumbered(
+    renumbered: &mut Lists,
+    row: &[usize],
+    places: &[u32],
+) -> Result<(), AllocError> {
     for column in row {
         if *column < places.len() {
             renumbered.push(places[*column])?;
         }
     }
-    Ok(renumbered)
+    renumbered.end()
+}
+
+/// How many numbers the rows have.
+fn size_of(rows: &[Vec<usize>]) -> usize {
+    let mut size: usize = 0;
+    for row in rows {
+        size = size.saturating_add(row.len());
+    }
+    size
 }
 
 /// The rows in places of the live columns.
-fn renumber_rows(
-    alloc: Global,
-    rows: &[Vec<usize>],
-    places: &[usize],
-) -> Result<Vec<Vec<usize>>, AllocError> {
-    let mut renumbered = Vec::with_capacity(alloc, rows.len())?;
+fn renumber_rows(alloc: Global, rows: &[Vec<usize>], places: &[u32]) -> Result<Lists, AllocError> {
+    let mut renumbered = Lists::with_capacity(alloc, rows.len(), size_of(rows))?;
     for row in rows {
-        renumbered.push(renumber_row(alloc, row, places)?)?;
+        push_renumbered(&mut renumbered, row, places)?;
     }
     Ok(renumbered)
 }
@@ -90,7 +69,7 @@ impl Compact {
             let places = places(alloc, live, columns)?;
             renumber_rows(alloc, rows, &places)?
         };
-        let column_rows = rows_by_column(alloc, &rows, live.len())?;
+        let column_rows = rows.transpose(alloc, live.len())?;
         Ok(Compact {
             column_rows,
             rows,

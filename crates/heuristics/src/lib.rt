@@ -25,6 +25,7 @@ mod compact;
 mod components;
 mod effort;
 mod goal;
+mod lists;
 mod numbers;
 mod subgradient;
 mod swaps;

@@ -27,12 +27,19 @@ pub(crate) fn put(numbers: &mut Vec<i64>, place: usize, number: i64) {
 }
 
 /// Adds to the numbers of a row's columns.
-pub(crate) fn shift(numbers: &mut Vec<i64>, row: &[usize], amount: i64) {
+pub(crate) fn shift(numbers: &mut Vec<i64>, row: &[u32], amount: i64) {
     for column in row {
-        let column = *column;
+        let column = *column as usize;
         if column < numbers.len() {
             numbers[column] = numbers[column].wrapping_add(amount);
         }
+    }
+}
+
+/// Writes the numbers over others, where they are as many.
+pub(crate) fn copy_to(numbers: &mut Vec<i64>, others: &[i64]) {
+    if numbers.len() == others.len() {
+        numbers.copy_from_slice(others);
     }
 }
 

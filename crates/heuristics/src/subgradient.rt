@@ -10,7 +10,7 @@
 
 use crate::compact::Compact;
 use crate::goal::Goal;
-use crate::numbers::{at, put, shift, total};
+use crate::numbers::{at, copy_to, put, shift, total};
 use std::alloc::{AllocError, Global};
 
 /// The multiplier of a column if it is not itself asked for.
@@ -21,6 +21,12 @@ pub(crate) const STEPS: u32 = 150;
 
 /// The first length of a step; a step that is shorter than the last brings nothing.
 const PACE: i64 = 1024;
+
+/// After so many steps it is asked whether the goal is within reach.
+const SPAN: u32 = 25;
+
+/// The steps are given up if so many times what the last of them gained would not come to the goal.
+const REACH: i64 = 20;
 
 const LAST_PACE: i64 = 16;
 
@@ -48,6 +54,7 @@ pub(crate) struct Ascent {
     column_direction: i64,
     pub(crate) scaled_costs: Vec<i64>,
     pub(crate) loads: Vec<i64>,
+    held: Vec<i64>,
     pub(crate) count: i64,
     top: i64,
     pub(crate) top_weights: Vec<i64>,
@@ -59,52 +66,60 @@ pub(crate) struct Ascent {
     idle: u32,
 }
 
-/// The last step, and whether the steps have begun anew.
+/// The last step, whether the steps have begun anew, and the best value when it was last asked
+/// whether the goal is within reach.
 #[derive(Clone, Copy)]
 pub(crate) struct Course {
-    pub(crate) last: u32,
-    pub(crate) again: bool,
+    last: u32,
+    again: bool,
+    before: i64,
 }
 
-/// Notes what each column bears, the weights of its rows, and answers what columns bear beyond
-/// their scaled costs.
-fn load(
-    loads: &mut Vec<i64>,
-    column_rows: &[Vec<usize>],
-    weights: &[i64],
-    scaled_costs: &[i64],
-) -> i64 {
-    let mut beyond: i64 = 0;
-    for (column, rows) in column_rows.iter().enumerate() {
-        let mut sum: i64 = 0;
-        for row in rows {
-            sum = sum.wrapping_add(at(weights, *row));
-        }
-        put(loads, column, sum);
-        let over = sum.wrapping_sub(at(scaled_costs, column));
-        if over > 0 {
-            beyond = beyond.wrapping_add(over);
+impl Course {
+    /// The course of the first steps.
+    pub(crate) fn new() -> Course {
+        Course {
+            last: STEPS,
+            again: false,
+            before: i64::MIN,
         }
     }
-    beyond
+
+    /// Begins anew after a step.
+    fn begin_again(&mut self, step: u32) {
+        self.again = true;
+        self.last = step.wrapping_add(STEPS);
+        self.before = i64::MIN;
+    }
+
+    /// Whether the last steps gained too little to come to the goal, where that is asked.
+    fn gives_up(&mut self, step: u32, value: i64) -> bool {
+        if step == 0 || step % SPAN != 0 {
+            return false;
+        }
+        let gain = value.saturating_sub(self.before);
+        self.before = value;
+        value.saturating_add(gain.saturating_mul(REACH)) < 0
+    }
 }
 
 /// What columns bear beyond their scaled costs.
 fn beyond(loads: &[i64], scaled_costs: &[i64]) -> i64 {
     let mut beyond: i64 = 0;
-    for (i, load) in loads.iter().enumerate() {
-        beyond = beyond.wrapping_add(load.wrapping_sub(at(scaled_costs, i)).max(0));
+    for (load, scaled_cost) in loads.iter().zip(scaled_costs.iter()) {
+        beyond = beyond.wrapping_add(load.wrapping_sub(*scaled_cost).max(0));
     }
     beyond
 }
 
 /// How much a row has to leave so that one more of its columns bears no more than its scaled cost;
 /// nothing if one bears more at most.
-fn excess(row: &[usize], weight: i64, loads: &[i64], scaled_costs: &[i64]) -> i64 {
+fn excess(row: &[u32], weight: i64, loads: &[i64], scaled_costs: &[i64]) -> i64 {
     let mut number: u32 = 0;
     let mut least = weight;
     for column in row {
-        let over = at(loads, *column).wrapping_sub(at(scaled_costs, *column));
+        let column = *column as usize;
+        let over = at(loads, column).wrapping_sub(at(scaled_costs, column));
         if over > 0 {
             number = number.wrapping_add(1);
             least = least.min(over);
@@ -114,10 +129,11 @@ fn excess(row: &[usize], weight: i64, loads: &[i64], scaled_costs: &[i64]) -> i6
 }
 
 /// How much more each column of the row can bear.
-fn room(row: &[usize], loads: &[i64], scaled_costs: &[i64]) -> i64 {
+fn room(row: &[u32], loads: &[i64], scaled_costs: &[i64]) -> i64 {
     let mut least = i64::MAX;
     for column in row {
-        least = least.min(at(scaled_costs, *column).wrapping_sub(at(loads, *column)));
+        let column = *column as usize;
+        least = least.min(at(scaled_costs, column).wrapping_sub(at(loads, column)));
     }
     if row.is_empty() { 0 } else { least.max(0) }
 }
@@ -158,6 +174,7 @@ impl Ascent {
             column_direction: 0,
             scaled_costs: vec![in alloc; 0; table.costs.len()]?,
             loads: vec![in alloc; 0; table.costs.len()]?,
+            held: vec![in alloc; 0; weights.len()]?,
             count: if uneven { count_multiplier(table) } else { 0 },
             top: i64::MIN,
             top_weights: weights.to_vec(alloc)?,
@@ -193,10 +210,10 @@ impl Ascent {
     /// Takes what overbears the columns of a row from its weight, the least weight first.
     fn lower(&mut self, table: &Compact, order: &[(i64, usize)], weights: &mut Vec<i64>) {
         for (_, i) in order {
-            if *i < table.rows.len() {
-                let row = &table.rows[*i];
-                let weight = at(weights, *i);
-                let less = excess(row, weight, &self.loads, &self.scaled_costs);
+            let row = table.rows.list(*i);
+            let weight = at(weights, *i);
+            let less = excess(row, weight, &self.loads, &self.scaled_costs);
+            if less > 0 {
                 put(weights, *i, weight.wrapping_sub(less));
                 shift(&mut self.loads, row, 0i64.wrapping_sub(less));
             }
@@ -206,9 +223,9 @@ impl Ascent {
     /// Adds what the columns of a row can still bear to its weight, the largest weight first.
     fn raise(&mut self, table: &Compact, order: &[(i64, usize)], weights: &mut Vec<i64>) {
         for (_, i) in order.iter().rev() {
-            if *i < table.rows.len() {
-                let row = &table.rows[*i];
-                let more = room(row, &self.loads, &self.scaled_costs);
+            let row = table.rows.list(*i);
+            let more = room(row, &self.loads, &self.scaled_costs);
+            if more > 0 {
                 let weight = at(weights, *i);
                 put(weights, *i, weight.wrapping_add(more));
                 shift(&mut self.loads, row, more);
@@ -229,12 +246,7 @@ impl Ascent {
         if self.count > 0 {
             self.set_scaled_costs(&table.costs, column);
         }
-        load(
-            &mut self.loads,
-            &table.column_rows,
-            &weights,
-            &self.scaled_costs,
-        );
+        table.column_rows.sums(&weights, &mut self.loads);
         {
             let order = by_weight(alloc, &weights)?;
             self.lower(table, &order, &mut weights);
@@ -250,41 +262,40 @@ impl Ascent {
         Ok(())
     }
 
-    /// How many columns of the relaxed choice, those that bear more than their scaled costs, each
-    /// row has, and how many there are.
-    fn relaxed_choice(
-        &self,
-        alloc: Global,
-        table: &Compact,
-    ) -> Result<(Vec<i64>, i64), AllocError> {
-        let mut held: Vec<i64> = vec![in alloc; 0; table.rows.len()]?;
+    /// Notes how many columns of the relaxed choice, those that bear more than their scaled costs,
+    /// each row has, and answers how many there are.
+    fn set_relaxed_choice(&mut self, table: &Compact) -> i64 {
+        self.held.fill(0);
         let mut chosen: i64 = 0;
-        for (i, rows) in table.column_rows.iter().enumerate() {
-            if at(&self.loads, i) > at(&self.scaled_costs, i) {
-                shift(&mut held, rows, 1);
+        for (i, (load, scaled_cost)) in self
+            .loads
+            .iter()
+            .zip(self.scaled_costs.iter())
+            .enumerate()
+        {
+            if *load > *scaled_cost {
+                shift(&mut self.held, table.column_rows.list(i), 1);
                 chosen = chosen.wrapping_add(1);
             }
         }
-        Ok((held, chosen))
+        chosen
     }
 
     /// A step in the direction, which is the violation with three quarters of the last direction.
-    fn step(
-        &mut self,
-        alloc: Global,
-        table: &Compact,
-        goal: Goal,
-        far: i64,
-    ) -> Result<(), AllocError> {
-        let (held, chosen) = self.relaxed_choice(alloc, table)?;
+    fn step(&mut self, table: &Compact, goal: Goal, far: i64) {
+        let chosen = self.set_relaxed_choice(table);
         let mut square: i64 = 0;
-        for (i, number) in held.iter().enumerate() {
+        for ((direction, number), weight) in self
+            .direction
+            .iter_mut()
+            .zip(self.held.iter())
+            .zip(self.weights.iter())
+        {
             let slope = 1i64.wrapping_sub(*number).wrapping_mul(16);
-            let last = at(&self.direction, i).wrapping_mul(12) >> 4;
-            let direction = slope.wrapping_add(last);
-            put(&mut self.direction, i, direction);
-            if direction > 0 || at(&self.weights, i) > 0 {
-                square = square.wrapping_add(direction.wrapping_mul(direction));
+            let next = slope.wrapping_add(direction.wrapping_mul(12) >> 4);
+            *direction = next;
+            if next > 0 || *weight > 0 {
+                square = square.wrapping_add(next.wrapping_mul(next));
             }
         }
         if self.count > 0 {
@@ -293,20 +304,19 @@ impl Ascent {
             square = square.wrapping_add(self.column_direction.wrapping_mul(self.column_direction));
         }
         if square <= 0 {
-            return Ok(());
+            return;
         }
         let pace = far.wrapping_div(square.max(1));
-        for (i, weight) in self.weights.iter_mut().enumerate() {
-            let more = pace.wrapping_mul(at(&self.direction, i)) >> 8;
+        for (weight, direction) in self.weights.iter_mut().zip(self.direction.iter()) {
+            let more = pace.wrapping_mul(*direction) >> 8;
             *weight = weight.wrapping_add(more).max(0);
         }
         let more = pace.wrapping_mul(self.column_direction) >> 8;
         self.column = self.column.wrapping_add(more).max(0);
-        Ok(())
     }
 
     /// Notes what the weights say.
-    pub(crate) fn note(&mut self, alloc: Global, value: i64) -> Result<(), AllocError> {
+    pub(crate) fn note(&mut self, value: i64) {
         if value > self.top.saturating_add(UNIT / 1000) {
             self.idle = 0;
         } else {
@@ -314,10 +324,9 @@ impl Ascent {
         }
         if value > self.top {
             self.top = value;
-            self.top_weights = self.weights.to_vec(alloc)?;
+            copy_to(&mut self.top_weights, &self.weights);
             self.top_column = self.column;
         }
-        Ok(())
     }
 
     /// What the weights say of a cover now, with what each column bears.
@@ -325,27 +334,28 @@ impl Ascent {
         if self.count > 0 {
             self.set_scaled_costs(&table.costs, self.column);
         }
-        let beyond = load(
-            &mut self.loads,
-            &table.column_rows,
-            &self.weights,
-            &self.scaled_costs,
-        );
+        table.column_rows.sums(&self.weights, &mut self.loads);
+        let beyond = beyond(&self.loads, &self.scaled_costs);
         self.value(&self.weights, beyond, self.column, goal)
     }
 
     /// Whether the steps bring nothing and cannot become shorter.
-    pub(crate) fn is_slow(&self) -> bool {
+    fn is_slow(&self) -> bool {
         self.idle > PATIENCE && self.pace.wrapping_mul(3) / 5 < LAST_PACE
     }
 
+    /// Whether to end the steps: they are as many as they may be, bring nothing, or gain too little
+    /// to come to the goal.
+    pub(crate) fn is_over(&self, step: u32, course: &mut Course) -> bool {
+        step >= course.last || self.is_slow() || course.gives_up(step, self.top)
+    }
+
     /// Makes the steps shorter, from the best weights.
-    fn slow_down(&mut self, alloc: Global) -> Result<(), AllocError> {
+    fn slow_down(&mut self) {
         self.idle = 0;
         self.pace = self.pace.wrapping_mul(3) / 5;
         self.column = self.top_column;
-        self.weights = self.top_weights.to_vec(alloc)?;
-        Ok(())
+        copy_to(&mut self.weights, &self.top_weights);
     }
 
     /// Polishes from time to time and makes a step, or says that the goal is reached.
@@ -366,13 +376,13 @@ impl Ascent {
             self.weigh(table, goal);
         }
         if self.idle > PATIENCE {
-            self.slow_down(alloc)?;
+            self.slow_down();
         }
         let far = UNIT
             .wrapping_sub(value)
             .max(UNIT / 50)
             .wrapping_mul(self.pace);
-        self.step(alloc, table, goal, far)?;
+        self.step(table, goal, far);
         Ok(false)
     }
 
@@ -391,8 +401,7 @@ impl Ascent {
         if course.again || self.best_value > 0 || self.best_value <= 0 - UNIT / 8 {
             return Ok(true);
         }
-        course.again = true;
-        course.last = step.wrapping_add(STEPS);
+        course.begin_again(step);
         self.kick(alloc)?;
         Ok(false)
     }

@@ -8,7 +8,7 @@
 
 use crate::compact::Compact;
 use crate::goal::Goal;
-use crate::numbers::{SEED, at, flag, mark, next_random, number, put, set};
+use crate::numbers::{SEED, at, flag, mark, next_random, number, put, set, shift};
 use std::alloc::{AllocError, Global};
 
 /// A list of columns, which rows it leaves open, what a change of each column would bring, and the
@@ -55,16 +55,17 @@ impl LocalSearch {
         self.inside = vec![in alloc; false; columns]?;
         self.fresh = vec![in alloc; true; columns]?;
         self.stamps = vec![in alloc; 0; columns]?;
-        for rows in &table.column_rows {
-            self.scores.push(i64::try_from(rows.len()).unwrap_or(0))?;
+        for column in 0..columns {
+            let rows = table.column_rows.list(column).len();
+            self.scores.push(i64::try_from(rows).unwrap_or(0))?;
         }
         Ok(())
     }
 
     /// The other columns of a row, or those inside, score so much more.
-    fn touch(&mut self, row: &[usize], column: usize, more: i64, inside: bool) {
+    fn touch(&mut self, row: &[u32], column: usize, more: i64, inside: bool) {
         for other in row {
-            let other = *other;
+            let other = *other as usize;
             if other != column {
                 if !inside || flag(&self.inside, other) {
                     let score = at(&self.scores, other).wrapping_add(more);
@@ -92,24 +93,21 @@ impl LocalSearch {
         put(&mut self.scores, column, 0i64.wrapping_sub(score));
         mark(&mut self.inside, column, true);
         self.chosen.push(column)?;
-        if column >= table.column_rows.len() {
-            return Ok(());
-        }
-        for row in &table.column_rows[column] {
-            let row = *row;
+        for row in table.column_rows.list(column) {
+            let row = *row as usize;
             let held = number(&self.held, row).wrapping_add(1);
             set(&mut self.held, row, held);
             if held == 1 {
                 self.close(row);
             }
-            if held <= 2 && row < table.rows.len() {
+            if held <= 2 {
                 let weight = at(&self.weights, row);
                 let more = if held == 1 {
                     0i64.wrapping_sub(weight)
                 } else {
                     weight
                 };
-                self.touch(&table.rows[row], column, more, held == 2);
+                self.touch(table.rows.list(row), column, more, held == 2);
             }
         }
         Ok(())
@@ -122,25 +120,22 @@ impl LocalSearch {
         mark(&mut self.fresh, column, false);
         set(&mut self.stamps, column, now);
         self.chosen.retain(|other| *other != column);
-        if column >= table.column_rows.len() {
-            return Ok(());
-        }
-        for row in &table.column_rows[column] {
-            let row = *row;
+        for row in table.column_rows.list(column) {
+            let row = *row as usize;
             let held = number(&self.held, row).wrapping_sub(1);
             set(&mut self.held, row, held);
             if held == 0 {
                 set(&mut self.places, row, self.open.len());
                 self.open.push(row)?;
             }
-            if held <= 1 && row < table.rows.len() {
+            if held <= 1 {
                 let weight = at(&self.weights, row);
                 let more = if held == 0 {
                     weight
                 } else {
                     0i64.wrapping_sub(weight)
                 };
-                self.touch(&table.rows[row], column, more, held == 1);
+                self.touch(table.rows.list(row), column, more, held == 1);
             }
         }
         Ok(())
@@ -173,13 +168,14 @@ impl LocalSearch {
     }
 
     /// The column of the row whose coming brings the most.
-    fn column_to_add(&self, table: &Compact, row: &[usize]) -> usize {
+    fn column_to_add(&self, table: &Compact, row: &[u32]) -> usize {
         let mut best = usize::MAX;
         for column in row {
-            if flag(&self.fresh, *column)
-                && (best == usize::MAX || self.is_better(table, *column, best))
+            let column = *column as usize;
+            if flag(&self.fresh, column)
+                && (best == usize::MAX || self.is_better(table, column, best))
             {
-                best = *column;
+                best = column;
             }
         }
         best
@@ -204,12 +200,7 @@ impl LocalSearch {
             let row = number(&self.open, i);
             let weight = at(&self.weights, row).wrapping_add(1);
             put(&mut self.weights, row, weight);
-            if row < table.rows.len() {
-                for column in &table.rows[row] {
-                    let score = at(&self.scores, *column).wrapping_add(1);
-                    put(&mut self.scores, *column, score);
-                }
-            }
+            shift(&mut self.scores, table.rows.list(row), 1);
         }
     }
 
@@ -266,10 +257,7 @@ impl LocalSearch {
             &self.open,
             usize::try_from(seed >> 1).unwrap_or(0) % self.open.len(),
         );
-        if row >= table.rows.len() {
-            return Ok(last);
-        }
-        let column = self.column_to_add(table, &table.rows[row]);
+        let column = self.column_to_add(table, table.rows.list(row));
         if column == usize::MAX {
             return Ok(last);
         }

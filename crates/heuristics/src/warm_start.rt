@@ -5,10 +5,10 @@
 //! came from, row by row. A row keeps its number from table to table, so that a branch that is over
 //! can hand back what it has learned.
 
-use crate::branching::entanglement;
 use crate::compact::Compact;
 use crate::effort::Effort;
 use crate::goal::Goal;
+use crate::lists::Lists;
 use crate::numbers::{SEED, at, next_random, put};
 use crate::subgradient::{Ascent, Course, Multipliers, STEPS, UNIT};
 use std::alloc::{AllocError, Global};
@@ -16,20 +16,11 @@ use std::alloc::{AllocError, Global};
 /// How likely a column is thought to be at most.
 const LIKELIEST: i64 = 1048576;
 
-/// A copy of the rows.
-fn copy_rows(alloc: Global, rows: &[Vec<usize>]) -> Result<Vec<Vec<usize>>, AllocError> {
-    let mut copies = Vec::with_capacity(alloc, rows.len())?;
-    for row in rows {
-        copies.push(row.to_vec(alloc)?)?;
-    }
-    Ok(copies)
-}
-
 /// Whether each number of the first list, which rises, is in the second, which rises too.
-fn lies_in(row: &[usize], other: &[usize]) -> bool {
+fn lies_in(row: &[usize], other: &[u32]) -> bool {
     let mut met = 0;
     for column in other {
-        if met < row.len() && row[met] == *column {
+        if met < row.len() && row[met] == *column as usize {
             met += 1;
         }
     }
@@ -38,13 +29,14 @@ fn lies_in(row: &[usize], other: &[usize]) -> bool {
 
 /// The row from a place on that has all columns of this one and the fewest others, among some that
 /// follow the first.
-fn matching_row(rows: &[Vec<usize>], row: &[usize], from: usize) -> usize {
+fn matching_row(rows: &Lists, row: &[usize], from: usize) -> usize {
     let mut best = rows.len();
     let mut fewest = usize::MAX;
     let mut seen: usize = 0;
     for place in from..rows.len() {
-        if rows[place].len() < fewest && lies_in(row, &rows[place]) {
-            fewest = rows[place].len();
+        let other = rows.list(place);
+        if row.len() <= other.len() && other.len() < fewest && lies_in(row, other) {
+            fewest = other.len();
             best = place;
         }
         if fewest == row.len() || seen > 16 {
@@ -58,21 +50,20 @@ fn matching_row(rows: &[Vec<usize>], row: &[usize], from: usize) -> usize {
 }
 
 /// In how many rows a column of the row stands at most, and at least 1.
-fn most_rows(row: &[usize], row_counts: &[i64]) -> i64 {
-    let mut most: i64 = 1;
-    for column in row {
-        most = most.max(at(row_counts, *column));
+fn most_rows(table: &Compact, row: usize) -> i64 {
+    let mut most: usize = 1;
+    for column in table.rows.list(row) {
+        most = most.max(table.column_rows.list(*column as usize).len());
     }
-    most
+    i64::try_from(most).unwrap_or(i64::MAX)
 }
 
 /// Even weights, disturbed at random.
 fn first_weights(alloc: Global, table: &Compact) -> Result<Vec<i64>, AllocError> {
-    let row_counts = entanglement(alloc, &table.rows, table.costs.len())?;
     let mut seed = SEED;
     let mut weights = Vec::with_capacity(alloc, table.rows.len())?;
-    for row in &table.rows {
-        let most = most_rows(row, &row_counts);
+    for row in 0..table.rows.len() {
+        let most = most_rows(table, row);
         seed = next_random(seed);
         let part = 512i64.wrapping_add(i64::try_from(seed >> 54).unwrap_or(0));
         weights.push((UNIT.wrapping_div(most.max(1)) >> 10).wrapping_mul(part))?;
@@ -84,7 +75,7 @@ fn first_weights(alloc: Global, table: &Compact) -> Result<Vec<i64>, AllocError>
 /// number, the multiplier of a column, and how likely each column is thought to be in a cover.
 #[derive(Drop)]
 pub struct WarmStart {
-    rows: Vec<Vec<usize>>,
+    rows: Option<Lists>,
     numbers: Vec<usize>,
     weights: Vec<i64>,
     column: i64,
@@ -97,7 +88,7 @@ impl WarmStart {
     /// Nothing is remembered yet, after so much was done.
     pub fn new(alloc: Global, effort: Effort) -> WarmStart {
         WarmStart {
-            rows: Vec::new(alloc),
+            rows: None,
             numbers: Vec::new(alloc),
             weights: Vec::new(alloc),
             column: 67108864,
@@ -135,8 +126,12 @@ impl WarmStart {
 
     /// A copy of what is remembered.
     pub fn copy(&self, alloc: Global) -> Result<WarmStart, AllocError> {
+        let rows = match &self.rows {
+            Some(rows) => Some(rows.copy(alloc)?),
+            None => None,
+        };
         Ok(WarmStart {
-            rows: copy_rows(alloc, &self.rows)?,
+            rows,
             numbers: self.numbers.to_vec(alloc)?,
             weights: self.weights.to_vec(alloc)?,
             column: self.column,
@@ -166,7 +161,10 @@ impl WarmStart {
         let mut from: usize = 0;
         let mut next = self.weights.len();
         for row in rows {
-            let place = matching_row(&self.rows, row, from);
+            let place = match &self.rows {
+                Some(known) => matching_row(known, row, from),
+                None => usize::MAX,
+            };
             if place < self.numbers.len() {
                 numbers.push(self.numbers[place])?;
                 from = place.saturating_add(1);
@@ -198,7 +196,7 @@ impl WarmStart {
         table: &Compact,
         numbers: &[usize],
     ) -> Result<Ascent, AllocError> {
-        let weights = if self.rows.is_empty() {
+        let weights = if self.rows.is_none() {
             first_weights(alloc, table)?
         } else {
             self.weights_of(alloc, numbers)?
@@ -233,17 +231,14 @@ impl WarmStart {
         goal: Goal,
         ascent: &mut Ascent,
     ) -> Result<(), AllocError> {
-        let mut course = Course {
-            last: STEPS,
-            again: false,
-        };
+        let mut course = Course::new();
         for step in 0..STEPS * 2 + 2 {
             let value = ascent.weigh(table, goal);
             if step % 4 == 0 {
                 self.note_likely(live, ascent, step == 0);
             }
-            ascent.note(alloc, value)?;
-            let over = if step >= course.last || ascent.is_slow() {
+            ascent.note(value);
+            let over = if ascent.is_over(step, &mut course) {
                 ascent.stop(alloc, table, goal, step, &mut course)?
             } else {
                 ascent.go_on(alloc, table, goal, step, value)?
@@ -304,7 +299,7 @@ impl WarmStart {
         numbers: Vec<usize>,
         ascent: &Ascent,
     ) -> Result<(), AllocError> {
-        self.rows = copy_rows(alloc, rows)?;
+        self.rows = Some(Lists::of(alloc, rows)?);
         self.numbers = numbers;
         let short = 0i64.wrapping_sub(ascent.best_value).max(0);
         let missing = if ascent.count > 0 {

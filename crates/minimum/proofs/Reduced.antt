@@ -413,6 +413,11 @@ rows_from_full test i (row ∷ rows) k e l = go (test i) refl e k l (rows_from_f
     go true f g (suc k) l again = ap test (let e : i + suc k ≡ i + 1 + k = omega arith in e) ∙ again k (omega arith) (omega arith)
     go false f g k l again = absurd (let m = rows_from_length test (i + 1) rows in omega arith)
 
+full_marked : (marks : List Bool) (i : ℕ) → list_all (λ mark. mark) marks ≡ true → i < length marks → marked marks i ≡ true
+full_marked [] i h l = absurd (omega arith)
+full_marked (mark ∷ marks) zero h l = (and_parts mark (list_all (λ m. m) marks) h).0
+full_marked (mark ∷ marks) (suc i) h l = full_marked marks i (and_parts mark (list_all (λ m. m) marks) h).1 (omega arith)
+
 module _ (choice : Choice) (t : Table) (stay : List Bool) (h : LeavesNoDominatingRow t.rows stay) where
   row_dominance_steps : Steps choice t (with_rows t (rows_from (marked stay) 0 t.rows))
   row_dominance_steps = steps_rows choice t (marked stay) 0 [] t.rows (λ k l m.
@@ -428,6 +433,9 @@ module _ (choice : Choice) (t : Table) (stay : List Bool) (h : LeavesNoDominatin
 
   pub none_dominating : length (rows_from (marked stay) 0 t.rows) ≡ length t.rows → HasNoDominatingRow t.rows
   none_dominating e = h.complete (λ i l. ap (marked stay) (let f : i ≡ 0 + i = omega arith in f) ∙ rows_from_full (marked stay) 0 t.rows i e l)
+
+pub none_left_out : (t : Table) (stay : List Bool) → LeavesNoDominatingRow t.rows stay → list_all (λ mark. mark) stay ≡ true → HasNoDominatingRow t.rows
+none_left_out t stay h f = h.complete (λ i l. full_marked stay i f (let s = h.as_long in omega arith))
 
 pub row_dominance_table : (choice : Choice) (t : Table) (stay : List Bool) → IsTable t → LeavesNoDominatingRow t.rows stay → IsTable (with_rows t (rows_from (marked stay) 0 t.rows))
 row_dominance_table choice t stay wt h = (steps_keep choice t (with_rows t (rows_from (marked stay) 0 t.rows)) wt (row_dominance_steps choice t stay h)).0

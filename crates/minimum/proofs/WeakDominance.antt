@@ -1,7 +1,7 @@
 -- Columns that stand under any other which counts no more.
 use Rattle.std.proofs.Common.{◌≡◌, ◌≢◌, ℕ, suc, not, leb, ◌<◌, ◌≤◌, ◌⊎◌, inl, inr, Bool, true, false, List, [], ◌∷◌, map, length, refl, sym, ap, subst, ◌∙◌, cond, eqb, arith}
 use Rattle.std.specs.List.{list_any}
-use Rattle.std.specs.Prelude.{Some, None, filter}
+use Rattle.std.specs.Prelude.{Option, Some, None, MatchOption, IfSome, filter}
 use Rattle.std.proofs.lemmas.Bool.{cases_Bool, both_ways, and_parts, eqb-true, eq-eqb, leb-true}
 use Rattle.minimum.specs.declared.choice.Choice.{Choice}
 use Rattle.minimum.specs.Table.{Table, has, RisesFrom, IsTable, IsWithin}
@@ -127,3 +127,7 @@ pub served_lighter : (choice : Choice) (t u : Table) (keep : List Bool) → IsTa
 served_lighter choice t u keep wt h e fewer =
     let rows : length u.rows ≡ length t.rows = ap (λ (g : Table). length g.rows) e ∙ length_map (marked keep) t.rows in
     record { is = subst (IsLightened choice t) (sym e) (served_lightened choice t keep wt h); smaller = omega arith }
+
+pub served_some : (choice : Choice) (t : Table) (keep : List Bool) (A : Type 0) (o : Option Table) → IsTable t → IsServed choice t keep → length (filter (marked keep) t.live) < length t.live → MatchOption o A (λ u. u ≡ keep_columns (marked keep) t) → IfSome o (IsLighter choice t)
+served_some choice t keep A None wt h fewer k = tt
+served_some choice t keep A (Some u) wt h fewer k = served_lighter choice t u keep wt h k (subst (λ (g : Table). length g.live < length t.live) (sym k) fewer)

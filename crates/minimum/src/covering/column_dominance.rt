@@ -263,12 +263,10 @@ impl Table {
             self.row_lists(),
             &transpose,
         )?;
-        let Some(table) = self.keep_marked(alloc, &keep)? else {
-            return Ok(None);
-        };
-        if table.live_columns().len() >= self.live_columns().len() {
+        let live = marked_columns(alloc, self.live_columns(), &keep)?;
+        if live.len() >= self.live_columns().len() {
             return Ok(None);
         }
-        Ok(Some(table))
+        self.keep_marked(alloc, &keep)
     }
 }

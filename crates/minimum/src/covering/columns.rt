@@ -33,7 +33,7 @@ pub(crate) fn all_met(columns: &[usize], rows: &[Vec<usize>]) -> bool
 pub(crate) fn copy_of(alloc: Global, xs: &[usize]) -> Result<Vec<usize>, AllocError>
     ensures { IfOk result (λ v. v.items ≡ xs.now) }
 {
-    xs.iter().copied().collect(alloc)
+    xs.to_vec(alloc)
 }
 
 pub(crate) fn with_column(

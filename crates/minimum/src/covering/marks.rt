@@ -86,6 +86,13 @@ pub(crate) fn is_marked(marks: &[bool], place: usize) -> bool
     }
 }
 
+/// Whether each place has a mark.
+pub(crate) fn is_full(marks: &[bool]) -> bool
+    ensures { result ≡ list_all (λ mark. mark) marks.now }
+{
+    marks.iter().all(|mark| *mark)
+}
+
 pub(crate) fn all_marked(alloc: Global, end: usize) -> Result<Vec<bool>, AllocError>
     ensures { IfOk result (λ v. v.items ≡ replicate end true) }
 {
@@ -99,10 +106,13 @@ pub(crate) fn marked_columns(
 ) -> Result<Vec<usize>, AllocError>
     ensures { IfOk result (λ v. v.items ≡ filter (marked keep.now) xs.now) }
 {
-    xs.iter()
-        .copied()
-        .filter(|x| is_marked(keep, *x))
-        .collect(alloc)
+    let mut kept = Vec::with_capacity(alloc, xs.len())?;
+    for x in xs {
+        if is_marked(keep, *x) {
+            kept.push(*x)?;
+        }
+    }
+    Ok(kept)
 }
 
 pub(crate) fn rows_of_marked(

@@ -96,14 +96,24 @@ impl Table {
     }
 
     /// The table after all passes, in a search for some cover within a budget.
-    pub(crate) fn lighten(&self, alloc: Global, choice: Choice) -> Result<Table, AllocError>
-        ensures { IfOk result (λ u. IsLightened choice self.now u) }
+    pub(crate) fn lighten(self, alloc: Global, choice: Choice) -> Result<Table, AllocError>
+        ensures { IfOk result (λ u. IsLightened choice self u) }
     {
-        let mut table = self.copy(alloc)?;
+        let mut table = self;
         while let Some(lighter) = table.lighten_once(alloc, choice)? {
             table = lighter;
         }
         Ok(table)
+    }
+
+    /// The same of a table that stays.
+    pub(crate) fn lightened_copy(&self, alloc: Global, choice: Choice) -> Result<Table, AllocError>
+        ensures { IfOk result (λ u. IsLightened choice self.now u) }
+    {
+        match self.lighten_once(alloc, choice)? {
+            None => self.copy(alloc),
+            Some(table) => table.lighten(alloc, choice),
+        }
     }
 
     /// The cyclic core: the table after all passes.

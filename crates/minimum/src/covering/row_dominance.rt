@@ -8,7 +8,7 @@ ghost use Rattle.minimum.specs.Reduce.{row_at, AreRising, IsTranspose, UnmarksDo
 
 use crate::choice::Choice;
 use crate::covering::columns::{copy_of, is_within};
-use crate::covering::marks::{all_marked, is_marked, marked_rows, unmark};
+use crate::covering::marks::{all_marked, is_full, is_marked, marked_rows, unmark};
 use crate::covering::table::Table;
 use crate::covering::transpose::entry;
 use std::alloc::{AllocError, Global};
@@ -87,6 +87,9 @@ impl Table {
     {
         let transpose = self.transpose(alloc)?;
         let stay = row_dominance(alloc, self.row_lists(), &transpose)?;
+        if is_full(&stay) {
+            return Ok(None);
+        }
         let rows = marked_rows(alloc, self.row_lists(), &stay)?;
         if rows.len() == self.row_lists().len() {
             return Ok(None);

@@ -19,7 +19,7 @@ use crate::choice::Choice;
 use crate::covering::bound::{Budget, columns_within_gap, limit_of, scaled_costs};
 use crate::covering::columns::{contains, copy_of, count, holds, is_blank, sum, with_column};
 use crate::covering::lagrangian::lagrangian;
-use crate::covering::marks::{all_marked, is_marked, marked_columns, rows_of_marked};
+use crate::covering::marks::{all_kept, all_marked, is_marked, marked_columns, rows_of_marked};
 use crate::covering::table::Table;
 use heuristics::{
     Compact, Goal, Multipliers, WarmStart, entanglement, is_worth_a_bound, likeliest, local_search,
@@ -304,18 +304,21 @@ impl Table {
     /// The table without the columns that no cover within the budget has, as far as row weights
     /// show.
     fn drop_by_bound(
-        &self,
+        self,
         alloc: Global,
         choice: Choice,
         budget: Budget,
         warm_start: &mut WarmStart,
     ) -> Result<Option<Table>, AllocError>
-        ensures { IfOk result (λ o. MatchOption o (NoneWithin choice self.now budget.columns
-            budget.counts) (IsNarrowed choice budget.columns budget.counts self.now)) }
+        ensures { IfOk result (λ o. MatchOption o (NoneWithin choice self budget.columns
+            budget.counts) (IsNarrowed choice budget.columns budget.counts self)) }
     {
         let Some(keep) = self.columns_within_budget(alloc, choice, budget, warm_start)? else {
             return Ok(None);
         };
+        if all_kept(self.live_columns(), &keep) {
+            return Ok(Some(self));
+        }
         self.keep_marked(alloc, &keep)
     }
 
@@ -331,7 +334,7 @@ impl Table {
         ensures { IfOk result (λ o. MatchOption o (NoneWithin choice self.now budget.columns
             budget.counts) (IsNarrowed choice budget.columns budget.counts self.now)) }
     {
-        let mut table = self.lighten(alloc, choice)?;
+        let mut table = self.lightened_copy(alloc, choice)?;
         loop {
             let live = table.live_columns().len();
             let Some(next) = table.drop_by_bound(alloc, choice, budget, warm_start)? else {
@@ -505,7 +508,7 @@ impl Table {
             return Ok(None);
         };
         let goal = table.goal(choice, budget);
-        if let Some(cover) = table.witness(alloc, choice, budget, goal, 30)? {
+        if let Some(cover) = table.witness(alloc, choice, budget, goal, 12)? {
             return Ok(Some(cover));
         }
         let mut left = most;

@@ -5,6 +5,7 @@ ghost use Rattle.minimum.specs.Table.{RisesFrom, items_of};
 ghost use Rattle.minimum.specs.Reduce.{row_at, AreRising, Appends, Enters, IsTranspose};
 
 use crate::covering::table::Table;
+use heuristics::entanglement;
 use std::alloc::{AllocError, Global};
 
 /// The list at the place, empty if there is none.
@@ -41,6 +42,14 @@ fn enter(columns: &mut Vec<Vec<usize>>, row: &[usize], number: usize) -> Result<
     Ok(())
 }
 
+/// An empty list with room for what is wished for at the place.
+fn list_with_room(alloc: Global, room: &[i64], place: usize) -> Result<Vec<usize>, AllocError>
+    ensures { IfOk result (λ v. v.items ≡ []) }
+{
+    let room = if place < room.len() { room[place] } else { 0 };
+    Vec::with_capacity(alloc, usize::try_from(room).unwrap_or(0))
+}
+
 /// The rows in which each column stands.
 fn transpose(
     alloc: Global,
@@ -52,9 +61,11 @@ fn transpose(
         (items_of v.items)) }
     ensures long { IfOk result (λ v. length v.items ≡ columns) }
 {
-    let mut transpose: Vec<Vec<usize>> = Vec::new(alloc);
-    for _ in 0..columns {
-        transpose.push(Vec::new(alloc))?;
+    let row_counts = entanglement(alloc, rows, columns)?;
+    let mut transpose: Vec<Vec<usize>> = Vec::with_capacity(alloc, columns)?;
+    for column in 0..columns {
+        let list = list_with_room(alloc, &row_counts, column)?;
+        transpose.push(list)?;
     }
     for (i, row) in rows.iter().enumerate() {
         enter(&mut transpose, row, i)?;

@@ -3,8 +3,8 @@ use Rattle.minimum.specs.Table.{items_of}
 use Rattle.minimum.specs.Reduce.{TransposeSoFar}
 use Rattle.minimum.proofs.covering.transpose.transpose.Given as goal
 
-abbrev pub invariant-loop : goal.invariant-loop
-invariant-loop l = items_of l.transpose.items ≡ replicate l.counter []
+abbrev pub invariant-loop-column : goal.invariant-loop-column
+invariant-loop-column l = items_of l.transpose.items ≡ replicate l.column []
 
 abbrev pub invariant-loop-i : goal.invariant-loop-i
 invariant-loop-i l = TransposeSoFar l.columns l.i (items_of (take l.i l.rows)) (items_of l.transpose.items)
