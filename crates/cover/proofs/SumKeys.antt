@@ -16,7 +16,7 @@ use Rattle.cube.proofs.HoldsLemmas.{agrees_at-matches}
 use Rattle.cube.proofs.WordLemmas.{folded_bit, lower_bit_even}
 use Rattle.cover.specs.Cubes.{AreCubes}
 use Rattle.cover.specs.Places.{places}
-use Rattle.cover.specs.Keys.{IsKey, HasKeys, turned}
+use Rattle.cover.specs.Keys.{IsKey, HasKeys, reversal}
 use Rattle.cover.specs.Reduced.{IsMeets}
 use Rattle.cover.proofs.Lists.{list_any_witness}
 use Rattle.cover.proofs.SumMeets.{IsMeets-others}
@@ -91,7 +91,7 @@ module _ (inputs : ℕ) (c d : Cube) (n m : ℕ) (mine : IsKey inputs c n) (thei
       ]
 
   same_key : n ≡ m
-  same_key = mine.key ∙ ap (λ x. turned x) (same_from_bits_below 64 mine.word theirs.word mine.fits theirs.fits same_bit) ∙ sym theirs.key
+  same_key = mine.key ∙ ap (λ x. reversal x) (same_from_bits_below 64 mine.word theirs.word mine.fits theirs.fits same_bit) ∙ sym theirs.key
 
 -- ---- the numbers of one more row
 

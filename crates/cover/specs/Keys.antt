@@ -11,8 +11,8 @@ exchange word width mask =
     bit_or (bit_and (word / 2 ^ width) mask) (bit_and word mask * 2 ^ width % 2 ^ 64)
 
 -- a word turned around
-abbrev pub turned : ℕ → ℕ
-turned word = exchange (exchange (exchange (exchange (exchange (exchange word
+abbrev pub reversal : ℕ → ℕ
+reversal word = exchange (exchange (exchange (exchange (exchange (exchange word
     1 6148914691236517205) 2 3689348814741910323) 4 1085102592571150095) 8 71777214294589695)
     16 281470681808895) 32 4294967295
 
@@ -26,7 +26,7 @@ pub record IsKey (inputs : ℕ) (c : Cube) (n : ℕ) : Type 0 where
   pub ones : (k : ℕ) → k < 32 → bit_at word (2 * k)
       ≡ (if not (agrees (slice_index_or c.symbols (32 * 0 + k) Dash) false) then 1 else 0)
   pub literals : bit_and (bit_or word (word / 2)) 6148914691236517205 ≡ inputs
-  pub key : n ≡ turned word
+  pub key : n ≡ reversal word
 
 -- each cube has its number, and the numbers do not fall
 pub record HasKeys (inputs : ℕ) (cubes : List Cube) (keys : List ℕ) : Type 0 where

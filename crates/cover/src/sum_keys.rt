@@ -5,7 +5,7 @@
 //! numbers rise, and both lists are gone through once.
 ghost use Rattle.std.specs.Prelude.{◌≡◌, ℕ, ◌<◌, ◌≤◌, IfOk, IfSome, length, slice_index_or};
 ghost use Rattle.cover.specs.Cubes.{AreCubes};
-ghost use Rattle.cover.specs.Keys.{HasKeys, exchange, turned as turned_of};
+ghost use Rattle.cover.specs.Keys.{HasKeys, exchange as exchange_of, reversal as reversal_of};
 ghost use Rattle.cover.specs.Reduced.{IsMeets};
 
 use crate::sum_parts::push_meets;
@@ -16,23 +16,23 @@ use std::alloc::{AllocError, Global};
 const LOWER_BITS: u64 = 0x5555_5555_5555_5555;
 
 // The word with groups of bits exchanged with those beside them, which the mask has.
-fn exchanged(word: u64, width: u32, mask: u64) -> u64
+fn exchange(word: u64, width: u32, mask: u64) -> u64
     requires { width < 64 }
-    ensures { result ≡ exchange word width mask }
+    ensures { result ≡ exchange_of word width mask }
 {
     ((word >> width) & mask) | ((word & mask) << width)
 }
 
 // The word turned around.
-fn turned(word: u64) -> u64
-    ensures { result ≡ turned_of word }
+fn reversal(word: u64) -> u64
+    ensures { result ≡ reversal_of word }
 {
-    let word = exchanged(word, 1, 0x5555_5555_5555_5555);
-    let word = exchanged(word, 2, 0x3333_3333_3333_3333);
-    let word = exchanged(word, 4, 0x0F0F_0F0F_0F0F_0F0F);
-    let word = exchanged(word, 8, 0x00FF_00FF_00FF_00FF);
-    let word = exchanged(word, 16, 0x0000_FFFF_0000_FFFF);
-    exchanged(word, 32, 0x0000_0000_FFFF_FFFF)
+    let word = exchange(word, 1, 0x5555_5555_5555_5555);
+    let word = exchange(word, 2, 0x3333_3333_3333_3333);
+    let word = exchange(word, 4, 0x0F0F_0F0F_0F0F_0F0F);
+    let word = exchange(word, 8, 0x00FF_00FF_00FF_00FF);
+    let word = exchange(word, 16, 0x0000_FFFF_0000_FFFF);
+    exchange(word, 32, 0x0000_0000_FFFF_FFFF)
 }
 
 /// The numbers of the rows, if they do not fall and each row has literals at these inputs of the
@@ -48,7 +48,7 @@ pub(crate) fn keys_of(
     let mut last = 0u64;
     for row in rows {
         let word = row.literal_bits(0);
-        let key = turned(word);
+        let key = reversal(word);
         if (word | (word >> 1)) & LOWER_BITS != inputs || key < last {
             return Ok(None);
         }

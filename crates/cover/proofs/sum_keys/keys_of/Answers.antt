@@ -12,15 +12,15 @@ loop-row-init c = record {
 
 pub loop-row-preserved : goal.loop-row-preserved
 loop-row-preserved c =
-    let own : IsKey c.args.inputs c.row-item.result c.turned-key.result = record {
+    let own : IsKey c.args.inputs c.row-item.result c.reversal-key.result = record {
       word = c.literal_bits-word.result;
       fits = omega arith;
       zeros = c.literal_bits-word.ensures.zeros;
       ones = c.literal_bits-word.ensures.ones;
       literals = c.if-word-inputs.false;
-      key = c.turned-key.ensures;
+      key = c.reversal-key.ensures;
     } in
-    let more = HasKeys-more c.args.inputs c.args.rows.now c.loop-row.row-index c.row-item.result c.loop-row.keys.items c.loop-row.last c.turned-key.result
+    let more = HasKeys-more c.args.inputs c.args.rows.now c.loop-row.row-index c.row-item.result c.loop-row.keys.items c.loop-row.last c.reversal-key.result
     c.loop-row-test.true c.row-item.is c.loop-row.invariant.keys c.loop-row.invariant.last (omega (arith, c.if-key-last.false)) own
     c.push.new.self.items c.in_ok-push.ensures.items in
     record { keys = more.0; last = more.1 }
