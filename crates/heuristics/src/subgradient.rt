@@ -17,7 +17,7 @@ use std::alloc::{AllocError, Global};
 pub(crate) const UNIT: i64 = 16777216;
 
 /// How many steps are made for a bound.
-pub(crate) const STEPS: u32 = 150;
+pub(crate) const STEPS: u32 = 120;
 
 /// The first length of a step; a step that is shorter than the last brings nothing.
 const PACE: i64 = 1024;

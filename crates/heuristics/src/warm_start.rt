@@ -255,7 +255,7 @@ impl WarmStart {
     ///
     /// The rows are those of the table in numbers of the columns, of which there are so many in
     /// all; the live ones are in the order of the table. It reads all rows some times a step, in up
-    /// to some 300 steps.
+    /// to some 240 steps.
     pub fn multipliers(
         &mut self,
         alloc: Global,
