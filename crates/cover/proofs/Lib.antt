@@ -26,6 +26,7 @@ pub mod SumPlaces
 pub mod SumFreed
 pub mod SumSides
 pub mod SumThirds
+pub mod SumTwo
 pub mod SumWithoutAbsorbed
 pub mod SumMixed
 pub mod SumApart

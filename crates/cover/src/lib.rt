@@ -46,6 +46,7 @@ mod sum_parts;
 mod sum_rows;
 mod sum_sides;
 mod sum_splitting_input;
+mod sum_two;
 mod symbols;
 mod tautology;
 

@@ -38,6 +38,7 @@ use crate::sum_rows::{combine, merge, sort_rows};
 use crate::sum_splitting_input::{
     has_literal_in_each, hold_everything, is_unate, splitting_input, wished_order,
 };
+use crate::sum_two::sum_of_two;
 use crate::tautology::universal;
 use cube::{Cube, Shape};
 use std::alloc::{AllocError, Global};
@@ -87,6 +88,9 @@ fn left_sum(
         }
         if is_unate(shape, &minuend)? {
             return absorb(alloc, shape, minuend);
+        }
+        if let Some(sum) = sum_of_two(alloc, shape, &minuend)? {
+            return Ok(sum);
         }
     }
     if minuend.len() == 1 && subtrahend.len() == 1 {

@@ -166,7 +166,7 @@ pub(crate) fn absorb_if_short(
     requires { AreCubes shape rows.items }
     ensures { IfOk result (λ kept. IsPartlyAbsorbed rows.items kept.items) }
 {
-    if rise_alike(shape, &rows) {
+    if rows.len() < 2 || rise_alike(shape, &rows) {
         return Ok(rows);
     }
     let rows = sort_rows(alloc, shape, rows)?;

@@ -1,20 +1,21 @@
 -- The first difference of two rows, in words and in symbols.
-use Rattle.std.proofs.Common.{◌≡◌, ◌≢◌, ℕ, zero, suc, ◌+◌, ◌*◌, ◌/◌, ◌%◌, ◌^◌, ◌<◌, ◌≤◌, Bool, true, false, List, [], ◌∷◌, length, get_or, refl, ap, sym, ◌∙◌, arith, eqb, cond, ◌==◌, ◌-◌, inl, inr, bit_xor}
+use Rattle.std.proofs.Common.{take, drop, subst, ◌≡◌, ◌≢◌, ℕ, zero, suc, ◌+◌, ◌*◌, ◌/◌, ◌%◌, ◌^◌, ◌<◌, ◌≤◌, Bool, true, false, List, [], ◌∷◌, length, get_or, refl, ap, sym, ◌∙◌, arith, eqb, cond, ◌==◌, ◌-◌, inl, inr, bit_xor}
 use Rattle.std.specs.Int.{bit_at, w64, trailing_zeros}
 use Rattle.std.specs.Ordering.{ordering_then, bool_cmp}
 use Rattle.std.specs.Cmp.Lexicographic.{slice_cmp}
 use Rattle.std.specs.declared.cmp.Ordering.{Ordering}
 use Rattle.std.specs.declared.cmp.Ordering.TheVariants.{Less, Equal, Greater}
 use Rattle.std.proofs.lemmas.Bool.{cases_lt}
-use Rattle.std.proofs.lemmas.List.{get_or_past, ext_get_or}
+use Rattle.std.proofs.lemmas.List.{get_or_past, ext_get_or, get_or-take, get_or-drop, length-drop}
 use Rattle.std.proofs.lemmas.Nat.Bits.{bit_at_xor, bit_at-lt, bit_at-trailing_zeros}
 use Rattle.std.proofs.lemmas.Nat.{xor_lt}
 use Rattle.cube.specs.declared.symbol.Symbol.{Symbol}
 use Rattle.cube.specs.declared.symbol.Symbol.TheVariants.{Dash, Zero, One}
 use Rattle.cube.specs.Pattern.{agrees}
-use Rattle.cube.specs.Order.{symbol_cmp}
+use Rattle.cube.specs.Cube.{Cube, SameSize}
+use Rattle.cube.specs.Order.{symbol_cmp, row_cmp}
 use Rattle.cube.specs.Words.{bit_of_words, DiffersFirstAt}
-use Rattle.cube.specs.Packing.{bit_of, PacksInputs, PacksOutputs}
+use Rattle.cube.specs.Packing.{bit_of, input_words, Packs, PacksInputs, PacksOutputs}
 use Rattle.cube.proofs.PackingLemmas.{symbol_from_bits}
 use Rattle.cube.proofs.ContainsLemmas.{input_bit_at}
 use Rattle.cube.proofs.SumLemmas.{slice_same, symbol_same, bool_same}
@@ -182,10 +183,10 @@ module _ (ss ts : List Symbol) (e : length ss ≡ length ts) (ws vs : List ℕ) 
             by_low_bit s t (λ same. d.differs (own ∙ same ∙ sym other)) ∙ ap (λ b. cond (b == 1) Less Greater) (sym own)
       ]
 
-  pub symbols_cmp-same : ws ≡ vs → slice_cmp symbol_cmp ss ts ≡ Equal
+  pub symbols_cmp-same : ((k : ℕ) → k < 64 * length ws → bit_of_words ws k ≡ bit_of_words vs k) → slice_cmp symbol_cmp ss ts ≡ Equal
   symbols_cmp-same same =
       ap (λ l. slice_cmp symbol_cmp ss l)
-      (sym (ext_get_or Dash ss ts e (λ i lt. same_symbol_at i lt (ap (λ l. bit_of_words l (2 * i)) same) (ap (λ l. bit_of_words l (2 * i + 1)) same))))
+      (sym (ext_get_or Dash ss ts e (λ i lt. same_symbol_at i lt (same (2 * i) (omega (arith, p.words_len))) (same (2 * i + 1) (omega (arith, p.words_len))))))
       ∙ slice_same symbol_cmp symbol_same ss
 
 -- ---- outputs
@@ -254,3 +255,77 @@ module _ (bs os : List Bool) (e : length bs ≡ length os) (ws vs : List ℕ) (p
   outputs_cmp-same same =
       ap (λ l. slice_cmp bool_cmp bs l) (sym (ext_get_or false bs os e (λ j lt. same_output_at j lt (ap (λ l. bit_of_words l j) same))))
       ∙ slice_same bool_cmp bool_same bs
+
+-- ---- rows
+
+front_bit : (n : ℕ) (words : List ℕ) (k : ℕ) → k < 64 * n → bit_of_words (take n words) k ≡ bit_of_words words k
+front_bit n words k lt = ap (λ w. bit_at w (k % 64)) (get_or-take n words (k / 64) 0 (omega arith))
+
+back_bit : (n : ℕ) (words : List ℕ) (k : ℕ) → bit_of_words (drop n words) k ≡ bit_of_words words (64 * n + k)
+back_bit n words k =
+    let word : (64 * n + k) / 64 ≡ n + k / 64 = omega arith in
+    let bit : (64 * n + k) % 64 ≡ k % 64 = omega arith in
+    ap (λ w. bit_at w (k % 64)) (get_or-drop n words (k / 64) 0)
+    ∙ ap (λ w. bit_at (get_or words w 0) (k % 64)) (sym word)
+    ∙ ap (λ b. bit_at (get_or words ((64 * n + k) / 64) 0) b) (sym bit)
+
+-- the first bit that differs settles the order of rows
+module _ (c d : Cube) (size : SameSize c d) (ws vs : List ℕ) (p : Packs c ws) (q : Packs d vs) where
+  own_inputs : PacksInputs c.symbols (take (input_words (length c.symbols)) ws)
+  own_inputs = p.inputs
+
+  other_inputs : PacksInputs d.symbols (take (input_words (length c.symbols)) vs)
+  other_inputs = subst (λ n. PacksInputs d.symbols (take (input_words n) vs)) (sym size.0) q.inputs
+
+  other_outputs : PacksOutputs d.outputs (drop (input_words (length c.symbols)) vs)
+  other_outputs = subst (λ n. PacksOutputs d.outputs (drop (input_words n) vs)) (sym size.0) q.outputs
+
+  pub row_cmp-input : (at : ℕ) → DiffersFirstAt ws vs at → at / 64 < input_words (length c.symbols)
+      → row_cmp c d ≡ cond (bit_of_words ws at == 1) Less Greater
+  row_cmp-input at first lt =
+      let n = input_words (length c.symbols) in
+      let below : at < 64 * n = omega arith in
+      let front : DiffersFirstAt (take n ws) (take n vs) at = record {
+        within = omega (arith, own_inputs.words_len);
+        differs = λ e. first.differs (sym (front_bit n ws at below) ∙ e ∙ front_bit n vs at below);
+        before = λ k before. front_bit n ws k (omega arith) ∙ first.before k before ∙ sym (front_bit n vs k (omega arith));
+      } in
+      ap (λ o. ordering_then o (slice_cmp bool_cmp c.outputs d.outputs))
+      (symbols_cmp-by_bit c.symbols d.symbols size.0 (take n ws) (take n vs) own_inputs other_inputs at front
+      ∙ ap (λ b. cond (b == 1) Less Greater) (front_bit n ws at below))
+      ∙ decided (bit_of_words ws at == 1) (slice_cmp bool_cmp c.outputs d.outputs)
+    where
+      decided : (b : Bool) (o : Ordering) → ordering_then (cond b Less Greater) o ≡ cond b Less Greater
+      decided true o = refl
+      decided false o = refl
+
+  equal_inputs : ((k : ℕ) → k < 64 * input_words (length c.symbols) → bit_of_words ws k ≡ bit_of_words vs k)
+      → row_cmp c d ≡ slice_cmp bool_cmp c.outputs d.outputs
+  equal_inputs same =
+      let n = input_words (length c.symbols) in
+      ap (λ o. ordering_then o (slice_cmp bool_cmp c.outputs d.outputs))
+      (symbols_cmp-same c.symbols d.symbols size.0 (take n ws) (take n vs) own_inputs other_inputs
+      (λ k lt.
+      let below : k < 64 * n = omega (arith, own_inputs.words_len) in
+      front_bit n ws k below ∙ same k below ∙ sym (front_bit n vs k below)))
+
+  pub row_cmp-output : (at : ℕ) → DiffersFirstAt ws vs at → input_words (length c.symbols) ≤ at / 64
+      → row_cmp c d ≡ cond (bit_of_words ws at == 1) Greater Less
+  row_cmp-output at first le =
+      let n = input_words (length c.symbols) in
+      let there : 64 * n + (at - 64 * n) ≡ at = omega arith in
+      let back : DiffersFirstAt (drop n ws) (drop n vs) (at - 64 * n) = record {
+        within = omega (arith, first.within, length-drop n ws);
+        differs = λ e. first.differs
+            (ap (λ k. bit_of_words ws k) (sym there) ∙ sym (back_bit n ws (at - 64 * n)) ∙ e ∙ back_bit n vs (at - 64 * n) ∙ ap (λ k. bit_of_words vs k) there);
+        before = λ k before. back_bit n ws k ∙ first.before (64 * n + k) (omega arith) ∙ sym (back_bit n vs k);
+      } in
+      equal_inputs (λ k lt. first.before k (omega arith))
+      ∙ outputs_cmp-by_bit c.outputs d.outputs size.1 (drop n ws) (drop n vs) p.outputs other_outputs (at - 64 * n) back
+      ∙ ap (λ b. cond (b == 1) Greater Less) (back_bit n ws (at - 64 * n) ∙ ap (λ k. bit_of_words ws k) there)
+
+  pub row_cmp-equal : ws ≡ vs → row_cmp c d ≡ Equal
+  row_cmp-equal same =
+      let n = input_words (length c.symbols) in
+      equal_inputs (λ k lt. ap (λ l. bit_of_words l k) same)
+      ∙ outputs_cmp-same c.outputs d.outputs size.1 (drop n ws) (drop n vs) p.outputs other_outputs (ap (λ l. drop n l) same)

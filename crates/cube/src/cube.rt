@@ -11,9 +11,7 @@ ghost use Rattle.cube.specs.Sharp.{minus, rest_row, rest_rows, pieces_below, spl
 ghost use Rattle.cube.specs.Bytes.{byte_symbol, has_mark, symbol_byte};
 ghost use Rattle.cube.specs.Sum.{complete_sum};
 ghost use Rattle.std.specs.List.{list_any};
-ghost use Rattle.cube.specs.Order.{row_cmp as row_order, symbol_cmp};
-ghost use Rattle.std.specs.Ordering.{bool_cmp};
-ghost use Rattle.std.specs.Cmp.Lexicographic.{slice_cmp};
+ghost use Rattle.cube.specs.Order.{row_cmp as row_order};
 ghost use Rattle.cube.specs.Packing.{Packs, PacksInputs, PacksOutputs};
 
 use crate::bytes::{has_any_mark, two_words_of, words_of};
@@ -461,13 +459,29 @@ impl Cube {
 
     /// The order of rows: by the symbols from the first input on, with `-` below `0` below `1`, and
     /// then by the outputs from the first on, with absent below present.
+    ///
+    /// The first bit that differs settles it. Of two symbols the lesser one has it, as `-` has two
+    /// and `0` the lower one; of two outputs the greater one.
     pub fn row_cmp(&self, other: &Cube) -> Ordering
         requires { SameSize self.now other.now }
         ensures { result ≡ row_order self.now other.now }
     {
-        match self.symbols_cmp(other) {
-            Ordering::Equal => self.outputs_cmp(other),
-            order => order,
+        let outputs_start = input_words(self.shape);
+        let mine = self.words();
+        let Some(at) = first_difference(mine, other.words()) else {
+            return Ordering::Equal;
+        };
+        let is_input = at / 64 < outputs_start;
+        if has_bit(mine, at) {
+            if is_input {
+                Ordering::Less
+            } else {
+                Ordering::Greater
+            }
+        } else if is_input {
+            Ordering::Greater
+        } else {
+            Ordering::Less
         }
     }
 
@@ -488,33 +502,6 @@ impl Cube {
     {
         let (mine, theirs) = (self.shape(), other.shape());
         mine.inputs() == theirs.inputs() && mine.outputs() == theirs.outputs()
-    }
-
-    // By the symbols from the first on. The one that has the first bit that differs comes first:
-    // `-` has two, and `0` the lower one.
-    fn symbols_cmp(&self, other: &Cube) -> Ordering
-        requires { SameSize self.now other.now }
-        ensures { result ≡ slice_cmp symbol_cmp self.now.symbols other.now.symbols }
-    {
-        let mine = self.input_part();
-        match first_difference(mine, other.input_part()) {
-            None => Ordering::Equal,
-            Some(at) if has_bit(mine, at) => Ordering::Less,
-            Some(_) => Ordering::Greater,
-        }
-    }
-
-    // By the outputs from the first on.
-    fn outputs_cmp(&self, other: &Cube) -> Ordering
-        requires { SameSize self.now other.now }
-        ensures { result ≡ slice_cmp bool_cmp self.now.outputs other.now.outputs }
-    {
-        let mine = self.output_part();
-        match first_difference(mine, other.output_part()) {
-            None => Ordering::Equal,
-            Some(at) if has_bit(mine, at) => Ordering::Greater,
-            Some(_) => Ordering::Less,
-        }
     }
 
     /// The complete sum of the places that are in this cube and not in the other: all cubes that

@@ -63,6 +63,12 @@ pub(crate) fn zip_words<F: Fn(usize, u64, u64) -> u64>(
         → F.post op k (slice_index a.now k) (slice_index b.now k) (slice_index v.items k)) }
     ensures inline { length a.now ≤ 4 → IsOk result }
 {
+    if a.len() == 2 {
+        let mut words = SmallVec::new(alloc);
+        words.push_reserved(op(0, a[0], b[0]));
+        words.push_reserved(op(1, a[1], b[1]));
+        return Ok(words);
+    }
     let mut words = SmallVec::with_capacity(alloc, a.len())?;
     for k in 0..a.len() {
         words.push_reserved(op(k, a[k], b[k]));
@@ -70,8 +76,24 @@ pub(crate) fn zip_words<F: Fn(usize, u64, u64) -> u64>(
     Ok(words)
 }
 
-/// The words again. Few are put in their places one by one, which is quicker than a copy by length.
+/// The words again. Two, as most cubes have, are put in their places without a loop or a call.
 pub(crate) fn copied_words(alloc: Global, words: &[u64]) -> Result<SmallVec<u64, 4>, AllocError>
+    ensures value { IfOk result (λ v. v.items ≡ words.now) }
+    ensures inline { length words.now ≤ 4 → IsOk result }
+{
+    if words.len() == 2 {
+        let mut copy = SmallVec::new(alloc);
+        copy.push_reserved(words[0]);
+        copy.push_reserved(words[1]);
+        return Ok(copy);
+    }
+    copied_words_of_any_number(alloc, words)
+}
+
+// The words again, however many. Few are put in their places one by one, which is quicker than a
+// copy by length.
+#[inline(never)]
+fn copied_words_of_any_number(alloc: Global, words: &[u64]) -> Result<SmallVec<u64, 4>, AllocError>
     ensures value { IfOk result (λ v. v.items ≡ words.now) }
     ensures inline { length words.now ≤ 4 → IsOk result }
 {

@@ -45,17 +45,24 @@ left_sum-returns-then-hold_everything t c =
 
 pub left_sum-returns-in-Some : goal.left_sum-returns-in-Some
 left_sum-returns-in-Some t c =
-    subst (λ found. IfSome found (λ rows. rows.items ≡ complete_sum c.args.shape (difference (places c.deref-5.result.now) (places c.deref-6.result.now)))) c.in-Some.is c.in_ok-sum.ensures
+    complete_sum-no_outer c.args.shape c.in-Some.sum.items c.args.minuend.items c.args.subtrahend.items
+    (nothing_left c.args.subtrahend.items (sym c.args.subtrahend.ok.0 ∙ eqb-true (vec_len c.args.subtrahend) 0 (sym c.is_empty-2.ensures ∙ c.if-is_empty-2.true)))
+    (subst (λ found. IfSome found (λ sum. sum.items ≡ complete_sum c.args.shape (places c.deref-then-is_empty-2.result.now))) c.in-Some.is c.in_ok-sum.ensures
+    ∙ ap (λ l. complete_sum c.args.shape (places l)) c.deref-then-is_empty-2.ensures.value)
+
+pub left_sum-returns-in-Some-2 : goal.left_sum-returns-in-Some-2
+left_sum-returns-in-Some-2 t c =
+    subst (λ found. IfSome found (λ rows. rows.items ≡ complete_sum c.args.shape (difference (places c.deref-5.result.now) (places c.deref-6.result.now)))) c.in-Some-2.is c.in_ok-sum-2.ensures
     ∙ sum_of_lists c.args.shape c.deref-5.result.now c.args.minuend.items c.deref-6.result.now c.args.subtrahend.items c.deref-5.ensures.value c.deref-6.ensures.value
 
 pub left_sum-keep-requires : goal.left_sum-keep-requires
 left_sum-keep-requires t c =
-    c.deref-9.ensures.value ∙ c.in_ok-sum-2.ensures
+    c.deref-9.ensures.value ∙ c.in_ok-sum-3.ensures
     ∙ sum_of_lists c.args.shape c.deref-7.result.now c.args.minuend.items c.deref-8.result.now c.args.subtrahend.items c.deref-7.ensures.value c.deref-8.ensures.value
 
 pub left_sum-returns : goal.left_sum-returns
 left_sum-returns t c =
-    c.in_ok-sum-2.ensures
+    c.in_ok-sum-3.ensures
     ∙ sum_of_lists c.args.shape c.deref-7.result.now c.args.minuend.items c.deref-8.result.now c.args.subtrahend.items c.deref-7.ensures.value c.deref-8.ensures.value
 
 pub split_sum-sum_between-requires : goal.split_sum-sum_between-requires

@@ -1,5 +1,5 @@
 use Rattle.std.proofs.Common.{◌≡◌, ◌≤◌, take, length}
-use Rattle.cube.proofs.words.copied_words.Given as goal
+use Rattle.cube.proofs.words.copied_words_of_any_number.Given as goal
 
 abbrev pub invariant-loop-k : goal.invariant-loop-k
 invariant-loop-k l = (l.copy.items ≡ take l.k l.words) × (length l.words ≤ l.copy.capacity)
