@@ -469,11 +469,13 @@ def pair_cases():
         yield f"verify-{inputs}-inputs-half", pair_case(["-Dverify"], half, 0.27)
         yield f"verify-{inputs}-inputs", pair_case(["-Dverify"], whole, 0.27)
         yield f"verify-{inputs}-inputs-beside-cec", beside_cec(whole)
-    yield "verify-shuffled", pair_case(
-        ["-Dverify"],
-        lambda: (write("rows-10000.pla", pla(30, 4, random_rows(10 ** 4, 30, 4, 3))),
-                 write("rows-10000-shuffled.pla", pla(30, 4, shuffled(random_rows(10 ** 4, 30, 4, 3), 9)))),
-        None)
+    for count, goal in ((10 ** 4, None), (10 ** 6, 2)):
+        yield f"verify-shuffled-{count}", pair_case(
+            ["-Dverify"],
+            lambda count=count: (
+                write(f"rows-30-{count}.pla", pla(30, 4, random_rows(count, 30, 4, 3))),
+                write(f"rows-30-{count}-shuffled.pla", pla(30, 4, shuffled(random_rows(count, 30, 4, 3), 9)))),
+            goal)
     for command in ("sharp", "intersect"):
         yield f"{command}-random", pair_case(
             [f"-D{command}"],

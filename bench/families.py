@@ -223,7 +223,7 @@ def for_verify():
                "half of the leaves of a random decision tree of 64 inputs; against the same cut into twice as many",
                (250, 500, 1000, 2000, 4000, 8000, 16000, 32000), leaves_label, lambda n: leaves_cut(64, n)),
         family("random cubes", "30 inputs and four outputs; against the same in another order",
-               (100, 300, 1000, 3000, 10000, 30000, 100000), cubes_label, shuffled_cubes),
+               (100, 300, 1000, 3000, 10000, 30000, 100000, 300000), cubes_label, shuffled_cubes),
         *(family(name, f"{told}; against the same in larger cubes of one output each", sizes, label,
                  lambda n, name=name, make=make: points_and_joined(f"{name}-{n}", make(n)))
           for name, told, sizes, label, make in points),

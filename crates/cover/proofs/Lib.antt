@@ -9,6 +9,7 @@ pub mod SumRows
 pub mod Regions
 pub mod LiteralCounting
 pub mod Reasons
+pub mod EqualRows
 pub mod Everywhere
 pub mod ContainmentLemmas
 pub mod Agreement

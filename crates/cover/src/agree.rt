@@ -3,6 +3,7 @@ ghost use Rattle.std.specs.Prelude.{◌≡◌, ◌↔◌, ◌||◌, IsTrue, IfOk
 ghost use Rattle.cube.specs.Cube.{IsSubset};
 ghost use Rattle.cover.specs.Places.{places, agree_outside as agree_outside_of};
 
+use crate::equal_rows::rows_not_among;
 use crate::list::Cover;
 use crate::pairwise::{Relation, are_related};
 use crate::tautology::lent;
@@ -23,18 +24,20 @@ fn is_within_either(list: &Cover, other: &Cover, free: &Cover) -> Result<bool, A
     let mut all = lent(free)?;
     let mut others = lent(other)?;
     all.append(&mut others)?;
+    let rest = rows_not_among(alloc, shape, &rows, &all)?;
     are_related(
         alloc,
         shape,
         Relation::Contained,
         shape.inputs(),
-        &rows,
+        &rest,
         &all,
     )
 }
 
 /// Whether the lists agree outside `free`: each place that is in no cube of `free` is in both
-/// lists or in neither (equivalence modulo don't-cares).
+/// lists or in neither (equivalence modulo don't-cares). Rows that both lists have, in any order,
+/// take time in the lengths of the lists.
 pub fn agree_outside(list: &Cover, other: &Cover, free: &Cover) -> Result<bool, AllocError>
     requires other { other.now.size ≡ list.now.size }
     requires free { free.now.size ≡ list.now.size }

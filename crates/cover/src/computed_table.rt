@@ -202,8 +202,8 @@ fn list_hash(shape: Shape, rows: &[Cube], seed: u64) -> u64 {
     hash
 }
 
-// A number of a row and a seed: for one seed equal rows give equal numbers, and others hardly ever.
-fn row_hash(shape: Shape, row: &Cube, seed: u64) -> u64 {
+/// A number of a row and a seed: for one seed equal rows give equal numbers, and others hardly ever.
+pub(crate) fn row_hash(shape: Shape, row: &Cube, seed: u64) -> u64 {
     let mut hash = seed;
     for w in 0..(shape.inputs() / 32).max(shape.outputs() / 64) + 1 {
         hash = mix(mix(hash ^ row.literal_bits(w)) ^ row.output_bits(w));

@@ -31,6 +31,7 @@ mod cofactor;
 mod computed_table;
 mod containment;
 mod cube_in_cover;
+mod equal_rows;
 mod list;
 mod literal_counts;
 mod pairwise;
