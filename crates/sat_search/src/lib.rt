@@ -1,0 +1,47 @@
+//! A search for a point that none of many sets of literals forbids: conflict-driven clause
+//! learning. It owes nothing, and whatever it answers can be looked at.
+//!
+//! A variable is a number from 0 on. A literal is twice its variable, and one more if it says that
+//! the variable is false. A nogood is a set of literals that must not all be true; inside, it is
+//! the clause of their negations. [`Search::ask`] answers a [`Answer::Point`] at which all
+//! assumptions are true and no nogood is, or a [`Refutation`]: further nogoods, each with those
+//! that show it, the last of which has literals of the assumptions alone. Who asks looks at the
+//! answer before it is used: a poor one costs time alone. All places are looked at before they are
+//! read and no sum wraps, so no call has a precondition. The crate is proved to be safe and to
+//! end, and nothing more.
+//!
+//! 1. Propagation: a clause with one literal left that is not false sets it. It watches two of its
+//!    literals (Moskewicz, Madigan, Zhao, Zhang and Malik, Chaff: engineering an efficient SAT
+//!    solver, 2001).
+//! 2. Analysis: from a clause that is false a new one is learned, at the first point through which
+//!    all of the last level goes (Marques-Silva and Sakallah, GRASP: a new search algorithm for
+//!    satisfiability, 1996). It is made smaller by what follows from the rest of it (Soerensson and
+//!    Biere, Minimizing learned clauses, 2009).
+//! 3. Hints: the clauses by which the new one is seen, in the order in which they set literals
+//!    (Cruz-Filipe, Heule, Hunt, Kaufmann and Schneider-Kamp, Efficient certified RAT verification,
+//!    2017).
+//! 4. Order: the variable with most part in recent conflicts is decided, as it was set last.
+//! 5. Restarts by Luby's sequence. Now and then half of the learned clauses is no longer watched,
+//!    those with literals of most levels (Audemard and Simon, Predicting learnt clauses quality in
+//!    modern SAT solvers, 2009).
+//! 6. Assumptions are decided first, so that what is learned follows from the nogoods alone and
+//!    serves each later question (Een and Soerensson, An extensible SAT-solver, 2003).
+#![tactic(auto)]
+
+mod analysis;
+mod assignment;
+mod assumptions;
+mod clauses;
+mod hints;
+mod lists;
+mod minimisation;
+mod numbers;
+mod order;
+mod propagation;
+mod refutation;
+mod restarts;
+mod search;
+mod watches;
+
+pub use refutation::Refutation;
+pub use search::{Answer, Limits, Search};

@@ -1,0 +1,88 @@
+//! Lists of numbers, in one piece of memory.
+
+use crate::numbers::{at, put, small};
+use std::alloc::{AllocError, Global};
+
+/// Lists of numbers, one after the other: where each ends, and all numbers.
+#[derive(Drop)]
+pub(crate) struct Lists {
+    ends: Vec<u32>,
+    numbers: Vec<u32>,
+}
+
+impl Lists {
+    /// No list.
+    pub(crate) fn new(alloc: Global) -> Lists {
+        Lists {
+            ends: Vec::new(alloc),
+            numbers: Vec::new(alloc),
+        }
+    }
+
+    /// Adds a number to the list that is not ended yet.
+    pub(crate) fn push(&mut self, number: u32) -> Result<(), AllocError> {
+        self.numbers.push(number)?;
+        Ok(())
+    }
+
+    /// Ends the list; the next number begins another one.
+    pub(crate) fn end(&mut self) -> Result<(), AllocError> {
+        self.ends.push(small(self.numbers.len()))?;
+        Ok(())
+    }
+
+    /// Adds a list.
+    pub(crate) fn push_list(&mut self, numbers: &[u32]) -> Result<(), AllocError> {
+        for number in numbers {
+            self.numbers.push(*number)?;
+        }
+        self.end()
+    }
+
+    /// How many lists there are.
+    pub(crate) fn len(&self) -> usize {
+        self.ends.len()
+    }
+
+    /// How many numbers they have.
+    pub(crate) fn size(&self) -> usize {
+        self.numbers.len()
+    }
+
+    /// The place at which a list begins.
+    pub(crate) fn begin_of(&self, list: u32) -> u32 {
+        match list.checked_sub(1) {
+            Some(before) => at(&self.ends, before),
+            None => 0,
+        }
+    }
+
+    /// The place at which it ends.
+    pub(crate) fn end_of(&self, list: u32) -> u32 {
+        at(&self.ends, list)
+    }
+
+    /// A list, empty if there is none.
+    pub(crate) fn list(&self, list: u32) -> &[u32] {
+        let begin = self.begin_of(list) as usize;
+        let end = self.end_of(list) as usize;
+        if begin <= end && end <= self.numbers.len() {
+            &self.numbers[begin..end]
+        } else {
+            &[]
+        }
+    }
+
+    /// The number at a place.
+    pub(crate) fn number(&self, place: u32) -> u32 {
+        at(&self.numbers, place)
+    }
+
+    /// Exchanges the numbers at two places.
+    pub(crate) fn swap(&mut self, one: u32, other: u32) {
+        let mine = at(&self.numbers, one);
+        let theirs = at(&self.numbers, other);
+        put(&mut self.numbers, one, theirs);
+        put(&mut self.numbers, other, mine);
+    }
+}

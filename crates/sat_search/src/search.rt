@@ -1,0 +1,221 @@
+//! The search.
+
+use crate::analysis::Analysis;
+use crate::assignment::{Assignment, Value};
+use crate::clauses::Clauses;
+use crate::numbers::{NONE, at, put, small};
+use crate::order::Order;
+use crate::refutation::Refutation;
+use crate::restarts::Pace;
+use crate::watches::Watches;
+use std::alloc::{AllocError, Global};
+
+/// What a search answers.
+#[derive(Drop)]
+pub enum Answer {
+    /// The literals of all variables at a point that no nogood forbids.
+    Point(Vec<u32>),
+    /// The assumptions forbid each point that the nogoods leave.
+    Refutation(Refutation),
+    /// Nothing within the limits.
+    Unknown,
+}
+
+/// How much a question may take.
+#[derive(Clone, Copy)]
+pub struct Limits {
+    /// How many watches are looked at.
+    pub steps: u64,
+    /// How many numbers the search keeps of clauses and hints, with those of earlier questions.
+    pub size: usize,
+}
+
+// What comes of a decision.
+#[derive(Clone, Copy)]
+pub(crate) enum Decision {
+    // A literal was set.
+    Made,
+    // This literal is true, and an assumption says that it is false.
+    Failed(u32),
+    // All literals are set.
+    Full,
+}
+
+/// Nogoods, what was learned of them, and what is set.
+///
+/// It keeps what it learned as long as it lives, since that is what shows what it learns later. A
+/// number is of four bytes, and a clause has some ten beside its literals and hints; [`Limits`]
+/// says how many there may be.
+#[derive(Drop)]
+pub struct Search {
+    pub(crate) alloc: Global,
+    pub(crate) clauses: Clauses,
+    pub(crate) watches: Watches,
+    pub(crate) now: Assignment,
+    pub(crate) order: Order,
+    // By variable: whether it was false when it was set last.
+    pub(crate) phases: Vec<bool>,
+    // By variable: the clause of one literal that sets it.
+    pub(crate) units: Vec<u32>,
+    // How many literals of the trail have such a clause.
+    pub(crate) settled: usize,
+    // By clause: under which name it is known to who asks.
+    pub(crate) names: Vec<u32>,
+    pub(crate) analysis: Analysis,
+    // The clause without a literal, once there is one.
+    pub(crate) contradiction: u32,
+    pub(crate) pace: Pace,
+    // How many watches were looked at.
+    pub(crate) steps: u64,
+}
+
+impl Search {
+    /// A search over so many variables, without nogoods.
+    pub fn new(alloc: Global, variables: usize) -> Result<Search, AllocError> {
+        Ok(Search {
+            alloc,
+            clauses: Clauses::new(alloc),
+            watches: Watches::new(alloc, variables)?,
+            now: Assignment::new(alloc, variables)?,
+            order: Order::new(alloc, variables)?,
+            phases: vec![in alloc; false; variables]?,
+            units: vec![in alloc; NONE; variables]?,
+            settled: 0,
+            names: Vec::new(alloc),
+            analysis: Analysis::new(alloc, variables)?,
+            contradiction: NONE,
+            pace: Pace::new(),
+            steps: 0,
+        })
+    }
+
+    /// Adds a nogood under a name, before the first question. Each of its variables is there, and
+    /// stands there once.
+    pub fn add_nogood(&mut self, literals: &[u32], name: u32) -> Result<(), AllocError> {
+        self.analysis.learned.clear();
+        for literal in literals {
+            self.order.weigh(*literal / 2);
+            self.analysis.learned.push(*literal ^ 1)?;
+        }
+        let clause = self.clauses.give(&self.analysis.learned)?;
+        self.watches.watch(clause, &self.analysis.learned)?;
+        self.names.push(name)?;
+        Ok(())
+    }
+
+    /// Begins, once all nogoods are there.
+    pub fn begin(&mut self) -> Result<(), AllocError> {
+        for variable in 0..small(self.phases.len()) {
+            self.order.add(variable)?;
+            self.begin_phase(variable);
+        }
+        for clause in 0..self.clauses.given {
+            let count = self.clauses.of(clause).len();
+            if count == 0 {
+                self.contradiction = clause;
+            }
+            if count == 1 {
+                self.begin_unit(clause)?;
+            }
+        }
+        Ok(())
+    }
+
+    // The literal of a variable that stands in more clauses is tried first. The other one came to
+    // fewer conflicts on pigeonholes, and took twenty times as long to find one place where two
+    // lists of 300 inputs differ.
+    fn begin_phase(&mut self, variable: u32) {
+        let literal = variable.saturating_mul(2);
+        let negated = self.watches.count(literal) < self.watches.count(literal ^ 1);
+        self.put_phase(variable, negated);
+    }
+
+    pub(crate) fn put_phase(&mut self, variable: u32, negated: bool) {
+        let place = variable as usize;
+        if place < self.phases.len() {
+            self.phases[place] = negated;
+        }
+    }
+
+    // Sets the literal of a clause that has no other.
+    fn begin_unit(&mut self, clause: u32) -> Result<(), AllocError> {
+        let literal = at(self.clauses.of(clause), 0);
+        match self.now.value(literal) {
+            Value::True => (),
+            Value::False => {
+                if self.contradiction == NONE {
+                    self.contradict(clause)?;
+                }
+            }
+            Value::Open => {
+                self.now.set(literal, clause)?;
+                self.settle()?;
+            }
+        }
+        Ok(())
+    }
+
+    /// How many numbers it keeps of clauses and hints.
+    pub fn size(&self) -> usize {
+        self.clauses.size()
+    }
+
+    /// Looks for a point at which all assumptions are true and no nogood is. The first nogood of a
+    /// refutation gets this name, and the others those after it.
+    pub fn ask(
+        &mut self,
+        assumptions: &[u32],
+        limits: Limits,
+        name: u32,
+    ) -> Result<Answer, AllocError> {
+        self.back_to(0)?;
+        let last = self.steps.saturating_add(limits.steps);
+        for _ in 0..u64::MAX {
+            if self.contradiction != NONE {
+                return self.refutation_of(self.contradiction, name);
+            }
+            let conflict = self.propagate()?;
+            if conflict != NONE {
+                self.take_conflict(conflict)?;
+                continue;
+            }
+            self.begin_anew()?;
+            if self.steps > last || self.clauses.size() > limits.size {
+                break;
+            }
+            match self.decide(assumptions)? {
+                Decision::Made => (),
+                Decision::Full => return Ok(Answer::Point(self.now.trail.to_vec(self.alloc)?)),
+                Decision::Failed(literal) => {
+                    let clause = self.learn_assumptions(literal)?;
+                    return self.refutation_of(clause, name);
+                }
+            }
+        }
+        Ok(Answer::Unknown)
+    }
+
+    // Learns from a clause that is false, or sees that no point is left.
+    fn take_conflict(&mut self, conflict: u32) -> Result<(), AllocError> {
+        self.pace.count_conflict();
+        if self.now.level() == 0 {
+            self.settle()?;
+            self.contradict(conflict)
+        } else {
+            self.learn(conflict)
+        }
+    }
+
+    // Keeps what is learned as a clause.
+    pub(crate) fn add_learned(&mut self) -> Result<u32, AllocError> {
+        self.names.push(NONE)?;
+        let conflicts = self.pace.conflict_count();
+        self.clauses
+            .learn(&self.analysis.learned, &self.analysis.hints, conflicts)
+    }
+
+    // Notes that a clause has this name.
+    pub(crate) fn put_name(&mut self, clause: u32, name: u32) {
+        put(&mut self.names, clause, name);
+    }
+}

@@ -1,0 +1,77 @@
+//! Which clauses watch a literal (Moskewicz et al. 2001).
+
+use crate::numbers::at;
+use std::alloc::{AllocError, Global};
+use std::mem::replace;
+
+/// A clause that watches a literal, and another literal of it: if that one is true, the clause
+/// needs no look (Een and Sorensson, An extensible SAT-solver, 2003).
+#[derive(Clone, Copy)]
+pub(crate) struct Watch {
+    pub(crate) clause: u32,
+    pub(crate) other: u32,
+}
+
+/// The watches of all literals.
+#[derive(Drop)]
+pub(crate) struct Watches {
+    by_literal: Vec<Vec<Watch>>,
+}
+
+impl Watches {
+    pub(crate) fn new(alloc: Global, variables: usize) -> Result<Watches, AllocError> {
+        let mut by_literal = Vec::new(alloc);
+        for _ in 0..variables.saturating_mul(2) {
+            by_literal.push(Vec::new(alloc))?;
+        }
+        Ok(Watches { by_literal })
+    }
+
+    /// Adds a watch of a literal.
+    pub(crate) fn push(&mut self, literal: u32, watch: Watch) -> Result<(), AllocError> {
+        if let Some(list) = self.by_literal.get_mut(literal as usize) {
+            list.push(watch)?;
+        }
+        Ok(())
+    }
+
+    /// Lets a clause watch its first two literals.
+    pub(crate) fn watch(&mut self, clause: u32, literals: &[u32]) -> Result<(), AllocError> {
+        if literals.len() > 1 {
+            let (one, other) = (literals[0], literals[1]);
+            self.push(one, Watch { clause, other })?;
+            self.push(other, Watch { clause, other: one })?;
+        }
+        Ok(())
+    }
+
+    /// Takes out the list of a literal.
+    pub(crate) fn take(&mut self, alloc: Global, literal: u32) -> Vec<Watch> {
+        match self.by_literal.get_mut(literal as usize) {
+            Some(list) => replace(list, Vec::new(alloc)),
+            None => Vec::new(alloc),
+        }
+    }
+
+    /// Puts it back.
+    pub(crate) fn put(&mut self, literal: u32, watches: Vec<Watch>) {
+        if let Some(list) = self.by_literal.get_mut(literal as usize) {
+            *list = watches;
+        }
+    }
+
+    /// How many clauses watch a literal.
+    pub(crate) fn count(&self, literal: u32) -> usize {
+        match self.by_literal.get(literal as usize) {
+            Some(list) => list.len(),
+            None => 0,
+        }
+    }
+
+    /// Takes out the clauses whose distance is 0.
+    pub(crate) fn forget(&mut self, distances: &[u32]) {
+        for list in self.by_literal.iter_mut() {
+            list.retain(|watch| at(distances, watch.clause) != 0);
+        }
+    }
+}

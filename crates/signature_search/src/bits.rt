@@ -1,0 +1,275 @@
+//! Sets of bits as words, and the input parts of cubes as words of literals.
+
+use std::alloc::{AllocError, Global};
+
+/// The literals of a cube at 64 inputs: a bit for each that has `0`, and a bit for each with `1`.
+#[derive(Clone, Copy)]
+pub(crate) struct Literals {
+    pub(crate) zeros: u64,
+    pub(crate) ones: u64,
+}
+
+impl Literals {
+    pub(crate) const NONE: Literals = Literals { zeros: 0, ones: 0 };
+
+    /// The inputs that have a literal.
+    pub(crate) fn inputs(self) -> u64 {
+        self.zeros | self.ones
+    }
+
+    /// The inputs at which both have literals that differ.
+    pub(crate) fn opposites(self, other: Literals) -> u64 {
+        (self.zeros & other.ones) | (self.ones & other.zeros)
+    }
+
+    /// The inputs at which both have the same literal.
+    pub(crate) fn agreements(self, other: Literals) -> u64 {
+        (self.zeros & other.zeros) | (self.ones & other.ones)
+    }
+
+    /// The literals of both.
+    pub(crate) fn meet(self, other: Literals) -> Literals {
+        Literals {
+            zeros: self.zeros | other.zeros,
+            ones: self.ones | other.ones,
+        }
+    }
+
+    /// The literals at these inputs alone.
+    pub(crate) fn at(self, inputs: u64) -> Literals {
+        Literals {
+            zeros: self.zeros & inputs,
+            ones: self.ones & inputs,
+        }
+    }
+}
+
+/// Whether the cubes share a point.
+pub(crate) fn meets(a: &[Literals], b: &[Literals]) -> bool {
+    for (one, other) in a.iter().zip(b.iter()) {
+        if one.opposites(*other) != 0 {
+            return false;
+        }
+    }
+    true
+}
+
+/// Whether each literal of the first is one of the second.
+pub(crate) fn contains(a: &[Literals], b: &[Literals]) -> bool {
+    for (one, other) in a.iter().zip(b.iter()) {
+        if (one.zeros & !other.zeros) | (one.ones & !other.ones) != 0 {
+            return false;
+        }
+    }
+    true
+}
+
+/// Whether there is a literal.
+pub(crate) fn has_literal(row: &[Literals]) -> bool {
+    row.iter().any(|word| word.inputs() != 0)
+}
+
+/// How many literals there are.
+pub(crate) fn literal_count(row: &[Literals]) -> u32 {
+    let mut count: u32 = 0;
+    for word in row {
+        count = count.wrapping_add(word.inputs().count_ones());
+    }
+    count
+}
+
+/// Adds the literals of the other cube.
+pub(crate) fn narrow_to(row: &mut Vec<Literals>, other: &[Literals]) {
+    for (word, more) in row.iter_mut().zip(other.iter()) {
+        *word = word.meet(*more);
+    }
+}
+
+/// Adds a cube's literals without those at the inputs of another cube. Whether one is left.
+pub(crate) fn push_freed(
+    rows: &mut Vec<Literals>,
+    row: &[Literals],
+    other: &[Literals],
+) -> Result<bool, AllocError> {
+    let mut left: u64 = 0;
+    for (word, free) in row.iter().zip(other.iter()) {
+        let rest = word.at(!free.inputs());
+        left |= rest.inputs();
+        rows.push(rest)?;
+    }
+    Ok(left != 0)
+}
+
+/// The words at a place, none past the end.
+pub(crate) fn row_at<T>(rows: &[T], begin: usize, width: usize) -> &[T] {
+    let end = begin.saturating_add(width);
+    if begin <= end && end <= rows.len() {
+        &rows[begin..end]
+    } else {
+        &[]
+    }
+}
+
+/// The words from a place on.
+pub(crate) fn tail<T>(rows: &[T], begin: usize) -> &[T] {
+    if begin <= rows.len() {
+        &rows[begin..]
+    } else {
+        &[]
+    }
+}
+
+/// The literal at an input: whether it has one, and which.
+pub(crate) fn literal_at(row: &[Literals], input: usize) -> Option<bool> {
+    let bit = 1 << (input % 64);
+    let word = row.get(input / 64)?;
+    if word.ones & bit != 0 {
+        Some(true)
+    } else if word.zeros & bit != 0 {
+        Some(false)
+    } else {
+        None
+    }
+}
+
+/// Gives an input a literal, in place of any other.
+pub(crate) fn put_literal(row: &mut Vec<Literals>, input: usize, one: bool) {
+    let bit = 1 << (input % 64);
+    if let Some(word) = row.get_mut(input / 64) {
+        let mut rest = word.at(!bit);
+        if one {
+            rest.ones |= bit;
+        } else {
+            rest.zeros |= bit;
+        }
+        *word = rest;
+    }
+}
+
+/// Takes away the literal of an input.
+pub(crate) fn free_input(row: &mut Vec<Literals>, input: usize) {
+    if let Some(word) = row.get_mut(input / 64) {
+        *word = word.at(!(1 << (input % 64)));
+    }
+}
+
+/// Whether there is a bit at a place.
+pub(crate) fn has_bit(words: &[u64], place: usize) -> bool {
+    match words.get(place / 64) {
+        Some(word) => *word >> (place % 64) & 1 != 0,
+        None => false,
+    }
+}
+
+/// Puts a bit at a place.
+pub(crate) fn put_bit(words: &mut Vec<u64>, place: usize) {
+    if let Some(word) = words.get_mut(place / 64) {
+        *word |= 1 << (place % 64);
+    }
+}
+
+/// Whether each bit of the first is in the second.
+pub(crate) fn is_within(a: &[u64], b: &[u64]) -> bool {
+    for (one, other) in a.iter().zip(b.iter()) {
+        if *one & !*other != 0 {
+            return false;
+        }
+    }
+    true
+}
+
+/// Whether some bit is in both.
+pub(crate) fn share_bit(a: &[u64], b: &[u64]) -> bool {
+    for (one, other) in a.iter().zip(b.iter()) {
+        if *one & *other != 0 {
+            return true;
+        }
+    }
+    false
+}
+
+/// How many bits there are.
+pub(crate) fn bit_count(words: &[u64]) -> u32 {
+    let mut count: u32 = 0;
+    for word in words {
+        count = count.wrapping_add(word.count_ones());
+    }
+    count
+}
+
+/// Adds the bits of others.
+pub(crate) fn join_bits(words: &mut Vec<u64>, others: &[u64]) {
+    for (word, more) in words.iter_mut().zip(others.iter()) {
+        *word |= *more;
+    }
+}
+
+/// The places of the bits, the least first.
+pub(crate) fn places_of(alloc: Global, words: &[u64]) -> Result<Vec<usize>, AllocError> {
+    let mut places: Vec<usize> = Vec::new(alloc);
+    for place in 0..words.len().saturating_mul(64) {
+        if has_bit(words, place) {
+            places.push(place)?;
+        }
+    }
+    Ok(places)
+}
+
+/// Counts the inputs of a word, the first of which has this number.
+fn count_inputs(word: u64, first: usize, counts: &mut Vec<u32>) {
+    let mut rest = word;
+    for _ in 0..word.count_ones() {
+        let place = first.wrapping_add(rest.trailing_zeros() as usize);
+        if let Some(count) = counts.get_mut(place) {
+            *count = count.wrapping_add(1);
+        }
+        rest &= rest.wrapping_sub(1);
+    }
+}
+
+/// Counts the literals of a cube by input.
+pub(crate) fn count_literals_of(row: &[Literals], zeros: &mut Vec<u32>, ones: &mut Vec<u32>) {
+    for (k, word) in row.iter().enumerate() {
+        let first = k.wrapping_mul(64);
+        count_inputs(word.zeros, first, zeros);
+        count_inputs(word.ones, first, ones);
+    }
+}
+
+/// The count at a place.
+pub(crate) fn count_at(counts: &[u32], place: usize) -> u32 {
+    match counts.get(place) {
+        Some(count) => *count,
+        None => 0,
+    }
+}
+
+/// None, one, or more of something.
+#[derive(Clone, Copy, PartialEq)]
+pub(crate) enum Few {
+    None,
+    One,
+    Many,
+}
+
+impl Few {
+    /// With as many as the word has bits.
+    pub(crate) fn with(self, word: u64) -> Few {
+        if word == 0 {
+            self
+        } else if self == Few::None && word & word.wrapping_sub(1) == 0 {
+            Few::One
+        } else {
+            Few::Many
+        }
+    }
+}
+
+/// How many bits there are.
+pub(crate) fn few_bits(words: &[u64]) -> Few {
+    let mut few = Few::None;
+    for word in words {
+        few = few.with(*word);
+    }
+    few
+}

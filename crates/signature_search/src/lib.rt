@@ -1,0 +1,93 @@
+//! Places whose signature cubes are maximal: a search that owes nothing, and whose answers can be
+//! looked at.
+//!
+//! The signature cube of a place is the meet of all primes that hold it (McGeer, Sanghavi, Brayton
+//! and Sangiovanni-Vincentelli, Espresso-Signature: a new exact minimizer for logic functions,
+//! 1993). A cover that holds one place of each maximal signature cube holds all wanted places, and
+//! there are far fewer such cubes than primes. [`signature_places`] answers a place for each that it
+//! finds; who calls it looks whether they are enough. It is proved to be safe and to end, and
+//! nothing more.
+//!
+//! 1. Each ON cube as it stands: its signature cube is taken if it has a place of its own.
+//! 2. What no signature cube holds yet, place by place: the largest cube between the place and an
+//!    ON cube whose signature cube has a place of its own, and from there larger ones.
+//! 3. Those that lie in others are left out.
+//!
+//! A signature cube costs a pass over all OFF cubes, and one question over the ON and DC cubes near
+//! it; a maximal one takes some tens of these.
+#![tactic(auto)]
+
+mod bits;
+mod blocking;
+mod climb;
+mod complement;
+mod descent;
+mod function;
+mod own_place;
+mod prime_list;
+mod question;
+mod rows;
+mod search;
+
+use crate::bits::has_bit;
+use crate::function::{Function, rows_of};
+use crate::question::Question;
+use crate::rows::words_for;
+use crate::search::Search;
+pub use rows::{Place, Rows};
+use std::alloc::{AllocError, Global};
+
+/// Wanted places, one for each maximal signature cube that is found, in any order.
+///
+/// The OFF rows hold all places that neither ON nor DC holds, and no other. With `samples` DC is
+/// all that neither ON nor OFF holds, and the DC rows are empty. After so many signature cubes no
+/// more are looked for.
+pub fn signature_places(
+    alloc: Global,
+    on: &Rows,
+    dc: &Rows,
+    off: &Rows,
+    samples: bool,
+    limit: usize,
+) -> Result<Vec<Place>, AllocError> {
+    let Some(function) = Function::new(alloc, on, dc, off, samples)? else {
+        return Ok(Vec::new(alloc));
+    };
+    Search::new(alloc, &function, None, limit)?.run(on)
+}
+
+/// As [`signature_places`], where the rows are all primes and no OFF rows are known. With `samples`
+/// wanted places lie in ON rows alone.
+pub fn places_by_primes(
+    alloc: Global,
+    on: &Rows,
+    dc: &Rows,
+    primes: &Rows,
+    samples: bool,
+    limit: usize,
+) -> Result<Vec<Place>, AllocError> {
+    let function = Function::without_off(alloc, on, dc, samples)?;
+    Search::new(alloc, &function, Some(primes), limit)?.run(on)
+}
+
+/// A place of the row that no row of the list holds, if one is found within the budget, a number
+/// of regions that are looked at.
+pub fn place_outside(
+    alloc: Global,
+    rows: &Rows,
+    row: usize,
+    list: &Rows,
+    budget: u64,
+) -> Result<Option<Place>, AllocError> {
+    let mut question = Question::new(alloc, words_for(rows.inputs()))?;
+    let mut left = budget;
+    for output in 0..rows.outputs() {
+        if has_bit(rows.raised(row), output) {
+            let held = rows_of(alloc, list, output)?;
+            if question.ask(rows.literals(row), &held, &mut left)? {
+                return Ok(Some(Place::of(alloc, question.answer(), output)?));
+            }
+        }
+    }
+    Ok(None)
+}

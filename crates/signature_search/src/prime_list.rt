@@ -1,0 +1,111 @@
+//! Signature cubes where all primes are known.
+//!
+//! The signature cube of a cube is the meet of the primes that contain it, and a place of it is its
+//! own if it lies in no other prime. This serves where the primes are few and the OFF cubes many.
+
+use crate::bits::{Literals, contains, has_bit, is_within, meets, narrow_to, push_freed};
+use crate::blocking::Blocking;
+use crate::own_place::{Finder, all_bits};
+use crate::rows::{Cube, Rows};
+use std::alloc::AllocError;
+
+/// Whether a prime contains the cube.
+fn holds(primes: &Rows, prime: usize, cube: &Cube) -> bool {
+    contains(primes.literals(prime), &cube.literals)
+        && is_within(&cube.outputs, primes.raised(prime))
+}
+
+/// Leaves the bits that are in both.
+fn meet_bits(words: &mut Vec<u64>, others: &[u64]) {
+    for (word, other) in words.iter_mut().zip(others.iter()) {
+        *word &= *other;
+    }
+}
+
+impl Finder<'_> {
+    /// The meet of the primes that contain the cube, and what may be left out of it. `None` if no
+    /// prime contains the cube.
+    pub(crate) fn meet_of_primes(
+        &self,
+        primes: &Rows,
+        cube: &Cube,
+    ) -> Result<Option<(Cube, Blocking)>, AllocError> {
+        let width = self.function.width;
+        let mut literals: Vec<Literals> = vec![in self.alloc; Literals::NONE; width]?;
+        let mut outputs = all_bits(self.alloc, self.function.outputs)?;
+        let mut found = false;
+        for prime in 0..primes.len() {
+            if holds(primes, prime, cube) {
+                found = true;
+                narrow_to(&mut literals, primes.literals(prime));
+                meet_bits(&mut outputs, primes.raised(prime));
+            }
+        }
+        if !found {
+            return Ok(None);
+        }
+        let rows = self.one_row(&literals, &outputs)?;
+        Ok(Some((Cube { literals, outputs }, rows)))
+    }
+
+    // All literals as a row, by themselves and with each output that is absent: each of them may be
+    // left out.
+    fn one_row(&self, literals: &[Literals], outputs: &[u64]) -> Result<Blocking, AllocError> {
+        let mut inputs: Vec<u64> = Vec::with_capacity(self.alloc, literals.len())?;
+        for word in literals {
+            inputs.push(word.inputs())?;
+        }
+        let mut rows = Blocking::new(self.alloc, self.function.width);
+        rows.push(&inputs, None)?;
+        for output in 0..self.function.outputs {
+            if !has_bit(outputs, output) {
+                rows.push(&inputs, Some(output))?;
+            }
+        }
+        Ok(rows)
+    }
+
+    /// Whether former answers lead to a place of the cube that lies in no other prime and in no DC
+    /// cube under this output, which the question then answers.
+    pub(crate) fn guess_by_primes(
+        &mut self,
+        primes: &Rows,
+        cube: &Cube,
+        output: usize,
+    ) -> Result<bool, AllocError> {
+        self.question.guess(&cube.literals)?;
+        let guess = self.question.answer();
+        for prime in 0..primes.len() {
+            if has_bit(primes.raised(prime), output)
+                && meets(primes.literals(prime), guess)
+                && !holds(primes, prime, cube)
+            {
+                return Ok(false);
+            }
+        }
+        let width = self.function.width.max(1);
+        let mut dc = self.function.dc(output).chunks_exact(width);
+        Ok(!dc.any(|row| meets(row, guess)))
+    }
+
+    /// Gathers the primes with the output that meet the cube and do not contain it. `false` if they
+    /// hold all of it under this output.
+    pub(crate) fn avoid_primes(
+        &mut self,
+        primes: &Rows,
+        cube: &Cube,
+        output: usize,
+    ) -> Result<bool, AllocError> {
+        for prime in 0..primes.len() {
+            let literals = primes.literals(prime);
+            if has_bit(primes.raised(prime), output)
+                && meets(literals, &cube.literals)
+                && !holds(primes, prime, cube)
+                && !push_freed(&mut self.list, literals, &cube.literals)?
+            {
+                return Ok(false);
+            }
+        }
+        Ok(true)
+    }
+}

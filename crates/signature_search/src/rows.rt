@@ -1,0 +1,209 @@
+//! The rows that a search is given, and the places that it answers.
+ghost use Rattle.std.specs.Prelude.{◌<◌};
+
+use crate::bits::{Literals, has_bit, literal_at, put_bit, row_at};
+use std::alloc::{AllocError, Global};
+
+/// How many words hold so many bits, one at least.
+pub(crate) fn words_for(bits: usize) -> usize
+    ensures { 0 < result }
+{
+    (bits / 64).saturating_add((bits % 64 != 0) as usize).max(1)
+}
+
+/// A list of cubes, each with its literals and its outputs.
+#[derive(Drop)]
+pub struct Rows {
+    inputs: usize,
+    outputs: usize,
+    literals: Vec<Literals>,
+    raised: Vec<u64>,
+}
+
+impl Rows {
+    /// No rows, of so many inputs and outputs.
+    pub fn new(alloc: Global, inputs: usize, outputs: usize) -> Rows {
+        Rows {
+            inputs,
+            outputs,
+            literals: Vec::new(alloc),
+            raised: Vec::new(alloc),
+        }
+    }
+
+    /// Begins a row, without literals and outputs.
+    pub fn open(&mut self) -> Result<(), AllocError> {
+        for _ in 0..words_for(self.inputs) {
+            self.literals.push(Literals::NONE)?;
+        }
+        for _ in 0..words_for(self.outputs) {
+            self.raised.push(0)?;
+        }
+        Ok(())
+    }
+
+    /// Gives the last row a literal. An input that is not there is ignored.
+    pub fn put_literal(&mut self, input: usize, one: bool) {
+        let begin = self.literals.len().saturating_sub(words_for(self.inputs));
+        if input >= self.inputs {
+            return;
+        }
+        if let Some(word) = self.literals.get_mut(begin.saturating_add(input / 64)) {
+            let bit = 1 << (input % 64);
+            let mut rest = word.at(!bit);
+            if one {
+                rest.ones |= bit;
+            } else {
+                rest.zeros |= bit;
+            }
+            *word = rest;
+        }
+    }
+
+    /// Gives the last row an output. An output that is not there is ignored.
+    pub fn put_output(&mut self, output: usize) {
+        let begin = self.raised.len().saturating_sub(words_for(self.outputs));
+        if output >= self.outputs {
+            return;
+        }
+        if let Some(word) = self.raised.get_mut(begin.saturating_add(output / 64)) {
+            *word |= 1 << (output % 64);
+        }
+    }
+
+    /// How many inputs there are.
+    pub fn inputs(&self) -> usize {
+        self.inputs
+    }
+
+    /// How many outputs there are.
+    pub fn outputs(&self) -> usize {
+        self.outputs
+    }
+
+    /// How many rows there are.
+    pub fn len(&self) -> usize {
+        self.literals.len() / words_for(self.inputs)
+    }
+
+    /// Whether there is none.
+    pub fn is_empty(&self) -> bool {
+        self.literals.is_empty()
+    }
+
+    /// The literals of a row.
+    pub(crate) fn literals(&self, row: usize) -> &[Literals] {
+        let width = words_for(self.inputs);
+        row_at(&self.literals, row.saturating_mul(width), width)
+    }
+
+    /// The outputs of a row.
+    pub(crate) fn raised(&self, row: usize) -> &[u64] {
+        let width = words_for(self.outputs);
+        row_at(&self.raised, row.saturating_mul(width), width)
+    }
+}
+
+/// A place: a point, and an output.
+#[derive(Drop)]
+pub struct Place {
+    ones: Vec<u64>,
+    output: usize,
+}
+
+impl Place {
+    /// A place of a cube, where the free inputs are 0.
+    pub(crate) fn of(
+        alloc: Global,
+        inside: &[Literals],
+        output: usize,
+    ) -> Result<Place, AllocError> {
+        let mut ones: Vec<u64> = Vec::with_capacity(alloc, inside.len())?;
+        for word in inside {
+            ones.push(word.ones)?;
+        }
+        Ok(Place { ones, output })
+    }
+
+    /// Whether an input is 1.
+    pub fn bit(&self, input: usize) -> bool {
+        has_bit(&self.ones, input)
+    }
+
+    /// The output.
+    pub fn output(&self) -> usize {
+        self.output
+    }
+}
+
+/// One step of a hash over words (Knuth, The art of computer programming, volume 3).
+fn mixed(number: u64, word: u64) -> u64 {
+    let next = (number ^ word).wrapping_mul(0x9E3779B97F4A7C15);
+    next ^ (next >> 29)
+}
+
+/// A cube by itself.
+#[derive(Drop)]
+pub(crate) struct Cube {
+    pub(crate) literals: Vec<Literals>,
+    pub(crate) outputs: Vec<u64>,
+}
+
+impl Cube {
+    /// These literals and outputs.
+    pub(crate) fn of(
+        alloc: Global,
+        literals: &[Literals],
+        outputs: &[u64],
+    ) -> Result<Cube, AllocError> {
+        Ok(Cube {
+            literals: literals.to_vec(alloc)?,
+            outputs: outputs.to_vec(alloc)?,
+        })
+    }
+
+    /// These literals with one output.
+    pub(crate) fn with_output(
+        alloc: Global,
+        literals: &[Literals],
+        output: usize,
+        words: usize,
+    ) -> Result<Cube, AllocError> {
+        let mut outputs: Vec<u64> = vec![in alloc; 0; words]?;
+        put_bit(&mut outputs, output);
+        Ok(Cube {
+            literals: literals.to_vec(alloc)?,
+            outputs,
+        })
+    }
+
+    /// The literals of this cube that the other lacks, as inputs.
+    pub(crate) fn inputs_beyond(
+        &self,
+        alloc: Global,
+        other: &[Literals],
+    ) -> Result<Vec<u64>, AllocError> {
+        let mut inputs: Vec<u64> = Vec::with_capacity(alloc, self.literals.len())?;
+        for (mine, theirs) in self.literals.iter().zip(other.iter()) {
+            inputs.push(mine.inputs() & !theirs.inputs())?;
+        }
+        Ok(inputs)
+    }
+
+    /// A number for the cube, which hardly any other has.
+    pub(crate) fn number(&self) -> u64 {
+        let mut number: u64 = 0;
+        for word in &self.literals {
+            number = mixed(mixed(number, word.zeros), word.ones);
+        }
+        for word in &self.outputs {
+            number = mixed(number, *word);
+        }
+        number
+    }
+
+    /// Which literal an input has.
+    pub(crate) fn literal(&self, input: usize) -> Option<bool> {
+        literal_at(&self.literals, input)
+    }
+}
