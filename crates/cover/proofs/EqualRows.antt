@@ -1,11 +1,13 @@
 -- Rows of which some are left, and the others stand elsewhere.
-use Rattle.std.proofs.Common.{ℕ, ◌+◌, ◌<◌, ◌≡◌, ◌↔◌, ◌⊎◌, inl, inr, Bool, List, [], ◌∷◌, ◌++◌, length, take, get_or, All, sym, subst, IsTrue}
+use Rattle.std.proofs.Common.{ℕ, ◌+◌, ◌<◌, ◌≡◌, ◌∙◌, ◌↔◌, ◌⊎◌, inl, inr, Bool, not, List, [], ◌∷◌, ◌++◌, length, take, get_or, All, sym, subst, IsTrue}
 use Rattle.std.specs.List.{Contains}
 use Rattle.std.specs.Borrow.{Bor}
+use Rattle.std.specs.Cmp.{both_ways as same_bool}
+use Rattle.std.proofs.lemmas.Bool.{and_parts, and_from, not-true, false≢true}
 use Rattle.std.proofs.lemmas.List.{map-append}
 use Rattle.std.proofs.lemmas.List.Elements.{Contains-append_left, Contains-append_right, Contains-append_cases}
 use Rattle.cube.specs.Size.{Size}
-use Rattle.cube.specs.Cube.{Cube, HasSize, IsSubset, holds}
+use Rattle.cube.specs.Cube.{Cube, Place, HasSize, IsSubset, difference, holds}
 use Rattle.cube.proofs.Members.{Contains-here}
 use Rattle.cover.specs.Places.{places, behind}
 use Rattle.cover.specs.Reason.{AreAmong}
@@ -60,6 +62,26 @@ IsSubset-rest rows rest others some all held h = (
       let w = list_any_witness (λ d. holds d p) (behind rest) in_rest in
       within p (list_any_from (λ d. holds d p) (behind rows) w.0 (some w.0 w.1) w.2)),
 )
+
+-- outside the others those that are left have the places of all
+pub difference-rest : (rows rest others : List (Bor Cube)) → AreAmong rest rows → AreAmong rows (rest ++ others) → (p : Place)
+    → difference (places (behind rest)) (places (behind others)) p ≡ difference (places (behind rows)) (places (behind others)) p
+difference-rest rows rest others some all p =
+    same_bool (difference (places (behind rest)) outside p) (difference (places (behind rows)) outside p)
+    (λ h.
+    let both = and_parts (places (behind rest) p) (not (outside p)) h in
+    let w = list_any_witness (λ d. holds d p) (behind rest) both.0 in
+    and_from (places (behind rows) p) (not (outside p)) (list_any_from (λ d. holds d p) (behind rows) w.0 (some w.0 w.1) w.2) both.1)
+    (λ h.
+    let both = and_parts (places (behind rows) p) (not (outside p)) h in
+    let w = list_any_witness (λ d. holds d p) (behind rows) both.0 in
+    elim (behind-cases rest others w.0 (all w.0 w.1)) [
+      | inl kept ↦ and_from (places (behind rest) p) (not (outside p)) (list_any_from (λ d. holds d p) (behind rest) w.0 kept w.2) both.1
+      | inr there ↦ absurd (false≢true (sym (not-true (outside p) both.1) ∙ list_any_from (λ d. holds d p) (behind others) w.0 there w.2))
+    ])
+  where
+    outside : Place → Bool
+    outside = places (behind others)
 
 -- those that are left have a size that all have
 pub HasSize-rest : (size : Size) (some rows : List (Bor Cube)) → All (λ d. HasSize d.now size) rows → AreAmong some rows

@@ -9,6 +9,7 @@ pub mod SumRows
 pub mod Regions
 pub mod LiteralCounting
 pub mod Reasons
+pub mod Halves
 pub mod EqualRows
 pub mod Everywhere
 pub mod ContainmentLemmas
@@ -34,3 +35,7 @@ pub mod SumApart
 pub mod Dividing
 pub mod SumSymbols
 pub mod SumKeys
+pub mod OverRegion
+pub mod OffSets
+pub mod MeetsWithin
+pub mod MaskedAgreement

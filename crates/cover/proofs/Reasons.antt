@@ -136,7 +136,7 @@ joined_stack region one other s_one in_one in_other outputs (Ok (Some c)) none' 
 )
 joined_stack region one other s_one in_one in_other outputs (Err e) none' size places' = tt
 
-either_side : (t : Symbol) (b : Bool) → (agrees t b ≡ true) ⊎ (agrees (opposite t) b ≡ true)
+pub either_side : (t : Symbol) (b : Bool) → (agrees t b ≡ true) ⊎ (agrees (opposite t) b ≡ true)
 either_side Dash b = inl refl
 either_side Zero true = inr refl
 either_side Zero false = inl refl

@@ -12,3 +12,5 @@ pub mod Sides
 pub mod Reason
 pub mod Apart
 pub mod Keys
+pub mod Containing
+pub mod Outside

@@ -1,9 +1,10 @@
 -- Why the cubes of a list hold a region. No public clause cites this module.
-use Rattle.std.specs.Prelude.{◌≡◌, ◌≢◌, ℕ, ◌<◌, ◌+◌, Bool, true, ◌||◌, Option, Some, None, List, [], length, slice_get, slice_index_or, cond, ◌∷◌}
+use Rattle.std.specs.Prelude.{◌≡◌, ◌≢◌, ℕ, ◌<◌, ◌+◌, Bool, true, ◌||◌, Option, Some, None, List, [], length, slice_get, slice_index_or, cond, ◌∷◌, All}
 use Rattle.cube.specs.declared.symbol.Symbol.{Symbol}
 use Rattle.cube.specs.declared.symbol.Symbol.TheVariants.{Dash}
 use Rattle.cube.specs.Pattern.{agrees}
-use Rattle.cube.specs.Cube.{Cube, SameSize, IsSubset, holds}
+use Rattle.cube.specs.Size.{Size}
+use Rattle.cube.specs.Cube.{Cube, HasSize, SameSize, IsSubset, holds}
 use Rattle.std.specs.List.{Contains}
 use Rattle.std.specs.Borrow.{Bor}
 use Rattle.cover.specs.Places.{places, behind}
@@ -31,6 +32,10 @@ Joins region one other (Some c) =
 -- each of the references is to one of the rows
 abbrev pub AreAmong : List (Bor Cube) → List (Bor Cube) → Type 0
 AreAmong some rows = (d : Cube) → Contains (behind some) d → Contains (behind rows) d
+
+-- cubes of the size whose places are all in the list
+abbrev pub AreKnown : Size → List Cube → List Cube → Type 0
+AreKnown size known rows = All (λ d. HasSize d size) known × IsSubset (places known) (places rows)
 
 -- the cube has no literal at an input where the region has none
 abbrev pub IsClosed : Cube → Cube → Type 0

@@ -1,4 +1,5 @@
--- Lists that stand for the places of others. No public clause cites this module.
+-- Lists that stand for the places of others. Of these the public clause of `in_row_order` cites
+-- HasSameCubes, and no other is cited by one.
 use Rattle.std.specs.Prelude.{◌≡◌, ◌≢◌, ℕ, Bool, false, not, ◌&&◌, ◌<◌, ◌⊎◌, List, ◌++◌, length, slice_index_or, All, Contains}
 use Rattle.std.specs.List.{list_any}
 use Rattle.cube.specs.declared.symbol.Symbol.TheVariants.{Dash, Zero, One}

@@ -6,11 +6,16 @@ ghost use Rattle.cover.specs.Places.{places, agree_outside as agree_outside_of};
 use crate::equal_rows::rows_not_among;
 use crate::list::Cover;
 use crate::pairwise::{Relation, are_related};
-use crate::tautology::lent;
+use crate::tautology::{lent, lent_both};
 use std::alloc::AllocError;
 
-// Whether each place of the first list is in one of the others.
-fn is_within_either(list: &Cover, other: &Cover, free: &Cover) -> Result<bool, AllocError>
+/// Whether each place of `list` is in `other` or in `free`. Rows that also stand in one of these, in
+/// any order, take time in the lengths of the lists.
+///
+/// # Errors
+///
+/// [`AllocError`] if memory is refused.
+pub fn is_within_either(list: &Cover, other: &Cover, free: &Cover) -> Result<bool, AllocError>
     requires other { other.now.size ≡ list.now.size }
     requires free { free.now.size ≡ list.now.size }
     ensures { IfOk result
@@ -21,9 +26,7 @@ fn is_within_either(list: &Cover, other: &Cover, free: &Cover) -> Result<bool, A
     let alloc = list.allocator();
     let shape = list.shape();
     let rows = lent(list)?;
-    let mut all = lent(free)?;
-    let mut others = lent(other)?;
-    all.append(&mut others)?;
+    let all = lent_both(free, other)?;
     let rest = rows_not_among(alloc, shape, &rows, &all)?;
     are_related(
         alloc,

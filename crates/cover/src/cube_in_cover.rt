@@ -12,13 +12,14 @@
 //!
 //! Each question looks at the rows once. While some rows of a region have few open literals, its
 //! parts look at those rows alone, and at all rows that meet the region only once these have more.
-ghost use Rattle.std.specs.Prelude.{◌≡◌, ◌≢◌, ◌↔◌, ℕ, ◌≤◌, ◌<◌, Bool, List, false, ◌||◌, IsTrue, IfOk, IfSome, IfNone, OnOk, ◌++◌, ◌∷◌, [], length, slice_get, slice_index_or, Some, Contains, All};
+ghost use Rattle.std.specs.Prelude.{◌≡◌, ◌≢◌, ◌↔◌, ℕ, ◌≤◌, ◌<◌, Bool, List, false, ◌||◌, IsTrue, IfOk, IfErr, IfSome, IfNone, OnOk, ◌++◌, ◌∷◌, [], length, slice_get, slice_index_or, Some, Contains, All};
 ghost use Rattle.cube.specs.Cube.{SameSize, IsSubset, IsDisjoint, holds, with_symbol, size_of};
 ghost use Rattle.cube.specs.Pattern.{matches};
 ghost use Rattle.cube.specs.Sharp.{opposite as opposite_of};
 ghost use Rattle.cover.specs.Places.{places, meeting as meeting_of, behind};
-ghost use Rattle.cover.specs.Reason.{IsReason, Explains, Joins, IsClosed, Leads, Share, AreAmong};
+ghost use Rattle.cover.specs.Reason.{IsReason, Explains, Joins, IsClosed, Leads, Share, AreAmong, AreKnown};
 
+use crate::learned::{Learned, ask};
 use crate::splitting_input::{Wish, next_wish, open_literals};
 use cube::{Cube, Symbol};
 use std::alloc::{AllocError, Global};
@@ -155,7 +156,7 @@ fn next_step(rows: &[&Cube], near: &[&Cube], fewest: u32, region: &Cube) -> Step
 }
 
 // The other literal.
-fn opposite(symbol: Symbol) -> Symbol
+pub(crate) fn opposite(symbol: Symbol) -> Symbol
     ensures { result ≡ opposite_of symbol }
 {
     match symbol {
@@ -198,105 +199,165 @@ fn stack_all(region: &Cube, one: &Cube, other: &Cube) -> Result<Option<Cube>, Al
     one.stack(other)
 }
 
+/// Why splits came to no answer.
+#[derive(Drop)]
+pub(crate) enum Stop {
+    /// A growth of memory was refused.
+    Memory,
+    /// They would look at more rows than they may.
+    Spent,
+}
+
+impl From<AllocError> for Stop {
+    ghost use Rattle.cover.specs.declared.cube_in_cover.Stop.TheVariants.{Memory};
+
+    ghost from_gives = { λ _ e. e ≡ Memory };
+
+    fn from(_: AllocError) -> Stop {
+        Stop::Memory
+    }
+}
+
+/// What splits may take.
+#[derive(Clone, Copy)]
+pub(crate) struct Means {
+    pub(crate) alloc: Global,
+    // Whether they may look at so many rows only.
+    pub(crate) limited: bool,
+}
+
+// So many rows are looked at.
+fn spend(means: Means, looks: &mut u64, rows: usize) -> Result<(), Stop>
+    ensures { IfErr result (λ _. IsTrue means.limited) }
+{
+    match looks.checked_sub(rows as u64) {
+        Some(left) => {
+            *looks = left;
+            Ok(())
+        }
+        None => {
+            if means.limited {
+                Err(Stop::Spent)
+            } else {
+                Ok(())
+            }
+        }
+    }
+}
+
 // A cube that holds the region and of which the rows hold each place, or `None` if they lack a
 // place of the region. Some of the rows are near; they alone are looked at while one of them has at
 // most so many open literals.
 #[cycle(reason)]
 pub(crate) fn reason(
-    alloc: Global,
+    means: Means,
     rows: &[&Cube],
     near: &[&Cube],
     bound: u32,
     region: &Cube,
-) -> Result<Option<Cube>, AllocError>
+    looks: &mut u64,
+) -> Result<Option<Cube>, Stop>
     requires sizes { All (λ d. SameSize d.now region.now) rows.now }
     requires near { AreAmong near.now rows.now }
-    ensures { IfOk result (λ found. Explains region.now (behind rows.now) found) }
+    ensures found { IfOk result (λ found. Explains region.now (behind rows.now) found) }
+    ensures spent { IfErr result (λ stop. stop ≡ Stop.Spent → IsTrue means.limited) }
 {
+    spend(means, looks, near.len())?;
     let Survey {
         found,
         meeting,
         nearest,
         fewest,
-    } = survey_rows(alloc, near, region)?;
+    } = survey_rows(means.alloc, near, region)?;
     if let Some(cube) = found {
         return Ok(Some(cube));
     }
     if fewest <= bound && !meeting.is_empty() {
         let rest = fewest.min(bound.saturating_sub(1));
-        return by_step(alloc, rows, &nearest, fewest, rest, region);
+        return by_step(means, rows, &nearest, fewest, rest, region, looks);
     }
-    by_all_rows(alloc, rows, region)
+    by_all_rows(means, rows, region, looks)
 }
 
 // The reason by a look at each row.
 #[cycle(reason)]
-fn by_all_rows(alloc: Global, rows: &[&Cube], region: &Cube) -> Result<Option<Cube>, AllocError>
+fn by_all_rows(
+    means: Means,
+    rows: &[&Cube],
+    region: &Cube,
+    looks: &mut u64,
+) -> Result<Option<Cube>, Stop>
     requires { All (λ d. SameSize d.now region.now) rows.now }
-    ensures { IfOk result (λ found. Explains region.now (behind rows.now) found) }
+    ensures found { IfOk result (λ found. Explains region.now (behind rows.now) found) }
+    ensures spent { IfErr result (λ stop. stop ≡ Stop.Spent → IsTrue means.limited) }
 {
     let _shape = region.shape();
+    spend(means, looks, rows.len())?;
     let Survey {
         found,
         meeting,
         nearest,
         fewest,
-    } = survey_rows(alloc, rows, region)?;
+    } = survey_rows(means.alloc, rows, region)?;
     if let Some(cube) = found {
         return Ok(Some(cube));
     }
     if meeting.is_empty() {
         return Ok(None);
     }
-    by_step(alloc, &meeting, &nearest, fewest, fewest, region)
+    by_step(means, &meeting, &nearest, fewest, fewest, region, looks)
 }
 
 // The reason by the next step, if all of the near rows meet the region.
 #[cycle(reason)]
 fn by_step(
-    alloc: Global,
+    means: Means,
     rows: &[&Cube],
     near: &[&Cube],
     fewest: u32,
     bound: u32,
     region: &Cube,
-) -> Result<Option<Cube>, AllocError>
+    looks: &mut u64,
+) -> Result<Option<Cube>, Stop>
     requires sizes { All (λ d. SameSize d.now region.now) rows.now }
     requires near { AreAmong near.now rows.now }
     requires meets { All (λ d. IsDisjoint (holds d.now) (holds region.now) → ⊥) near.now }
     requires some { 1 ≤ length near.now }
-    ensures { IfOk result (λ found. Explains region.now (behind rows.now) found) }
+    ensures found { IfOk result (λ found. Explains region.now (behind rows.now) found) }
+    ensures spent { IfErr result (λ stop. stop ≡ Stop.Spent → IsTrue means.limited) }
 {
     match next_step(rows, near, fewest, region) {
-        Step::Row(k) => by_outputs(alloc, rows, near, bound, region, near[k]),
-        Step::Split(i, literal) => by_input(alloc, rows, near, bound, region, (i, literal)),
+        Step::Row(k) => by_outputs(means, rows, near, bound, region, looks, near[k]),
+        Step::Split(i, literal) => by_input(means, rows, near, bound, region, looks, (i, literal)),
     }
 }
 
 // The reason if a row has no open literal: the row has some of the outputs.
 #[cycle(reason)]
 fn by_outputs(
-    alloc: Global,
+    means: Means,
     rows: &[&Cube],
     near: &[&Cube],
     bound: u32,
     region: &Cube,
+    looks: &mut u64,
     row: &Cube,
-) -> Result<Option<Cube>, AllocError>
+) -> Result<Option<Cube>, Stop>
     requires sizes { All (λ d. SameSize d.now region.now) rows.now }
     requires near { AreAmong near.now rows.now }
     requires size { SameSize row.now region.now }
     requires member { Contains (behind rows.now) row.now }
     requires meets { IsDisjoint (holds row.now) (holds region.now) → ⊥ }
     requires closed { IsClosed region.now row.now }
-    ensures { IfOk result (λ found. Explains region.now (behind rows.now) found) }
+    ensures found { IfOk result (λ found. Explains region.now (behind rows.now) found) }
+    ensures spent { IfErr result (λ stop. stop ≡ Stop.Spent → IsTrue means.limited) }
 {
     if !region.has_more_outputs(row) {
         return Ok(Some(row.try_clone()?));
     }
     let found = {
         let rest = region.without_outputs(row)?;
-        reason(alloc, rows, near, bound, &rest)?
+        reason(means, rows, near, bound, &rest, looks)?
     };
     let Some(other) = found else {
         return Ok(None);
@@ -304,29 +365,31 @@ fn by_outputs(
     if other.contains(region) {
         return Ok(Some(other));
     }
-    stack_all(region, row, &other)
+    Ok(stack_all(region, row, &other)?)
 }
 
 // The reason by halves, that with the literal first.
 #[cycle(reason)]
 fn by_input(
-    alloc: Global,
+    means: Means,
     rows: &[&Cube],
     near: &[&Cube],
     bound: u32,
     region: &Cube,
+    looks: &mut u64,
     at: (usize, Symbol),
-) -> Result<Option<Cube>, AllocError>
+) -> Result<Option<Cube>, Stop>
     requires sizes { All (λ d. SameSize d.now region.now) rows.now }
     requires near { AreAmong near.now rows.now }
     requires dash { slice_get region.now.symbols at.0 ≡ Some Symbol.Dash }
     requires literal { at.1 ≢ Symbol.Dash }
-    ensures { IfOk result (λ found. Explains region.now (behind rows.now) found) }
+    ensures found { IfOk result (λ found. Explains region.now (behind rows.now) found) }
+    ensures spent { IfErr result (λ stop. stop ≡ Stop.Spent → IsTrue means.limited) }
 {
     let (i, literal) = at;
     let found = {
         let first = region.with_symbol(i, literal)?;
-        reason(alloc, rows, near, bound, &first)?
+        reason(means, rows, near, bound, &first, looks)?
     };
     let Some(one) = found else {
         return Ok(None);
@@ -334,33 +397,35 @@ fn by_input(
     if one.contains(region) {
         return Ok(Some(one));
     }
-    by_other_half(alloc, rows, near, bound, region, at, &one)
+    by_other_half(means, rows, near, bound, region, looks, at, &one)
 }
 
 // The reason by the half with the other literal, and by the reason of the half with the literal.
 #[cycle(reason)]
 fn by_other_half(
-    alloc: Global,
+    means: Means,
     rows: &[&Cube],
     near: &[&Cube],
     bound: u32,
     region: &Cube,
+    looks: &mut u64,
     at: (usize, Symbol),
     one: &Cube,
-) -> Result<Option<Cube>, AllocError>
+) -> Result<Option<Cube>, Stop>
     requires sizes { All (λ d. SameSize d.now region.now) rows.now }
     requires near { AreAmong near.now rows.now }
     requires dash { slice_get region.now.symbols at.0 ≡ Some Symbol.Dash }
     requires literal { at.1 ≢ Symbol.Dash }
     requires one_size { SameSize one.now region.now }
     requires one { IsReason (with_symbol region.now at.0 at.1) (behind rows.now) one.now }
-    ensures { IfOk result (λ found. Explains region.now (behind rows.now) found) }
+    ensures found { IfOk result (λ found. Explains region.now (behind rows.now) found) }
+    ensures spent { IfErr result (λ stop. stop ≡ Stop.Spent → IsTrue means.limited) }
 {
     let _shape = region.shape();
     let (i, literal) = at;
     let found = {
         let second = region.with_symbol(i, opposite(literal))?;
-        reason(alloc, rows, near, bound, &second)?
+        reason(means, rows, near, bound, &second, looks)?
     };
     let Some(other) = found else {
         return Ok(None);
@@ -368,7 +433,7 @@ fn by_other_half(
     if other.contains(region) {
         return Ok(Some(other));
     }
-    consensus(region, i, one, &other)
+    Ok(consensus(region, i, one, &other)?)
 }
 
 /// Whether the rows hold each place of the region.
@@ -377,12 +442,30 @@ pub(crate) fn covers_cube(alloc: Global, rows: &[&Cube], region: &Cube) -> Resul
     ensures { IfOk result
         (λ held. IsTrue held ↔ IsSubset (holds region.now) (places (behind rows.now))) }
 {
-    covers_cube_near(alloc, rows, &[], 0, region)
+    let mut learned = Learned::new(alloc);
+    covers_cube_near(alloc, rows, &[], 0, region, &mut learned)
 }
 
-/// Whether the rows hold each place of the region. Near rows are looked at first, and they alone
-/// while one of them has at most so many open literals.
-pub(crate) fn covers_cube_near(
+// Whether the rows hold each place of the region, by splits alone.
+fn covers_by_splits(
+    means: Means,
+    rows: &[&Cube],
+    near: &[&Cube],
+    bound: u32,
+    region: &Cube,
+    looks: &mut u64,
+) -> Result<bool, Stop>
+    requires sizes { All (λ d. SameSize d.now region.now) rows.now }
+    requires near { AreAmong near.now rows.now }
+    ensures held { IfOk result
+        (λ held. IsTrue held ↔ IsSubset (holds region.now) (places (behind rows.now))) }
+    ensures spent { IfErr result (λ stop. stop ≡ Stop.Spent → IsTrue means.limited) }
+{
+    Ok(reason(means, rows, near, bound, region, looks)?.is_some())
+}
+
+// Whether the rows hold each place of the region, by however many splits.
+fn covers_by_all_splits(
     alloc: Global,
     rows: &[&Cube],
     near: &[&Cube],
@@ -394,5 +477,52 @@ pub(crate) fn covers_cube_near(
     ensures { IfOk result
         (λ held. IsTrue held ↔ IsSubset (holds region.now) (places (behind rows.now))) }
 {
-    Ok(reason(alloc, rows, near, bound, region)?.is_some())
+    let means = Means {
+        alloc,
+        limited: false,
+    };
+    let mut looks = 0;
+    match covers_by_splits(means, rows, near, bound, region, &mut looks) {
+        Ok(held) => Ok(held),
+        Err(Stop::Memory) => Err(AllocError),
+        Err(Stop::Spent) => unreachable!(),
+    }
+}
+
+/// Whether the rows hold each place of the region. Near rows are looked at first, and they alone
+/// while one of them has at most so many open literals.
+///
+/// Most questions are answered by splits. Once the splits of all questions about the rows have
+/// looked at many of them, a search is asked, and what it learns of the rows is kept; if it finds
+/// no answer within its memory, or one that does not hold, splits go on for as long as they take.
+pub(crate) fn covers_cube_near(
+    alloc: Global,
+    rows: &[&Cube],
+    near: &[&Cube],
+    bound: u32,
+    region: &Cube,
+    learned: &mut Learned,
+) -> Result<bool, AllocError>
+    requires sizes { All (λ d. SameSize d.now region.now) rows.now }
+    requires near { AreAmong near.now rows.now }
+    requires known { AreKnown (size_of region.now) learned.old.known.items (behind rows.now) }
+    ensures known { OnOk result
+        (AreKnown (size_of region.now) learned.new.known.items (behind rows.now)) }
+    ensures held { IfOk result
+        (λ held. IsTrue held ↔ IsSubset (holds region.now) (places (behind rows.now))) }
+{
+    learned.allow(rows.len());
+    let means = Means {
+        alloc,
+        limited: true,
+    };
+    match covers_by_splits(means, rows, near, bound, region, &mut learned.looks) {
+        Ok(held) => return Ok(held),
+        Err(Stop::Memory) => return Err(AllocError),
+        Err(Stop::Spent) => (),
+    }
+    if let Some(held) = ask(alloc, rows, learned, region)? {
+        return Ok(held);
+    }
+    covers_by_all_splits(alloc, rows, near, bound, region)
 }

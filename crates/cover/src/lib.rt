@@ -8,9 +8,14 @@
 //! - [`Cover::cofactor`], the list inside a cube, and [`Cover::holds_cube`] and
 //!   [`Cover::tautology`], which ask whether a cube or everything is held;
 //! - [`contain`], the list without the cubes that lie in others of it;
-//! - [`Cover::intersects`] and [`agree_outside`], which compare two lists by their places;
+//! - [`Cover::intersects`], [`is_within_either`] and [`agree_outside`], which compare lists by
+//!   their places, and [`are_meets_within_either`], which does so within a third list alone;
 //! - [`complete_sum`], [`Cover::complement`], [`intersect`] and [`difference`], which answer the
-//!   complete sum of the places inside, outside, in both lists and in the first alone.
+//!   complete sum of the places inside, outside, in both lists and in the first alone;
+//! - [`outside`] and [`subtract`], some cubes with the places outside and in the first list alone,
+//!   where the complete sum may be far too long, within a [`Budget`];
+//! - [`sum_containing`] and [`cubes_containing`], the cubes of a complete sum and of a list that
+//!   contain a region, without the others; and [`in_row_order`], the list sorted.
 //!
 //! With two inputs and one output, the rows `11 1`, `1- 1`, `1- 1` and `0- 1` hold every place, so
 //! `tautology` answers true; `contain` leaves `1- 1` and `0- 1`; the cofactor by `1- 1` has the
@@ -19,21 +24,27 @@
 //! No call lists points. `cofactor` looks at each cube once. `tautology`, `holds_cube` and
 //! [`agree_outside`] split at inputs, each half answered by an implicant that says why it is held:
 //! so a split that has no part in the answer is undone at once. They take time in the number of
-//! cubes times that of the splits, which may be exponential in the inputs at worst. `contain` looks
-//! at far fewer than all pairs of cubes if these have literals at many inputs, and at worst at all
-//! of them. Each takes memory for indices or references; `cofactor`, `contain` and `try_clone` also
-//! for the cubes of their answer.
+//! cubes times that of the splits, which may be exponential in the inputs at worst. Where they
+//! get many, a search that learns is asked (`sat_search`), and what it learned is looked at; it is
+//! given up before it takes more than a gigabyte and a half. `contain` looks at far fewer than all
+//! pairs of cubes if these have literals at many inputs, and at worst at all of them. Each takes
+//! memory for indices or references; `cofactor`, `contain` and `try_clone` also for the cubes of
+//! their answer.
 #![tactic(auto)]
 
 mod agree;
 mod apart;
 mod cofactor;
 mod computed_table;
+mod containing;
 mod containment;
 mod cube_in_cover;
 mod equal_rows;
+mod learned;
 mod list;
 mod literal_counts;
+mod meets_within;
+mod off_set;
 mod pairwise;
 mod splitting_input;
 mod sum;
@@ -51,7 +62,11 @@ mod sum_two;
 mod symbols;
 mod tautology;
 
-pub use agree::agree_outside;
+pub use agree::{agree_outside, is_within_either};
+pub use containing::{cubes_containing, sum_containing};
 pub use containment::contain;
 pub use list::Cover;
+pub use meets_within::are_meets_within_either;
+pub use off_set::{Budget, outside, subtract};
 pub use sum::{complete_sum, difference, intersect};
+pub use sum_rows::in_row_order;

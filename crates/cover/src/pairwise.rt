@@ -12,6 +12,7 @@ ghost use Rattle.cover.specs.Relation.{AreRelated};
 ghost use Rattle.cover.specs.Reason.{AreAmong};
 
 use crate::cube_in_cover::covers_cube_near;
+use crate::learned::Learned;
 use crate::literal_counts::LiteralCounts;
 use crate::splitting_input::{fewest_literals, literal_words, shares_literal};
 use crate::symbols::{having, open_at};
@@ -29,7 +30,7 @@ pub(crate) enum Relation {
 }
 
 // Whether the row has no place of the others.
-fn misses(row: &Cube, others: &[&Cube]) -> bool
+pub(crate) fn misses(row: &Cube, others: &[&Cube]) -> bool
     requires { All (λ d. SameSize row.now d.now) others.now }
     ensures { IsTrue result ↔ IsDisjoint (holds row.now) (places (behind others.now)) }
 {
@@ -101,9 +102,10 @@ fn are_contained(
     } else {
         0
     };
+    let mut learned = Learned::new(alloc);
     for row in rows {
         let near = rows_sharing_literal(alloc, shape, many, others, row)?;
-        if !covers_cube_near(alloc, others, &near, bound, row)? {
+        if !covers_cube_near(alloc, others, &near, bound, row, &mut learned)? {
             return Ok(false);
         }
     }

@@ -14,8 +14,8 @@ const SAMPLE: usize = 64;
 // How often one of the nearest rows counts against one of all rows.
 const NEAR: u32 = 64;
 
-// The open literals of a row at the 32 inputs of word `w`, as a cube's words have them.
-fn open_bits(row: &Cube, region: &Cube, w: usize) -> u64 {
+/// The open literals of a row at the 32 inputs of word `w`, as a cube's words have them.
+pub(crate) fn open_bits(row: &Cube, region: &Cube, w: usize) -> u64 {
     row.literal_bits(w) & !region.literal_bits(w)
 }
 
@@ -101,7 +101,7 @@ fn literal_at(w: usize, bit: u32) -> (usize, Symbol) {
 }
 
 // The first open literal of a row, with its input.
-fn first_open(shape: Shape, row: &Cube, region: &Cube) -> (usize, Symbol) {
+pub(crate) fn first_open(shape: Shape, row: &Cube, region: &Cube) -> (usize, Symbol) {
     for w in 0..shape.inputs() / 32 + 1 {
         let bits = open_bits(row, region, w);
         if bits != 0 {
@@ -111,8 +111,8 @@ fn first_open(shape: Shape, row: &Cube, region: &Cube) -> (usize, Symbol) {
     (0, Symbol::Zero)
 }
 
-// Counts the literals that the bits stand for, two numbers an input, as a cube's words have them.
-fn count_bits(bits: u64, times: u32, counts: &mut [u32; 64]) {
+/// Counts the literals that the bits stand for, two numbers an input, as a cube's words have them.
+pub(crate) fn count_bits(bits: u64, times: u32, counts: &mut [u32; 64]) {
     let mut left = bits;
     for _ in 0..64 {
         if left == 0 {

@@ -116,7 +116,7 @@ fn has_absorbed_by(shape: Shape, rows: &[Cube], others: &[Cube]) -> bool
 }
 
 // The rows that lie in none of the others.
-fn drop_absorbed(
+pub(crate) fn drop_absorbed(
     alloc: Global,
     shape: Shape,
     rows: &[Cube],

@@ -1,5 +1,5 @@
 //! Whether cubes hold every place, and whether they hold a cube.
-ghost use Rattle.std.specs.Prelude.{◌≡◌, true, IfOk, All};
+ghost use Rattle.std.specs.Prelude.{◌≡◌, ◌++◌, true, IfOk, All};
 ghost use Rattle.cube.specs.Cube.{HasSize, holds};
 ghost use Rattle.cube.specs.Sum.{is_subset};
 ghost use Rattle.cover.specs.Places.{places, holds_all, behind, universal as universal_of};
@@ -26,6 +26,18 @@ pub(crate) fn lent(list: &Cover) -> Result<Vec<&Cube>, AllocError>
     ensures sizes { IfOk result (λ refs. All (λ d. HasSize d.now list.now.size) refs.items) }
 {
     references(list.allocator(), list.as_slice())
+}
+
+// References to the cubes of two covers.
+pub(crate) fn lent_both<'a>(list: &'a Cover, other: &'a Cover) -> Result<Vec<&'a Cube>, AllocError>
+    requires { other.now.size ≡ list.now.size }
+    ensures cubes { IfOk result (λ refs. behind refs.items ≡ list.now.cubes ++ other.now.cubes) }
+    ensures sizes { IfOk result (λ refs. All (λ d. HasSize d.now list.now.size) refs.items) }
+{
+    let mut refs = lent(list)?;
+    let mut others = lent(other)?;
+    refs.append(&mut others)?;
+    Ok(refs)
 }
 
 // The cube of every place.

@@ -6,7 +6,8 @@
 //! kept plain, as each has to be proved, and that is dear where it holds many cubes or lists: so
 //! the tests hold none, and go over tables.
 //!
-//! - Cubes and lists, from rows of text (`rows`): `cubes`, `covers`, `reasons`, `wide`.
+//! - Cubes and lists, from rows of text (`rows`): `cubes`, `covers`, `reasons`, `wide`;
+//!   from rules (`rules`): `places`, `place_cases`.
 //! - The format: `devices`, `over_std` and `writing` of its devices, `reading`, `sets`, `printing`
 //!   and `laws` of its files.
 #![tactic(auto)]
@@ -22,6 +23,10 @@ mod laws;
 #[cfg(test)]
 mod over_std;
 #[cfg(test)]
+mod place_cases;
+#[cfg(test)]
+mod places;
+#[cfg(test)]
 mod printing;
 #[cfg(test)]
 mod reading;
@@ -29,6 +34,8 @@ mod reading;
 mod reasons;
 #[cfg(test)]
 mod rows;
+#[cfg(test)]
+mod rules;
 #[cfg(test)]
 mod sets;
 #[cfg(test)]

@@ -1,8 +1,6 @@
 use Rattle.std.proofs.Common.{◌≡◌, ◌∙◌, ◌++◌, ◌↔◌, All, ap, sym, subst, IsTrue}
 use Rattle.std.specs.Borrow.{Bor}
 use Rattle.std.proofs.lemmas.Result.{IfOk-weaker}
-use Rattle.std.proofs.lemmas.List.{map-append}
-use Rattle.std.proofs.lemmas.List.Elements.{All-append}
 use Rattle.cube.specs.Cube.{Cube, HasSize, IsSubset}
 use Rattle.cover.specs.Places.{places, behind}
 use Rattle.cover.proofs.Agreement.{IsSubset-either}
@@ -21,14 +19,9 @@ are_related-requires-clause-rows c =
 
 pub are_related-requires-clause-others : goal.are_related-requires-clause-others
 are_related-requires-clause-others c =
-    let size = c.shape-shape.result in
-    let sized : Bor Cube → Type 0 = λ d. HasSize d.now size in
-    let free : All sized c.in_ok-all.all.items =
-    subst (λ z. All (λ d. HasSize d.now z) c.in_ok-all.all.items) (c.requires.free ∙ sym c.shape-shape.ensures.size) c.in_ok-all.ensures.sizes in
-    let others : All sized c.in_ok-others.others.items =
-    subst (λ z. All (λ d. HasSize d.now z) c.in_ok-others.others.items) (c.requires.other ∙ sym c.shape-shape.ensures.size) c.in_ok-others.ensures.sizes in
-    subst (All sized) (sym (c.deref-4.ensures.value ∙ c.in_ok-append.ensures.items))
-    (All-append sized c.in_ok-all.all.items c.in_ok-others.others.items free others)
+    let sized : Bor Cube → Type 0 = λ d. HasSize d.now c.shape-shape.result in
+    subst (All sized) (sym c.deref-4.ensures.value)
+    (subst (λ z. All (λ d. HasSize d.now z) c.in_ok-all.all.items) (c.requires.free ∙ sym c.shape-shape.ensures.size) c.in_ok-all.ensures.sizes)
 
 pub returns : goal.returns
 returns c =
@@ -37,11 +30,7 @@ returns c =
     let free = c.args.free.now.cubes in
     let held_by = c.deref-2.result.now in
     let rows : behind c.deref.result.now ≡ list = ap behind c.deref.ensures.value ∙ c.in_ok-rows.ensures.cubes in
-    let all : behind held_by ≡ free ++ other =
-    ap behind (c.deref-2.ensures.value ∙ c.in_ok-append.ensures.items)
-    ∙ map-append (λ r. r.now) c.in_ok-all.all.items c.in_ok-others.others.items
-    ∙ ap (λ l. l ++ behind c.in_ok-others.others.items) c.in_ok-all.ensures.cubes
-    ∙ ap (λ l. free ++ l) c.in_ok-others.ensures.cubes in
+    let all : behind held_by ≡ free ++ other = ap behind c.deref-2.ensures.value ∙ c.in_ok-all.ensures.cubes in
     IfOk-weaker c.are_related.result _ _
     (λ held h.
     let left : IsTrue held ↔ IsSubset (places (behind c.in_ok-rest.rest.items)) (places (behind held_by)) =

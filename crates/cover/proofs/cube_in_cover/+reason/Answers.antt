@@ -17,13 +17,16 @@ by_input-reason-requires t c =
 
 pub by_input-returns-in_default : goal.by_input-returns-in_default
 by_input-returns-in_default t c =
-    unexplained_half (behind c.args.rows.now) c.args.region.now c.in_ok-first.first c.args.at.0 c.args.at.1 c.requires.dash c.in_ok-first.ensures.value
-    (subst (λ o. Explains c.in_ok-first.first (behind c.args.rows.now) o) c.in_default.is c.in_ok-found.ensures)
+    record {
+      found = unexplained_half (behind c.args.rows.now) c.args.region.now c.in_ok-first.first c.args.at.0 c.args.at.1 c.requires.dash c.in_ok-first.ensures.value
+          (subst (λ o. Explains c.in_ok-first.first (behind c.args.rows.now) o) c.in_default.is c.in_ok-found.ensures.found);
+      spent = tt;
+    }
 
 pub by_input-by_other_half-requires : goal.by_input-by_other_half-requires
 by_input-by_other_half-requires t c =
     let r : IsReason c.in_ok-first.first (behind c.args.rows.now) c.in-Some.one =
-    subst (λ o. Explains c.in_ok-first.first (behind c.args.rows.now) o) c.in-Some.is c.in_ok-found.ensures in
+    subst (λ o. Explains c.in_ok-first.first (behind c.args.rows.now) o) c.in-Some.is c.in_ok-found.ensures.found in
     let size = SameSize-part c.in-Some.one c.in_ok-first.first c.args.region.now r.size c.in_ok-first.ensures.size in
     let half = subst (λ h. IsReason h (behind c.args.rows.now) c.in-Some.one) c.in_ok-first.ensures.value r in
     (omega arith, (c.requires.sizes, (c.requires.near, (c.requires.dash, (c.requires.literal, (size, half))))))
@@ -36,8 +39,11 @@ by_other_half-reason-requires t c =
 
 pub by_other_half-returns-in_default : goal.by_other_half-returns-in_default
 by_other_half-returns-in_default t c =
-    unexplained_half (behind c.args.rows.now) c.args.region.now c.in_ok-second.second c.args.at.0 c.opposite.result c.requires.dash c.in_ok-second.ensures.value
-    (subst (λ o. Explains c.in_ok-second.second (behind c.args.rows.now) o) c.in_default.is c.in_ok-found.ensures)
+    record {
+      found = unexplained_half (behind c.args.rows.now) c.args.region.now c.in_ok-second.second c.args.at.0 c.opposite.result c.requires.dash c.in_ok-second.ensures.value
+          (subst (λ o. Explains c.in_ok-second.second (behind c.args.rows.now) o) c.in_default.is c.in_ok-found.ensures.found);
+      spent = tt;
+    }
 
 pub by_other_half-consensus-requires-clause-input : goal.by_other_half-consensus-requires-clause-input
 by_other_half-consensus-requires-clause-input t c = slice_get_within c.args.region.now.symbols c.args.at.0 Dash c.requires.dash
@@ -50,7 +56,7 @@ by_other_half-consensus-requires-clause-one t c =
 pub by_other_half-consensus-requires-clause-other : goal.by_other_half-consensus-requires-clause-other
 by_other_half-consensus-requires-clause-other t c =
     let r : IsReason c.in_ok-second.second (behind c.args.rows.now) c.in-Some.other =
-    subst (λ o. Explains c.in_ok-second.second (behind c.args.rows.now) o) c.in-Some.is c.in_ok-found.ensures in
+    subst (λ o. Explains c.in_ok-second.second (behind c.args.rows.now) o) c.in-Some.is c.in_ok-found.ensures.found in
     freed_half c.args.region.now c.in_ok-second.second c.in-Some.other c.args.at.0 c.opposite.result c.requires.dash
     (subst (λ s. s ≡ Dash → ⊥) (sym c.opposite.ensures) (opposite_literal c.args.at.1 c.requires.literal))
     (SameSize-part c.in-Some.other c.in_ok-second.second c.args.region.now r.size c.in_ok-second.ensures.size) c.in_ok-second.ensures.value r.above
@@ -58,7 +64,7 @@ by_other_half-consensus-requires-clause-other t c =
 pub by_other_half-consensus-requires-clause-sides : goal.by_other_half-consensus-requires-clause-sides
 by_other_half-consensus-requires-clause-sides t c =
     let q : IsReason c.in_ok-second.second (behind c.args.rows.now) c.in-Some.other =
-    subst (λ o. Explains c.in_ok-second.second (behind c.args.rows.now) o) c.in-Some.is c.in_ok-found.ensures in
+    subst (λ o. Explains c.in_ok-second.second (behind c.args.rows.now) o) c.in-Some.is c.in_ok-found.ensures.found in
     share_sides c.args.region.now (with_symbol c.args.region.now c.args.at.0 c.args.at.1) c.in_ok-second.second c.args.one.now c.in-Some.other c.args.at.0 c.args.at.1
     c.shape-shape.ensures.is_cube.some_output c.requires.dash refl
     (c.in_ok-second.ensures.value ∙ ap (λ s. with_symbol c.args.region.now c.args.at.0 s) c.opposite.ensures) c.requires.one.size q.size c.requires.one.above q.above
@@ -66,16 +72,21 @@ by_other_half-consensus-requires-clause-sides t c =
 pub by_other_half-returns : goal.by_other_half-returns
 by_other_half-returns t c =
     let r : IsReason c.in_ok-second.second (behind c.args.rows.now) c.in-Some.other =
-    subst (λ o. Explains c.in_ok-second.second (behind c.args.rows.now) o) c.in-Some.is c.in_ok-found.ensures in
-    IfOk-weaker c.consensus.result _ _
-    (reason_joined (behind c.args.rows.now) c.args.region.now c.args.one.now c.in-Some.other c.requires.one.within r.within)
-    c.consensus.ensures
+    subst (λ o. Explains c.in_ok-second.second (behind c.args.rows.now) o) c.in-Some.is c.in_ok-found.ensures.found in
+    record {
+      found = reason_joined (behind c.args.rows.now) c.args.region.now c.args.one.now c.in-Some.other c.requires.one.within r.within
+          c.in_ok-consensus.field-0 c.in_ok-consensus.ensures;
+      spent = tt;
+    }
 
 pub by_outputs-returns-then-not-has_more_outputs : goal.by_outputs-returns-then-not-has_more_outputs
 by_outputs-returns-then-not-has_more_outputs t c =
-    reason_of_row (behind c.args.rows.now) c.args.region.now c.args.row.now c.in_ok-try_clone.field-0 c.requires.member c.requires.size c.in_ok-try_clone.ensures.value
-    (row_above (behind c.args.rows.now) c.args.region.now c.args.row.now c.args.row.now c.requires.size c.requires.meets c.requires.closed
-    c.has_more_outputs.result c.has_more_outputs.ensures c.if-not-has_more_outputs.true)
+    record {
+      found = reason_of_row (behind c.args.rows.now) c.args.region.now c.args.row.now c.in_ok-try_clone.field-0 c.requires.member c.requires.size c.in_ok-try_clone.ensures.value
+          (row_above (behind c.args.rows.now) c.args.region.now c.args.row.now c.args.row.now c.requires.size c.requires.meets c.requires.closed
+          c.has_more_outputs.result c.has_more_outputs.ensures c.if-not-has_more_outputs.true);
+      spent = tt;
+    }
 
 pub by_outputs-reason-requires : goal.by_outputs-reason-requires
 by_outputs-reason-requires t c =
@@ -90,28 +101,34 @@ by_outputs-reason-requires t c =
 
 pub by_outputs-returns-in_default : goal.by_outputs-returns-in_default
 by_outputs-returns-in_default t c =
-    unexplained_rest (behind c.args.rows.now) c.args.region.now c.args.row.now c.in_ok-rest.rest c.requires.size c.requires.meets c.requires.closed c.in_ok-rest.ensures
-    (subst (λ o. Explains c.in_ok-rest.rest (behind c.args.rows.now) o) c.in_default.is c.in_ok-found.ensures)
+    record {
+      found = unexplained_rest (behind c.args.rows.now) c.args.region.now c.args.row.now c.in_ok-rest.rest c.requires.size c.requires.meets c.requires.closed c.in_ok-rest.ensures
+          (subst (λ o. Explains c.in_ok-rest.rest (behind c.args.rows.now) o) c.in_default.is c.in_ok-found.ensures.found);
+      spent = tt;
+    }
 
 pub by_outputs-contains-requires : goal.by_outputs-contains-requires
 by_outputs-contains-requires t c =
     let r : IsReason c.in_ok-rest.rest (behind c.args.rows.now) c.in-Some.other =
-    subst (λ o. Explains c.in_ok-rest.rest (behind c.args.rows.now) o) c.in-Some.is c.in_ok-found.ensures in
+    subst (λ o. Explains c.in_ok-rest.rest (behind c.args.rows.now) o) c.in-Some.is c.in_ok-found.ensures.found in
     SameSize-part c.in-Some.other c.in_ok-rest.rest c.args.region.now r.size
     (size_rest (behind c.args.rows.now) c.args.region.now c.args.row.now c.in_ok-rest.rest c.requires.size c.requires.meets c.requires.closed c.in_ok-rest.ensures)
 
 pub by_outputs-returns-then-contains : goal.by_outputs-returns-then-contains
 by_outputs-returns-then-contains t c =
     let r : IsReason c.in_ok-rest.rest (behind c.args.rows.now) c.in-Some.other =
-    subst (λ o. Explains c.in_ok-rest.rest (behind c.args.rows.now) o) c.in-Some.is c.in_ok-found.ensures in
-    reason_of_more (behind c.args.rows.now) c.in_ok-rest.rest c.args.region.now c.in-Some.other
-    (size_rest (behind c.args.rows.now) c.args.region.now c.args.row.now c.in_ok-rest.rest c.requires.size c.requires.meets c.requires.closed c.in_ok-rest.ensures)
-    r (c.contains.ensures.0 c.if-contains.true)
+    subst (λ o. Explains c.in_ok-rest.rest (behind c.args.rows.now) o) c.in-Some.is c.in_ok-found.ensures.found in
+    record {
+      found = reason_of_more (behind c.args.rows.now) c.in_ok-rest.rest c.args.region.now c.in-Some.other
+          (size_rest (behind c.args.rows.now) c.args.region.now c.args.row.now c.in_ok-rest.rest c.requires.size c.requires.meets c.requires.closed c.in_ok-rest.ensures)
+          r (c.contains.ensures.0 c.if-contains.true);
+      spent = tt;
+    }
 
 pub by_outputs-stack_all-requires-clause-other_size : goal.by_outputs-stack_all-requires-clause-other_size
 by_outputs-stack_all-requires-clause-other_size t c =
     let r : IsReason c.in_ok-rest.rest (behind c.args.rows.now) c.in-Some.other =
-    subst (λ o. Explains c.in_ok-rest.rest (behind c.args.rows.now) o) c.in-Some.is c.in_ok-found.ensures in
+    subst (λ o. Explains c.in_ok-rest.rest (behind c.args.rows.now) o) c.in-Some.is c.in_ok-found.ensures.found in
     SameSize-part c.in-Some.other c.in_ok-rest.rest c.args.region.now r.size
     (size_rest (behind c.args.rows.now) c.args.region.now c.args.row.now c.in_ok-rest.rest c.requires.size c.requires.meets c.requires.closed c.in_ok-rest.ensures)
 
@@ -122,25 +139,27 @@ by_outputs-stack_all-requires-clause-one t c =
 pub by_outputs-stack_all-requires-clause-other : goal.by_outputs-stack_all-requires-clause-other
 by_outputs-stack_all-requires-clause-other t c =
     let r : IsReason c.in_ok-rest.rest (behind c.args.rows.now) c.in-Some.other =
-    subst (λ o. Explains c.in_ok-rest.rest (behind c.args.rows.now) o) c.in-Some.is c.in_ok-found.ensures in
+    subst (λ o. Explains c.in_ok-rest.rest (behind c.args.rows.now) o) c.in-Some.is c.in_ok-found.ensures.found in
     other_inputs (behind c.args.rows.now) c.args.region.now c.args.row.now c.in_ok-rest.rest c.requires.size c.requires.meets c.requires.closed c.in_ok-rest.ensures
     c.in-Some.other r.above (c.has_more_outputs.ensures.0 c.if-not-has_more_outputs.false)
 
 pub by_outputs-stack_all-requires-clause-outputs : goal.by_outputs-stack_all-requires-clause-outputs
 by_outputs-stack_all-requires-clause-outputs t c =
     let r : IsReason c.in_ok-rest.rest (behind c.args.rows.now) c.in-Some.other =
-    subst (λ o. Explains c.in_ok-rest.rest (behind c.args.rows.now) o) c.in-Some.is c.in_ok-found.ensures in
+    subst (λ o. Explains c.in_ok-rest.rest (behind c.args.rows.now) o) c.in-Some.is c.in_ok-found.ensures.found in
     either_output (behind c.args.rows.now) c.args.region.now c.args.row.now c.in_ok-rest.rest c.requires.size c.requires.meets c.requires.closed c.in_ok-rest.ensures
     c.in-Some.other r.above
 
 pub by_outputs-returns : goal.by_outputs-returns
 by_outputs-returns t c =
     let r : IsReason c.in_ok-rest.rest (behind c.args.rows.now) c.in-Some.other =
-    subst (λ o. Explains c.in_ok-rest.rest (behind c.args.rows.now) o) c.in-Some.is c.in_ok-found.ensures in
-    IfOk-weaker c.stack_all.result _ _
-    (reason_joined (behind c.args.rows.now) c.args.region.now c.args.row.now c.in-Some.other
-    (within_rows (behind c.args.rows.now) c.args.row.now c.requires.member) r.within)
-    c.stack_all.ensures
+    subst (λ o. Explains c.in_ok-rest.rest (behind c.args.rows.now) o) c.in-Some.is c.in_ok-found.ensures.found in
+    record {
+      found = reason_joined (behind c.args.rows.now) c.args.region.now c.args.row.now c.in-Some.other
+          (within_rows (behind c.args.rows.now) c.args.row.now c.requires.member) r.within
+          c.in_ok-stack_all.field-0 c.in_ok-stack_all.ensures;
+      spent = tt;
+    }
 
 pub by_step-next_step-requires-clause-sizes : goal.by_step-next_step-requires-clause-sizes
 by_step-next_step-requires-clause-sizes t c = sizes_among c.args.near.now c.args.rows.now c.args.region.now c.requires.sizes c.requires.near
@@ -157,8 +176,11 @@ reason-survey_rows-requires t c = sizes_among c.args.near.now c.args.rows.now c.
 
 pub reason-returns-in-Some : goal.reason-returns-in-Some
 reason-returns-in-Some t c =
-    reason_of_some c.args.near.now c.args.rows.now c.args.region.now c.in-Some.cube c.requires.near
-    (subst (λ o. IfSome o (λ d. IsReason c.args.region.now (behind c.args.near.now) d)) c.in-Some.is c.in_ok-found.ensures.found)
+    record {
+      found = reason_of_some c.args.near.now c.args.rows.now c.args.region.now c.in-Some.cube c.requires.near
+          (subst (λ o. IfSome o (λ d. IsReason c.args.region.now (behind c.args.near.now) d)) c.in-Some.is c.in_ok-found.ensures.found);
+      spent = tt;
+    }
 
 pub reason-by_step-requires : goal.reason-by_step-requires
 reason-by_step-requires t c =
@@ -189,8 +211,11 @@ by_all_rows-returns-then-is_empty t c =
     let inside : behind met ≡ meeting (size_of region) region (behind rows) =
     subst (λ o. IfNone o (behind met ≡ meeting (size_of region) region (behind rows))) c.in_default.is
     c.in_ok-found.ensures.meeting in
-    unexplained_none rows met region c.requires inside c.shape-shape.ensures.is_cube.some_output
-    (ap behind (none_left met (vec_len c.in_ok-found.field-0.meeting) c.is_empty.result c.in_ok-found.field-0.meeting.ok.0 c.is_empty.ensures c.if-is_empty.true))
+    record {
+      found = unexplained_none rows met region c.requires inside c.shape-shape.ensures.is_cube.some_output
+          (ap behind (none_left met (vec_len c.in_ok-found.field-0.meeting) c.is_empty.result c.in_ok-found.field-0.meeting.ok.0 c.is_empty.ensures c.if-is_empty.true));
+      spent = tt;
+    }
 
 pub by_all_rows-by_step-requires : goal.by_all_rows-by_step-requires
 by_all_rows-by_step-requires t c =
@@ -222,6 +247,9 @@ by_all_rows-returns t c =
     let inside : behind met ≡ meeting (size_of region) region (behind rows) =
     subst (λ o. IfNone o (behind met ≡ meeting (size_of region) region (behind rows))) c.in_default.is
     c.in_ok-found.ensures.meeting in
-    IfOk-weaker c.by_step.result _ _
-    (explains_lent rows c.deref.result.now region c.requires (ap behind c.deref.ensures.value ∙ inside))
-    c.by_step.ensures
+    record {
+      found = IfOk-weaker c.by_step.result _ _
+          (explains_lent rows c.deref.result.now region c.requires (ap behind c.deref.ensures.value ∙ inside))
+          c.by_step.ensures.found;
+      spent = c.by_step.ensures.spent;
+    }

@@ -1,0 +1,433 @@
+//! The places of a list, or all places, that are outside another list.
+//!
+//! A region is split at inputs while more than one row meets it. On the way back each cube loses
+//! the literal that its half gave it, if it then still meets no row. So no cube lies in another of
+//! the same region, and there are about as many as a good cover of these places has: far fewer than
+//! all of the largest cubes. There may be far too many of both, cubes and regions, so each call has
+//! a budget.
+ghost use Rattle.std.specs.Prelude.{◌≡◌, ◌<◌, ◌&&◌, ◌++◌, IfOk, IfSome, Some, slice_get, slice_set, replicate, not, false, true};
+ghost use Rattle.cube.specs.Cube.{HasSize, IsCube, IsSubset, Place, IsPlace, holds, difference as difference_of};
+ghost use Rattle.cover.specs.Cubes.{AreCubes};
+ghost use Rattle.cover.specs.Places.{places};
+ghost use Rattle.cover.specs.Outside.{AreNear, IsRest, Extends};
+
+use crate::containing::any_meets;
+use crate::equal_rows::rows_not_among;
+use crate::list::{Cover, copy_of};
+use crate::meets_within::{FEW, are_apart, copies};
+use crate::splitting_input::{count_bits, open_bits};
+use crate::sum::difference;
+use crate::sum_rows::sort_rows;
+use crate::tautology::lent;
+use cube::{Cube, Shape, Symbol};
+use std::alloc::{AllocError, Global};
+
+/// How far a call may go before it gives up.
+#[derive(Clone, Copy)]
+pub struct Budget {
+    /// The most cubes that it keeps.
+    pub cubes: usize,
+    /// The most rows that it looks at, where a row counts each time, and an eighth where it is only
+    /// compared with a cube. The time that is taken grows with this number.
+    pub rows: usize,
+}
+
+impl Budget {
+    // Takes so many rows away, if as many are left.
+    fn spend(&mut self, rows: usize) -> bool {
+        match self.rows.checked_sub(rows) {
+            Some(rest) => {
+                self.rows = rest;
+                true
+            }
+            None => false,
+        }
+    }
+}
+
+// The cube of all places with this output.
+pub(crate) fn one_output(alloc: Global, shape: Shape, j: usize) -> Result<Cube, AllocError>
+    requires { j < shape.outputs }
+    ensures { IfOk result (λ c. c ≡ record {
+      symbols = replicate shape.inputs Symbol.Dash;
+      outputs = slice_set (replicate shape.outputs false) j true;
+    }) }
+{
+    let symbols = vec![in alloc; Symbol::Dash; shape.inputs()]?;
+    let mut outputs = vec![in alloc; false; shape.outputs()]?;
+    outputs[j] = true;
+    match Cube::from_symbols(alloc, shape, &symbols, &outputs)? {
+        Some(cube) => Ok(cube),
+        None => unreachable!(),
+    }
+}
+
+// The rows that meet the region.
+fn near(alloc: Global, shape: Shape, region: &Cube, rows: &[Cube]) -> Result<Vec<Cube>, AllocError>
+    requires region { HasSize region.now shape }
+    requires rows { AreCubes shape rows.now }
+    ensures { IfOk result (λ v. AreNear shape (holds region.now) rows.now v.items) }
+{
+    let mut near = Vec::new(alloc);
+    for row in rows {
+        if !row.disjoint(region) {
+            near.push(row.try_clone()?)?;
+        }
+    }
+    Ok(near)
+}
+
+// The largest cubes of the region outside the rows.
+fn rest(
+    alloc: Global,
+    shape: Shape,
+    region: &Cube,
+    rows: Vec<Cube>,
+) -> Result<Vec<Cube>, AllocError>
+    requires region { HasSize region.now shape }
+    requires rows { AreCubes shape rows.items }
+    ensures { IfOk result (λ v. IsRest shape (holds region.now) rows.items v.items) }
+{
+    let _shape = region.shape();
+    let mut own = Vec::new(alloc);
+    own.push(region.try_clone()?)?;
+    if rows.is_empty() {
+        return Ok(own);
+    }
+    let list = Cover::from_cubes(shape, own);
+    let rows = Cover::from_cubes(shape, rows);
+    Ok(difference(&list, &rows)?.into_cubes())
+}
+
+// How many rows have each literal at the inputs of word `w` where the region has none, two numbers
+// an input.
+fn count_open(region: &Cube, rows: &[Cube], w: usize) -> [u32; 64] {
+    let mut counts = [0u32; 64];
+    for row in rows {
+        count_bits(open_bits(row, region, w), 1, &mut counts);
+    }
+    counts
+}
+
+// How good it is to split at an input: how many rows have a literal there, and more than at any
+// other if some have `0` and some `1`.
+fn split_worth(zeros: u32, ones: u32, rows: usize) -> usize {
+    let all = zeros.saturating_add(ones) as usize;
+    if zeros == 0 || ones == 0 {
+        all
+    } else {
+        all.saturating_add(rows)
+    }
+}
+
+// The best input of word `w` to split at, and how good it is.
+fn best_of_word(counts: &[u32; 64], w: usize, rows: usize) -> (usize, usize) {
+    let mut best = 0;
+    let mut most = 0;
+    for k in 0..32usize {
+        let worth = split_worth(counts[2 * k + 1], counts[2 * k], rows);
+        if worth > most {
+            most = worth;
+            best = w.saturating_mul(32).saturating_add(k);
+        }
+    }
+    (best, most)
+}
+
+// The best input to split the region at, if a row has a literal where the region has none.
+fn wished_input(shape: Shape, region: &Cube, rows: &[Cube]) -> Option<usize> {
+    let mut best = None;
+    let mut most = 0;
+    for w in 0..shape.inputs().div_ceil(32) {
+        let counts = count_open(region, rows, w);
+        let (i, worth) = best_of_word(&counts, w, rows.len());
+        if worth > most {
+            most = worth;
+            best = Some(i);
+        }
+    }
+    best
+}
+
+// Whether some row contains the region.
+fn any_contains(shape: Shape, region: &Cube, rows: &[Cube]) -> bool
+    requires region { HasSize region.now shape }
+    requires rows { AreCubes shape rows.now }
+{
+    for row in rows {
+        if row.contains(region) {
+            return true;
+        }
+    }
+    false
+}
+
+// An input to split the region at, with a dash, unless the rows are one or none, or one of them
+// contains the region.
+fn split_input(shape: Shape, region: &Cube, rows: &[Cube]) -> Option<usize>
+    requires region { HasSize region.now shape }
+    requires rows { AreCubes shape rows.now }
+    ensures { IfSome result (λ i. slice_get region.now.symbols i ≡ Some Symbol.Dash) }
+{
+    if rows.len() <= 1 || any_contains(shape, region, rows) {
+        return None;
+    }
+    match wished_input(shape, region, rows) {
+        Some(i) if i < shape.inputs() && region.symbol(i) == Symbol::Dash => Some(i),
+        _ => None,
+    }
+}
+
+// Whether the cube lies in the region and meets no row.
+fn is_outside(shape: Shape, region: &Cube, rows: &[Cube], cube: &Cube) -> bool
+    requires region { HasSize region.now shape }
+    requires rows { AreCubes shape rows.now }
+    requires cube { HasSize cube.now shape }
+    ensures { result ≡ true → IsSubset (holds cube.now)
+        (difference_of (holds region.now) (places rows.now)) }
+{
+    region.contains(cube) && !any_meets(rows, cube)
+}
+
+// The cube without its literal at the input, if that leaves it in the region and outside the rows.
+fn without_literal(
+    shape: Shape,
+    region: &Cube,
+    rows: &[Cube],
+    i: usize,
+    cube: &Cube,
+) -> Result<Cube, AllocError>
+    requires region { HasSize region.now shape }
+    requires rows { AreCubes shape rows.now }
+    requires input { i < shape.inputs }
+    requires cube { HasSize cube.now shape }
+    ensures cube { IfOk result (IsCube shape) }
+    ensures extends { IfOk result (λ c. Extends
+        (difference_of (holds region.now) (places rows.now)) (holds cube.now) (holds c)) }
+{
+    let free = cube.with_symbol(i, Symbol::Dash)?;
+    if is_outside(shape, region, rows, &free) {
+        let _shape = free.shape();
+        return Ok(free);
+    }
+    let _shape = cube.shape();
+    cube.try_clone()
+}
+
+// The cubes without those literals at the input that are not needed.
+fn without_literals(
+    alloc: Global,
+    shape: Shape,
+    region: &Cube,
+    rows: &[Cube],
+    i: usize,
+    cubes: &[Cube],
+) -> Result<Vec<Cube>, AllocError>
+    requires region { HasSize region.now shape }
+    requires rows { AreCubes shape rows.now }
+    requires input { i < shape.inputs }
+    requires cubes { AreCubes shape cubes.now }
+    ensures cubes { IfOk result (λ v. AreCubes shape v.items) }
+    ensures extends { IfOk result (λ v. Extends
+        (difference_of (holds region.now) (places rows.now)) (places cubes.now)
+        (places v.items)) }
+{
+    let mut larger = Vec::new(alloc);
+    for cube in cubes {
+        larger.push(without_literal(shape, region, rows, i, cube)?)?;
+    }
+    Ok(larger)
+}
+
+// The halves of a region as one, or `None` where the budget is spent.
+fn join_halves(
+    alloc: Global,
+    shape: Shape,
+    region: &Cube,
+    rows: &[Cube],
+    i: usize,
+    halves: Vec<Cube>,
+    left: &mut Budget,
+) -> Result<Option<Vec<Cube>>, AllocError>
+    requires region { HasSize region.now shape }
+    requires rows { AreCubes shape rows.now }
+    requires input { i < shape.inputs }
+    requires halves { IsRest shape (holds region.now) rows.now halves.items }
+    ensures { IfOk result (λ o. IfSome o
+        (λ v. IsRest shape (holds region.now) rows.now v.items)) }
+{
+    if !left.spend(rows.len().saturating_mul(halves.len()) / 8) {
+        return Ok(None);
+    }
+    let larger = without_literals(alloc, shape, region, rows, i, &halves)?;
+    let larger = sort_rows(alloc, shape, larger)?;
+    if larger.len() > left.cubes {
+        return Ok(None);
+    }
+    Ok(Some(larger))
+}
+
+// Cubes of the region's places outside the rows, or `None` where the budget is spent.
+fn outside_rows(
+    alloc: Global,
+    shape: Shape,
+    region: &Cube,
+    rows: &[Cube],
+    left: &mut Budget,
+) -> Result<Option<Vec<Cube>>, AllocError>
+    requires region { HasSize region.now shape }
+    requires rows { AreCubes shape rows.now }
+    ensures { IfOk result (λ o. IfSome o
+        (λ v. IsRest shape (holds region.now) rows.now v.items)) }
+{
+    if !left.spend(rows.len()) {
+        return Ok(None);
+    }
+    let rows = near(alloc, shape, region, rows)?;
+    let Some(i) = split_input(shape, region, &rows) else {
+        return Ok(Some(rest(alloc, shape, region, rows)?));
+    };
+    let low = region.with_symbol(i, Symbol::Zero)?;
+    let Some(mut cubes) = outside_rows(alloc, shape, &low, &rows, left)? else {
+        return Ok(None);
+    };
+    let high = region.with_symbol(i, Symbol::One)?;
+    let Some(mut more) = outside_rows(alloc, shape, &high, &rows, left)? else {
+        return Ok(None);
+    };
+    cubes.append(&mut more)?;
+    join_halves(alloc, shape, region, &rows, i, cubes, left)
+}
+
+/// Cubes of one output each that together have the places outside the list, and no others; `None`
+/// where the budget is spent.
+///
+/// They need not be all of the largest ones, as those of [`Cover::complement`] are: of these there
+/// may be far more.
+///
+/// # Errors
+///
+/// [`AllocError`] if memory is refused.
+pub fn outside(list: &Cover, budget: Budget) -> Result<Option<Cover>, AllocError>
+    ensures size { IfOk result (λ o. IfSome o (λ off. off.size ≡ list.now.size)) }
+    ensures places { IfOk result (λ o. IfSome o (λ off. (p : Place) → IsPlace list.now.size p
+        → places off.cubes p ≡ not (places list.now.cubes p))) }
+{
+    let alloc = list.allocator();
+    let shape = list.shape();
+    let mut left = budget;
+    let mut off = Vec::new(alloc);
+    for j in 0..shape.outputs() {
+        let region = one_output(alloc, shape, j)?;
+        let rows = list.as_slice();
+        let Some(mut more) = outside_rows(alloc, shape, &region, rows, &mut left)? else {
+            return Ok(None);
+        };
+        off.append(&mut more)?;
+        if off.len() > budget.cubes {
+            return Ok(None);
+        }
+    }
+    Ok(Some(Cover::from_cubes(shape, off)))
+}
+
+// Cubes of the rows' places outside the others, row by row, or `None` where the budget is spent.
+fn left_of_each(
+    alloc: Global,
+    shape: Shape,
+    rows: &[Cube],
+    others: &[Cube],
+    left: &mut Budget,
+) -> Result<Option<Vec<Cube>>, AllocError>
+    requires rows { AreCubes shape rows.now }
+    requires others { AreCubes shape others.now }
+    ensures { IfOk result (λ o. IfSome o
+        (λ v. IsRest shape (places rows.now) others.now v.items)) }
+{
+    let mut all = Vec::new(alloc);
+    for row in rows {
+        let Some(mut more) = outside_rows(alloc, shape, row, others, left)? else {
+            return Ok(None);
+        };
+        all.append(&mut more)?;
+    }
+    Ok(Some(all))
+}
+
+// Cubes of the rows' places outside the others, or `None` where the budget is spent. Many rows are
+// halved, until they are few or do not meet the others.
+fn left_of(
+    alloc: Global,
+    shape: Shape,
+    rows: &[Cube],
+    others: &[Cube],
+    left: &mut Budget,
+) -> Result<Option<Vec<Cube>>, AllocError>
+    requires rows { AreCubes shape rows.now }
+    requires others { AreCubes shape others.now }
+    ensures { IfOk result (λ o. IfSome o
+        (λ v. IsRest shape (places rows.now) others.now v.items)) }
+{
+    if rows.len() <= FEW {
+        return left_of_each(alloc, shape, rows, others, left);
+    }
+    if are_apart(alloc, shape, rows, others)? {
+        return Ok(Some(copy_of(alloc, rows)?));
+    }
+    let (front, back) = rows.split_at(rows.len() / 2);
+    let Some(mut first) = left_of(alloc, shape, front, others, left)? else {
+        return Ok(None);
+    };
+    let Some(mut second) = left_of(alloc, shape, back, others, left)? else {
+        return Ok(None);
+    };
+    first.append(&mut second)?;
+    Ok(Some(first))
+}
+
+// The rows of the list without those that are seen to stand in the other.
+fn rows_not_in(list: &Cover, other: &Cover) -> Result<Vec<Cube>, AllocError>
+    ensures cubes { IfOk result (λ rows. AreCubes list.now.size rows.items) }
+    ensures places { IfOk result (λ rows. (p : Place)
+        → difference_of (places rows.items) (places other.now.cubes) p
+        ≡ difference_of (places list.now.cubes) (places other.now.cubes) p) }
+{
+    let alloc = list.allocator();
+    let shape = list.shape();
+    let rows = lent(list)?;
+    let others = lent(other)?;
+    let rest = rows_not_among(alloc, shape, &rows, &others)?;
+    copies(alloc, &rest)
+}
+
+/// Cubes that together have the places of the list that are not in the other, of one shape, and no
+/// others; `None` where the budget is spent. A row that meets none of the other list stays as it
+/// is.
+///
+/// They need not be the largest ones, as those of [`difference`] are. Lists that do not meet cost
+/// the question [`Cover::intersects`] and a copy; and a row that stands in both lists too costs no
+/// more than it takes to find it.
+///
+/// # Errors
+///
+/// [`AllocError`] if memory is refused.
+pub fn subtract(list: &Cover, other: &Cover, budget: Budget) -> Result<Option<Cover>, AllocError>
+    requires { other.now.size ≡ list.now.size }
+    ensures size { IfOk result (λ o. IfSome o (λ rest. rest.size ≡ list.now.size)) }
+    ensures places { IfOk result (λ o. IfSome o (λ rest. (p : Place) → IsPlace list.now.size p
+        → places rest.cubes p ≡ (places list.now.cubes p && not (places other.now.cubes p)))) }
+{
+    let meet = list.intersects(other)?;
+    if !meet {
+        return Ok(Some(list.try_clone()?));
+    }
+    let alloc = list.allocator();
+    let shape = list.shape();
+    let _shape = other.shape();
+    let rows = rows_not_in(list, other)?;
+    let mut left = budget;
+    let Some(cubes) = left_of(alloc, shape, &rows, other.as_slice(), &mut left)? else {
+        return Ok(None);
+    };
+    Ok(Some(Cover::from_cubes(shape, cubes)))
+}

@@ -1,0 +1,333 @@
+//! What [`crate::places`] asks, and of which lists: small ones, long ones of 600 to 2,048 rows, and
+//! wide ones of 70 inputs and outputs and of 300 inputs.
+use crate::places::{Case, Question, answers};
+use crate::rules::{Rows, Rule};
+use std::test::Fail;
+
+const NONE: Rows = (Rule::Universe, 0, 0);
+
+const UNIVERSE: Rows = (Rule::Universe, 0, 1);
+
+const FREE: Rows = (Rule::Free, 0, 1);
+
+const OUTSIDE: [Case; 12] = [
+    (
+        Question::Outside,
+        2,
+        1,
+        (Rule::Stairs, 0, 2),
+        NONE,
+        (Rule::Zeros, 2, 3),
+        true,
+    ),
+    (
+        Question::Outside,
+        2,
+        1,
+        (Rule::Stairs, 0, 2),
+        NONE,
+        UNIVERSE,
+        false,
+    ),
+    (Question::Outside, 2, 3, UNIVERSE, NONE, NONE, true),
+    (
+        Question::Outside,
+        11,
+        2,
+        (Rule::Points, 0, 600),
+        NONE,
+        (Rule::Points, 600, 2048),
+        true,
+    ),
+    (
+        Question::Outside,
+        70,
+        70,
+        (Rule::Stairs, 0, 20),
+        NONE,
+        (Rule::Zeros, 20, 21),
+        true,
+    ),
+    (
+        Question::Outside,
+        300,
+        1,
+        (Rule::Stairs, 0, 70),
+        NONE,
+        (Rule::Zeros, 70, 71),
+        true,
+    ),
+    (
+        Question::Subtract,
+        2,
+        1,
+        UNIVERSE,
+        (Rule::Zeros, 2, 3),
+        (Rule::Stairs, 0, 2),
+        true,
+    ),
+    (
+        Question::Subtract,
+        2,
+        1,
+        UNIVERSE,
+        (Rule::Zeros, 2, 3),
+        UNIVERSE,
+        false,
+    ),
+    (
+        Question::Subtract,
+        11,
+        1,
+        (Rule::Halves, 0, 1000),
+        (Rule::Points, 1000, 2048),
+        (Rule::Points, 0, 1000),
+        true,
+    ),
+    (
+        Question::Subtract,
+        70,
+        70,
+        (Rule::Stairs, 0, 70),
+        (Rule::Zeros, 70, 71),
+        (Rule::Stairs, 0, 70),
+        true,
+    ),
+    (
+        Question::Subtract,
+        70,
+        70,
+        UNIVERSE,
+        (Rule::Stairs, 0, 70),
+        (Rule::Zeros, 70, 71),
+        true,
+    ),
+    (
+        Question::Subtract,
+        300,
+        1,
+        UNIVERSE,
+        (Rule::Stairs, 0, 70),
+        (Rule::Zeros, 70, 71),
+        true,
+    ),
+];
+
+const CONTAINING: [Case; 12] = [
+    (
+        Question::Containing,
+        2,
+        1,
+        (Rule::Stairs, 0, 2),
+        (Rule::Zeros, 2, 3),
+        NONE,
+        true,
+    ),
+    (
+        Question::Containing,
+        11,
+        1,
+        (Rule::Halves, 0, 1024),
+        (Rule::Points, 1401, 1402),
+        (Rule::Halves, 700, 701),
+        true,
+    ),
+    (
+        Question::Containing,
+        70,
+        70,
+        (Rule::Pairs, 0, 35),
+        (Rule::Zeros, 60, 61),
+        (Rule::Pairs, 0, 30),
+        true,
+    ),
+    (
+        Question::Containing,
+        300,
+        1,
+        (Rule::Pairs, 0, 150),
+        (Rule::Zeros, 300, 301),
+        (Rule::Pairs, 0, 150),
+        true,
+    ),
+    (
+        Question::SumContaining,
+        12,
+        1,
+        (Rule::Pairs, 0, 6),
+        FREE,
+        (Rule::Choices, 0, 64),
+        true,
+    ),
+    (
+        Question::SumContaining,
+        70,
+        70,
+        (Rule::Pairs, 0, 35),
+        FREE,
+        (Rule::Choices, 0, 64),
+        true,
+    ),
+    (
+        Question::SumContaining,
+        300,
+        1,
+        (Rule::Pairs, 0, 150),
+        FREE,
+        (Rule::Choices, 0, 64),
+        true,
+    ),
+    (
+        Question::SumContaining,
+        300,
+        1,
+        (Rule::Stairs, 0, 300),
+        (Rule::Zeros, 300, 301),
+        (Rule::Zeros, 300, 301),
+        true,
+    ),
+    (
+        Question::SumContaining,
+        11,
+        2,
+        (Rule::Points, 0, 2047),
+        (Rule::Points, 2047, 2048),
+        (Rule::Points, 2047, 2048),
+        true,
+    ),
+    (
+        Question::RowOrder,
+        11,
+        1,
+        (Rule::Backwards, 0, 2048),
+        (Rule::Points, 0, 1000),
+        (Rule::Points, 0, 2048),
+        true,
+    ),
+    (
+        Question::RowOrder,
+        70,
+        70,
+        (Rule::Backwards, 1000, 2048),
+        (Rule::Points, 0, 1000),
+        (Rule::Points, 0, 1048),
+        true,
+    ),
+    (
+        Question::RowOrder,
+        300,
+        1,
+        (Rule::Backwards, 1348, 2048),
+        NONE,
+        (Rule::Points, 0, 700),
+        true,
+    ),
+];
+
+const WITHIN: [Case; 9] = [
+    (
+        Question::Within,
+        11,
+        1,
+        (Rule::Points, 0, 2000),
+        (Rule::Halves, 0, 500),
+        (Rule::Points, 1000, 2000),
+        true,
+    ),
+    (
+        Question::Within,
+        11,
+        1,
+        (Rule::Points, 0, 2000),
+        (Rule::Halves, 0, 500),
+        (Rule::Points, 1001, 2000),
+        false,
+    ),
+    (
+        Question::Within,
+        70,
+        70,
+        (Rule::Points, 0, 2000),
+        NONE,
+        (Rule::Halves, 0, 1000),
+        true,
+    ),
+    (
+        Question::Within,
+        300,
+        1,
+        (Rule::Points, 0, 2000),
+        NONE,
+        (Rule::Halves, 1, 1000),
+        false,
+    ),
+    (
+        Question::MeetsWithin,
+        11,
+        1,
+        (Rule::Points, 500, 1500),
+        (Rule::Points, 1000, 2000),
+        (Rule::Halves, 500, 750),
+        true,
+    ),
+    (
+        Question::MeetsWithin,
+        11,
+        1,
+        (Rule::Points, 500, 1500),
+        (Rule::Points, 1000, 2000),
+        (Rule::Halves, 501, 750),
+        false,
+    ),
+    (
+        Question::MeetsWithin,
+        70,
+        70,
+        (Rule::Points, 0, 1000),
+        (Rule::Points, 1000, 2000),
+        NONE,
+        true,
+    ),
+    (
+        Question::MeetsWithin,
+        70,
+        70,
+        UNIVERSE,
+        (Rule::Zeros, 70, 71),
+        (Rule::Pairs, 0, 35),
+        true,
+    ),
+    (
+        Question::MeetsWithin,
+        300,
+        1,
+        (Rule::Halves, 0, 1000),
+        (Rule::Points, 1000, 2000),
+        (Rule::Halves, 500, 999),
+        false,
+    ),
+];
+
+#[test]
+fn places_outside_are_found(rt: HostRuntime) -> Result<(), Fail> {
+    for case in &OUTSIDE {
+        assert!(rt; answers(rt.alloc(), case)?);
+    }
+    Ok(())
+}
+
+#[test]
+fn cubes_of_a_region_are_found(rt: HostRuntime) -> Result<(), Fail> {
+    for case in &CONTAINING {
+        assert!(rt; answers(rt.alloc(), case)?);
+    }
+    Ok(())
+}
+
+#[test]
+fn lists_within_others_are_told(rt: HostRuntime) -> Result<(), Fail> {
+    for case in &WITHIN {
+        assert!(rt; answers(rt.alloc(), case)?);
+    }
+    Ok(())
+}

@@ -1,0 +1,140 @@
+//! Lists by rule, also wide and long ones.
+ghost use Rattle.std.specs.Prelude.{◌≡◌, IfOk};
+
+use crate::rows::{cube_of_symbols, push, same_shape};
+use cover::Cover;
+use cube::{Cube, Shape, Symbol};
+use std::alloc::Global;
+use std::test::Fail;
+
+// What symbols the row with number k has. All other inputs have `-`.
+#[derive(Clone, Copy)]
+pub(crate) enum Rule {
+    // None at all, in any row.
+    Universe,
+    // The number at the last 11 inputs.
+    Points,
+    // Twice the number and the next one: as points, without the last input.
+    Halves,
+    // The number of those before 2047.
+    Backwards,
+    // `1` at input k and `0` at all before it.
+    Stairs,
+    // `0` at all inputs before k.
+    Zeros,
+    // `0` at inputs 2k and 2k + 1.
+    Pairs,
+    // `1` at the first twelve inputs and then `10`, again and again: Pairs miss it.
+    Free,
+    // The largest cubes with this point that Pairs miss, in row order.
+    Choices,
+}
+
+// How many inputs number points.
+const BITS: usize = 11;
+
+// The rows of a rule from one number to before another.
+pub(crate) type Rows = (Rule, usize, usize);
+
+// The symbol that stands for a bit of a number.
+fn bit_of(number: usize, place: usize) -> Symbol {
+    if place < BITS && number >> place & 1 == 1 {
+        Symbol::One
+    } else if place < BITS {
+        Symbol::Zero
+    } else {
+        Symbol::Dash
+    }
+}
+
+// The symbol of Choices: of each of the first six pairs, and of the rest the first.
+fn choice_of(number: usize, i: usize) -> Symbol {
+    let is_first = i % 2 == 0;
+    let takes_first = i >= 12 || number >> (5usize.saturating_sub(i / 2).min(5)) & 1 == 1;
+    if is_first == takes_first {
+        Symbol::One
+    } else {
+        Symbol::Dash
+    }
+}
+
+// The symbol of Stairs.
+fn stair_of(number: usize, i: usize) -> Symbol {
+    if i < number {
+        Symbol::Zero
+    } else if i == number {
+        Symbol::One
+    } else {
+        Symbol::Dash
+    }
+}
+
+fn symbol_of(rule: Rule, inputs: usize, number: usize, i: usize) -> Symbol {
+    let place = inputs.saturating_sub(i).saturating_sub(1);
+    match rule {
+        Rule::Points => bit_of(number, place),
+        Rule::Backwards => bit_of(2047usize.saturating_sub(number), place),
+        Rule::Halves if place > 0 => bit_of(number.saturating_mul(2), place),
+        Rule::Stairs => stair_of(number, i),
+        Rule::Zeros if i < number => Symbol::Zero,
+        Rule::Pairs if i / 2 == number => Symbol::Zero,
+        Rule::Free if i >= 12 && i % 2 == 1 => Symbol::Zero,
+        Rule::Free => Symbol::One,
+        Rule::Choices => choice_of(number, i),
+        Rule::Universe | Rule::Zeros | Rule::Halves | Rule::Pairs => Symbol::Dash,
+    }
+}
+
+// The cube of the row, with all outputs.
+fn cube_of_rule(alloc: Global, shape: Shape, rule: Rule, number: usize) -> Result<Cube, Fail> {
+    let (inputs, outputs) = (shape.inputs().min(1024), shape.outputs().min(1024));
+    let mut symbols = [Symbol::Dash; 1024];
+    for i in 0..inputs {
+        symbols[i] = symbol_of(rule, inputs, number, i);
+    }
+    let bits = [true; 1024];
+    Ok(cube_of_symbols(alloc, &symbols[..inputs], &bits[..outputs])?.ok_or("no output")?)
+}
+
+// The list of these rows.
+pub(crate) fn list_of(alloc: Global, shape: Shape, rows: Rows) -> Result<Cover, Fail>
+    ensures { IfOk result (λ c. c.size ≡ shape) }
+{
+    let (rule, from, to) = rows;
+    let mut list = Cover::new(alloc, shape);
+    for number in from..to {
+        push(&mut list, cube_of_rule(alloc, shape, rule, number)?)?;
+    }
+    same_shape(shape, list.shape())?;
+    Ok(list)
+}
+
+// Whether the cube is the row of this number, with all outputs.
+fn is_row(cube: &Cube, rule: Rule, number: usize) -> bool {
+    let shape = cube.shape();
+    for i in 0..shape.inputs() {
+        if cube.symbol(i) != symbol_of(rule, shape.inputs(), number, i) {
+            return false;
+        }
+    }
+    for j in 0..shape.outputs() {
+        if !cube.output(j) {
+            return false;
+        }
+    }
+    true
+}
+
+// Whether the list has just these rows.
+pub(crate) fn has_rows(list: &Cover, rows: Rows) -> bool {
+    let (rule, from, to) = rows;
+    if list.len() != to.saturating_sub(from) {
+        return false;
+    }
+    for (k, cube) in list.as_slice().iter().enumerate() {
+        if !is_row(cube, rule, from.saturating_add(k)) {
+            return false;
+        }
+    }
+    true
+}
