@@ -30,5 +30,15 @@ pub mod PrimeRows
 pub mod RowsByCube
 pub mod PrimeTables
 pub mod LeastPrimes
+pub mod PointTables
+pub mod PickedPoints
+pub mod PrimeSources
 pub mod EssentialPrimes
 pub mod NonCandidates
+pub mod OfPla
+pub mod Growth
+pub mod Neighbours
+pub mod EssentialByNeighbours
+pub mod Blocking
+pub mod Near
+pub mod Reached

@@ -124,7 +124,7 @@ rows_none primes on dc = record { demands = tt; has_rows = λ p low _. absurd (l
 pub one_set : (m j : ℕ) → j < m → Contains (set (replicate m false) j true) true
 one_set m j lt = (j, omega (arith, length-set (replicate m false) j true, length-replicate m false), get_or-set_same (replicate m false) j true true (omega (arith, length-replicate m false)))
 
-set_one : (m j k : ℕ) → get_or (set (replicate m false) j true) k false ≡ true → k ≡ j
+pub set_one : (m j k : ℕ) → get_or (set (replicate m false) j true) k false ≡ true → k ≡ j
 set_one zero j k h = absurd (false≢true h)
 set_one (suc m) zero zero h = refl
 set_one (suc m) zero (suc k) h = absurd (false≢true (sym (none_set m k) ∙ h))

@@ -19,18 +19,18 @@ use Rattle.minimum.proofs.BestChoice.{difference, join_length, join_sum, minus_r
 
 -- ---- the numbers of a rising list
 
-pick_has : (xs : List ℕ) (i : ℕ) → i < length xs → has (pick xs i) xs ≡ true
+pub pick_has : (xs : List ℕ) (i : ℕ) → i < length xs → has (pick xs i) xs ≡ true
 pick_has [] i h = absurd (omega arith)
 pick_has (x ∷ xs) zero h = has_here x x xs refl
 pick_has (x ∷ xs) (suc i) h = has_later (pick xs i) x xs (pick_has xs i (omega arith))
 
-pick_rises : (l : ℕ) (xs : List ℕ) (i j : ℕ) → RisesFrom l xs → i < j → j < length xs → pick xs i < pick xs j
+pub pick_rises : (l : ℕ) (xs : List ℕ) (i j : ℕ) → RisesFrom l xs → i < j → j < length xs → pick xs i < pick xs j
 pick_rises l [] i j r h k = absurd (omega arith)
 pick_rises l (x ∷ xs) i zero r h k = absurd (omega arith)
 pick_rises l (x ∷ xs) zero (suc j) r h k = let up = rises_above (pick xs j) (suc x) xs r.1 (pick_has xs j (omega arith)) in omega arith
 pick_rises l (x ∷ xs) (suc i) (suc j) r h k = pick_rises (suc x) xs i j r.1 (omega arith) (omega arith)
 
-place_of : (n : ℕ) (xs : List ℕ) → has n xs ≡ true → (i : ℕ) × (i < length xs) × (pick xs i ≡ n)
+pub place_of : (n : ℕ) (xs : List ℕ) → has n xs ≡ true → (i : ℕ) × (i < length xs) × (pick xs i ≡ n)
 place_of n [] h = absurd (true≢false (sym h))
 place_of n (x ∷ xs) h = elim (has_cases n x xs h) [
   | inl e ↦ (0, omega arith, sym e)
@@ -42,18 +42,18 @@ pick_map f [] i h = absurd (omega arith)
 pick_map f (x ∷ xs) zero h = refl
 pick_map f (x ∷ xs) (suc i) h = pick_map f xs i (omega arith)
 
-map_keeps : (f : ℕ → ℕ) (i : ℕ) (xs : List ℕ) → has i xs ≡ true → has (f i) (map f xs) ≡ true
+pub map_keeps : (f : ℕ → ℕ) (i : ℕ) (xs : List ℕ) → has i xs ≡ true → has (f i) (map f xs) ≡ true
 map_keeps f i [] h = absurd (true≢false (sym h))
 map_keeps f i (x ∷ xs) h = elim (has_cases i x xs h) [ inl e ↦ has_here (f i) (f x) (map f xs) (ap f e) | inr e ↦ has_later (f i) (f x) (map f xs) (map_keeps f i xs e) ]
 
-map_only : (f : ℕ → ℕ) (n : ℕ) (xs : List ℕ) → has n (map f xs) ≡ true → (i : ℕ) × (has i xs ≡ true) × (f i ≡ n)
+pub map_only : (f : ℕ → ℕ) (n : ℕ) (xs : List ℕ) → has n (map f xs) ≡ true → (i : ℕ) × (has i xs ≡ true) × (f i ≡ n)
 map_only f n [] h = absurd (true≢false (sym h))
 map_only f n (x ∷ xs) h = elim (has_cases n (f x) (map f xs) h) [
   | inl e ↦ (x, has_here x x xs refl, sym e)
   | inr e ↦ (let p = map_only f n xs e in (p.0, has_later p.0 x xs p.1, p.2))
 ]
 
-map_rises : (live : List ℕ) (l b : ℕ) (xs : List ℕ) → RisesFrom 0 live → RisesFrom l xs → ((i : ℕ) → has i xs ≡ true → i < length live) → ((i : ℕ) → l ≤ i → i < length live → b ≤ pick live i) → RisesFrom b (map (pick live) xs)
+pub map_rises : (live : List ℕ) (l b : ℕ) (xs : List ℕ) → RisesFrom 0 live → RisesFrom l xs → ((i : ℕ) → has i xs ≡ true → i < length live) → ((i : ℕ) → l ≤ i → i < length live → b ≤ pick live i) → RisesFrom b (map (pick live) xs)
 map_rises live l b [] q r below up = tt
 map_rises live l b (x ∷ xs) q r below up = (
   up x r.0 (below x (has_here x x xs refl)),

@@ -13,3 +13,6 @@ pub mod Primes
 pub mod PrimeTable
 pub mod PrimeRows
 pub mod EssentialPrimes
+pub mod Points
+pub mod Neighbours
+pub mod Blocking

@@ -1,4 +1,4 @@
--- How the places of regions become rows of a table. No public clause cites this module.
+-- How the places of regions become rows of a table. Public clauses cite `spans` alone.
 use Rattle.std.specs.Prelude.{◌≡◌, ◌≢◌, ℕ, nat_lt, ◌<◌, Bool, true, false, not, List, [], length, slice_index_or, slice_get, Some, All}
 use Rattle.std.specs.List.{AllByRecursion, list_any}
 use Rattle.cube.specs.declared.symbol.Symbol.TheVariants.{Dash}

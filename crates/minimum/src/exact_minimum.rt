@@ -1,15 +1,30 @@
 //! The least cover by primes.
+//!
+//! Three ways lead to it. With many inputs and several outputs there may be far too many primes to
+//! list: points are picked, and only the primes that contain one of them are made
+//! ([`crate::signatures`]). With one output or fewer inputs all primes are listed: points are picked
+//! by them where the inputs are many, and else the rows of their table come from regions. Which way
+//! is taken is a wish; where one has spent its budget, the next one follows.
 
-ghost use Rattle.std.specs.Prelude.{◌≡◌, ◌<◌, IfOk};
-ghost use Rattle.minimum.specs.Primes.{chosen, exact_of};
+ghost use Rattle.std.specs.Prelude.{◌≡◌, ◌<◌, ◌||◌, IfOk, IfSome, not};
+ghost use Rattle.cube.specs.Cube.{IsPlace, Place};
+ghost use Rattle.cover.specs.Cubes.{AreCubes};
+ghost use Rattle.cover.specs.Places.{places};
+ghost use Rattle.pla.specs.Sets.{SetLists};
+ghost use Rattle.minimum.specs.Points.{IsSource, StandsFor};
+ghost use Rattle.minimum.specs.Primes.{chosen, exact_of, primes_of};
 
 use crate::choice::Choice;
 use crate::covering::reduce::reduce;
 use crate::covering::table::Table;
 use crate::essential_primes::add;
 use crate::prime_implicants::primes;
-use cover::Cover;
+use crate::signatures::picks::{places_of_primes, places_outside};
+use crate::signatures::source::{Source, Stop};
+use crate::signatures::table_of_points;
+use cover::{Budget, Cover, outside};
 use pla::Sets;
+use signature_search::Place as Pick;
 use std::alloc::{AllocError, Global};
 
 /// The cubes with these numbers.
@@ -28,19 +43,159 @@ fn cubes_at(alloc: Global, list: &Cover, numbers: &[usize]) -> Result<Cover, All
     Ok(picked)
 }
 
+// So many cubes with the places outside are made at most for each output, and for all of them:
+// where many functions are joined in one output, there are far more, and the primes are few.
+const MOST_OF_AN_OUTPUT: usize = 250;
+
+const MOST_OUTSIDE: usize = 40000;
+
+// So many rows are looked at for each output on the way, beside each row of the lists once for each
+// of these cubes: it takes some tenths of a second an output to give up, and functions with few such
+// cubes were seen to take a tenth of these rows.
+const MOST_ROWS_OF_AN_OUTPUT: usize = 1_000_000;
+
+/// How far cubes with the places outside these are looked for.
+fn budget_outside(all: &Cover) -> Budget {
+    let outputs = all.shape().outputs();
+    let rows = all.len().saturating_mul(MOST_OF_AN_OUTPUT);
+    Budget {
+        cubes: outputs.saturating_mul(MOST_OF_AN_OUTPUT).min(MOST_OUTSIDE),
+        rows: outputs.saturating_mul(rows.saturating_add(MOST_ROWS_OF_AN_OUTPUT)),
+    }
+}
+
+/// Whether points are wished for, in place of all primes: functions of few inputs have few primes.
+pub(crate) fn wishes_points(sets: &Sets) -> bool {
+    sets.on().shape().inputs() > 12
+}
+
+/// Whether the places outside are wished for. Of one output the primes are mostly few, and where
+/// many functions are joined in it the places outside take too many cubes to begin with.
+fn wishes_outside(sets: &Sets) -> bool {
+    wishes_points(sets) && sets.on().shape().outputs() > 1
+}
+
+/// Whether points are wished for where all primes are listed: with fewer inputs the rows from regions
+/// are made sooner, as points are picked by a look at all primes for each of them.
+fn wishes_points_of_primes(sets: &Sets) -> bool {
+    sets.on().shape().inputs() > 20
+}
+
+/// Some cubes with the places outside the ON-set and the DC-set, if they are wished for and few.
+fn off_of(sets: &Sets) -> Result<Option<Cover>, AllocError>
+    ensures size { IfOk result (λ o. IfSome o (λ off. off.size ≡ sets.now.size)) }
+    ensures places { IfOk result (λ o. IfSome o (λ off. (p : Place) → IsPlace sets.now.size p
+        → places off.cubes p ≡ not (places sets.now.on p || places sets.now.dc p))) }
+{
+    if !wishes_outside(sets) {
+        return Ok(None);
+    }
+    let mut all = sets.on().try_clone()?;
+    all.append(sets.dc())?;
+    outside(&all, budget_outside(&all))
+}
+
+/// The least cover by the primes of some points, or none where a point has too many.
+pub(crate) fn exact_by_points(
+    alloc: Global,
+    given: &Sets,
+    source: &Source,
+    places: &[Pick],
+    choice: Choice,
+) -> Result<Option<Cover>, AllocError>
+    ghost sets: { SetLists }
+    requires source { IsSource given.now.size source.now }
+    requires on { AreCubes sets.size sets.on }
+    requires same { StandsFor sets given.now source.now }
+    ensures { IfOk result (λ o. IfSome o (λ list. list ≡ record
+        { size = given.now.size; cubes = exact_of choice sets })) }
+{
+    match table_of_points(alloc, given, source, places) {
+        Ok((columns, table)) => {
+            let table = reduce(table, choice)?;
+            let least = table.least_cover(choice)?;
+            let list = cubes_at(alloc, &columns, &least)?;
+            Ok(Some(list))
+        }
+        Err(Stop::Spent) => Ok(None),
+        Err(Stop::Memory) => Err(AllocError),
+    }
+}
+
+/// The least cover by the primes of points outside these cubes.
+fn exact_outside(
+    alloc: Global,
+    sets: &Sets,
+    off: Cover,
+    choice: Choice,
+) -> Result<Option<Cover>, AllocError>
+    requires size { off.size ≡ sets.now.size }
+    requires places { (p : Place) → IsPlace sets.now.size p
+        → places off.cubes p ≡ not (places sets.now.on p || places sets.now.dc p) }
+    ensures { IfOk result (λ o. IfSome o (λ list. list ≡ record
+        { size = sets.now.size; cubes = exact_of choice sets.now })) }
+{
+    let _shape = sets.on().shape();
+    let places = places_outside(alloc, sets, &off, false)?;
+    exact_by_points(alloc, sets, &Source::Outside(off), &places, choice)
+}
+
+/// The least cover by the primes of points, from a list of all primes, if that is wished for.
+fn exact_among(
+    alloc: Global,
+    sets: &Sets,
+    primes: &Cover,
+    choice: Choice,
+) -> Result<Option<Cover>, AllocError>
+    requires { primes.now ≡ record { size = sets.now.size; cubes = primes_of sets.now } }
+    ensures { IfOk result (λ o. IfSome o (λ list. list ≡ record
+        { size = sets.now.size; cubes = exact_of choice sets.now })) }
+{
+    if !wishes_points_of_primes(sets) {
+        return Ok(None);
+    }
+    let _shape = sets.on().shape();
+    let places = places_of_primes(alloc, sets, primes, false)?;
+    let source = Source::Primes(primes.try_clone()?);
+    exact_by_points(alloc, sets, &source, &places, choice)
+}
+
+/// The least cover by primes, from the table of all of them.
+fn exact_by_table(
+    alloc: Global,
+    sets: &Sets,
+    primes: &Cover,
+    choice: Choice,
+) -> Result<Cover, AllocError>
+    requires { primes.now ≡ record { size = sets.now.size; cubes = primes_of sets.now } }
+    ensures { IfOk result (λ list. list ≡ record
+        { size = sets.now.size; cubes = exact_of choice sets.now }) }
+{
+    let table = Table::build(alloc, primes, sets)?;
+    let table = reduce(table, choice)?;
+    let least = table.least_cover(choice)?;
+    cubes_at(alloc, primes, &least)
+}
+
 /// The least cover by primes: of the lists of primes that together hold each place of the ON-set
 /// that is not in the DC-set, the first of the shortest, in row order; with `Choice::Literals`, of
 /// those with the fewest literals.
 ///
-/// Its cost is that of [`primes`], of [`Table::build`] and of [`Table::least_cover`] on the reduced
-/// table, whose number of branches has no small bound.
+/// With many inputs and several outputs it lists no more primes than contain some picked points.
+/// Else its cost is that of [`primes`], with few inputs that of [`Table::build`], and then that of
+/// [`Table::least_cover`] on the reduced table, whose number of branches has no small bound.
 pub fn exact(alloc: Global, sets: &Sets, choice: Choice) -> Result<Cover, AllocError>
     ensures { IfOk result (λ list. list ≡ record
         { size = sets.now.size; cubes = exact_of choice sets.now }) }
 {
+    if let Some(off) = off_of(sets)? {
+        if let Some(list) = exact_outside(alloc, sets, off, choice)? {
+            return Ok(list);
+        }
+    }
     let primes = primes(sets)?;
-    let table = Table::build(alloc, &primes, sets)?;
-    let table = reduce(table, choice)?;
-    let least = table.least_cover(choice)?;
-    cubes_at(alloc, &primes, &least)
+    if let Some(list) = exact_among(alloc, sets, &primes, choice)? {
+        return Ok(list);
+    }
+    exact_by_table(alloc, sets, &primes, choice)
 }

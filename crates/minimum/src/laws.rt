@@ -2,6 +2,7 @@
 
 ghost use Rattle.minimum.specs.Lagrange.{LagrangianHolds};
 ghost use Rattle.minimum.specs.Laws.{LeastDifferenceDecides, LeastIsUnique};
+ghost use Rattle.minimum.specs.Points.{PointsAreEnough};
 
 /// A table has one least cover at most, so that a contract that says `IsLeast` says which list is
 /// answered.
@@ -19,4 +20,10 @@ pub fn weights_bound_covers()
 /// differ.
 pub fn least_difference_decides()
     ensures { LeastDifferenceDecides }
+{}
+
+/// A table with a row for each of some wanted places, of the primes that hold it, has the least
+/// cover by primes, if each wanted place is in all of the primes of some row.
+pub fn points_are_enough()
+    ensures { PointsAreEnough }
 {}

@@ -1,9 +1,19 @@
 //! Primes, essential primes and the least cover by primes.
 //!
 //! - [`primes`] gives all primes of the ON-set with the DC-set, [`essential`] those that hold a
-//!   wanted place alone.
-//! - [`exact`] gives the least cover by primes: it builds the table of the primes, reduces it and
+//!   wanted place alone; [`find_essential`] finds these without a list of all primes, and
+//!   [`find_essential_outside`] by the places outside, without a DC list.
+//! - [`exact`] gives the least cover by primes: it builds a table of primes, reduces it and
 //!   solves it.
+//! - [`primes_of_pla`], [`essential_of_pla`] and [`exact_of_pla`] give the same for a description,
+//!   and make of the lists that its type leaves open those that they need.
+//!
+//! With several outputs and more than 12 inputs the table has a row for each of some picked points,
+//! and only the primes that contain one of them are made, by cubes with the places outside ON-set
+//! and DC-set (McGeer, Sanghavi, Brayton and Sangiovanni-Vincentelli, ESPRESSO-SIGNATURE, 1993).
+//! That such a table is enough is the law [`points_are_enough`]. Else, and where a point has too
+//! many primes or the places outside take too many cubes, all primes are listed: with more than 20
+//! inputs points are picked by them, and with fewer `Table::build` makes the table.
 //!
 //! A table has columns, some taken and some live, and rows, each a list of live columns. A cover is
 //! a rising list of columns with all taken ones and a column of each row. The least cover is the
@@ -33,22 +43,31 @@
 //! one length has the least number in which they differ, so that the parts' least covers make the
 //! least cover); if all columns of a part count alike its size decides. A search holds a copy of
 //! the table for each branch that is open, as many as columns are decided on one path. The number
-//! of branches is not bounded by less than the number of covers.
+//! of branches is not bounded by less than the number of covers. The points are wished for, by a
+//! search that takes some tens of questions for each; how many it finds depends on the function
+//! and not on the number of its primes.
 #![tactic(auto)]
 
 mod choice;
 mod covering;
+mod essential_by_neighbours;
 mod essential_primes;
 mod exact_minimum;
 mod laws;
+mod of_pla;
 mod prime_implicants;
 mod prime_table;
+mod signatures;
 
 pub use choice::Choice;
 pub use covering::reduce::reduce;
 pub use covering::table::Table;
+pub use essential_by_neighbours::{find_essential, find_essential_outside};
 pub use essential_primes::essential;
 pub use exact_minimum::exact;
 pub use heuristics::Effort;
-pub use laws::{least_difference_decides, least_is_unique, weights_bound_covers};
+pub use laws::{
+    least_difference_decides, least_is_unique, points_are_enough, weights_bound_covers,
+};
+pub use of_pla::{essential_of_pla, exact_of_pla, primes_of_pla};
 pub use prime_implicants::primes;

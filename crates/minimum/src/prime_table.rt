@@ -24,7 +24,7 @@ use pla::Sets;
 use std::alloc::{AllocError, Global};
 
 /// The cube of all places with this output.
-fn one_output(alloc: Global, shape: Shape, j: usize) -> Result<Cube, AllocError>
+pub(crate) fn one_output(alloc: Global, shape: Shape, j: usize) -> Result<Cube, AllocError>
     requires { j < shape.outputs }
     ensures { IfOk result (λ c. c ≡ record {
       symbols = replicate shape.inputs Symbol.Dash;
@@ -48,7 +48,7 @@ fn weight(cube: &Cube) -> u32
     cube.literals() as u32
 }
 
-fn weights(alloc: Global, cubes: &[Cube]) -> Result<Vec<u32>, AllocError>
+pub(crate) fn weights(alloc: Global, cubes: &[Cube]) -> Result<Vec<u32>, AllocError>
     ensures { IfOk result (λ v. v.items ≡ map literals_of cubes.now) }
 {
     cubes.iter().map(|cube| weight(cube)).collect(alloc)

@@ -11,5 +11,6 @@ pub mod Readings
 pub mod Both
 pub mod Printed
 pub mod Checking
+pub mod Comparing
 mod Executing
 mod Opening

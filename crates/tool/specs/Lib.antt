@@ -10,6 +10,7 @@ pub mod Run
 pub mod Program
 pub mod Contents
 pub mod Steps
+pub mod Comparing
 pub mod ToolExamples
 pub mod CommandExamples
 pub mod MessageExamples

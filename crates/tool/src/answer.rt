@@ -1,11 +1,10 @@
 //! What each command answers on the descriptions of its files.
 ghost use Rattle.std.specs.Prelude.{◌≡◌, IfOk, true, unwrap_or};
 ghost use Rattle.cover.specs.Contained.{contained};
-ghost use Rattle.minimum.specs.Primes.{essential_of, exact_of, primes_of};
-ghost use Rattle.pla.specs.Completed.{dc_list, off_list, sets_of};
+ghost use Rattle.pla.specs.Completed.{dc_list, off_list};
 ghost use Rattle.pla.specs.Sets.{lists_of};
 ghost use Rattle.pla.specs.Text.{text_of};
-ghost use Rattle.tool.specs.Answer.{answer_of, judged, printed, printed_with, prints_dc, prints_off, three_sets};
+ghost use Rattle.tool.specs.Answer.{answer_of, judged, printed, printed_with, prints_dc, prints_off};
 ghost use Rattle.tool.specs.Run.{trace};
 ghost use Rattle.tool.specs.Steps.{PutsOut};
 
@@ -16,8 +15,8 @@ use crate::line::Line;
 use crate::status::Status;
 use crate::two_files::{put_comparison, put_difference, put_intersection};
 use cover::{Cover, contain};
-use minimum::{Choice, essential, exact, primes};
-use pla::{OutType, Output, Pla, Sets, WriteFault, open_dc, open_off, write_bytes, write_covers};
+use minimum::{Choice, essential_of_pla, exact_of_pla, primes_of_pla};
+use pla::{OutType, Output, Pla, WriteFault, open_dc, open_off, write_bytes, write_covers};
 use std::alloc::{AllocError, Global};
 
 // Prints what the line's command answers. A single file's description is given twice.
@@ -173,20 +172,10 @@ fn put_primes<W: Output>(
     ensures { PutsOut (answer_of Command.Primes out_type Choice.First pla.now pla.now)
         (trace (W.taken out.old) (W.taken out.new) (W.calls out.old) (W.calls out.new)) result }
 {
-    match with_primes(alloc, pla, is_off_printed(out_type)) {
-        Ok(sets) => put_covers(pla, out_type, sets.on(), sets.dc(), sets.off(), out),
+    match primes_of_pla(alloc, pla) {
+        Ok(on) => put_lists(alloc, pla, out_type, &on, out),
         Err(_) => Err(Failure::OutOfMemory),
     }
-}
-
-// The three sets with the primes in place of the ON list; the OFF list if it is asked for.
-fn with_primes(alloc: Global, pla: &Pla, off: bool) -> Result<Sets, AllocError>
-    ensures { IfOk result
-        (λ sets. sets ≡ record (sets_of pla.now true off) { on = primes_of (three_sets pla.now) }) }
-{
-    let sets = Sets::of(alloc, pla, true, off)?;
-    let on = primes(&sets)?;
-    Ok(sets.with_on(on))
 }
 
 // The description with its essential primes in place of its ON list.
@@ -199,21 +188,10 @@ fn put_essential<W: Output>(
     ensures { PutsOut (answer_of Command.Essen out_type Choice.First pla.now pla.now)
         (trace (W.taken out.old) (W.taken out.new) (W.calls out.old) (W.calls out.new)) result }
 {
-    match with_essential(alloc, pla, is_off_printed(out_type)) {
-        Ok(sets) => put_covers(pla, out_type, sets.on(), sets.dc(), sets.off(), out),
+    match essential_of_pla(alloc, pla) {
+        Ok(on) => put_lists(alloc, pla, out_type, &on, out),
         Err(_) => Err(Failure::OutOfMemory),
     }
-}
-
-// The three sets with the essential primes in place of the ON list, likewise.
-fn with_essential(alloc: Global, pla: &Pla, off: bool) -> Result<Sets, AllocError>
-    ensures { IfOk result (λ sets. sets ≡ record (sets_of pla.now true off)
-        { on = essential_of (three_sets pla.now) (primes_of (three_sets pla.now)) }) }
-{
-    let sets = Sets::of(alloc, pla, true, off)?;
-    let all = primes(&sets)?;
-    let on = essential(alloc, &sets, &all)?;
-    Ok(sets.with_on(on))
 }
 
 // The description with the least cover by primes in place of its ON list.
@@ -227,21 +205,10 @@ fn put_least<W: Output>(
     ensures { PutsOut (answer_of Command.Exact out_type choice pla.now pla.now)
         (trace (W.taken out.old) (W.taken out.new) (W.calls out.old) (W.calls out.new)) result }
 {
-    match with_least(alloc, pla, choice, is_off_printed(out_type)) {
-        Ok(sets) => put_covers(pla, out_type, sets.on(), sets.dc(), sets.off(), out),
+    match exact_of_pla(alloc, pla, choice) {
+        Ok(on) => put_lists(alloc, pla, out_type, &on, out),
         Err(_) => Err(Failure::OutOfMemory),
     }
-}
-
-// The three sets with the least cover in place of the ON list, likewise.
-fn with_least(alloc: Global, pla: &Pla, choice: Choice, off: bool) -> Result<Sets, AllocError>
-    ensures { IfOk result
-        (λ sets. sets
-        ≡ record (sets_of pla.now true off) { on = exact_of choice (three_sets pla.now) }) }
-{
-    let sets = Sets::of(alloc, pla, true, off)?;
-    let on = exact(alloc, &sets, choice)?;
-    Ok(sets.with_on(on))
 }
 
 // Whether the three sets part the space.

@@ -1,6 +1,10 @@
 //! What the commands on two files answer.
-ghost use Rattle.std.specs.Prelude.{◌≡◌, IfOk};
+ghost use Rattle.std.specs.Prelude.{◌≡◌, ◌↔◌, ◌||◌, ◌++◌, IfOk, IsTrue, false};
+ghost use Rattle.cube.specs.Cube.{IsSubset};
+ghost use Rattle.cover.specs.Places.{places};
+ghost use Rattle.pla.specs.Completed.{dc_list};
 ghost use Rattle.tool.specs.Answer.{agree as agree_of, answer_of};
+ghost use Rattle.tool.specs.Comparing.{settled};
 ghost use Rattle.tool.specs.Run.{trace};
 ghost use Rattle.tool.specs.Steps.{PutsOut};
 
@@ -8,9 +12,9 @@ use crate::answer::{lent, put_judgement, put_lists};
 use crate::command::Command;
 use crate::failure::Failure;
 use crate::status::Status;
-use cover::{agree_outside, difference, intersect};
+use cover::{Cover, are_meets_within_either, difference, intersect, is_within_either};
 use minimum::Choice;
-use pla::{OutType, Output, Pla, open_dc};
+use pla::{FileType, OutType, Output, Pla, open_dc};
 use std::alloc::{AllocError, Global};
 
 // Whether the two agree outside their DC-sets.
@@ -34,16 +38,53 @@ pub(crate) fn put_comparison<W: Output>(
     }
 }
 
-// Each place that is in neither DC-set is in both ON-sets or in neither.
+// The DC cubes that the two list.
+fn listed_dc(alloc: Global, pla: &Pla, other: &Pla) -> Result<Cover, AllocError>
+    requires { other.now.size ≡ pla.now.size }
+    ensures { IfOk result (λ free. free ≡ record {
+      size = pla.now.size;
+      cubes = dc_list pla.now.file_type false pla.now
+          ++ dc_list other.now.file_type false other.now;
+    }) }
+{
+    let dc = open_dc(alloc, pla, false)?;
+    let other_dc = open_dc(alloc, other, false)?;
+    let mut free = lent(&dc, pla.dc()).try_clone()?;
+    free.append(lent(&other_dc, other.dc()))?;
+    Ok(free)
+}
+
+// Whether each place of the first ON-set that the other settles is in the other ON-set or listed as
+// a don't-care.
+fn is_held(pla: &Pla, other: &Pla, free: &Cover) -> Result<bool, AllocError>
+    requires other { other.now.size ≡ pla.now.size }
+    requires free { free.now.size ≡ pla.now.size }
+    ensures { IfOk result
+        (λ held. IsTrue held
+        ↔ IsSubset (settled other.now.file_type other.now.off (places pla.now.on))
+        (λ p. places free.now.cubes p || places other.now.on p)) }
+{
+    match other.file_type() {
+        FileType::Fr => are_meets_within_either(pla.on(), other.off(), other.on(), free),
+        FileType::F | FileType::Fd | FileType::Fdr => {
+            is_within_either(pla.on(), other.on(), free)
+        }
+    }
+}
+
+// Each place that is in neither DC-set is in both ON-sets or in neither. Under fr no DC list is made:
+// a place that is in one ON-set and not in the other is outside both DC-sets if the other's OFF list
+// has it, and no list of don't-cares.
 fn agree(alloc: Global, pla: &Pla, other: &Pla) -> Result<bool, AllocError>
     requires { other.now.size ≡ pla.now.size }
     ensures { IfOk result (λ holds. holds ≡ agree_of pla.now other.now) }
 {
-    let dc = open_dc(alloc, pla, true)?;
-    let other_dc = open_dc(alloc, other, true)?;
-    let mut free = lent(&dc, pla.dc()).try_clone()?;
-    free.append(lent(&other_dc, other.dc()))?;
-    agree_outside(pla.on(), other.on(), &free)
+    let (_own, _theirs) = (pla.on().shape(), other.on().shape());
+    let free = listed_dc(alloc, pla, other)?;
+    if !is_held(pla, other, &free)? {
+        return Ok(false);
+    }
+    is_held(other, pla, &free)
 }
 
 // The PLA of the places in both ON-sets.

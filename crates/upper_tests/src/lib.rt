@@ -3,17 +3,29 @@
 //! They stand in a crate of their own, as those of the crates below do (`lower_tests`), since the
 //! crate that a test stands in is proved a second time with it.
 //!
-//! - Minima: `primes`, `tables` of rows, `solutions` of whole files.
+//! - Minima: `primes`, `tables` of rows, `solutions` of whole files; `descriptions` by `rules`, in
+//!   `small_cases` and `wide`, which also sets functions of a few inputs among many; `signatures` of
+//!   a decoder.
 //! - Runs: `runs` on devices that fail, `processes` from their words to their status.
 #![tactic(auto)]
 
+#[cfg(test)]
+mod descriptions;
 #[cfg(test)]
 mod primes;
 #[cfg(test)]
 mod processes;
 #[cfg(test)]
+mod rules;
+#[cfg(test)]
 mod runs;
+#[cfg(test)]
+mod signatures;
+#[cfg(test)]
+mod small_cases;
 #[cfg(test)]
 mod solutions;
 #[cfg(test)]
 mod tables;
+#[cfg(test)]
+mod wide;

@@ -56,7 +56,7 @@ pub(crate) fn spans(cubes: &[Cube], region: &Cube, number: usize) -> bool
 }
 
 /// Those of the cubes that have a place of the region.
-fn touching(
+pub(crate) fn touching(
     alloc: Global,
     cubes: &[Cube],
     region: &Cube,
@@ -76,7 +76,7 @@ fn touching(
 }
 
 /// Those of the cubes that hold the region.
-fn spanning(
+pub(crate) fn spanning(
     alloc: Global,
     cubes: &[Cube],
     region: &Cube,
@@ -96,7 +96,7 @@ fn spanning(
 }
 
 /// Whether one of the cubes holds the region.
-fn any_spans(cubes: &[Cube], region: &Cube, numbers: &[usize]) -> bool
+pub(crate) fn any_spans(cubes: &[Cube], region: &Cube, numbers: &[usize]) -> bool
     requires size { All (λ d. SameSize d region.now) cubes.now }
     requires below { All (λ i. i < length cubes.now) numbers.now }
     ensures { result ≡ list_any (spans cubes.now region.now) numbers.now }
@@ -110,7 +110,7 @@ fn any_spans(cubes: &[Cube], region: &Cube, numbers: &[usize]) -> bool
 }
 
 /// An input at which the region has a dash and the cube a literal.
-fn literal_inside(cube: &Cube, region: &Cube) -> Option<usize>
+pub(crate) fn literal_inside(cube: &Cube, region: &Cube) -> Option<usize>
     requires { SameSize cube.now region.now }
     ensures { MatchOption result (HasNoneInside cube.now region.now) (IsFree region.now) }
 {
@@ -126,7 +126,7 @@ fn literal_inside(cube: &Cube, region: &Cube) -> Option<usize>
 }
 
 /// An input at which the region has a dash and one of these cubes a literal.
-fn first_inside(cubes: &[Cube], region: &Cube, numbers: &[usize]) -> Option<usize>
+pub(crate) fn first_inside(cubes: &[Cube], region: &Cube, numbers: &[usize]) -> Option<usize>
     requires size { All (λ d. SameSize d region.now) cubes.now }
     requires below { All (λ i. i < length cubes.now) numbers.now }
     ensures { MatchOption result ((n : ℕ) → has n numbers.now ≡ true

@@ -1,0 +1,327 @@
+-- The blocking lists of a prime, and the essential primes of a sampled function.
+use Rattle.std.proofs.Common.{◌≡◌, ◌≢◌, ℕ, ◌+◌, ◌<◌, ◌≤◌, inl, inr, Bool, true, false, not, ◌&&◌, ◌||◌, List, [], ◌∷◌, ◌++◌, length, map, take, get_or, set, refl, ap, sym, subst, ◌∙◌, arith, Option, Some, None, IfSome, IfNone, All}
+use Rattle.std.specs.List.{Contains, filter, list_any}
+use Rattle.std.proofs.lemmas.Bool.{cases_Bool, cases_eq, cases_lt, false≢true, and_parts, and_from, or_cases, or_left}
+use Rattle.std.proofs.lemmas.List.{get_or_default, get_or_past, take_more}
+use Rattle.std.proofs.lemmas.List.Elements.{Contains-append_cases, Contains-append_left, Contains-append_right}
+use Rattle.std.proofs.lemmas.List.Kept.{IsStrictlySortedBy-filter}
+use Rattle.cube.specs.declared.symbol.Symbol.{Symbol}
+use Rattle.cube.specs.declared.symbol.Symbol.TheVariants.{Dash, Zero, One}
+use Rattle.cube.specs.Size.{Size}
+use Rattle.cube.specs.Pattern.{agrees, matches}
+use Rattle.cube.specs.Cube.{Cube, Place, holds, with_symbol, intersection, IsCube, IsPlace, IsSubset, HasSize, SameSize}
+use Rattle.cube.specs.Order.{row_cmp}
+use Rattle.cube.specs.Sum.{complete_sum, is_subset, IsMaximal}
+use Rattle.cube.proofs.HoldsLemmas.{agrees_at-matches, pick}
+use Rattle.cube.proofs.Members.{Contains-here, Contains-nil, Contains-cases, Contains-filter, Contains-filter_cases, same_from_members}
+use Rattle.cube.proofs.SharpLemmas.{some_true}
+use Rattle.cube.proofs.SumLemmas.{IsPlace-from_holds, is_subset-from_fact, implied_at, row_asymmetric, Contains-complete_sum, complete_sum-from_members, sorted-complete_sum}
+use Rattle.cover.specs.Cubes.{Cubes, AreCubes}
+use Rattle.cover.specs.Places.{places}
+use Rattle.cover.proofs.Everywhere.{same_test}
+use Rattle.cover.proofs.Inputs.{matches-set_bit}
+use Rattle.cover.proofs.Lists.{list_any_from, list_any_witness, all_members}
+use Rattle.cover.proofs.Regions.{place_at}
+use Rattle.cover.proofs.SumMeets.{places-append}
+use Rattle.pla.specs.Sets.{SetLists}
+use Rattle.minimum.specs.declared.essential_by_neighbours.growth.Side.TheVariants.{Outside}
+use Rattle.minimum.specs.Primes.{primes_of, care_on, others, essential_of}
+use Rattle.minimum.specs.Neighbours.{on_side, flip, under, held_by, IsAlone, IsAloneByInputs, has_own, essential_in}
+use Rattle.minimum.specs.Blocking.{IsSampled, flip_in, under_in, Blocks, AreBlocking, HasCommon}
+use Rattle.minimum.proofs.EssentialByNeighbours.{has_own_from, no_own_from, only_from_alone, alone_from_only}
+
+or_false : (b : Bool) → (b || false) ≡ b
+or_false true = refl
+or_false false = refl
+
+from_not : (b : Bool) → not b ≡ false → b ≡ true
+from_not true e = refl
+from_not false e = sym e
+
+pub more_places : (rows : List Cube) (i : ℕ) (row : Cube) → i < length rows → row ≡ get_or rows i row → (q : Place) → places (take (i + 1) rows) q ≡ (places (take i rows) q || holds row q)
+more_places rows i row lt at q =
+    ap (λ l. places l q) (take_more rows i row lt ∙ ap (λ y. take i rows ++ y ∷ []) (sym at)) ∙ places-append (take i rows) (row ∷ []) q
+    ∙ ap (λ b. places (take i rows) q || b) (or_false (holds row q))
+
+-- ---- a row put back by one step
+
+other_agrees : (own t : Symbol) (bit : Bool) → own ≢ Dash → agrees own bit ≡ true → (t ≡ own → ⊥) → agrees t (not bit) ≡ true
+other_agrees Dash t bit lit a ne = absurd (lit refl)
+other_agrees Zero Dash bit lit a ne = refl
+other_agrees Zero Zero bit lit a ne = absurd (ne refl)
+other_agrees Zero One bit lit a ne = a
+other_agrees One Dash bit lit a ne = refl
+other_agrees One Zero true lit a ne = refl
+other_agrees One Zero false lit a ne = absurd (false≢true a)
+other_agrees One One bit lit a ne = absurd (ne refl)
+
+own_disagrees : (own : Symbol) (bit : Bool) → own ≢ Dash → agrees own bit ≡ true → agrees own (not bit) ≡ false
+own_disagrees Dash bit lit a = absurd (lit refl)
+own_disagrees Zero true lit a = absurd (false≢true a)
+own_disagrees Zero false lit a = refl
+own_disagrees One true lit a = refl
+own_disagrees One false lit a = absurd (false≢true a)
+
+module _ (c d : Cube) (size : SameSize d c) (i : ℕ) (literal : get_or c.symbols i Dash ≢ Dash) (p : Place) (in_c : holds c p ≡ true) where
+  in_inputs : i < length c.symbols
+  in_inputs = elim (cases_lt i (length c.symbols)) [ inl lt ↦ lt | inr past ↦ absurd (literal (get_or_past c.symbols i Dash past)) ]
+
+  own : agrees (get_or c.symbols i Dash) (get_or p.point i false) ≡ true
+  own = agrees_at-matches c.symbols p.point i (and_parts (matches c.symbols p.point) (get_or c.outputs p.output false) in_c).0 in_inputs
+
+  flipped : holds d (flip i p) ≡ ((agrees (get_or d.symbols i Dash) (not (get_or p.point i false)) && matches (set d.symbols i Dash) p.point) && get_or d.outputs p.output false)
+  flipped = ap (λ m. m && get_or d.outputs p.output false) (matches-set_bit d.symbols p.point i (not (get_or p.point i false)) (let lt = in_inputs in omega (arith, size.0, lt)))
+
+  pub freed_row : (get_or d.symbols i Dash ≡ get_or c.symbols i Dash → ⊥) → (e : Cube) → e ≡ with_symbol d i Dash → holds e p ≡ holds d (flip i p)
+  freed_row ne e is =
+      ap (λ k. holds k p) is
+      ∙ sym (flipped ∙ ap (λ a. (a && matches (set d.symbols i Dash) p.point) && get_or d.outputs p.output false)
+      (other_agrees (get_or c.symbols i Dash) (get_or d.symbols i Dash) (get_or p.point i false) literal own ne))
+
+  pub same_row : get_or d.symbols i Dash ≡ get_or c.symbols i Dash → holds d (flip i p) ≡ false
+  same_row e =
+      flipped ∙ ap (λ a. (a && matches (set d.symbols i Dash) p.point) && get_or d.outputs p.output false)
+      (ap (λ t. agrees t (not (get_or p.point i false))) e ∙ own_disagrees (get_or c.symbols i Dash) (get_or p.point i false) literal own)
+
+pub stacked_row : (c d : Cube) (j : ℕ) (p : Place) → holds c p ≡ true → get_or d.outputs j false ≡ true → (found : Option Cube)
+    → IfNone found ((point : List Bool) → matches d.symbols point ≡ true → matches c.symbols point ≡ true → ⊥)
+    → IfSome found (λ e. (q : Place) → holds e q ≡ ((matches d.symbols q.point && matches c.symbols q.point) && (get_or d.outputs q.output false || get_or c.outputs q.output false)))
+    → held_by found p ≡ holds d (under j p)
+stacked_row c d j p in_c on None apart stacked = elim (cases_Bool (matches d.symbols p.point)) [
+  | inl m ↦ absurd (apart p.point m (and_parts (matches c.symbols p.point) (get_or c.outputs p.output false) in_c).0)
+  | inr off ↦ sym (ap (λ m. m && get_or d.outputs j false) off)
+]
+stacked_row c d j p in_c on (Some e) apart stacked =
+    let parts = and_parts (matches c.symbols p.point) (get_or c.outputs p.output false) in_c in
+    stacked p ∙ go (matches d.symbols p.point) (matches c.symbols p.point) (get_or d.outputs p.output false) (get_or c.outputs p.output false) (get_or d.outputs j false) parts.0 parts.1 on
+  where
+    go : (m n a b x : Bool) → n ≡ true → b ≡ true → x ≡ true → ((m && n) && (a || b)) ≡ (m && x)
+    go true true true true true e f g = refl
+    go true true false true true e f g = refl
+    go false true a true true e f g = refl
+    go m false a b x e f g = absurd (false≢true e)
+    go m n a false x e f g = absurd (false≢true f)
+    go m n a b false e f g = absurd (false≢true g)
+
+pub other_output : (d : Cube) (j : ℕ) (p : Place) → get_or d.outputs j false ≡ false → holds d (under j p) ≡ false
+other_output d j p off = elim (cases_Bool (holds d (under j p))) [
+  | inr out ↦ out
+  | inl on ↦ absurd (false≢true (sym off ∙ (and_parts (matches d.symbols p.point) (get_or d.outputs j false) on).1))
+]
+
+-- one more row of a list that is looked at from another place
+module _ (rows : List Cube) (i : ℕ) (row : Cube) (lt : i < length rows) (at : row ≡ get_or rows i row) (p q : Place) (old new : List Cube) (before : places old p ≡ places (take i rows) q) where
+  pub row_added : (held : Bool) → held ≡ holds row q → places new p ≡ (places old p || held) → places new p ≡ places (take (i + 1) rows) q
+  row_added held e is = is ∙ ap (λ b. places old p || b) e ∙ ap (λ b. b || holds row q) before ∙ sym (more_places rows i row lt at q)
+
+  pub row_left : holds row q ≡ false → places old p ≡ places (take (i + 1) rows) q
+  row_left off = before ∙ sym (or_false (places (take i rows) q)) ∙ ap (λ b. places (take i rows) q || b) (sym off) ∙ sym (more_places rows i row lt at q)
+
+-- ---- all blocking lists
+
+module _ (size : Size) (c : Cube) (lists : List Cubes) (fact more : Place → Type 0) (so : AreBlocking size c lists fact) where
+  pub blocking_same : ((p : Place) → fact p → more p) → ((p : Place) → more p → fact p) → AreBlocking size c lists more
+  blocking_same to back = record { sizes = so.sizes; to = λ p in_c all. to p (so.to p in_c all); back = λ p in_c h. so.back p in_c (back p h) }
+
+  pub blocking_next : (l : Cubes) (new : List Cubes) (test : Place → Bool) → Blocks size c test l → new ≡ lists ++ l ∷ []
+      → ((p : Place) → fact p → test p ≡ true → more p) → ((p : Place) → more p → fact p) → ((p : Place) → more p → test p ≡ true) → AreBlocking size c new more
+  blocking_next l new test blocks is to back tested = subst (λ z. AreBlocking size c z more) (sym is) (record {
+    sizes = λ k h. elim (Contains-append_cases lists (l ∷ []) k h) [
+      | inl was ↦ so.sizes k was
+      | inr here ↦ elim (Contains-cases l [] k here) [ inl same ↦ ap (λ z. z.size) (sym same) ∙ blocks.size | inr none ↦ absurd (Contains-nil k none) ]
+    ];
+    to = λ p in_c all.
+        to p (so.to p in_c (λ k h. all k (Contains-append_left lists (l ∷ []) k h)))
+        (sym (blocks.same p in_c) ∙ all l (Contains-append_right lists (l ∷ []) l (Contains-here l [])));
+    back = λ p in_c h k member. elim (Contains-append_cases lists (l ∷ []) k member) [
+      | inl was ↦ so.back p in_c (back p h) k was
+      | inr here ↦ elim (Contains-cases l [] k here) [
+        | inl same ↦ ap (λ z. places z.cubes p) (sym same) ∙ blocks.same p in_c ∙ tested p h
+        | inr none ↦ absurd (Contains-nil k none)
+      ]
+    ];
+  })
+
+-- the steps at the first literals
+abbrev pub AloneSoFar : List Cube → Cube → ℕ → Place → Type 0
+AloneSoFar off c i p = (k : ℕ) → k < i → get_or c.symbols k Dash ≢ Dash → on_side Outside off (flip k p) ≡ false
+
+-- the steps at all literals and to the first outputs
+abbrev pub OutputsSoFar : List Cube → Cube → ℕ → Place → Type 0
+OutputsSoFar off c j p = IsAloneByInputs (on_side Outside off) c p × ((k : ℕ) → k < j → get_or c.outputs k false ≡ false → on_side Outside off (under k p) ≡ false)
+
+module _ (size : Size) (off : List Cube) (c : Cube) (cube : IsCube size c) (lists : List Cubes) where
+  pub inputs_next : (i : ℕ) (l : Cubes) (new : List Cubes) → AreBlocking size c lists (AloneSoFar off c i) → get_or c.symbols i Dash ≢ Dash → Blocks size c (flip_in off i) l → new ≡ lists ++ l ∷ []
+      → AreBlocking size c new (AloneSoFar off c (i + 1))
+  inputs_next i l new so literal blocks is = blocking_next size c lists (AloneSoFar off c i) (AloneSoFar off c (i + 1)) so l new (flip_in off i) blocks is
+      (λ p a test k lt lit. elim (cases_lt k i) [
+        | inl low ↦ a k low lit
+        | inr high ↦ (let at : i ≡ k = omega (arith, lt, high) in subst (λ n. on_side Outside off (flip n p) ≡ false) at (ap not test))
+      ])
+      (λ p a k lt lit. a k (omega (arith, lt)) lit)
+      (λ p a. from_not (flip_in off i p) (a i (omega arith) literal))
+
+  pub inputs_skipped : (i : ℕ) → AreBlocking size c lists (AloneSoFar off c i) → get_or c.symbols i Dash ≡ Dash → AreBlocking size c lists (AloneSoFar off c (i + 1))
+  inputs_skipped i so dash = blocking_same size c lists (AloneSoFar off c i) (AloneSoFar off c (i + 1)) so
+      (λ p a k lt lit. elim (cases_lt k i) [
+        | inl low ↦ a k low lit
+        | inr high ↦ (let at : k ≡ i = omega (arith, lt, high) in absurd (lit (ap (λ n. get_or c.symbols n Dash) at ∙ dash)))
+      ])
+      (λ p a k lt lit. a k (omega (arith, lt)) lit)
+
+  pub inputs_all : (i : ℕ) → size.inputs ≤ i → AreBlocking size c lists (AloneSoFar off c i) → AreBlocking size c lists (IsAloneByInputs (on_side Outside off) c)
+  inputs_all i past so = blocking_same size c lists (AloneSoFar off c i) (IsAloneByInputs (on_side Outside off) c) so
+      (λ p a k lit. elim (cases_lt k (length c.symbols)) [
+        | inl lt ↦ a k (omega (arith, cube.has_size.0, lt, past)) lit
+        | inr out ↦ absurd (lit (get_or_past c.symbols k Dash out))
+      ])
+      (λ p a k _ lit. a k lit)
+
+  pub outputs_next : (j : ℕ) (l : Cubes) (new : List Cubes) → AreBlocking size c lists (OutputsSoFar off c j) → get_or c.outputs j false ≡ false → Blocks size c (under_in off j) l → new ≡ lists ++ l ∷ []
+      → AreBlocking size c new (OutputsSoFar off c (j + 1))
+  outputs_next j l new so lacks blocks is = blocking_next size c lists (OutputsSoFar off c j) (OutputsSoFar off c (j + 1)) so l new (under_in off j) blocks is
+      (λ p a test. (
+        a.0,
+        λ k lt lack. elim (cases_lt k j) [
+          | inl low ↦ a.1 k low lack
+          | inr high ↦ (let at : j ≡ k = omega (arith, lt, high) in subst (λ n. on_side Outside off (under n p) ≡ false) at (ap not test))
+        ],
+      ))
+      (λ p a. (a.0, λ k lt lack. a.1 k (omega (arith, lt)) lack))
+      (λ p a. from_not (under_in off j p) (a.1 j (omega arith) lacks))
+
+  pub outputs_skipped : (j : ℕ) → AreBlocking size c lists (OutputsSoFar off c j) → get_or c.outputs j false ≡ true → AreBlocking size c lists (OutputsSoFar off c (j + 1))
+  outputs_skipped j so has = blocking_same size c lists (OutputsSoFar off c j) (OutputsSoFar off c (j + 1)) so
+      (λ p a. (
+        a.0,
+        λ k lt lack. elim (cases_lt k j) [
+          | inl low ↦ a.1 k low lack
+          | inr high ↦ (let at : k ≡ j = omega (arith, lt, high) in absurd (false≢true (sym lack ∙ ap (λ n. get_or c.outputs n false) at ∙ has)))
+        ],
+      ))
+      (λ p a. (a.0, λ k lt lack. a.1 k (omega (arith, lt)) lack))
+
+-- ---- a place in all lists
+
+pub common_none : (region : Cube) (lists : List Cubes) (from : ℕ) → length lists ≤ from → list_any (λ b. b) region.outputs ≡ true → HasCommon region lists from
+common_none region lists from past some =
+    let w = some_true region.outputs some in
+    record {
+      place = record { point = map pick region.symbols; output = w.0 };
+      held = place_at region w.0 w.1;
+      each = λ k d low lt. absurd (omega (arith, past, low, lt));
+    }
+
+module _ (region row part : Cube) (lists : List Cubes) (from : ℕ) (both : (p : Place) → holds part p ≡ intersection (holds region) (holds row) p) where
+  pub common_more : (list : Cubes) → from < length lists → list ≡ get_or lists from list → Contains list.cubes row → HasCommon part lists (from + 1) → HasCommon region lists from
+  common_more list in_lists at member h =
+      let parts = and_parts (holds region h.place) (holds row h.place) (sym (both h.place) ∙ h.held) in
+      record {
+        place = h.place;
+        held = parts.0;
+        each = λ k d low lt. elim (cases_eq k from) [
+          | inl e ↦ ap (λ n. places (get_or lists n d).cubes h.place) e ∙ ap (λ z. places z.cubes h.place) (get_or_default lists from d list in_lists ∙ sym at)
+              ∙ list_any_from (λ e. holds e h.place) list.cubes row member parts.1
+          | inr ne ↦ h.each k d (omega (arith, low, ne)) lt
+        ];
+      }
+
+  pub part_none : (HasCommon part lists (from + 1) → ⊥) → (common : HasCommon region lists from) → holds row common.place ≡ true → ⊥
+  part_none none common here = none (record {
+    place = common.place;
+    held = both common.place ∙ and_from (holds region common.place) (holds row common.place) common.held here;
+    each = λ k d low lt. common.each k d (omega (arith, low)) lt;
+  })
+
+pub common_next : (region : Cube) (lists : List Cubes) (from : ℕ) (rows : List Cube) (i : ℕ) (row : Cube) → i < length rows → row ≡ get_or rows i row
+    → ((common : HasCommon region lists from) → places (take i rows) common.place ≡ true → ⊥) → ((common : HasCommon region lists from) → holds row common.place ≡ true → ⊥)
+    → (common : HasCommon region lists from) → places (take (i + 1) rows) common.place ≡ true → ⊥
+common_next region lists from rows i row lt at before here common h =
+    elim (or_cases (places (take i rows) common.place) (holds row common.place) (sym (more_places rows i row lt at common.place) ∙ h)) [ inl was ↦ before common was | inr now ↦ here common now ]
+
+module _ (size : Size) (c cube region : Cube) (lists : List Cubes) (fact : Place → Type 0) (blocking : AreBlocking size c lists fact) (both : (p : Place) → holds region p ≡ intersection (holds c) (holds cube) p) where
+  pub own_from_common : HasCommon region lists 0 → (p : Place) × (holds c p ≡ true) × (holds cube p ≡ true) × fact p
+  own_from_common h =
+      let parts = and_parts (holds c h.place) (holds cube h.place) (sym (both h.place) ∙ h.held) in
+      (h.place, parts.0, parts.1, blocking.to h.place parts.0 (λ l member. ap (λ z. places z.cubes h.place) (sym member.2) ∙ h.each member.0 l (omega arith) member.1))
+
+  pub common_from_own : (p : Place) → holds c p ≡ true → holds cube p ≡ true → fact p → HasCommon region lists 0
+  common_from_own p in_c in_cube a = record {
+    place = p;
+    held = both p ∙ and_from (holds c p) (holds cube p) in_c in_cube;
+    each = λ k d _ lt. blocking.back p in_c a (get_or lists k d) (k, lt, get_or_default lists k (get_or lists k d) d lt);
+  }
+
+pub lists_fit : (size : Size) (c : Cube) (lists : List Cubes) (fact : Place → Type 0) → AreBlocking size c lists fact → IsCube size c → (region : Cube) → SameSize region c → (lent : List Cubes) → lent ≡ lists
+    → All (λ l. HasSize region l.size) lent
+lists_fit size c lists fact blocking cube region same lent e k d lt =
+    let is : (get_or lent k d).size ≡ size = blocking.sizes (get_or lent k d) (subst (λ z. Contains z (get_or lent k d)) e (k, lt, get_or_default lent k (get_or lent k d) d lt)) in
+    (same.0 ∙ cube.has_size.0 ∙ ap (λ z. z.inputs) (sym is), same.1 ∙ cube.has_size.1 ∙ ap (λ z. z.outputs) (sym is))
+
+-- ---- essential by such a place
+
+module _ (size : Size) (s wanted : Place → Bool) (c : Cube) (prime : IsMaximal size s c) where
+  own_place : (p : Place) × (holds c p ≡ true) × (wanted p ≡ true) × IsAlone s c p → has_own size wanted (complete_sum size s) c ≡ true
+  own_place w = has_own_from size s wanted c prime.is_cube w.0 w.1 w.2 (only_from_alone size s c prime w.0 w.1 w.3)
+
+  no_own_place : ((p : Place) → holds c p ≡ true → wanted p ≡ true → IsAlone s c p → ⊥) → has_own size wanted (complete_sum size s) c ≡ false
+  no_own_place none = no_own_from size s wanted c (λ p in_c want only. none p in_c want (alone_from_only size s c prime p in_c only))
+
+  pub own_answer : (b : Bool) → (b ≡ true → (p : Place) × (holds c p ≡ true) × (wanted p ≡ true) × IsAlone s c p)
+      → (b ≡ false → (p : Place) → holds c p ≡ true → wanted p ≡ true → IsAlone s c p → ⊥) → b ≡ has_own size wanted (complete_sum size s) c
+  own_answer true some none = sym (own_place (some refl))
+  own_answer false some none = sym (no_own_place (none refl))
+
+-- ---- the same function by other lists
+
+pub complete_sum-same_at : (size : Size) (s t : Place → Bool) → ((p : Place) → IsPlace size p → s p ≡ t p) → complete_sum size s ≡ complete_sum size t
+complete_sum-same_at size s t same =
+    complete_sum-from_members size t (complete_sum size s) (sorted-complete_sum size s)
+    (λ c member. turned s t same c ((Contains-complete_sum size s c).0 member))
+    (λ c h. (Contains-complete_sum size s c).1 (turned t s (λ p place. sym (same p place)) c h))
+  where
+    turned : (a b : Place → Bool) → ((p : Place) → IsPlace size p → a p ≡ b p) → (c : Cube) → IsMaximal size a c → IsMaximal size b c
+    turned a b e c h = record {
+      is_cube = h.is_cube;
+      within = λ p in_c. sym (e p (IsPlace-from_holds size c p h.is_cube.has_size in_c)) ∙ h.within p in_c;
+      largest = λ d d_cube in_b above. h.largest d d_cube (λ p in_d. e p (IsPlace-from_holds size d p d_cube.has_size in_d) ∙ in_b p in_d) above;
+    }
+
+pub has_own-same_at : (size : Size) (one other : Place → Bool) (primes : List Cube) (c : Cube) → IsCube size c → ((p : Place) → IsPlace size p → one p ≡ other p) → has_own size one primes c ≡ has_own size other primes c
+has_own-same_at size one other primes c cube same =
+    ap not (same_test (is_subset size (intersection one (holds c)) (places (others c primes))) (is_subset size (intersection other (holds c)) (places (others c primes)))
+    (turned one other same, turned other one (λ p place. sym (same p place))) ((λ h. h), (λ h. h)))
+  where
+    turned : (a b : Place → Bool) → ((p : Place) → IsPlace size p → a p ≡ b p) → is_subset size (intersection a (holds c)) (places (others c primes)) ≡ true → is_subset size (intersection b (holds c)) (places (others c primes)) ≡ true
+    turned a b e test = is_subset-from_fact size (intersection b (holds c)) (places (others c primes)) (λ p h.
+        let parts = and_parts (b p) (holds c p) h in
+        let place = IsPlace-from_holds size c p cube.has_size parts.1 in
+        implied_at size (intersection a (holds c)) (places (others c primes)) test p place (and_from (a p) (holds c p) (e p place ∙ parts.0) parts.1))
+
+module _ (sets : SetLists) (on off : Cubes) (fits : IsSampled sets on off) where
+  pub sampled_apart : AreCubes on.size on.cubes → IsSubset (places on.cubes) (on_side Outside off.cubes)
+  sampled_apart are p h =
+      let w = list_any_witness (λ d. holds d p) on.cubes h in
+      let cube = subst (λ z. IsCube z w.0) fits.size (all_members (IsCube on.size) on.cubes are w.0 w.1) in
+      let place = IsPlace-from_holds sets.size w.0 p cube.has_size w.2 in
+      let want = and_parts (places sets.on p) (not (places sets.dc p)) (sym (fits.wanted p place) ∙ h) in
+      ap not (fits.outside p place ∙ ap not (or_left (places sets.on p) (places sets.dc p) want.0))
+
+  not_not : (b : Bool) → not (not b) ≡ b
+  not_not true = refl
+  not_not false = refl
+
+  pub sampled_essential : essential_in on.size (on_side Outside off.cubes) (places on.cubes) ≡ essential_of sets (primes_of sets)
+  sampled_essential =
+      let ps = primes_of sets in
+      let both = λ (p : Place). places sets.on p || places sets.dc p in
+      let member_cube : (c : Cube) → Contains ps c → IsCube sets.size c = λ c h. ((Contains-complete_sum sets.size both c).0 h).is_cube in
+      ap (λ z. essential_in z (on_side Outside off.cubes) (places on.cubes)) fits.size
+      ∙ ap (λ l. filter (has_own sets.size (places on.cubes) l) l) (complete_sum-same_at sets.size (on_side Outside off.cubes) both (λ p place. ap not (fits.outside p place) ∙ not_not (both p)))
+      ∙ same_from_members row_cmp row_asymmetric (filter (has_own sets.size (places on.cubes) ps) ps) (essential_of sets ps)
+      (IsStrictlySortedBy-filter row_cmp (has_own sets.size (places on.cubes) ps) ps (sorted-complete_sum sets.size both))
+      (IsStrictlySortedBy-filter row_cmp (has_own sets.size (care_on sets) ps) ps (sorted-complete_sum sets.size both))
+      (λ c h. let kept = Contains-filter_cases (has_own sets.size (places on.cubes) ps) ps c h in
+      Contains-filter (has_own sets.size (care_on sets) ps) ps c kept.0 (sym (has_own-same_at sets.size (places on.cubes) (care_on sets) ps c (member_cube c kept.0) fits.wanted) ∙ kept.1))
+      (λ c h. let kept = Contains-filter_cases (has_own sets.size (care_on sets) ps) ps c h in
+      Contains-filter (has_own sets.size (places on.cubes) ps) ps c kept.0 (has_own-same_at sets.size (places on.cubes) (care_on sets) ps c (member_cube c kept.0) fits.wanted ∙ kept.1))

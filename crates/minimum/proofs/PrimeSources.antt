@@ -1,0 +1,43 @@
+-- Sources of the primes of three lists.
+use Rattle.std.proofs.Common.{◌≡◌, Bool, true, false, not, ◌||◌, List, refl, ap, sym, subst, ◌∙◌}
+use Rattle.std.specs.List.{Contains}
+use Rattle.cube.specs.Cube.{Cube, Place, IsCube, IsPlace}
+use Rattle.cube.specs.Sum.{complete_sum}
+use Rattle.cube.proofs.SumLemmas.{Contains-complete_sum}
+use Rattle.cover.specs.Cubes.{Cubes}
+use Rattle.cover.specs.Places.{places}
+use Rattle.cover.proofs.SumEnds.{complete_sum-agree}
+use Rattle.pla.specs.Sets.{SetLists}
+use Rattle.minimum.specs.declared.signatures.source.Source.TheVariants.{Outside, Primes}
+use Rattle.minimum.specs.Primes.{primes_of}
+use Rattle.minimum.specs.Points.{IsSource, StandsFor}
+
+twice : (b : Bool) → not (not b) ≡ b
+twice true = refl
+twice false = refl
+
+module _ (sets : SetLists) (off : Cubes) (e : off.size ≡ sets.size) where
+  pub primes_outside : IsSource sets.size (Outside off)
+  primes_outside = record {
+    sized = e;
+    cubes = λ c h. subst (λ z. IsCube z c) e ((Contains-complete_sum off.size (λ p. not (places off.cubes p)) c).0 h).is_cube;
+  }
+
+  pub stands_outside : ((p : Place) → IsPlace sets.size p → places off.cubes p ≡ not (places sets.on p || places sets.dc p)) → StandsFor sets sets (Outside off)
+  stands_outside h = record {
+    size = refl;
+    wanted = λ p place. refl;
+    primes = ap (λ z. complete_sum z (λ p. not (places off.cubes p))) e
+        ∙ complete_sum-agree sets.size (λ p. not (places off.cubes p)) (λ p. places sets.on p || places sets.dc p)
+        (λ p place. ap not (h p place) ∙ twice (places sets.on p || places sets.dc p));
+  }
+
+module _ (sets : SetLists) (list : Cubes) (e : list ≡ record { size = sets.size; cubes = primes_of sets }) where
+  pub primes_among : IsSource sets.size (Primes list)
+  primes_among = record {
+    sized = ap (λ (l : Cubes). l.size) e;
+    cubes = λ c h. ((Contains-complete_sum sets.size (λ p. places sets.on p || places sets.dc p) c).0 (subst (λ l. Contains l c) (ap (λ (l : Cubes). l.cubes) e) h)).is_cube;
+  }
+
+  pub stands_among : StandsFor sets sets (Primes list)
+  stands_among = record { size = refl; wanted = λ p place. refl; primes = ap (λ (l : Cubes). l.cubes) e }

@@ -1,0 +1,51 @@
+use Rattle.std.proofs.Common.{All, ap, sym, subst, ◌∙◌}
+use Rattle.std.specs.List.{Contains}
+use Rattle.std.proofs.lemmas.List.Elements.{Contains-append_left}
+use Rattle.std.proofs.lemmas.Result.{IfOk-weaker}
+use Rattle.cube.specs.Cube.{IsCube}
+use Rattle.cube.specs.Sum.{IsMaximal}
+use Rattle.cover.specs.Places.{places}
+use Rattle.cover.proofs.Lists.{all_members}
+use Rattle.minimum.specs.Primes.{care_on}
+use Rattle.minimum.specs.Neighbours.{AreNear}
+use Rattle.minimum.proofs.Growth.{grown_maximal}
+use Rattle.minimum.proofs.EssentialByNeighbours.{in_rows, adds_none_found, adds_prime}
+use Rattle.minimum.proofs.essential_by_neighbours.add_essential.Goals as goal
+use Rattle.minimum.proofs.essential_by_neighbours.add_essential.Goals.{After-shape-shape, In_ok-prime}
+
+cube_is : (c : After-shape-shape) → IsCube c.args.rows.now.size c.args.cube.now
+cube_is c =
+    let rows = c.args.rows.now in
+    let sets = c.args.sets.now in
+    let member = subst (λ l. Contains l c.args.cube.now) (sym (ap (λ k. k.cubes) c.requires.rows)) (Contains-append_left sets.on sets.dc c.args.cube.now c.requires.cube) in
+    all_members (IsCube rows.size) rows.cubes (subst (λ n. All (IsCube n) rows.cubes) c.shape-shape.ensures.size c.shape-shape.ensures.cubes) c.args.cube.now member
+
+maximal : (c : In_ok-prime) → IsMaximal c.args.sets.now.size (places c.args.rows.now.cubes) c.in_ok-prime.field-0.cube
+maximal c =
+    let rows = c.args.rows.now in
+    subst (λ n. IsMaximal n (places rows.cubes) c.in_ok-prime.field-0.cube) (ap (λ k. k.size) c.requires.rows)
+    (grown_maximal rows.size (places rows.cubes) c.args.cube.now c.in_ok-prime.field-0.cube c.in_ok-prime.ensures.grown
+    (in_rows c.args.sets.now rows.cubes (ap (λ k. k.cubes) c.requires.rows) c.args.cube.now c.requires.cube))
+
+pub returns-then-contain : goal.returns-then-contain
+returns-then-contain c =
+    let sets = c.args.sets.now in
+    adds_none_found sets.size (places c.args.rows.now.cubes) (care_on sets) c.args.cube.now c.args.found.now (c.contain.ensures c.if-contain.true)
+
+pub grown-requires : goal.grown-requires
+grown-requires c = cube_is ((goal.at.grown-requires c).After-shape-shape)
+
+pub is_essential-requires-clause-prime : goal.is_essential-requires-clause-prime
+is_essential-requires-clause-prime c = maximal ((goal.at.is_essential-requires-clause-prime c).In_ok-prime)
+
+pub is_essential-requires-clause-near : goal.is_essential-requires-clause-near
+is_essential-requires-clause-near c = subst (AreNear c.in_ok-prime.field-0.cube c.args.rows.now) (sym c.asked.ensures) c.in_ok-prime.ensures.near
+
+pub returns : goal.returns
+returns c =
+    let sets = c.args.sets.now in
+    let prime = c.in_ok-prime.field-0.cube in
+    IfOk-weaker c.add.result _ _
+    (λ _ adds. adds_prime sets.size (places c.args.rows.now.cubes) (care_on sets) c.args.cube.now c.args.found.now prime (maximal ((goal.at.returns c).In_ok-prime))
+    c.in_ok-prime.ensures.grown.grows.over c.add.new.self c.in_ok-is_essential.is_essential c.in_ok-is_essential.ensures adds)
+    c.add.ensures

@@ -1,0 +1,45 @@
+use Rattle.std.proofs.Common.{ap, sym, subst, ◌∙◌}
+use Rattle.std.proofs.lemmas.Bool.{false≢true}
+use Rattle.std.proofs.lemmas.Option.{get_or_from_slice_get}
+use Rattle.cube.specs.declared.symbol.Symbol.TheVariants.{Dash}
+use Rattle.cube.specs.Cube.{IsCube, holds, size_of}
+use Rattle.cover.specs.Cubes.{AreCubes}
+use Rattle.cover.specs.Places.{places}
+use Rattle.minimum.specs.Neighbours.{flip}
+use Rattle.minimum.proofs.Growth.{same_sizes}
+use Rattle.minimum.proofs.Blocking.{row_added, row_left, freed_row, same_row}
+use Rattle.minimum.proofs.essential_by_neighbours.blocking.blocking_input.Goals as goal
+use Rattle.minimum.proofs.essential_by_neighbours.blocking.blocking_input.Goals.{then-not-is_same+in_ok-with_symbol+in_ok-add_meeting, else-not-is_same}
+
+pub loop-row-preserved : goal.loop-row-preserved
+loop-row-preserved c =
+    let rows = c.as_slice-row-items.result.now in
+    let k = c.loop-row.row-index in
+    let lt = c.loop-row-test.true in
+    let row = c.row-item.result in
+    let at = c.row-item.is in
+    let prime = c.args.prime.now in
+    let i = c.args.i in
+    let old = c.loop-row.list.items in
+    let size = same_sizes c.args.off.now.size prime row c.requires.prime (subst (IsCube c.args.off.now.size) (sym at) (c.as_slice-row-items.ensures.cubes k row lt)) in
+    let own = get_or_from_slice_get prime.symbols i c.symbol-literal.result Dash c.symbol-literal.ensures in
+    let has = get_or_from_slice_get row.symbols i c.symbol.result Dash c.symbol.ensures in
+    elim c.if-not-is_same.branch [
+      | then-not-is_same+in_ok-with_symbol+in_ok-add_meeting w ↦ (
+          let is = ap (λ z. z.items) w.list-is in
+          record {
+            cubes = subst (AreCubes (size_of prime)) (sym is) (w.in_ok-add_meeting.ensures.size c.loop-row.invariant.cubes);
+            same = λ p in_c. ap (λ l. places l p) is
+                ∙ row_added rows k row lt at p (flip i p) old w.add_meeting.new.near.items (c.loop-row.invariant.same p in_c) (holds w.in_ok-with_symbol.field-0 p)
+                (freed_row prime row size i c.requires.literal p in_c (λ e. false≢true (sym w.if-not-is_same.true ∙ c.is_same.ensures.1 (sym has ∙ e ∙ own))) w.in_ok-with_symbol.field-0 w.in_ok-with_symbol.ensures.value)
+                (w.in_ok-add_meeting.ensures.places p in_c);
+          })
+      | else-not-is_same w ↦ (
+          let is = ap (λ z. z.items) w.list-is in
+          record {
+            cubes = subst (AreCubes (size_of prime)) (sym is) c.loop-row.invariant.cubes;
+            same = λ p in_c. ap (λ l. places l p) is
+                ∙ row_left rows k row lt at p (flip i p) old old (c.loop-row.invariant.same p in_c)
+                (same_row prime row size i c.requires.literal p in_c (has ∙ c.is_same.ensures.0 w.if-not-is_same.false ∙ sym own));
+          })
+    ]

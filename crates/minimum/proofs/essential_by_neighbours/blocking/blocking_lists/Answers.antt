@@ -1,0 +1,23 @@
+use Rattle.std.proofs.Common.{◌+◌, ap, sym, subst, ◌∙◌, false}
+use Rattle.std.proofs.lemmas.Option.{get_or_from_slice_get}
+use Rattle.minimum.specs.Blocking.{AreBlocking}
+use Rattle.minimum.proofs.Blocking.{OutputsSoFar, outputs_next, outputs_skipped}
+use Rattle.minimum.proofs.essential_by_neighbours.blocking.blocking_lists.Goals as goal
+use Rattle.minimum.proofs.essential_by_neighbours.blocking.blocking_lists.Goals.{then-not-output+in_ok-blocking_output+in_ok-push, else-not-output}
+
+pub loop-j-preserved : goal.loop-j-preserved
+loop-j-preserved c =
+    let off = c.args.off.now in
+    let prime = c.args.prime.now in
+    let j = c.loop-j.j in
+    let lists = c.loop-j.lists.items in
+    let own = get_or_from_slice_get prime.outputs j c.output.result false c.output.ensures in
+    elim c.if-not-output.branch [
+      | then-not-output+in_ok-blocking_output+in_ok-push w ↦
+          subst (λ z. AreBlocking off.size prime z (OutputsSoFar off.cubes prime (j + 1))) (sym (ap (λ z. z.items) w.lists-is))
+          (outputs_next off.size off.cubes prime c.requires lists j w.in_ok-blocking_output.field-0 w.push.new.self.items c.loop-j.invariant
+          (own ∙ w.if-not-output.true) w.in_ok-blocking_output.ensures w.in_ok-push.ensures.items)
+      | else-not-output w ↦
+          subst (λ z. AreBlocking off.size prime z (OutputsSoFar off.cubes prime (j + 1))) (sym (ap (λ z. z.items) w.lists-is))
+          (outputs_skipped off.size off.cubes prime c.requires lists j c.loop-j.invariant (own ∙ w.if-not-output.false))
+    ]

@@ -1,0 +1,20 @@
+use Rattle.std.proofs.Common.{◌++◌, ap, ◌∙◌}
+use Rattle.cube.specs.Cube.{holds}
+use Rattle.cube.specs.Sum.{is_subset}
+use Rattle.cover.specs.Cubes.{Cubes}
+use Rattle.cover.specs.Places.{places}
+use Rattle.minimum.proofs.Near.{near_neighbours}
+use Rattle.minimum.proofs.EssentialByNeighbours.{essential_answer}
+use Rattle.minimum.proofs.essential_by_neighbours.is_essential.Goals as goal
+
+pub returns : goal.returns
+returns c =
+    let sets = c.args.sets.now in
+    let rows = c.args.rows.now in
+    let prime = c.args.prime.now in
+    let rest = c.append.new.self.items in
+    let size = c.shape.ensures.size ∙ ap (λ k. k.size) c.requires.rows in
+    let joined = c.in_ok-append.ensures.items
+    ∙ ap (λ l. l ++ c.in_ok-beside.beside.items) (c.into_cubes-rest.ensures.value ∙ ap (λ k. k.cubes) (c.in_ok-try_clone.ensures ∙ c.dc.ensures)) in
+    essential_answer sets rows.cubes (ap (λ k. k.cubes) c.requires.rows) prime c.requires.prime c.in_ok-beside.beside.items rest c.in_ok-held.held (near_neighbours prime rows c.args.near.now c.requires.near c.in_ok-beside.beside.items c.in_ok-beside.ensures) joined
+    (c.in_ok-held.ensures ∙ ap (λ (k : Cubes). is_subset k.size (holds prime) (places k.cubes)) c.from_cubes.ensures ∙ ap (λ n. is_subset n (holds prime) (places rest)) size)

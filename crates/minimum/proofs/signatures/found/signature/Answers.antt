@@ -1,0 +1,17 @@
+use Rattle.std.proofs.Common.{◌∙◌, sym, subst}
+use Rattle.std.specs.List.{Contains}
+use Rattle.std.proofs.lemmas.List.{take_all}
+use Rattle.minimum.proofs.PickedPoints.{common_next}
+use Rattle.minimum.proofs.signatures.found.signature.Goals as goal
+
+pub loop-cube-preserved : goal.loop-cube-preserved
+loop-cube-preserved c =
+    let size = rw c.in-Some-2.is at c.in_ok-less.ensures.size in
+    let old = c.loop-cube.invariant.size in
+    record {
+      size = (size.0 ∙ old.0, size.1 ∙ old.1);
+      within = common_next c.args.cubes.now c.loop-cube.cube-index c.cube-item.result c.loop-cube.common c.in-Some-2.less c.loop-cube-test.true c.cube-item.is c.loop-cube.invariant.within (rw c.in-Some-2.is at c.in_ok-less.ensures.places);
+    }
+
+pub returns-clause-within : goal.returns-clause-within
+returns-clause-within c d h = c.loop-cube.invariant.within d (subst (λ l. Contains l d) (sym (take_all c.loop-cube.cube-index c.args.cubes.now c.loop-cube-test.false)) h)

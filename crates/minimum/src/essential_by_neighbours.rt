@@ -1,0 +1,109 @@
+//! The essential primes without a list of all primes.
+//!
+//! An essential prime holds a wanted place of some ON cube that no other prime holds. Each prime that
+//! contains the cube holds that place, so that the essential one alone contains the cube: to grow the
+//! cube to any prime finds it. So there are no more candidates than ON cubes.
+//!
+//! A place of a prime lies in another prime exactly if a step out of the prime leads from it to an
+//! implicant: the two places make a cube, which lies in some prime; and a cube that lies not within
+//! the prime has the place at the end of such a step. So the neighbours and the DC-set leave out a
+//! place of the prime exactly if it is essential.
+//!
+//! So a cube that lies in a prime grown before needs no look. The others cost a question for each
+//! literal and each missing output, and one for the prime, to the rows that are near.
+
+ghost use Rattle.std.specs.Prelude.{◌≡◌, ◌++◌, IfOk, OnOk};
+ghost use Rattle.std.specs.List.{Contains};
+ghost use Rattle.cube.specs.Sum.{IsMaximal, complete_sum};
+ghost use Rattle.cover.specs.Places.{places};
+ghost use Rattle.minimum.specs.Primes.{primes_of, essential_of, care_on};
+ghost use Rattle.minimum.specs.Neighbours.{has_own, AreNear, HaveSize, AddsEssential};
+
+mod blocking;
+mod grown_primes;
+pub(crate) mod growth;
+mod near;
+pub(crate) mod neighbours;
+mod outside;
+mod reached;
+
+use crate::essential_by_neighbours::grown_primes::GrownPrimes;
+use crate::essential_by_neighbours::growth::{Growth, Side, grown};
+use crate::essential_by_neighbours::near::asked;
+use crate::essential_by_neighbours::neighbours::neighbours;
+pub use crate::essential_by_neighbours::outside::find_essential_outside;
+use cover::{Cover, in_row_order};
+use cube::Cube;
+use pla::Sets;
+use std::alloc::{AllocError, Global};
+
+/// The ON cubes and then the DC cubes.
+fn on_and_dc(sets: &Sets) -> Result<Cover, AllocError>
+    ensures { IfOk result (λ rows. rows ≡ record { size = sets.now.size; cubes = sets.now.on ++ sets.now.dc }) }
+{
+    let mut rows = sets.on().try_clone()?;
+    rows.append(sets.dc())?;
+    Ok(rows)
+}
+
+/// Whether the neighbours of the prime and the DC-set leave out a place of it: such a place is
+/// wanted, as the prime lies in the ON-set with the DC-set.
+fn is_essential(
+    alloc: Global,
+    sets: &Sets,
+    rows: &Cover,
+    near: &Cover,
+    prime: &Cube,
+) -> Result<bool, AllocError>
+    requires rows { rows.now ≡ record { size = sets.now.size; cubes = sets.now.on ++ sets.now.dc } }
+    requires near { AreNear prime.now rows.now near.now }
+    requires prime { IsMaximal sets.now.size (places rows.now.cubes) prime.now }
+    ensures { IfOk result (λ b. b ≡ has_own sets.now.size (care_on sets.now)
+        (complete_sum sets.now.size (places rows.now.cubes)) prime.now) }
+{
+    let mut rest = sets.dc().try_clone()?.into_cubes();
+    let mut beside = neighbours(alloc, near, prime)?;
+    rest.append(&mut beside)?;
+    let held = Cover::from_cubes(rows.shape(), rest).holds_cube(prime)?;
+    Ok(!held)
+}
+
+/// Adds the essential prime that has a place of its own in the ON cube, if there is one.
+fn add_essential(
+    alloc: Global,
+    sets: &Sets,
+    rows: &Cover,
+    cube: &Cube,
+    found: &mut GrownPrimes,
+) -> Result<(), AllocError>
+    requires rows { rows.now ≡ record { size = sets.now.size; cubes = sets.now.on ++ sets.now.dc } }
+    requires cube { Contains sets.now.on cube.now }
+    requires found { HaveSize sets.now.size found.old }
+    ensures { OnOk result (AddsEssential sets.now.size (places rows.now.cubes) (care_on sets.now)
+        cube.now found.old found.new) }
+{
+    let _shape = rows.shape();
+    if found.contain(cube) {
+        return Ok(());
+    }
+    let Growth { cube: prime, near } = grown(alloc, Side::Inside, rows, cube)?;
+    let is_essential = is_essential(alloc, sets, rows, asked(rows, &near), &prime)?;
+    found.add(prime, is_essential)
+}
+
+/// The essential primes, in row order: those that hold a place of the ON-set that is neither in the
+/// DC-set nor in another prime (Brayton et al. 1984).
+///
+/// The primes are not listed: each ON cube that lies in none so far is grown to a prime, and that is
+/// compared with the rows near it.
+pub fn find_essential(alloc: Global, sets: &Sets) -> Result<Cover, AllocError>
+    ensures { IfOk result (λ list. list ≡ record
+        { size = sets.now.size; cubes = essential_of sets.now (primes_of sets.now) }) }
+{
+    let rows = on_and_dc(sets)?;
+    let mut found = GrownPrimes::new(alloc);
+    for cube in sets.on().as_slice() {
+        add_essential(alloc, sets, &rows, cube, &mut found)?;
+    }
+    in_row_order(&Cover::from_cubes(rows.shape(), found.essential))
+}

@@ -1,0 +1,194 @@
+//! Growth of a cube to a prime.
+//!
+//! The cube is freed of a literal, or gets an output, as long as it stays an implicant. A larger
+//! cube asks for more, so that a step that was refused stays refused, and each is tried once. Only
+//! what the step adds is asked for, and only of the rows near the cube: where it lost a literal,
+//! these are looked for again. Most outputs are refused by what the rows reach in a part of the cube.
+
+ghost use Rattle.std.specs.Prelude.{◌≡◌, ◌<◌, ◌↔◌, IsTrue, IfOk};
+ghost use Rattle.cube.specs.Cube.{HasSize, IsCube, IsSubset, IsDisjoint, holds, size_of};
+ghost use Rattle.cube.specs.Sharp.{opposite as opposite_of};
+ghost use Rattle.cover.specs.Cubes.{AreCubes};
+ghost use Rattle.cover.specs.Places.{places};
+ghost use Rattle.minimum.specs.Neighbours.{on_side, Grows, IsGrown, IsSettledInput, IsSettledOutput, AreNear, AreReached, near_or};
+
+use crate::essential_by_neighbours::near::{asked, rows_near};
+use crate::essential_by_neighbours::reached::{is_off, outputs_at, part_of};
+use crate::prime_table::one_output;
+use cover::Cover;
+use cube::{Cube, Symbol};
+use std::alloc::{AllocError, Global};
+
+/// Where implicants lie: inside a list of cubes, or outside it.
+#[derive(Clone, Copy)]
+pub(crate) enum Side {
+    Inside,
+    Outside,
+}
+
+/// The other literal.
+pub(crate) fn opposite(symbol: Symbol) -> Symbol
+    ensures { result ≡ opposite_of symbol }
+{
+    match symbol {
+        Symbol::Dash => Symbol::Dash,
+        Symbol::Zero => Symbol::One,
+        Symbol::One => Symbol::Zero,
+    }
+}
+
+/// Whether no cube has a place of the region.
+pub(crate) fn are_apart(cubes: &[Cube], region: &Cube) -> bool
+    requires { AreCubes (size_of region.now) cubes.now }
+    ensures { IsTrue result ↔ IsDisjoint (holds region.now) (places cubes.now) }
+{
+    for cube in cubes {
+        if !cube.disjoint(region) {
+            return false;
+        }
+    }
+    true
+}
+
+/// Whether the cube lies on that side of the list.
+pub(crate) fn is_implicant(side: Side, rows: &Cover, cube: &Cube) -> Result<bool, AllocError>
+    requires { HasSize cube.now rows.now.size }
+    ensures { IfOk result
+        (λ b. IsTrue b ↔ IsSubset (holds cube.now) (on_side side rows.now.cubes)) }
+{
+    match side {
+        Side::Inside => rows.holds_cube(cube),
+        Side::Outside => Ok(are_apart(rows.as_slice(), cube)),
+    }
+}
+
+/// A cube that grows, and the rows near it.
+#[derive(Drop)]
+pub(crate) struct Growth {
+    /// The cube.
+    pub(crate) cube: Cube,
+    /// Rows that hold the same places beside the cube as all rows do, or `None` for these.
+    pub(crate) near: Option<Cover>,
+}
+
+/// The cube without its literal at an input, if that is an implicant.
+fn freed(
+    alloc: Global,
+    side: Side,
+    rows: &Cover,
+    grown: Growth,
+    i: usize,
+) -> Result<Growth, AllocError>
+    requires is_cube { IsCube rows.now.size grown.cube }
+    requires near { AreNear grown.cube rows.now (near_or rows.now grown.near) }
+    requires input { i < rows.now.size.inputs }
+    ensures grows { IfOk result
+        (λ g. Grows rows.now.size (on_side side rows.now.cubes) grown.cube g.cube) }
+    ensures near { IfOk result (λ g. AreNear g.cube rows.now (near_or rows.now g.near)) }
+    ensures settled { IfOk result
+        (λ g. IsSettledInput rows.now.size (on_side side rows.now.cubes) g.cube i) }
+{
+    let Growth { cube, near } = grown;
+    let literal = cube.symbol(i);
+    if literal == Symbol::Dash {
+        return Ok(Growth { cube, near });
+    }
+    let rest = cube.with_symbol(i, opposite(literal))?;
+    if !is_implicant(side, asked(rows, &near), &rest)? {
+        return Ok(Growth { cube, near });
+    }
+    let cube = cube.with_symbol(i, Symbol::Dash)?;
+    if near.is_none() {
+        return Ok(Growth { cube, near: None });
+    }
+    let near = rows_near(alloc, rows, &cube)?;
+    Ok(Growth { cube, near })
+}
+
+/// The cube with an output, if that is an implicant. Where it is not, the outputs that are reached
+/// mostly show it.
+fn widened(
+    alloc: Global,
+    side: Side,
+    rows: &Cover,
+    reached: &Cube,
+    grown: Growth,
+    j: usize,
+) -> Result<Growth, AllocError>
+    requires is_cube { IsCube rows.now.size grown.cube }
+    requires near { AreNear grown.cube rows.now (near_or rows.now grown.near) }
+    requires reached { AreReached grown.cube rows.now.cubes reached.now }
+    requires output { j < rows.now.size.outputs }
+    ensures grows { IfOk result
+        (λ g. Grows rows.now.size (on_side side rows.now.cubes) grown.cube g.cube) }
+    ensures near { IfOk result (λ g. AreNear g.cube rows.now (near_or rows.now g.near)) }
+    ensures settled { IfOk result
+        (λ g. IsSettledOutput rows.now.size (on_side side rows.now.cubes) g.cube j) }
+{
+    let Growth { cube, near } = grown;
+    if cube.output(j) {
+        return Ok(Growth { cube, near });
+    }
+    if is_off(side, reached, j) {
+        return Ok(Growth { cube, near });
+    }
+    let output = one_output(alloc, rows.shape(), j)?;
+    let Some(wide) = cube.stack(&output)? else {
+        unreachable!()
+    };
+    let _shape = wide.shape();
+    let rest = wide.without_outputs(&cube)?;
+    if is_implicant(side, asked(rows, &near), &rest)? {
+        return Ok(Growth { cube: wide, near });
+    }
+    Ok(Growth { cube, near })
+}
+
+/// The cube without the literals that it can do without, one after the other.
+fn grown_by_inputs(
+    alloc: Global,
+    side: Side,
+    rows: &Cover,
+    cube: &Cube,
+) -> Result<Growth, AllocError>
+    requires { IsCube rows.now.size cube.now }
+    ensures grown { IfOk result
+        (λ g. IsGrown rows.now.size (on_side side rows.now.cubes) cube.now g.cube
+        rows.now.size.inputs 0) }
+    ensures near { IfOk result (λ g. AreNear g.cube rows.now (near_or rows.now g.near)) }
+{
+    let near = rows_near(alloc, rows, cube)?;
+    let mut growth = Growth {
+        cube: cube.try_clone()?,
+        near,
+    };
+    for i in 0..rows.shape().inputs() {
+        growth = freed(alloc, side, rows, growth, i)?;
+    }
+    Ok(growth)
+}
+
+/// A prime that contains the cube, if the cube is an implicant, with the rows near the prime.
+///
+/// It costs a look at all rows, and one more for each literal that is freed; what else is asked for
+/// is asked of the rows near the cube, and of these for few outputs.
+pub(crate) fn grown(
+    alloc: Global,
+    side: Side,
+    rows: &Cover,
+    cube: &Cube,
+) -> Result<Growth, AllocError>
+    requires { IsCube rows.now.size cube.now }
+    ensures grown { IfOk result
+        (λ g. IsGrown rows.now.size (on_side side rows.now.cubes) cube.now g.cube
+        rows.now.size.inputs rows.now.size.outputs) }
+    ensures near { IfOk result (λ g. AreNear g.cube rows.now (near_or rows.now g.near)) }
+{
+    let mut growth = grown_by_inputs(alloc, side, rows, cube)?;
+    let part = part_of(side, &growth.cube)?;
+    let reached = outputs_at(asked(rows, &growth.near), part)?;
+    for j in 0..rows.shape().outputs() {
+        growth = widened(alloc, side, rows, &reached, growth, j)?;
+    }
+    Ok(growth)
+}

@@ -1,0 +1,283 @@
+//! The answers for a description, whose lists are made as far as they are needed.
+
+ghost use Rattle.std.specs.Prelude.{◌≡◌, [], IfOk, IfSome, true};
+ghost use Rattle.cube.specs.Cube.{IsPlace, Place, difference as difference_of};
+ghost use Rattle.cover.specs.Places.{places};
+ghost use Rattle.pla.specs.Completed.{sets_of};
+ghost use Rattle.minimum.specs.Primes.{essential_of, exact_of, primes_of};
+
+use crate::choice::Choice;
+use crate::essential_by_neighbours::{find_essential, find_essential_outside};
+use crate::essential_primes::essential;
+use crate::exact_minimum::{exact, exact_by_points, wishes_points};
+use crate::prime_implicants::primes;
+use crate::signatures::picks::{places_of_primes, places_outside};
+use crate::signatures::source::Source;
+use cover::{Budget, Cover, subtract};
+use pla::{FileType, Pla, Sets};
+use std::alloc::{AllocError, Global};
+
+// So many cubes are made at most of the OFF list without the ON list, and so many rows are looked
+// at, beside each ON row once for each OFF row: a wide OFF row over many ON rows takes far more,
+// and then a DC list is made sooner.
+const MOST_OF_OFF: usize = 200_000;
+
+const MOST_ROWS_OF_OFF: usize = 4_000_000;
+
+// How far the ON list is taken from the OFF list.
+fn budget_of_off(pla: &Pla) -> Budget {
+    let pairs = pla.off().len().saturating_mul(pla.on().len());
+    Budget {
+        cubes: MOST_OF_OFF,
+        rows: pairs.saturating_add(MOST_ROWS_OF_OFF),
+    }
+}
+
+// Cubes of the places of the OFF list that the ON list does not hold, unless that is too much:
+// outside them are the places of the ON-set with what neither list holds.
+fn off_alone(pla: &Pla) -> Result<Option<Cover>, AllocError>
+    ensures size { IfOk result (λ o. IfSome o (λ off. off.size ≡ pla.now.size)) }
+    ensures places { IfOk result (λ o. IfSome o (λ off. (p : Place) → IsPlace pla.now.size p
+        → places off.cubes p ≡ difference_of (places pla.now.off) (places pla.now.on) p)) }
+{
+    subtract(pla.off(), pla.on(), budget_of_off(pla))
+}
+
+// The primes, with a DC list.
+fn primes_with_dc(alloc: Global, pla: &Pla) -> Result<Cover, AllocError>
+    ensures { IfOk result (λ list. list ≡ record {
+      size = pla.now.size;
+      cubes = primes_of (sets_of pla.now true true);
+    }) }
+{
+    let sets = Sets::of(alloc, pla, true, false)?;
+    primes(&sets)
+}
+
+// The primes under fr: the complete sum outside these places, which OFF alone holds.
+fn primes_outside(pla: &Pla, off: &Cover) -> Result<Cover, AllocError>
+    requires file_type { pla.now.file_type ≡ FileType.Fr }
+    requires size { off.now.size ≡ pla.now.size }
+    requires places { (p : Place) → IsPlace pla.now.size p
+        → places off.now.cubes p ≡ difference_of (places pla.now.off) (places pla.now.on) p }
+    ensures { IfOk result (λ list. list ≡ record {
+      size = pla.now.size;
+      cubes = primes_of (sets_of pla.now true true);
+    }) }
+{
+    off.complement()
+}
+
+// The primes under fr.
+fn primes_of_samples(alloc: Global, pla: &Pla) -> Result<Cover, AllocError>
+    requires { pla.now.file_type ≡ FileType.Fr }
+    ensures { IfOk result (λ list. list ≡ record {
+      size = pla.now.size;
+      cubes = primes_of (sets_of pla.now true true);
+    }) }
+{
+    match off_alone(pla)? {
+        Some(off) => primes_outside(pla, &off),
+        None => primes_with_dc(alloc, pla),
+    }
+}
+
+/// The primes of the description's sets, in row order.
+///
+/// Under fr the DC-set is not made, unless that is less work: the primes are the complete sum of
+/// the places outside those that OFF alone holds.
+///
+/// # Errors
+///
+/// [`AllocError`] if memory is refused.
+pub fn primes_of_pla(alloc: Global, pla: &Pla) -> Result<Cover, AllocError>
+    ensures { IfOk result (λ list. list ≡ record {
+      size = pla.now.size;
+      cubes = primes_of (sets_of pla.now true true);
+    }) }
+{
+    match pla.file_type() {
+        FileType::Fr => primes_of_samples(alloc, pla),
+        FileType::F | FileType::Fd | FileType::Fdr => primes_with_dc(alloc, pla),
+    }
+}
+
+// Whether essential primes are wished for without a list of all primes. These are few where there
+// are few inputs or one output. Growing looks at all rows for each prime that it grows.
+fn wishes_growth(sets: &Sets) -> bool {
+    let (inputs, rows) = (sets.on().shape().inputs(), sets.on().len());
+    if inputs <= 12 {
+        return rows < 100;
+    }
+    let most = if inputs > 40 { 100_000 } else { 20_000 };
+    sets.on().shape().outputs() > 1 && rows <= most
+}
+
+// The essential primes of the sets.
+fn essential_of_sets(alloc: Global, sets: &Sets) -> Result<Cover, AllocError>
+    ensures { IfOk result (λ list. list ≡ record {
+      size = sets.now.size;
+      cubes = essential_of sets.now (primes_of sets.now);
+    }) }
+{
+    if wishes_growth(sets) {
+        return find_essential(alloc, sets);
+    }
+    let primes = primes(sets)?;
+    essential(alloc, sets, &primes)
+}
+
+// The essential primes, with a DC list.
+fn essential_with_dc(alloc: Global, pla: &Pla) -> Result<Cover, AllocError>
+    ensures { IfOk result (λ list. list ≡ record {
+      size = pla.now.size;
+      cubes = essential_of (sets_of pla.now true true) (primes_of (sets_of pla.now true true));
+    }) }
+{
+    let sets = Sets::of(alloc, pla, true, false)?;
+    essential_of_sets(alloc, &sets)
+}
+
+// Those under fr.
+fn essential_of_samples(alloc: Global, pla: &Pla) -> Result<Cover, AllocError>
+    requires { pla.now.file_type ≡ FileType.Fr }
+    ensures { IfOk result (λ list. list ≡ record {
+      size = pla.now.size;
+      cubes = essential_of (sets_of pla.now true true) (primes_of (sets_of pla.now true true));
+    }) }
+{
+    match off_alone(pla)? {
+        Some(off) => find_essential_outside(alloc, pla.on(), &off),
+        None => essential_with_dc(alloc, pla),
+    }
+}
+
+/// The essential primes of the description's sets, in row order.
+///
+/// # Errors
+///
+/// [`AllocError`] if memory is refused.
+pub fn essential_of_pla(alloc: Global, pla: &Pla) -> Result<Cover, AllocError>
+    ensures { IfOk result (λ list. list ≡ record {
+      size = pla.now.size;
+      cubes = essential_of (sets_of pla.now true true) (primes_of (sets_of pla.now true true));
+    }) }
+{
+    match pla.file_type() {
+        FileType::Fr => essential_of_samples(alloc, pla),
+        FileType::F | FileType::Fd | FileType::Fdr => essential_with_dc(alloc, pla),
+    }
+}
+
+// The ON list and the OFF list of a description, without a DC list.
+fn samples_of(alloc: Global, pla: &Pla) -> Result<Sets, AllocError>
+    ensures { IfOk result (λ sets. sets ≡ record {
+      size = pla.now.size;
+      on = pla.now.on;
+      dc = [];
+      off = pla.now.off;
+    }) }
+{
+    let on = pla.on().try_clone()?;
+    let off = pla.off().try_clone()?;
+    let dc = Cover::new(alloc, pla.shape());
+    Ok(Sets::new(on, dc, off))
+}
+
+// The least cover under fr by points outside these places, which OFF alone holds, or none where
+// that is too much.
+fn exact_outside_off(
+    alloc: Global,
+    pla: &Pla,
+    off: &Cover,
+    choice: Choice,
+) -> Result<Option<Cover>, AllocError>
+    requires file_type { pla.now.file_type ≡ FileType.Fr }
+    requires size { off.now.size ≡ pla.now.size }
+    requires places { (p : Place) → IsPlace pla.now.size p
+        → places off.now.cubes p ≡ difference_of (places pla.now.off) (places pla.now.on) p }
+    ensures { IfOk result (λ o. IfSome o (λ list. list ≡ record {
+      size = pla.now.size;
+      cubes = exact_of choice (sets_of pla.now true true);
+    })) }
+{
+    let samples = samples_of(alloc, pla)?;
+    let _shape = pla.on().shape();
+    if !wishes_points(&samples) {
+        return Ok(None);
+    }
+    let places = places_outside(alloc, &samples, off, true)?;
+    let source = Source::Outside(off.try_clone()?);
+    exact_by_points(alloc, &samples, &source, &places, choice)
+}
+
+// The least cover under fr by points, from a list of all primes, of which none has these places.
+fn exact_among_primes(
+    alloc: Global,
+    pla: &Pla,
+    off: &Cover,
+    choice: Choice,
+) -> Result<Option<Cover>, AllocError>
+    requires file_type { pla.now.file_type ≡ FileType.Fr }
+    requires size { off.now.size ≡ pla.now.size }
+    requires places { (p : Place) → IsPlace pla.now.size p
+        → places off.now.cubes p ≡ difference_of (places pla.now.off) (places pla.now.on) p }
+    ensures { IfOk result (λ o. IfSome o (λ list. list ≡ record {
+      size = pla.now.size;
+      cubes = exact_of choice (sets_of pla.now true true);
+    })) }
+{
+    let samples = samples_of(alloc, pla)?;
+    let _shape = pla.on().shape();
+    let primes = primes_outside(pla, off)?;
+    let places = places_of_primes(alloc, &samples, &primes, true)?;
+    exact_by_points(alloc, &samples, &Source::Primes(primes), &places, choice)
+}
+
+// The least cover, with a DC list.
+fn exact_with_dc(alloc: Global, pla: &Pla, choice: Choice) -> Result<Cover, AllocError>
+    ensures { IfOk result (λ list. list ≡ record {
+      size = pla.now.size;
+      cubes = exact_of choice (sets_of pla.now true true);
+    }) }
+{
+    let sets = Sets::of(alloc, pla, true, false)?;
+    exact(alloc, &sets, choice)
+}
+
+// The least cover under fr; no DC list is made, unless that is less work.
+fn exact_of_samples(alloc: Global, pla: &Pla, choice: Choice) -> Result<Cover, AllocError>
+    requires { pla.now.file_type ≡ FileType.Fr }
+    ensures { IfOk result (λ list. list ≡ record {
+      size = pla.now.size;
+      cubes = exact_of choice (sets_of pla.now true true);
+    }) }
+{
+    let Some(off) = off_alone(pla)? else {
+        return exact_with_dc(alloc, pla, choice);
+    };
+    if let Some(list) = exact_outside_off(alloc, pla, &off, choice)? {
+        return Ok(list);
+    }
+    if let Some(list) = exact_among_primes(alloc, pla, &off, choice)? {
+        return Ok(list);
+    }
+    exact_with_dc(alloc, pla, choice)
+}
+
+/// The least cover by primes of the description's sets.
+///
+/// # Errors
+///
+/// [`AllocError`] if memory is refused.
+pub fn exact_of_pla(alloc: Global, pla: &Pla, choice: Choice) -> Result<Cover, AllocError>
+    ensures { IfOk result (λ list. list ≡ record {
+      size = pla.now.size;
+      cubes = exact_of choice (sets_of pla.now true true);
+    }) }
+{
+    match pla.file_type() {
+        FileType::Fr => exact_of_samples(alloc, pla, choice),
+        FileType::F | FileType::Fd | FileType::Fdr => exact_with_dc(alloc, pla, choice),
+    }
+}

@@ -1,0 +1,104 @@
+//! Points with the primes that contain them, and what these hold together.
+
+ghost use Rattle.std.specs.Prelude.{◌≡◌, ◌∷◌, ◌++◌, [], true, IfOk, IfSome, OnOk, All};
+ghost use Rattle.std.specs.List.{Contains};
+ghost use Rattle.cube.specs.Cube.{SameSize, IsCube, IsSubset, Cube as Row, holds};
+ghost use Rattle.cover.specs.Cubes.{AreCubes};
+ghost use Rattle.minimum.specs.Points.{IsSource, function_by, IsFound, IsWantedPoint};
+
+use crate::signatures::source::{Source, Stop, primes_containing};
+use cube::{Cube, Shape};
+use pla::Sets;
+use std::alloc::{AllocError, Global};
+
+/// Points, the primes that contain them, and their signatures.
+#[derive(Drop)]
+pub(crate) struct Found {
+    /// Wanted points.
+    pub(crate) points: Vec<Cube>,
+    /// All primes that contain one of them; some may stand twice.
+    pub(crate) columns: Vec<Cube>,
+    /// For points the places that all of their primes hold.
+    pub(crate) signatures: Vec<Cube>,
+}
+
+impl Found {
+    /// No point.
+    pub(crate) fn new(alloc: Global) -> Found
+        ensures points { result.points.items ≡ [] }
+        ensures columns { result.columns.items ≡ [] }
+        ensures signatures { result.signatures.items ≡ [] }
+    {
+        Found {
+            points: Vec::new(alloc),
+            columns: Vec::new(alloc),
+            signatures: Vec::new(alloc),
+        }
+    }
+
+    /// Whether a signature holds the region.
+    pub(crate) fn is_signed(&self, region: &Cube) -> bool
+        requires { All (λ d. SameSize d region.now) self.now.signatures.items }
+        ensures { result ≡ true → (s : Row) × Contains self.now.signatures.items s
+            × IsSubset (holds region.now) (holds s) }
+    {
+        for signature in &self.signatures {
+            if signature.contains(region) {
+                return true;
+            }
+        }
+        false
+    }
+}
+
+/// The places that all of the cubes hold, or `None` if there is none.
+fn signature(shape: Shape, cubes: &[Cube]) -> Result<Option<Cube>, AllocError>
+    requires { AreCubes shape cubes.now }
+    ensures cube { IfOk result (λ o. IfSome o (IsCube shape)) }
+    ensures within { IfOk result (λ o. IfSome o (λ s. (c : Row) → Contains cubes.now c
+        → IsSubset (holds s) (holds c))) }
+{
+    let Some(first) = cubes.first() else {
+        return Ok(None);
+    };
+    let mut common = first.try_clone()?;
+    for cube in cubes {
+        let Some(less) = common.meet(cube)? else {
+            return Ok(None);
+        };
+        common = less;
+    }
+    let _shape = common.shape();
+    Ok(Some(common))
+}
+
+/// Adds the cube.
+fn push_cube(list: &mut Vec<Cube>, cube: Cube) -> Result<(), AllocError>
+    ensures { OnOk result (list.new.items ≡ list.old.items ++ cube ∷ []) }
+{
+    list.push(cube)?;
+    Ok(())
+}
+
+/// Adds a point, the primes that hold it, and their signature.
+pub(crate) fn add_point(
+    sets: &Sets,
+    source: &Source,
+    point: Cube,
+    found: &mut Found,
+) -> Result<(), Stop>
+    requires source { IsSource sets.now.size source.now }
+    requires point { IsWantedPoint (function_by sets.now source.now) point }
+    requires found { IsFound (function_by sets.now source.now) found.old }
+    ensures found { OnOk result (IsFound (function_by sets.now source.now) found.new) }
+    ensures points { OnOk result (found.new.points.items ≡ found.old.points.items ++ point ∷ []) }
+{
+    let row = primes_containing(source, &point)?;
+    if let Some(common) = signature(row.shape(), row.as_slice())? {
+        push_cube(&mut found.signatures, common)?;
+    }
+    let mut row = row.into_cubes();
+    found.columns.append(&mut row)?;
+    push_cube(&mut found.points, point)?;
+    Ok(())
+}
