@@ -26,6 +26,9 @@ import sys
 import tempfile
 import time
 
+from control import (DECODED, KNOWN, WIDE, control, first_request, grants, joined_rings, operation_lines, samples, selector,
+                     shifter)
+
 DATA = os.path.join(os.path.dirname(os.path.abspath(__file__)), "data")
 
 
@@ -484,6 +487,63 @@ def pair_cases():
             None)
 
 
+def drawn(name, goals, **how):
+    """Control logic of some shapes: name, listing, and the seconds for `exact`, of either choice, and for `essen`."""
+    for shape, *seconds in goals:
+        yield "-".join(map(str, (name, *shape))), functools.partial(control, *shape, **how), *seconds
+
+
+# Functions of many outputs, as `drawn` gives them; without seconds for `exact`, that is not run.
+LOGIC = [
+    *drawn("control", [((24, 16, 80), 0.1, 0.1), ((36, 24, 110), 0.1, 0.1), ((48, 17, 120), 0.1, 0.1),
+                       ((60, 30, 160), 0.1, 0.1), ((83, 60, 250), 0.2, 0.13), ((94, 43, 200), 0.13, 0.1),
+                       ((128, 60, 400), 30, 0.9)]),
+    *drawn("control-free", [((36, 24, 110), 0.15, 0.1), ((60, 30, 160), 0.16, 0.1), ((83, 60, 250), 0.13, 0.11),
+                            ((94, 43, 200), 0.4, 0.1)], free=0.15),
+    *drawn("control-decoded", [((47, 40, 220), 0.1, 0.1), ((83, 60, 400), 0.2, 0.2), ((128, 60, 600), 0.3, 0.25)],
+           style=DECODED),
+    *drawn("control-known", [((56, 23, 75), 1, 1), ((94, 43, 91), 1, 1), ((82, 56, 112), 1, 1), ((36, 57, 166), 1, 1),
+                             ((47, 72, 241), 1, 1), ((48, 17, 173), 1, 1), ((83, 94, 529), 1, 1), ((128, 28, 620), 60, 1)],
+           seed=11, style=KNOWN),
+    *drawn("control-wide", [((47, 40, 220), None, 1), ((83, 60, 400), None, 1), ((128, 60, 600), None, 1)], style=WIDE),
+    ("rotator-16", functools.partial(shifter, 16, 3, rotate=True), 0.1, 0.1),
+    ("rotator-32", functools.partial(shifter, 32, 5, rotate=True), 0.14, 0.17),
+    ("shifter-32", functools.partial(shifter, 32, 5), 0.1, 0.1),
+    ("selector-35", functools.partial(selector, 3, 4), 0.1, 0.1),
+    ("selector-99", functools.partial(selector, 3, 12), 0.1, 0.1),
+    ("grants-12-8", functools.partial(grants, 12, 8), 0.1, 0.1),
+    ("first-request-20", functools.partial(first_request, 20), 0.1, 0.1),
+    ("operation-lines-16", functools.partial(operation_lines, 6, 8, 32, 2), 0.1, 0.1),
+    *((f"joined-rings-{count}", functools.partial(joined_rings, count), 0.5, 0.5) for count in (8, 16, 64, 300)),
+]
+
+
+def listing_file(name, listing, end="", order=lambda rows: rows):
+    return write(f"{name}{end}.pla", pla(listing.inputs, listing.outputs, [*listing.head(), *order(listing.rows)]))
+
+
+def logic_cases():
+    """Functions of many outputs, most of which have more primes than can be listed."""
+    for name, listing, covers, essential in LOGIC:
+        for label, words, goal in (("exact", ("-Dexact",), covers), ("exact-literals", ("-Dexact", "--literals"), covers),
+                                   ("essen", ("-Dessen",), essential)):
+            if goal is not None:
+                yield f"{label}-{name}", file_case(
+                    list(words), lambda name=name, listing=listing: listing_file(name, listing()), goal)
+
+
+def sample_cases():
+    """Samples of type fr: the same in another order, and their essential primes."""
+    for shape in ((20, 10, 60), (36, 24, 110), (60, 30, 160), (94, 43, 200), (128, 60, 400)):
+        name = "samples-{}-{}-{}".format(*shape)
+
+        def both(name=name, shape=shape):
+            listing = samples(*shape)
+            return listing_file(name, listing), listing_file(name, listing, "-shuffled", lambda rows: shuffled(rows, 9))
+        yield f"verify-{name}", pair_case(["-Dverify"], both, 0.3)
+        yield f"essen-{name}", file_case(["-Dessen"], lambda both=both: both()[0], 0.1)
+
+
 def cases():
     yield "echo-million-rows", file_case(
         ["-Decho"], lambda: write("rows-1000000.pla", pla(20, 4, random_rows(10 ** 6, 20, 4, 1))), 0.30)
@@ -515,7 +575,9 @@ def cases():
     yield from sum_cases()
     yield from exact_cases()
     yield from large_exact_cases()
+    yield from logic_cases()
     yield from pair_cases()
+    yield from sample_cases()
     yield from wide_verifies()
 
 

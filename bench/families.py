@@ -9,6 +9,8 @@ from typing import Callable
 
 from bench import (adder, consensus_cubes, function_rows, number, ones_within, partition, pla, rings, short_cubes,
                    shuffled, sparse_rows, split_rows, split_twice, two_of, with_literal_dropped, write)
+from control import (DECODED, KNOWN, WIDE, Listing, control, first_request, grants, joined_rings, operation_lines, samples,
+                     selector, shifter)
 
 
 @dataclass(frozen=True)
@@ -16,6 +18,7 @@ class Size:
     """One member of a family: what it is called, and what makes its files (the paths, when they are asked for)."""
     label: str
     files: Callable
+    listing: Listing = None        # of functions of many outputs: the shape, and the number of primes
 
 
 @dataclass(frozen=True)
@@ -294,4 +297,72 @@ def for_single_outputs():
                lambda n: (random_points(n, 1, 0.4, 0.2, n),)),
         family("rings", "six points of three inputs, side by side: six primes each, none essential",
                (1, 2, 4, 8, 16, 32, 64, 128), ring_label, lambda n: (ring_file(n),)),
+    ]
+
+
+# Functions of many outputs.
+
+def listed(name, listing):
+    """A file of these rows, and one of the same rows in another order."""
+    name = f"{name}-{listing.inputs}-{listing.outputs}-{len(listing.rows)}"
+    return tuple(file_of(f"{name}{end}", listing.inputs, listing.outputs, rows, listing.head())
+                 for end, rows in (("", listing.rows), ("-shuffled", shuffled(listing.rows, 9))))
+
+
+def listing_family(name, told, listings):
+    return Family(name, told, [Size(f"{len(it.rows)} rows", lambda it=it: listed(name, it), it) for it in listings])
+
+
+# Inputs, outputs and rows of control logic, and how many primes it has; with don't-cares, and how many it has then.
+CONTROL = [
+    ((10, 5, 30), 51, 79), ((14, 8, 50), 355, 307), ((20, 10, 60), 1083, 866), ((24, 16, 80), 9304, 11316),
+    ((36, 24, 110), 115790, 77776), ((48, 17, 120), 779034, 1766589), ((60, 30, 160), 6896262, 27308719),
+    ((94, 43, 200), 1.4e11, 6.7e11), ((83, 60, 250), 3.2e11, 8.3e11), ((128, 60, 400), 2.8e17, 1.5e17)]
+DECODED_CONTROL = [((24, 16, 120), None), ((47, 40, 220), None), ((83, 60, 400), 3.6e10), ((128, 60, 600), 4.1e15)]
+WIDE_CONTROL = [((24, 16, 120), 118000), ((47, 40, 220), None), ((83, 60, 400), None), ((128, 60, 600), 5.1e18)]
+
+# Those of known files that are hard to minimise: misg, ibm, mish, x2dn, ti, jbp, soar and ex4.
+KNOWN_CONTROL = [
+    ((56, 23, 75), 263327), ((48, 17, 173), 4726571), ((94, 43, 91), 12567076), ((82, 56, 112), 20909756),
+    ((47, 72, 241), 6.9e9), ((36, 57, 166), None), ((83, 94, 529), 3.1e17), ((128, 28, 620), 9.9e15)]
+
+
+def for_control():
+    """Each size is a pair of files: a function of many outputs, and the same rows in another order."""
+    def drawn(listings, **how):
+        return [control(*shape, primes=primes, **how) for shape, primes in listings]
+
+    return [
+        listing_family("control logic",
+                       "clusters of outputs, each with a window of the inputs and an opcode that most rows decode",
+                       drawn((shape, primes) for shape, primes, _ in CONTROL)),
+        listing_family("control logic with don't-cares", "the same, three rows in twenty of don't-cares",
+                       drawn(((shape, primes) for shape, _, primes in CONTROL), free=0.15)),
+        listing_family("decoded control logic", "wider opcodes, fewer outputs a row", drawn(DECODED_CONTROL, style=DECODED)),
+        listing_family("shapes of known files",
+                       "as many inputs, outputs and rows as misg, ibm, mish, x2dn, ti, jbp, soar and ex4; the rows are drawn",
+                       drawn(KNOWN_CONTROL, seed=11, style=KNOWN)),
+        listing_family("widely shared control logic", "more inputs in common and few literals a row: many ways to meet",
+                       drawn(WIDE_CONTROL, style=WIDE)),
+        listing_family("samples", "type fr: rows of control logic that fix the inputs of a cluster; all else is free",
+                       [samples(*shape) for shape, *_ in CONTROL]),
+        listing_family("rotators", "a word, rotated by a number",
+                       [shifter(*size, rotate=True, primes=primes) for size, primes in (
+                           ((4, 2), 69), ((8, 3), 2757), ((16, 3), 636357), ((16, 4), 1269957), ((32, 5), None),
+                           ((64, 6), None))]),
+        listing_family("selectors", "one of some words, by its address",
+                       [selector(*size) for size in (
+                           (1, 2), (2, 4), (3, 4), (4, 4), (3, 12), (6, 12), (4, 16), (5, 16), (2, 24))]),
+        listing_family("grants", "groups of requests with an enable each: the first request of a group",
+                       [grants(*size) for size in (
+                           (2, 3), (4, 4), (6, 6), (8, 8), (12, 8), (16, 12), (24, 16), (32, 20))]),
+        listing_family("first requests", "the number of the first request, and whether there is one",
+                       [first_request(*size) for size in (
+                           (4, 9), (8, 27), (16, 81), (32, None), (64, 729), (128, 2187), (256, None))]),
+        listing_family("operation lines", "decoded lines of an arithmetic unit, three steps an operation",
+                       [operation_lines(*size, primes=primes) for size, primes in (
+                           ((3, 4, 16), 70), ((4, 6, 24), 139), ((5, 6, 28), 329), ((6, 8, 32, 2), 693), ((7, 8, 40), 1520),
+                           ((8, 8, 48), 2880))]),
+        listing_family("joined rings", "rings of six points, each over three inputs of its own, in one output",
+                       [joined_rings(count) for count in (1, 2, 4, 8, 16, 32, 64, 128, 300)]),
     ]

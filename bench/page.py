@@ -7,11 +7,13 @@ import subprocess
 import textwrap
 
 from peers import MEMORY, SHORT, once
-from picture import Panel, Series, picture
+from picture import Panel, Series, picture, power
 
 DOCS = os.path.join(os.path.dirname(os.path.dirname(os.path.abspath(__file__))), "docs")
 OURS = [("#56b4e9", "triangle"), ("#0072b2", "circle")]      # the last for the tool that the other is compared with
 THEIRS = ("#d55e00", "square")
+COMMANDS = {"primes": THEIRS, "literals": ("#56b4e9", "triangle"), "exact": ("#0072b2", "circle"),
+            "essen": ("#009e73", "circle")}
 PACKAGES = {"berkeley-abc": "berkeley-abc", "minisat": "minisat", "cbc": "coinor-cbc"}
 SAME = 1.25                        # ratios up to this count as the same time
 NOTED = 0.005                      # seconds from which on it is noted that another tool is faster
@@ -149,6 +151,45 @@ def drawn(comparison, tools, results, limit):
     return picture(f"{capital(comparison.title)}: seconds over rows", series_of(tools), panels, limit)
 
 
+# Functions of many outputs: commands side by side, over the number of primes.
+
+def primes_of(row):
+    """How many primes there are: as many as were found, or as are known; None where neither is."""
+    listed = row.outcomes["primes"].answer if "primes" in row.outcomes else None
+    return row.listing.primes if listed is None else len(listed)
+
+
+def count_of_primes(row):
+    """All digits, or two and a power of ten."""
+    count = primes_of(row)
+    if count is None or count < 1e8:
+        return str(count or "")
+    tens = math.floor(math.log10(count))
+    return f"{count / 10 ** tens:.1f} · {power(10 ** tens)}"
+
+
+def logic_table(comparison, tools, result):
+    yield f"**{capital(result.family.name)}**: {result.family.told}."
+    yield ""
+    cells = [[row.listing.shape, str(row.rows), count_of_primes(row), *(cell(row, tool) for tool in tools), row.shown]
+             for row in result.rows]
+    yield from table(["Inputs / outputs", "Rows", "Primes", *(tool.label for tool in tools), comparison.counted], cells)
+
+
+def over_primes(result, label):
+    """The seconds of a command over the number of primes, by that number."""
+    points = [(primes_of(row), row.outcomes[label].seconds) for row in result.rows
+              if primes_of(row) and label in row.outcomes]
+    return sorted(points, key=lambda point: point[0])
+
+
+def logic_drawn(comparison, results, limit):
+    panels = [Panel(result.family.name, [over_primes(result, label) for label in COMMANDS], "primes") for result in results]
+    panels = [panel for panel in panels if any(len(line) > 1 for line in panel.lines)]
+    series = [Series(label, *look) for label, look in COMMANDS.items()]
+    return picture(f"{capital(comparison.title)}: seconds over primes", series, panels, limit)
+
+
 # The machine.
 
 def processor():
@@ -202,13 +243,15 @@ def tools_table(found):
 HEAD = """# Performance
 
 How long `verify`, `tautology`, `exact` and `primes` take on functions that grow, beside tools that answer the same
-questions. This page and its pictures are written by one command, and no figure stands here that it does not print:
+questions; and on control logic, which has many outputs and too many primes to be listed. This page and its pictures are
+written by one command, and no figure stands here that it does not print:
 
     bench/peers.py PROGRAM --write{options}
 
 It took {minutes:.0f} minutes. PROGRAM is the built program, `crates/espresso/out/espresso`; the files come from fixed
 seeds and are written to `bench/data`. `--only WORD` runs the families that have the word in their names, and `--quick`
-has a limit of two seconds. Single functions, memory, and long files are timed by `bench/bench.py PROGRAM`.
+has a limit of two seconds. Single functions, memory, and long files are timed by `bench/bench.py PROGRAM`. With
+`--only "control logic" --write` the last section alone is measured and written anew.
 """
 
 HOW = """## How it was measured
@@ -220,7 +263,7 @@ family at the first size that it does not answer within {limit:g} seconds and {b
 
 In the tables, times are seconds, *none* is no answer within these limits, and – a size that a tool was no longer run on. The
 ratio says how many times as long the other tool takes as this one, in bold where the other is faster. Wherever two tools
-answered, their answers were compared: {agreed}
+answered, their answers were compared: {agreed}.
 """
 
 SHORTLY = """## In short
@@ -242,10 +285,23 @@ COMPARED = """## {title}
 """
 
 
+LOGIC = """
+## {title}
+
+{told}
+
+![{title}: seconds over primes](performance/{picture})
+"""
+
+COUNTED = ("The primes were counted with decision diagrams or by a formula, where that could be done; `primes` finds as many. "
+           "The covers were compared with the file, by `verify`, and all answers with each other: {agreed}. The limit was "
+           "{limit:g} seconds.")
+
+
 def agreement(found):
     rows = [row for _, _, results in found for result in results for row in result.rows if row.agree is not None]
     wrong = [row for row in rows if not row.agree]
-    return f"{len(rows)} times, and {'they agreed each time' if not wrong else f'{len(wrong)} TIMES THEY DIFFER'}."
+    return f"{len(rows)} times, and {'they agreed each time' if not wrong else f'{len(wrong)} TIMES THEY DIFFER'}"
 
 
 def how(found, limit, jobs):
@@ -253,6 +309,14 @@ def how(found, limit, jobs):
     return HOW.format(cores=os.cpu_count(), processor=processor(), speed=megahertz(), memory=memory(),
                       system=platform.system(), load=f"{os.getloadavg()[0]:.1f}", running=running, short=SHORT,
                       limit=limit, bytes=MEMORY / 2 ** 30, agreed=agreement(found))
+
+
+def logic_lines(logic, limit):
+    comparison, tools, results = logic
+    told = f"{comparison.told} {COUNTED.format(agreed=agreement([logic]), limit=limit)}"
+    yield LOGIC.format(title=capital(comparison.title), told=textwrap.fill(told, 120), picture=picture_name(comparison))
+    for result in results:
+        yield from logic_table(comparison, tools, result)
 
 
 def lines(found, limit, jobs, minutes):
@@ -272,10 +336,31 @@ def lines(found, limit, jobs, minutes):
             yield from family_table(comparison, tools, result)
 
 
-def write(found, limit, jobs, minutes):
+def put(name, text):
+    with open(os.path.join(DOCS, name), "w") as out:
+        out.write(text)
+
+
+def read(name):
+    with open(os.path.join(DOCS, name)) as file:
+        return file.read()
+
+
+def write_logic(logic, limit):
+    """Puts the section of `logic`, what ran by itself, at the end of the page, in place of one that is there; and its
+    picture."""
+    comparison, _, results = logic
+    os.makedirs(os.path.join(DOCS, "performance"), exist_ok=True)
+    put(f"performance/{picture_name(comparison)}", logic_drawn(comparison, results, limit))
+    section = "\n".join(logic_lines(logic, limit)).rstrip()
+    before = read("PERFORMANCE.md").split(section.split("\n\n")[0])[0]
+    put("PERFORMANCE.md", f"{before.rstrip()}\n{section}\n")
+
+
+def write(found, logic, limit, jobs, minutes):
+    """The page of what ran beside other tools, and of `logic`."""
     os.makedirs(os.path.join(DOCS, "performance"), exist_ok=True)
     for comparison, tools, results in found:
-        with open(os.path.join(DOCS, "performance", picture_name(comparison)), "w") as out:
-            out.write(drawn(comparison, tools, results, limit))
-    with open(os.path.join(DOCS, "PERFORMANCE.md"), "w") as out:
-        out.write("\n".join(lines(found, limit, jobs, minutes)).rstrip() + "\n")
+        put(f"performance/{picture_name(comparison)}", drawn(comparison, tools, results, limit))
+    put("PERFORMANCE.md", "\n".join(lines(found, limit, jobs, minutes)))
+    write_logic(logic, limit)

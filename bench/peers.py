@@ -4,12 +4,13 @@
 usage: bench/peers.py PROGRAM [--limit SECONDS] [--quick] [--only WORD] [--jobs NUMBER] [--write]
 
 verify runs beside berkeley-abc's cec, tautology beside minisat, exact beside cbc (the size of a least cover alone), and
-primes and exact of single outputs beside sympy's SOPform. Their answers are compared too; the status is 1 where two
-differ. A tool that is not installed is left out, and this is said. A tool leaves a family at the first size that it does
-not answer within the limit (60 seconds without --limit) or in 4 GiB of memory; --quick stands for a limit of 2 seconds.
+primes and exact of single outputs beside sympy's SOPform; primes, exact, essen and verify run side by side on control
+logic, whose primes are often too many to be listed. Their answers are compared too; the status is 1 where two differ. A
+tool that is not installed is left out, and this is said. A tool leaves a family at the first size that it does not
+answer within the limit (60 seconds without --limit) or in 4 GiB of memory; --quick stands for a limit of 2 seconds.
 --only runs the comparisons and families that have the word in their names, and --jobs so many families at the same time
 (one without it; leave cores free, for the sake of the times). --write writes docs/PERFORMANCE.md and the pictures in
-docs/performance.
+docs/performance; with --only "control logic" that section and its picture alone.
 
 The files are written to bench/data by fixed seeds, once.
 """
@@ -35,6 +36,7 @@ import families  # noqa: E402
 
 MEMORY = 4 << 30                   # bytes that a run may take
 SHORT = 2.0                        # seconds; shorter runs are made three times, and the least time counts
+LOGIC = "control logic"            # the comparison that no other tool takes part in
 
 
 @dataclass(frozen=True)
@@ -61,7 +63,7 @@ class Comparison:
     title: str
     tools: list
     families: list
-    agree: Callable
+    agree: Callable                # by the paths of a size's files and, of functions of many outputs, their listing
     shown: Callable                # the answers in a few words
     counted: str                   # what these words are
     told: str                      # what was compared, for the page
@@ -76,6 +78,7 @@ class Row:
     outcomes: dict
     agree: object
     shown: str
+    listing: object = None
 
 
 @dataclass
@@ -126,7 +129,7 @@ def yes_or_no(status, output):
 
 
 def own(program, command, read, limit, paths):
-    return timed([program, f"-D{command}", *paths], limit, read)
+    return timed([program, *f"-D{command}".split(), *paths], limit, read)
 
 
 # verify, beside cec.
@@ -226,7 +229,7 @@ def cbc(program, limit, paths):
     return timed(["cbc", table(paths[0], primes), "solve"], limit, read)
 
 
-def same_size(answers, paths):
+def same_size(answers, paths, listing):
     return len({answer if isinstance(answer, int) else len(answer) for answer in answers.values()}) == 1
 
 
@@ -257,7 +260,7 @@ def sopform(limit, paths):
                  lambda output: json.loads(output)["seconds"])
 
 
-def same_terms(program, answers, paths):
+def same_terms(program, answers, paths, listing):
     """The least cover and SOPform's are primes, those are the file's function, and the least is no longer."""
     primes, least, terms = (answers.get(label) for label in ("primes", "exact", "SOPform"))
     if primes is not None and not set(least or []) | set(terms or []) <= set(primes):
@@ -271,15 +274,35 @@ def same_terms(program, answers, paths):
 
 
 def is_same_function(program, path, rows):
-    with tempfile.NamedTemporaryFile("w", suffix=".pla") as file:
-        file.writelines(line + "\n" for line in families.pla(len(rows[0].split()[0]), 1, rows))
+    """Whether these rows, as a file of the same shape, are the file's function."""
+    with open(path) as given, tempfile.NamedTemporaryFile("w", suffix=".pla") as file:
+        file.writelines([given.readline(), given.readline(), *(row + "\n" for row in rows), ".e\n"])
         file.flush()
         return once([program, "-Dverify", path, file.name], 60)[1] == 0
 
 
+# primes, exact, essen and verify of functions of many outputs, side by side.
+
+def literals(rows):
+    """How many literals the rows have in their input parts."""
+    return sum(symbol in "01" for row in rows for symbol in row.split()[0])
+
+
+def same_logic(program, answers, paths, listing):
+    """As many primes as are known. The covers are the file's function and equally long, no one has fewer literals than that
+    of the fewest, and all hold the essential primes. The file in another order is the same function."""
+    primes, essential = answers.get("primes"), set(answers.get("essen", []))
+    covers = [answers[label] for label in ("exact", "literals") if label in answers]
+    return (answers.get("verify", True)
+            and (primes is None or listing.primes in (None, len(primes)))
+            and len({len(rows) for rows in covers}) <= 1
+            and all(literals(covers[-1]) <= literals(rows) for rows in covers)
+            and all(essential <= set(rows) and is_same_function(program, paths[0], rows) for rows in covers))
+
+
 # The comparisons.
 
-def equal(answers, paths):
+def equal(answers, paths, listing):
     return len(set(answers.values())) == 1
 
 
@@ -333,6 +356,22 @@ def comparisons(program):
     ]
 
 
+def side_by_side(program):
+    """What no other tool is run beside: the commands on functions of many outputs."""
+    def tool(label, command):
+        return Tool(label, lambda limit, paths: own(program, command, printed_rows, limit, paths[:1]),
+                    told=f"espresso -D{command} A")
+    return Comparison(
+        LOGIC, LOGIC,
+        [tool("primes", "primes"), tool("exact", "exact"), tool("literals", "exact --literals"), tool("essen", "essen"),
+         Tool("verify", functools.partial(own, program, "verify", yes_or_no), told="espresso -Dverify A B")],
+        families.for_control(), functools.partial(same_logic, program), sizes_shown("exact", "essen"), "Least / essential",
+        "Functions of many outputs, as control parts have them. Where the products of several outputs meet, each way to meet "
+        "is a prime: their number grows by a factor with each output, and that of the products that a least cover can have "
+        "does not. `exact` and `essen` do not list the primes; `primes` does. *literals* is `exact --literals`, and `verify` "
+        "compares the file with its rows in another order.")
+
+
 def installed(tool):
     if not tool.needs or (importlib.util.find_spec("sympy") if tool.needs == "sympy" else shutil.which(tool.needs)):
         return True
@@ -356,9 +395,9 @@ def measured(comparison, tools, family, limit):
         outcomes = {label: outcome for label, outcome in outcomes.items() if outcome}
         running = [tool for tool in running if tool.label in outcomes and outcomes[tool.label].seconds is not None]
         answers = {label: outcome.answer for label, outcome in outcomes.items() if outcome.answer is not None}
-        agree = comparison.agree(answers, paths) if len(answers) > 1 else None
-        rows = sum(len(rows_of(path)) for path in paths)
-        found.append(Row(size.label, rows, outcomes, agree, comparison.shown(answers)))
+        agree = comparison.agree(answers, paths, size.listing) if len(answers) > 1 else None
+        rows = len(size.listing.rows) if size.listing else sum(len(rows_of(path)) for path in paths)
+        found.append(Row(size.label, rows, outcomes, agree, comparison.shown(answers), size.listing))
         told = ", ".join(f"{label} {seconds_told(outcome)}" for label, outcome in outcomes.items())
         differ = ": THE ANSWERS DIFFER" if agree is False else ""
         print(f"{comparison.name}, {family.name}, {size.label}: {told}{differ}", flush=True)
@@ -368,9 +407,10 @@ def measured(comparison, tools, family, limit):
 
 
 def run_all(program, limit, only, jobs):
-    """For each comparison its tools that are installed, and the results of its families."""
+    """For each comparison its tools that are installed, and the results of its families; that of our commands alone is the
+    last."""
     chosen = []
-    for comparison in comparisons(program):
+    for comparison in [*comparisons(program), side_by_side(program)]:
         tools = [tool for tool in comparison.tools if installed(tool)]
         kept = [family for family in comparison.families if only in f"{comparison.name}, {family.name}"]
         chosen.append((comparison, tools, kept))
@@ -413,15 +453,18 @@ def main():
     if len(sys.argv) < 2:
         sys.exit(__doc__)
     chosen = words()
-    if chosen.write and chosen.only:
-        sys.exit("bench/peers.py: --write is for a run of all families")
+    if chosen.write and chosen.only not in ("", LOGIC):
+        sys.exit(f"bench/peers.py: --write is for a run of all families, or with --only \"{LOGIC}\"")
     limit = 2.0 if chosen.quick else chosen.limit
     resource.setrlimit(resource.RLIMIT_AS, (MEMORY, resource.getrlimit(resource.RLIMIT_AS)[1]))
     begin = time.monotonic()
     found = run_all(os.path.abspath(chosen.program), limit, chosen.only, chosen.jobs)
     if chosen.write:
         import page
-        page.write(found, limit, chosen.jobs, (time.monotonic() - begin) / 60)
+        if chosen.only:
+            page.write_logic(found[-1], limit)
+        else:
+            page.write(found[:-1], found[-1], limit, chosen.jobs, (time.monotonic() - begin) / 60)
     differing = sum(row.agree is False for _, _, results in found for result in results for row in result.rows)
     print(f"{differing} answers differ")
     return 1 if differing else 0

@@ -10,6 +10,7 @@ COLUMNS = 3
 LOWEST, HIGHEST = 1e-3, 1e2        # the least range of seconds
 ABOVE = 8                          # times the limit that a panel reaches up to
 STEP = 9                           # between the marks of several series past the limit
+TICKS = 9                          # about as many powers of ten as an axis shows
 
 
 @dataclass(frozen=True)
@@ -23,6 +24,7 @@ class Series:
 class Panel:
     title: str
     lines: list                    # for each series a list of pairs: size, and seconds, or None where the limit was passed
+    across: str = "rows"           # what the sizes count
 
 
 def text(x, y, what, size=11, anchor="start", more=""):
@@ -39,8 +41,15 @@ def mark(series, x, y, passed=False):
     return f'<path d="M{x:.1f} {y - 4.6:.1f}l4.3 7.4h-8.6z" {paint}/>'
 
 
+def power(number):
+    """A power of ten, with its exponent above the line."""
+    return "10" + str(round(math.log10(number))).translate(str.maketrans("0123456789", "⁰¹²³⁴⁵⁶⁷⁸⁹"))
+
+
 def short(number):
     """1000 as 1k, and so on."""
+    if number >= 1e9:
+        return power(number)
     for unit, sign in ((1e6, "M"), (1e3, "k")):
         if number >= unit:
             return f"{number / unit:g}{sign}"
@@ -48,9 +57,12 @@ def short(number):
 
 
 def ticks(low, high):
-    """Round numbers of the range: powers of ten, with their doubles and fives where the range is short."""
+    """Round numbers of the range: powers of ten, with their doubles and fives where the range is short, and fewer where it is
+    long."""
     factors = (1, 2, 5) if high < 100 * low else (1,)
-    decades = range(math.floor(math.log10(low)), math.ceil(math.log10(high)) + 1)
+    first, last = math.floor(math.log10(low)), math.ceil(math.log10(high))
+    step = next(step for step in (1, 3, 6, 12, 24, 48) if last - first < TICKS * step)
+    decades = [decade for decade in range(first, last + 1) if decade % step == 0]
     return [tick for decade in decades for factor in factors if low <= (tick := factor * 10.0 ** decade) <= high]
 
 
@@ -77,14 +89,15 @@ def axes(panel, x, y, limit):
         yield f'<path d="M{x.at(tick):.1f} {y.begin:.1f}V{y.end:.1f}" stroke="#ececec"/>'
         yield text(x.at(tick), y.begin + 14, short(tick), 10, "middle")
     yield f'<path d="M{x.begin:.1f} {y.at(limit):.1f}H{x.end:.1f}" stroke="#555555" stroke-dasharray="5 3"/>'
-    yield text((x.begin + x.end) / 2, y.begin + 28, "rows", 10, "middle", ' fill="#444444"')
+    yield text((x.begin + x.end) / 2, y.begin + 28, panel.across, 10, "middle", ' fill="#444444"')
 
 
 def curve(series, points, x, y, past):
-    """A line through the points of a series; a broken line leads to the one past the limit, which stands at this height."""
+    """A line through the points of a series; a broken line leads to one past the limit at its end. Such a one stands at this
+    height."""
     places = [(x.at(size), past if seconds is None else y.at(seconds)) for size, seconds in points]
     passed = bool(points) and points[-1][1] is None
-    solid = places[:-1] if passed else places
+    solid = [place for place, (_, seconds) in zip(places, points) if seconds is not None]
     if solid:
         yield (f'<polyline points="{" ".join(f"{a:.1f},{b:.1f}" for a, b in solid)}" fill="none" '
                f'stroke="{series.colour}" stroke-width="1.8"/>')
@@ -92,8 +105,8 @@ def curve(series, points, x, y, past):
         (a, b), (c, d) = places[-2:]
         yield (f'<path d="M{a:.1f} {b:.1f}L{c:.1f} {d:.1f}" stroke="{series.colour}" stroke-width="1.4" '
                'stroke-dasharray="3 3"/>')
-    for i, (a, b) in enumerate(places):
-        yield mark(series, a, b, passed and i == len(places) - 1)
+    for (a, b), (_, seconds) in zip(places, points):
+        yield mark(series, a, b, seconds is None)
 
 
 def drawn(panel, series, left, top, lowest, limit):
