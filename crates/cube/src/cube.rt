@@ -580,18 +580,19 @@ impl Cube {
     pub fn without_outputs(&self, other: &Cube) -> Result<Cube, AllocError>
         requires size { SameSize self.now other.now }
         requires some { IsTrue (list_any (λ b. b) (minus self.now.outputs other.now.outputs)) }
-        ensures { IfOk result (λ c. c ≡ rest_row self.now other.now) }
+        ensures value { IfOk result (λ c. c ≡ rest_row self.now other.now) }
+        ensures inline { word_count self.now ≤ 4 → IsOk result }
     {
-        let start = input_words(self.shape);
+        let inputs_end = input_words(self.shape);
         let words = zip_words(
             *self.words.allocator(),
             self.words(),
             other.words(),
             |k, mine, theirs|
-                ensures inputs { k < start → result ≡ mine }
-                ensures outputs { start ≤ k → IsBitDifference result mine theirs }
+                ensures inputs { k < inputs_end → result ≡ mine }
+                ensures outputs { inputs_end ≤ k → IsBitDifference result mine theirs }
             {
-                if k < start {
+                if k < inputs_end {
                     mine
                 } else {
                     minus_word(mine, theirs)
