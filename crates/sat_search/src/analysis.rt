@@ -121,7 +121,8 @@ impl Search {
         put(&mut self.clauses.distances, clause, distance);
         self.back_to(level as usize)?;
         if self.analysis.learned.len() > 1 {
-            self.watches.watch(clause, &self.analysis.learned)?;
+            let place = self.clauses.place_of(clause);
+            self.watches.watch(place, &self.analysis.learned)?;
             self.clauses.keep(clause)?;
         }
         self.now.set(at(&self.analysis.learned, 0), clause)?;
@@ -160,7 +161,7 @@ impl Search {
     fn resolve(&mut self, clause: u32) -> Result<u32, AllocError> {
         let mut count: u32 = 0;
         for place in self.clauses.begin(clause)..self.clauses.end(clause) {
-            let literal = self.clauses.literals.number(place);
+            let literal = self.clauses.literal(place);
             if self.analysis.mark_of(literal / 2) == Mark::Unseen && self.take_in(literal)? {
                 count = count.saturating_add(1);
             }
@@ -216,7 +217,7 @@ impl Search {
         self.analysis.count = self.analysis.count.wrapping_add(1);
         let mut distance: u32 = 0;
         for place in self.clauses.begin(clause)..self.clauses.end(clause) {
-            let literal = self.clauses.literals.number(place);
+            let literal = self.clauses.literal(place);
             let level = self.now.level_of(literal / 2);
             if self.analysis.count_level(level) {
                 distance = distance.saturating_add(1);

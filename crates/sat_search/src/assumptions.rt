@@ -90,7 +90,7 @@ impl Search {
 
     fn trace_reason(&mut self, reason: u32) -> Result<(), AllocError> {
         for place in self.clauses.begin(reason)..self.clauses.end(reason) {
-            let variable = self.clauses.literals.number(place) / 2;
+            let variable = self.clauses.literal(place) / 2;
             if self.analysis.mark_of(variable) == Mark::Unseen {
                 self.analysis.put_mark(variable, Mark::Resolved)?;
             }

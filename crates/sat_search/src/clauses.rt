@@ -8,11 +8,19 @@ use crate::lists::Lists;
 use crate::numbers::{NONE, at, put, small};
 use std::alloc::{AllocError, Global};
 
+// So many numbers are kept of a clause beside its number, its literals and its hints: where the
+// literals begin and end and where the hints end, its distance, its last use, its place among the
+// watched ones, its name, and two watches of two numbers.
+const BY_CLAUSE: usize = 11;
+
 /// The clauses. The search watches the first two literals of each.
 #[derive(Drop)]
 pub(crate) struct Clauses {
-    /// The literals of each.
-    pub(crate) literals: Lists,
+    // Of each clause its number, how many literals it has, and these.
+    numbers: Vec<u32>,
+    // By clause: where its literals begin, and where they end.
+    begins: Vec<u32>,
+    ends: Vec<u32>,
     /// How many of them were given.
     pub(crate) given: u32,
     // The hints of each learned clause.
@@ -28,7 +36,9 @@ pub(crate) struct Clauses {
 impl Clauses {
     pub(crate) fn new(alloc: Global) -> Clauses {
         Clauses {
-            literals: Lists::new(alloc),
+            numbers: Vec::new(alloc),
+            begins: Vec::new(alloc),
+            ends: Vec::new(alloc),
             given: 0,
             hints: Lists::new(alloc),
             distances: Vec::new(alloc),
@@ -39,34 +49,73 @@ impl Clauses {
 
     /// How many there are.
     pub(crate) fn len(&self) -> u32 {
-        small(self.literals.len())
+        small(self.begins.len())
     }
 
-    /// How many numbers are kept of them.
+    /// How many numbers the search keeps of them, in all its lists.
     pub(crate) fn size(&self) -> usize {
-        let numbers = self.literals.size().saturating_add(self.hints.size());
-        numbers.saturating_add(self.literals.len())
+        let numbers = self.numbers.len().saturating_add(self.hints.size());
+        numbers.saturating_add(self.begins.len().saturating_mul(BY_CLAUSE))
     }
 
     /// The literals of a clause.
     pub(crate) fn of(&self, clause: u32) -> &[u32] {
-        self.literals.list(clause)
+        let begin = self.begin(clause) as usize;
+        let end = self.end(clause) as usize;
+        if begin <= end && end <= self.numbers.len() {
+            &self.numbers[begin..end]
+        } else {
+            &[]
+        }
     }
 
-    /// The places of its literals.
+    /// The literals of the clause at a place.
+    pub(crate) fn at_place(&mut self, place: u32) -> &mut [u32] {
+        let begin = place as usize;
+        if begin < self.numbers.len() && self.numbers.len() - begin > 1 {
+            let count = self.numbers[begin + 1] as usize;
+            if count <= self.numbers.len() - begin - 2 {
+                return &mut self.numbers[begin + 2..begin + 2 + count];
+            }
+        }
+        &mut []
+    }
+
+    /// The clause at a place.
+    pub(crate) fn number_at(&self, place: u32) -> u32 {
+        at(&self.numbers, place)
+    }
+
+    /// The place of a clause.
+    pub(crate) fn place_of(&self, clause: u32) -> u32 {
+        self.begin(clause).saturating_sub(2)
+    }
+
+    /// Where the literals of a clause begin.
     pub(crate) fn begin(&self, clause: u32) -> u32 {
-        self.literals.begin_of(clause)
+        at(&self.begins, clause)
     }
 
-    /// Where these end.
+    /// Where they end.
     pub(crate) fn end(&self, clause: u32) -> u32 {
-        self.literals.end_of(clause)
+        at(&self.ends, clause)
+    }
+
+    /// The literal at a place.
+    pub(crate) fn literal(&self, place: u32) -> u32 {
+        at(&self.numbers, place)
     }
 
     // Adds a clause, and answers its number.
     fn add(&mut self, literals: &[u32], conflicts: u32) -> Result<u32, AllocError> {
         let clause = self.len();
-        self.literals.push_list(literals)?;
+        self.numbers.push(clause)?;
+        self.numbers.push(small(literals.len()))?;
+        self.begins.push(small(self.numbers.len()))?;
+        for literal in literals {
+            self.numbers.push(*literal)?;
+        }
+        self.ends.push(small(self.numbers.len()))?;
         self.distances.push(1)?;
         self.uses.push(conflicts)?;
         Ok(clause)
@@ -108,6 +157,11 @@ impl Clauses {
             Some(place) => self.hints.list(place),
             None => &[],
         }
+    }
+
+    /// Whether the clause at a place is not dropped.
+    pub(crate) fn is_kept_at(&self, place: u32) -> bool {
+        at(&self.distances, self.number_at(place)) != 0
     }
 
     /// A clause had a part in a conflict.

@@ -1,6 +1,6 @@
 //! Lists of numbers, in one piece of memory.
 
-use crate::numbers::{at, put, small};
+use crate::numbers::{at, small};
 use std::alloc::{AllocError, Global};
 
 /// Lists of numbers, one after the other: where each ends, and all numbers.
@@ -49,16 +49,16 @@ impl Lists {
         self.numbers.len()
     }
 
-    /// The place at which a list begins.
-    pub(crate) fn begin_of(&self, list: u32) -> u32 {
+    // The place at which a list begins.
+    fn begin_of(&self, list: u32) -> u32 {
         match list.checked_sub(1) {
             Some(before) => at(&self.ends, before),
             None => 0,
         }
     }
 
-    /// The place at which it ends.
-    pub(crate) fn end_of(&self, list: u32) -> u32 {
+    // The place at which it ends.
+    fn end_of(&self, list: u32) -> u32 {
         at(&self.ends, list)
     }
 
@@ -71,18 +71,5 @@ impl Lists {
         } else {
             &[]
         }
-    }
-
-    /// The number at a place.
-    pub(crate) fn number(&self, place: u32) -> u32 {
-        at(&self.numbers, place)
-    }
-
-    /// Exchanges the numbers at two places.
-    pub(crate) fn swap(&mut self, one: u32, other: u32) {
-        let mine = at(&self.numbers, one);
-        let theirs = at(&self.numbers, other);
-        put(&mut self.numbers, one, theirs);
-        put(&mut self.numbers, other, mine);
     }
 }

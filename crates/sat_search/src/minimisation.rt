@@ -58,7 +58,7 @@ impl Search {
         self.analysis
             .stack
             .push((variable, place.saturating_add(1)))?;
-        let other = self.clauses.literals.number(place) / 2;
+        let other = self.clauses.literal(place) / 2;
         if other == variable || self.is_seen(other)? {
             return Ok(true);
         }

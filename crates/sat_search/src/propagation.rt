@@ -4,19 +4,47 @@
 //! nothing; so it is looked at only when a watched literal becomes false, and then watches another
 //! one if it can. Nothing has to be mended when literals are taken back.
 
-use crate::assignment::Value;
+use crate::assignment::{Assignment, Value};
 use crate::numbers::NONE;
 use crate::search::Search;
 use crate::watches::Watch;
 use std::alloc::AllocError;
 
-// What a look at a clause finds: its other watched literal, whether it is watched elsewhere now,
-// and whether all its literals are false.
+// What a look at a clause finds. Each has its first literal, which is watched and not the one that
+// is false now.
 #[derive(Clone, Copy)]
-struct Look {
-    other: u32,
-    is_moved: bool,
-    is_conflict: bool,
+enum Finding {
+    // It is true.
+    True(u32),
+    // Another literal is watched now, the second here.
+    Moved(u32, u32),
+    // All other literals are false.
+    Last(u32),
+}
+
+// Looks at the literals of a clause that watches one that is false now. That one becomes the second
+// of them, or its place is taken by one that is not false.
+fn look(now: &Assignment, literals: &mut [u32], failed: u32) -> Finding {
+    if literals.len() < 2 {
+        return Finding::True(NONE);
+    }
+    if literals[0] == failed {
+        literals[0] = literals[1];
+        literals[1] = failed;
+    }
+    let first = literals[0];
+    if now.value(first) == Value::True {
+        return Finding::True(first);
+    }
+    for k in 2..literals.len() {
+        let literal = literals[k];
+        if now.value(literal) != Value::False {
+            literals[1] = literal;
+            literals[k] = failed;
+            return Finding::Moved(first, literal);
+        }
+    }
+    Finding::Last(first)
 }
 
 // Puts a watch at a place of a list.
@@ -27,39 +55,14 @@ fn put_watch(watches: &mut Vec<Watch>, place: usize, watch: Watch) {
 }
 
 impl Search {
-    // Looks at a clause that watches a literal that is false now.
-    fn look(&mut self, failed: u32, watch: Watch) -> Result<Look, AllocError> {
-        let begin = self.clauses.begin(watch.clause);
-        let second = begin.saturating_add(1);
-        if self.clauses.literals.number(begin) == failed {
-            self.clauses.literals.swap(begin, second);
+    // Sets the one literal of a clause that is not false, or answers the clause if it is false too.
+    fn follow(&mut self, literal: u32, place: u32) -> Result<u32, AllocError> {
+        let clause = self.clauses.number_at(place);
+        if self.now.value(literal) == Value::False {
+            return Ok(clause);
         }
-        let other = self.clauses.literals.number(begin);
-        let value = self.now.value(other);
-        let mut look = Look {
-            other,
-            is_moved: false,
-            is_conflict: false,
-        };
-        if value == Value::True {
-            return Ok(look);
-        }
-        for place in begin.saturating_add(2)..self.clauses.end(watch.clause) {
-            let literal = self.clauses.literals.number(place);
-            if self.now.value(literal) != Value::False {
-                self.clauses.literals.swap(second, place);
-                look.is_moved = true;
-                let clause = watch.clause;
-                self.watches.push(literal, Watch { clause, other })?;
-                return Ok(look);
-            }
-        }
-        if value == Value::False {
-            look.is_conflict = true;
-        } else {
-            self.now.set(other, watch.clause)?;
-        }
-        Ok(look)
+        self.now.set(literal, clause)?;
+        Ok(NONE)
     }
 
     // Looks at the clauses that watch a literal that is false now, and answers one that is false.
@@ -72,13 +75,18 @@ impl Search {
             };
             let mut watch = *found;
             if conflict == NONE && self.now.value(watch.other) != Value::True {
-                let look = self.look(failed, watch)?;
-                if look.is_moved {
-                    continue;
-                }
-                watch.other = look.other;
-                if look.is_conflict {
-                    conflict = watch.clause;
+                let literals = self.clauses.at_place(watch.place);
+                match look(&self.now, literals, failed) {
+                    Finding::True(first) => watch.other = first,
+                    Finding::Moved(first, second) => {
+                        watch.other = first;
+                        self.watches.push(second, watch)?;
+                        continue;
+                    }
+                    Finding::Last(first) => {
+                        watch.other = first;
+                        conflict = self.follow(first, watch.place)?;
+                    }
                 }
             }
             put_watch(watches, kept, watch);

@@ -87,7 +87,7 @@ impl Search {
 
     fn drop_clauses(&mut self) -> Result<(), AllocError> {
         self.clauses.drop_half(self.alloc)?;
-        self.watches.forget(&self.clauses.distances);
+        self.watches.forget(&self.clauses);
         self.pace.drop_later(self.clauses.watched_count());
         Ok(())
     }

@@ -26,7 +26,7 @@ pub enum Answer {
 pub struct Limits {
     /// How many watches are looked at.
     pub steps: u64,
-    /// How many numbers the search keeps of clauses and hints, with those of earlier questions.
+    /// How many numbers the search keeps of all clauses, with those of earlier questions.
     pub size: usize,
 }
 
@@ -44,8 +44,9 @@ pub(crate) enum Decision {
 /// Nogoods, what was learned of them, and what is set.
 ///
 /// It keeps what it learned as long as it lives, since that is what shows what it learns later. A
-/// number is of four bytes, and a clause has some ten beside its literals and hints; [`Limits`]
-/// says how many there may be.
+/// number is of four bytes, and a clause has thirteen beside its literals and hints; [`Limits`] says
+/// how many there may be. Beyond those it keeps some twenty numbers for each variable, room to grow,
+/// which is no more than it has filled, and while clauses are dropped three numbers for each.
 #[derive(Drop)]
 pub struct Search {
     pub(crate) alloc: Global,
@@ -98,7 +99,8 @@ impl Search {
             self.analysis.learned.push(*literal ^ 1)?;
         }
         let clause = self.clauses.give(&self.analysis.learned)?;
-        self.watches.watch(clause, &self.analysis.learned)?;
+        let place = self.clauses.place_of(clause);
+        self.watches.watch(place, &self.analysis.learned)?;
         self.names.push(name)?;
         Ok(())
     }
@@ -155,7 +157,8 @@ impl Search {
         Ok(())
     }
 
-    /// How many numbers it keeps of clauses and hints.
+    /// How many numbers it keeps of all clauses: their literals, hints and watches, and what else is
+    /// kept of each.
     pub fn size(&self) -> usize {
         self.clauses.size()
     }

@@ -1,14 +1,14 @@
 //! Which clauses watch a literal (Moskewicz et al. 2001).
 
-use crate::numbers::at;
+use crate::clauses::Clauses;
 use std::alloc::{AllocError, Global};
 use std::mem::replace;
 
-/// A clause that watches a literal, and another literal of it: if that one is true, the clause
-/// needs no look (Een and Sorensson, An extensible SAT-solver, 2003).
+/// The place of a clause that watches a literal, and another literal of it: if that one is true, the
+/// clause needs no look (Een and Sorensson, An extensible SAT-solver, 2003).
 #[derive(Clone, Copy)]
 pub(crate) struct Watch {
-    pub(crate) clause: u32,
+    pub(crate) place: u32,
     pub(crate) other: u32,
 }
 
@@ -36,11 +36,11 @@ impl Watches {
     }
 
     /// Lets a clause watch its first two literals.
-    pub(crate) fn watch(&mut self, clause: u32, literals: &[u32]) -> Result<(), AllocError> {
+    pub(crate) fn watch(&mut self, place: u32, literals: &[u32]) -> Result<(), AllocError> {
         if literals.len() > 1 {
             let (one, other) = (literals[0], literals[1]);
-            self.push(one, Watch { clause, other })?;
-            self.push(other, Watch { clause, other: one })?;
+            self.push(one, Watch { place, other })?;
+            self.push(other, Watch { place, other: one })?;
         }
         Ok(())
     }
@@ -69,9 +69,9 @@ impl Watches {
     }
 
     /// Takes out the clauses whose distance is 0.
-    pub(crate) fn forget(&mut self, distances: &[u32]) {
+    pub(crate) fn forget(&mut self, clauses: &Clauses) {
         for list in self.by_literal.iter_mut() {
-            list.retain(|watch| at(distances, watch.clause) != 0);
+            list.retain(|watch| clauses.is_kept_at(watch.place));
         }
     }
 }
