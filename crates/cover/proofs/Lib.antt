@@ -39,3 +39,4 @@ pub mod OverRegion
 pub mod OffSets
 pub mod MeetsWithin
 pub mod MaskedAgreement
+pub mod SumFree

@@ -339,14 +339,18 @@ among_added some rows row h member d k =
 pub among_none : (rows : List (Bor Cube)) → AreAmong [] rows
 among_none rows d k = absurd (Contains-nil d k)
 
+-- what some of the rows hold all hold
+pub within_among : (some rows : List (Bor Cube)) (s : Place → Bool) → AreAmong some rows → IsSubset s (places (behind some)) → IsSubset s (places (behind rows))
+within_among some rows s h sub p on =
+    let w = list_any_witness (λ d. holds d p) (behind some) (sub p on) in
+    list_any_from (λ d. holds d p) (behind rows) w.0 (h w.0 w.1) w.2
+
 -- a reason over some of the rows is one over all
 pub reason_of_some : (some rows : List (Bor Cube)) (region c : Cube) → AreAmong some rows → IsReason region (behind some) c → IsReason region (behind rows) c
 reason_of_some some rows region c h r = record {
   size = r.size;
   above = r.above;
-  within = λ p in_c.
-      let w = list_any_witness (λ d. holds d p) (behind some) (r.within p in_c) in
-      list_any_from (λ d. holds d p) (behind rows) w.0 (h w.0 w.1) w.2;
+  within = within_among some rows (holds c) h r.within;
 }
 
 pub sizes_among : (some rows : List (Bor Cube)) (region : Cube) → All (λ d. SameSize d.now region) rows → AreAmong some rows

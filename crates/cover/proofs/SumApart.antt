@@ -29,7 +29,7 @@ mix u p q = record { point = mixed u p.point q.point; output = p.output }
 abbrev dashes : Size → List Bool → Cube
 dashes size outputs = record { symbols = replicate size.inputs Dash; outputs = outputs }
 
-dash_above : (s : Symbol) → ((b : Bool) → agrees s b ≡ true) → s ≡ Dash
+pub dash_above : (s : Symbol) → ((b : Bool) → agrees s b ≡ true) → s ≡ Dash
 dash_above Dash h = refl
 dash_above Zero h = absurd (false≢true (h true))
 dash_above One h = absurd (false≢true (h false))

@@ -14,3 +14,4 @@ pub mod Apart
 pub mod Keys
 pub mod Containing
 pub mod Outside
+pub mod Free

@@ -105,7 +105,7 @@ impl ComputedTable {
         Ok(Some(copy_of(alloc, &known.sum)?))
     }
 
-    /// Keeps a sum with its lists.
+    /// Keeps a sum with its lists, unless it is longer than all that may be kept.
     pub(crate) fn keep(
         &mut self,
         alloc: Global,
@@ -119,6 +119,9 @@ impl ComputedTable {
             ≡ complete_sum_of shape
             (difference_of (places minuend.items) (places subtrahend.items)) }
     {
+        if sum.len() > ROWS {
+            return Ok(());
+        }
         let sum = copy_of(alloc, sum)?;
         let known = Entry {
             hash,

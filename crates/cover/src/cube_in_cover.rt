@@ -464,6 +464,29 @@ fn covers_by_splits(
     Ok(reason(means, rows, near, bound, region, looks)?.is_some())
 }
 
+/// Whether splits that look at so many rows show that the rows hold each place of the region.
+pub(crate) fn is_seen_to_cover(
+    alloc: Global,
+    rows: &[&Cube],
+    region: &Cube,
+    looks: usize,
+) -> Result<bool, AllocError>
+    requires { All (λ d. SameSize d.now region.now) rows.now }
+    ensures { IfOk result
+        (λ held. IsTrue held → IsSubset (holds region.now) (places (behind rows.now))) }
+{
+    let means = Means {
+        alloc,
+        limited: true,
+    };
+    let mut left = looks as u64;
+    match covers_by_splits(means, rows, &[], 0, region, &mut left) {
+        Ok(held) => Ok(held),
+        Err(Stop::Memory) => Err(AllocError),
+        Err(Stop::Spent) => Ok(false),
+    }
+}
+
 // Whether the rows hold each place of the region, by however many splits.
 fn covers_by_all_splits(
     alloc: Global,

@@ -164,9 +164,9 @@ fn is_outside(
 /// What was learned of some rows.
 ///
 /// It takes no memory before a search is asked. Then it has the rows once more, a search for each
-/// output that was asked, and the implicants that answers needed. All searches together keep 2^27
-/// numbers of clauses and hints at most, half a gigabyte, which comes to a gigabyte and a half with
-/// room to grow and with the implicants. A question that would take more has no answer here.
+/// output that was asked, and the implicants that answers needed. All of it together comes to 2^27
+/// numbers of four bytes at most, half a gigabyte, and with room to grow to a gigabyte and a half. A
+/// question that would take more has no answer here.
 #[derive(Drop)]
 pub(crate) struct Learned {
     // Copies of the rows, once a search is asked, and then cubes that they hold.
@@ -191,7 +191,7 @@ fn passes(rows: usize) -> u64 {
 // So many watches are looked at for one question.
 const STEPS: u64 = 1 << 36;
 
-// So many numbers are kept by all searches.
+// So many numbers are kept by all searches and implicants.
 const SIZE: usize = 1 << 27;
 
 impl Learned {
@@ -236,9 +236,13 @@ impl Learned {
         Ok(())
     }
 
-    // How many numbers all searches keep.
+    // How many numbers all searches and implicants keep.
     fn size(&self) -> usize {
-        let mut size: usize = 0;
+        let each = match self.known.first() {
+            Some(cube) => numbers_of(cube.shape()),
+            None => 0,
+        };
+        let mut size = self.known.len().saturating_mul(each);
         for search in &self.searches {
             if let Some(search) = search {
                 size = size.saturating_add(search.size());
@@ -265,6 +269,13 @@ impl Learned {
             _ => Ok(Answer::Unknown),
         }
     }
+}
+
+// How many numbers of four bytes a cube of the shape takes.
+fn numbers_of(shape: Shape) -> usize {
+    16usize
+        .saturating_add(shape.inputs() / 16)
+        .saturating_add(shape.outputs() / 32)
 }
 
 // The literals of a cube.

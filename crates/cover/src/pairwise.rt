@@ -4,17 +4,18 @@
 //! or `1` there the rows of the second list with the other literal don't count. So each pair of
 //! rows comes together once at most, and both lists get shorter. The input is taken at which most
 //! pairs have opposite literals. If few rows are left, each is asked by itself.
-ghost use Rattle.std.specs.Prelude.{◌↔◌, ◌<◌, ◌≤◌, ◌∷◌, [], IsTrue, IfOk, IfSome, All, filter, length, slice_index_or};
-ghost use Rattle.cube.specs.Cube.{HasSize, SameSize, IsSubset, IsDisjoint, holds};
+ghost use Rattle.std.specs.Prelude.{◌↔◌, ◌<◌, ◌≤◌, ◌∷◌, [], IsTrue, IfOk, IfSome, OnOk, All, filter, length, slice_index_or};
+ghost use Rattle.cube.specs.Cube.{HasSize, SameSize, IsSubset, IsDisjoint, holds, size_of};
 ghost use Rattle.cover.specs.Places.{places, behind};
 ghost use Rattle.cover.specs.Marks.{is_symbol};
 ghost use Rattle.cover.specs.Relation.{AreRelated};
-ghost use Rattle.cover.specs.Reason.{AreAmong};
+ghost use Rattle.cover.specs.Reason.{AreAmong, AreKnown};
 
-use crate::cube_in_cover::covers_cube_near;
+use crate::cube_in_cover::{covers_cube_near, is_seen_to_cover};
 use crate::learned::Learned;
 use crate::literal_counts::LiteralCounts;
-use crate::splitting_input::{fewest_literals, literal_words, shares_literal};
+use crate::nearest_rows::RowBits;
+use crate::splitting_input::{literal_words, shares_literal};
 use crate::symbols::{having, open_at};
 use cube::{Cube, Shape, Symbol};
 use std::alloc::{AllocError, Global};
@@ -59,21 +60,22 @@ fn are_disjoint(shape: Shape, rows: &[&Cube], others: &[&Cube]) -> bool
 // Of so few rows all are looked at.
 const FEW: usize = 64;
 
-// The rows that have a literal of the region, as it is meant, if there are many: of each other row
-// all literals are open.
+// Whether both lists are so long that it pays to keep which rows have a literal.
+fn are_many(rows: usize, others: usize) -> bool {
+    rows.min(others) > FEW
+}
+
+// The rows that have a literal of the region, as it is meant: of each other row all literals are
+// open.
 fn rows_sharing_literal<'a>(
     alloc: Global,
     shape: Shape,
-    many: bool,
     rows: &[&'a Cube],
     region: &Cube,
 ) -> Result<Vec<&'a Cube>, AllocError>
     ensures { IfOk result (λ some. AreAmong some.items rows.now) }
 {
     let mut some = Vec::new(alloc);
-    if !many {
-        return Ok(some);
-    }
     let words = literal_words(alloc, shape, region)?;
     for row in rows {
         if shares_literal(row, &words) {
@@ -83,8 +85,35 @@ fn rows_sharing_literal<'a>(
     Ok(some)
 }
 
-// Whether the others hold each row, one by one. If both are many, those that have a literal of the
-// row come first.
+// Whether the rows hold the region. If they are many, those nearest to it often do so alone, which
+// takes few looks; else those that have a literal of it come first.
+fn is_held(
+    alloc: Global,
+    shape: Shape,
+    rows: &[&Cube],
+    bits: &Option<RowBits>,
+    region: &Cube,
+    learned: &mut Learned,
+) -> Result<bool, AllocError>
+    requires sizes { All (λ d. SameSize d.now region.now) rows.now }
+    requires known { AreKnown (size_of region.now) learned.old.known.items (behind rows.now) }
+    ensures known { OnOk result
+        (AreKnown (size_of region.now) learned.new.known.items (behind rows.now)) }
+    ensures held { IfOk result
+        (λ held. IsTrue held ↔ IsSubset (holds region.now) (places (behind rows.now))) }
+{
+    let Some(bits) = bits else {
+        return covers_cube_near(alloc, rows, &[], 0, region, learned);
+    };
+    let nearest = bits.nearest(alloc, rows, region)?;
+    if is_seen_to_cover(alloc, &nearest, region, rows.len())? {
+        return Ok(true);
+    }
+    let near = rows_sharing_literal(alloc, shape, rows, region)?;
+    covers_cube_near(alloc, rows, &near, bits.fewest_literals(), region, learned)
+}
+
+// Whether the others hold each row, one by one.
 fn are_contained(
     alloc: Global,
     shape: Shape,
@@ -96,16 +125,14 @@ fn are_contained(
     ensures { IfOk result
         (λ held. IsTrue held ↔ IsSubset (places (behind rows.now)) (places (behind others.now))) }
 {
-    let many = rows.len().min(others.len()) > FEW;
-    let bound = if many {
-        fewest_literals(shape, others)
+    let bits = if are_many(rows.len(), others.len()) {
+        Some(RowBits::of(alloc, shape, others)?)
     } else {
-        0
+        None
     };
     let mut learned = Learned::new(alloc);
     for row in rows {
-        let near = rows_sharing_literal(alloc, shape, many, others, row)?;
-        if !covers_cube_near(alloc, others, &near, bound, row, &mut learned)? {
+        if !is_held(alloc, shape, others, &bits, row, &mut learned)? {
             return Ok(false);
         }
     }
@@ -160,14 +187,21 @@ fn opposites(rows: &LiteralCounts, others: &LiteralCounts, i: usize) -> u64
     low.saturating_add(high)
 }
 
-// How many such pairs of some rows pay for going through all rows once more: a row may ask for all
-// of the others, so there have to be as many as two rows' pairs.
-fn least_weight(relation: Relation, some: &[&Cube], others: &[&Cube], rows: usize) -> u64 {
+// Where both lists are long, a split pays if it parts so much of their pairs.
+const PART: u64 = 32;
+
+// How many of some pairs have to be parted, so that it pays to go through all rows once more. A row
+// may ask for all of the others, so there have to be as many as two rows' pairs, and more where a
+// row asks for 64 of the others at once.
+fn least_weight(relation: Relation, pairs: u64, rows: usize, others: usize) -> u64 {
     match relation {
         Relation::Disjoint => 0,
         Relation::Contained => {
-            let pairs = (some.len() as u64).saturating_mul(others.len() as u64);
-            pairs.saturating_mul(2) / (rows as u64).max(1)
+            if are_many(rows, others) {
+                pairs / PART
+            } else {
+                pairs.saturating_mul(2) / (rows as u64).max(1)
+            }
         }
     }
 }
@@ -210,13 +244,14 @@ fn parting_input(
     requires others { All (λ d. HasSize d.now shape) others.now }
     ensures { IfOk result (λ found. IfSome found (λ i. i < shape.inputs)) }
 {
-    let (some, others) = (sample(alloc, shape, rows)?, sample(alloc, shape, others)?);
+    let (some, more) = (sample(alloc, shape, rows)?, sample(alloc, shape, others)?);
     let inputs = shape.inputs();
     let (mine, theirs) = (
         LiteralCounts::of(alloc, &some, inputs)?,
-        LiteralCounts::of(alloc, &others, inputs)?,
+        LiteralCounts::of(alloc, &more, inputs)?,
     );
-    let least = least_weight(relation, &some, &others, rows.len());
+    let pairs = (some.len() as u64).saturating_mul(more.len() as u64);
+    let least = least_weight(relation, pairs, rows.len(), others.len());
     Ok(most_opposite(&mine, &theirs, inputs, least))
 }
 

@@ -31,6 +31,7 @@ use crate::list::Cover;
 use crate::sum_absorb::{absorb, absorb_if_short, without_absorbed};
 use crate::sum_apart::{Parts, has_free_row, parts_apart};
 use crate::sum_branch::{Branches, absorbed_cofactor_at, branches_at, literal, smoothing_at};
+use crate::sum_free::{free_part, with_free, without_free};
 use crate::sum_leaf::free_sum;
 use crate::sum_meets::meets;
 use crate::sum_parts::has_symbol;
@@ -92,6 +93,11 @@ fn left_sum(
         if let Some(sum) = sum_of_two(alloc, shape, &minuend)? {
             return Ok(sum);
         }
+        if let Some(free) = free_part(shape, &minuend)? {
+            let rest = without_free(alloc, shape, &minuend, &free)?;
+            let sum = found_sum(alloc, shape, found, rest, subtrahend)?;
+            return with_free(alloc, shape, sum, free);
+        }
     }
     if minuend.len() == 1 && subtrahend.len() == 1 {
         return minuend[0].sharp(&subtrahend[0]);
@@ -99,6 +105,24 @@ fn left_sum(
     if hold_everything(shape, &subtrahend) {
         return Ok(Vec::new(alloc));
     }
+    found_sum(alloc, shape, found, minuend, subtrahend)
+}
+
+// That sum, kept from before or found now.
+#[cycle(sum)]
+fn found_sum(
+    alloc: Global,
+    shape: Shape,
+    found: &mut ComputedTable,
+    minuend: Vec<Cube>,
+    subtrahend: Vec<Cube>,
+) -> Result<Vec<Cube>, AllocError>
+    requires minuend { AreCubes shape minuend.items }
+    requires subtrahend { AreCubes shape subtrahend.items }
+    ensures { IfOk result
+        (λ rows. rows.items
+        ≡ complete_sum_of shape (difference_of (places minuend.items) (places subtrahend.items))) }
+{
     let hash = hash_of(shape, &minuend, &subtrahend);
     if let Some(sum) = found.find(alloc, shape, hash, &minuend, &subtrahend)? {
         return Ok(sum);

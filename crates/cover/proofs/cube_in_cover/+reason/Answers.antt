@@ -90,11 +90,11 @@ by_outputs-returns-then-not-has_more_outputs t c =
 
 pub by_outputs-reason-requires : goal.by_outputs-reason-requires
 by_outputs-reason-requires t c =
-    let less = extent_rest (behind c.args.rows.now) c.args.region.now c.args.row.now c.in_ok-rest.rest c.requires.size c.requires.meets c.requires.closed c.in_ok-rest.ensures in (
+    let less = extent_rest (behind c.args.rows.now) c.args.region.now c.args.row.now c.in_ok-rest.rest c.requires.size c.requires.meets c.requires.closed c.in_ok-rest.ensures.value in (
       omega (arith, less),
       (
         sizes_part c.args.rows.now c.args.region.now c.in_ok-rest.rest c.requires.sizes
-            (size_rest (behind c.args.rows.now) c.args.region.now c.args.row.now c.in_ok-rest.rest c.requires.size c.requires.meets c.requires.closed c.in_ok-rest.ensures),
+            (size_rest (behind c.args.rows.now) c.args.region.now c.args.row.now c.in_ok-rest.rest c.requires.size c.requires.meets c.requires.closed c.in_ok-rest.ensures.value),
         c.requires.near,
       ),
     )
@@ -102,7 +102,7 @@ by_outputs-reason-requires t c =
 pub by_outputs-returns-in_default : goal.by_outputs-returns-in_default
 by_outputs-returns-in_default t c =
     record {
-      found = unexplained_rest (behind c.args.rows.now) c.args.region.now c.args.row.now c.in_ok-rest.rest c.requires.size c.requires.meets c.requires.closed c.in_ok-rest.ensures
+      found = unexplained_rest (behind c.args.rows.now) c.args.region.now c.args.row.now c.in_ok-rest.rest c.requires.size c.requires.meets c.requires.closed c.in_ok-rest.ensures.value
           (subst (λ o. Explains c.in_ok-rest.rest (behind c.args.rows.now) o) c.in_default.is c.in_ok-found.ensures.found);
       spent = tt;
     }
@@ -112,7 +112,7 @@ by_outputs-contains-requires t c =
     let r : IsReason c.in_ok-rest.rest (behind c.args.rows.now) c.in-Some.other =
     subst (λ o. Explains c.in_ok-rest.rest (behind c.args.rows.now) o) c.in-Some.is c.in_ok-found.ensures.found in
     SameSize-part c.in-Some.other c.in_ok-rest.rest c.args.region.now r.size
-    (size_rest (behind c.args.rows.now) c.args.region.now c.args.row.now c.in_ok-rest.rest c.requires.size c.requires.meets c.requires.closed c.in_ok-rest.ensures)
+    (size_rest (behind c.args.rows.now) c.args.region.now c.args.row.now c.in_ok-rest.rest c.requires.size c.requires.meets c.requires.closed c.in_ok-rest.ensures.value)
 
 pub by_outputs-returns-then-contains : goal.by_outputs-returns-then-contains
 by_outputs-returns-then-contains t c =
@@ -120,7 +120,7 @@ by_outputs-returns-then-contains t c =
     subst (λ o. Explains c.in_ok-rest.rest (behind c.args.rows.now) o) c.in-Some.is c.in_ok-found.ensures.found in
     record {
       found = reason_of_more (behind c.args.rows.now) c.in_ok-rest.rest c.args.region.now c.in-Some.other
-          (size_rest (behind c.args.rows.now) c.args.region.now c.args.row.now c.in_ok-rest.rest c.requires.size c.requires.meets c.requires.closed c.in_ok-rest.ensures)
+          (size_rest (behind c.args.rows.now) c.args.region.now c.args.row.now c.in_ok-rest.rest c.requires.size c.requires.meets c.requires.closed c.in_ok-rest.ensures.value)
           r (c.contains.ensures.0 c.if-contains.true);
       spent = tt;
     }
@@ -130,7 +130,7 @@ by_outputs-stack_all-requires-clause-other_size t c =
     let r : IsReason c.in_ok-rest.rest (behind c.args.rows.now) c.in-Some.other =
     subst (λ o. Explains c.in_ok-rest.rest (behind c.args.rows.now) o) c.in-Some.is c.in_ok-found.ensures.found in
     SameSize-part c.in-Some.other c.in_ok-rest.rest c.args.region.now r.size
-    (size_rest (behind c.args.rows.now) c.args.region.now c.args.row.now c.in_ok-rest.rest c.requires.size c.requires.meets c.requires.closed c.in_ok-rest.ensures)
+    (size_rest (behind c.args.rows.now) c.args.region.now c.args.row.now c.in_ok-rest.rest c.requires.size c.requires.meets c.requires.closed c.in_ok-rest.ensures.value)
 
 pub by_outputs-stack_all-requires-clause-one : goal.by_outputs-stack_all-requires-clause-one
 by_outputs-stack_all-requires-clause-one t c =
@@ -140,14 +140,14 @@ pub by_outputs-stack_all-requires-clause-other : goal.by_outputs-stack_all-requi
 by_outputs-stack_all-requires-clause-other t c =
     let r : IsReason c.in_ok-rest.rest (behind c.args.rows.now) c.in-Some.other =
     subst (λ o. Explains c.in_ok-rest.rest (behind c.args.rows.now) o) c.in-Some.is c.in_ok-found.ensures.found in
-    other_inputs (behind c.args.rows.now) c.args.region.now c.args.row.now c.in_ok-rest.rest c.requires.size c.requires.meets c.requires.closed c.in_ok-rest.ensures
+    other_inputs (behind c.args.rows.now) c.args.region.now c.args.row.now c.in_ok-rest.rest c.requires.size c.requires.meets c.requires.closed c.in_ok-rest.ensures.value
     c.in-Some.other r.above (c.has_more_outputs.ensures.0 c.if-not-has_more_outputs.false)
 
 pub by_outputs-stack_all-requires-clause-outputs : goal.by_outputs-stack_all-requires-clause-outputs
 by_outputs-stack_all-requires-clause-outputs t c =
     let r : IsReason c.in_ok-rest.rest (behind c.args.rows.now) c.in-Some.other =
     subst (λ o. Explains c.in_ok-rest.rest (behind c.args.rows.now) o) c.in-Some.is c.in_ok-found.ensures.found in
-    either_output (behind c.args.rows.now) c.args.region.now c.args.row.now c.in_ok-rest.rest c.requires.size c.requires.meets c.requires.closed c.in_ok-rest.ensures
+    either_output (behind c.args.rows.now) c.args.region.now c.args.row.now c.in_ok-rest.rest c.requires.size c.requires.meets c.requires.closed c.in_ok-rest.ensures.value
     c.in-Some.other r.above
 
 pub by_outputs-returns : goal.by_outputs-returns

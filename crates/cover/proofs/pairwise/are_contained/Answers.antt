@@ -12,7 +12,7 @@ use Rattle.cover.proofs.pairwise.are_contained.Goals as goal
 pub returns-then-not-branch : goal.returns-then-not-branch
 returns-then-not-branch c = (
   λ on. absurd (false≢true on),
-  λ h. absurd (false≢true (sym c.if-not-branch.true ∙ c.in_ok-covers_cube_near.ensures.held.1
+  λ h. absurd (false≢true (sym c.if-not-branch.true ∙ c.in_ok-is_held.ensures.held.1
       (IsSubset-row (places (behind c.args.others.now)) c.args.rows.now c.loop-row.row-index c.row-item.result c.loop-row-test.true c.row-item.is h))),
 )
 
@@ -21,9 +21,9 @@ loop-row-preserved c =
     let P : Bor Cube → Type 0 = λ d. IsSubset (holds d.now) (places (behind c.args.others.now)) in
     let size = subst (λ d. HasSize d.now c.args.shape) (sym c.row-item.is) (c.requires.rows c.loop-row.row-index c.row-item.result c.loop-row-test.true) in (
       All-more P c.args.rows.now c.loop-row.row-index c.row-item.result c.loop-row-test.true c.loop-row.invariant.0
-          (subst P c.row-item.is (c.in_ok-covers_cube_near.ensures.held.0 c.if-not-branch.false)),
-      known_at (size_of c.row-item.result.now) c.args.shape c.covers_cube_near.new.learned.known.items (behind c.args.others.now)
-          size.0 size.1 c.in_ok-covers_cube_near.ensures.known,
+          (subst P c.row-item.is (c.in_ok-is_held.ensures.held.0 c.if-not-branch.false)),
+      known_at (size_of c.row-item.result.now) c.args.shape c.is_held.new.learned.known.items (behind c.args.others.now)
+          size.0 size.1 c.in_ok-is_held.ensures.known,
     )
 
 pub returns : goal.returns

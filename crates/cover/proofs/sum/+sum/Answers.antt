@@ -10,10 +10,12 @@ use Rattle.cover.specs.Cubes.{AreCubes}
 use Rattle.cover.specs.Places.{places}
 use Rattle.cover.specs.Complete.{cofactor_at, consensus_at, smoothing_at}
 use Rattle.cover.specs.Parts.{live, has_symbol}
+use Rattle.cover.specs.Free.{IsFreePart, IsRest}
 use Rattle.cover.specs.Reduced.{IsUnate, IsWithoutAbsorbed}
 use Rattle.cover.proofs.Dividing.{IsInParts-appended, complete_sum-appended, live-parts, live-one, live-other}
 use Rattle.cover.proofs.Lists.{all_members}
 use Rattle.cover.proofs.SumApart.{complete_sum-whole, complete_sum-whole_other, complete_sum-parts}
+use Rattle.cover.proofs.SumFree.{live-rest}
 use Rattle.cover.proofs.SumRows.{nothing_left}
 use Rattle.cover.proofs.SumUnate.{complete_sum-unate}
 use Rattle.cover.proofs.SumStep.{sum_of_lists, branch_falls, branch_sum, both_sum, complete_sum-no_outer, sum_of_list, complete_sum-empty, complete_sum-single, complete_sum-sharp, complete_sum-covered, AreCubes-complete_sum}
@@ -50,20 +52,45 @@ left_sum-returns-in-Some t c =
     (subst (λ found. IfSome found (λ sum. sum.items ≡ complete_sum c.args.shape (places c.deref-then-is_empty-2.result.now))) c.in-Some.is c.in_ok-sum.ensures
     ∙ ap (λ l. complete_sum c.args.shape (places l)) c.deref-then-is_empty-2.ensures.value)
 
+pub left_sum-found_sum-requires : goal.left_sum-found_sum-requires
+left_sum-found_sum-requires t c =
+    let left = subst (λ l. IsRest c.args.shape l c.in-Some-2.free c.in_ok-rest.rest.items) c.deref-in-Some-2.ensures.value c.in_ok-rest.ensures in
+    let less : live c.args.shape.inputs c.in_ok-rest.rest.items c.args.subtrahend.items ≤ live c.args.shape.inputs c.args.minuend.items c.args.subtrahend.items =
+    live-rest c.args.shape c.args.minuend.items c.in_ok-rest.rest.items c.args.subtrahend.items c.in-Some-2.free left c.args.shape.inputs in
+    (omega arith, (left.are_cubes, c.requires.subtrahend))
+
+pub left_sum-with_free-requires-clause-sum : goal.left_sum-with_free-requires-clause-sum
+left_sum-with_free-requires-clause-sum t c =
+    AreCubes-complete_sum c.args.shape (difference (places c.in_ok-rest.rest.items) (places c.args.subtrahend.items)) c.in_ok-sum-2.sum.items c.in_ok-sum-2.ensures
+
 pub left_sum-returns-in-Some-2 : goal.left_sum-returns-in-Some-2
 left_sum-returns-in-Some-2 t c =
-    subst (λ found. IfSome found (λ rows. rows.items ≡ complete_sum c.args.shape (difference (places c.deref-5.result.now) (places c.deref-6.result.now)))) c.in-Some-2.is c.in_ok-sum-2.ensures
+    let size = c.args.shape in
+    let minuend = c.args.minuend.items in
+    let free = c.in-Some-2.free in
+    let rest = c.in_ok-rest.rest.items in
+    let none' = nothing_left c.args.subtrahend.items (sym c.args.subtrahend.ok.0 ∙ eqb-true (vec_len c.args.subtrahend) 0 (sym c.is_empty-2.ensures ∙ c.if-is_empty-2.true)) in
+    let left = subst (λ l. IsRest size l free rest) c.deref-in-Some-2.ensures.value c.in_ok-rest.ensures in
+    let part = subst (λ l. IsFreePart size l free) c.deref-then-is_empty-2-2.ensures.value
+    (subst (λ o. IfSome o (λ x. IsFreePart size c.deref-then-is_empty-2-2.result.now x)) c.in-Some-2.is c.in_ok-free.ensures) in
+    IfOk-weaker c.with_free.result _ _ (λ rows h.
+    complete_sum-no_outer size rows.items minuend c.args.subtrahend.items none'
+    (h minuend rest part left (c.in_ok-sum-2.ensures ∙ sum_of_list size rest rest c.args.subtrahend.items refl none'))) c.with_free.ensures
+
+pub found_sum-returns-in-Some : goal.found_sum-returns-in-Some
+found_sum-returns-in-Some t c =
+    subst (λ found. IfSome found (λ rows. rows.items ≡ complete_sum c.args.shape (difference (places c.deref-3.result.now) (places c.deref-4.result.now)))) c.in-Some.is c.in_ok-sum.ensures
+    ∙ sum_of_lists c.args.shape c.deref-3.result.now c.args.minuend.items c.deref-4.result.now c.args.subtrahend.items c.deref-3.ensures.value c.deref-4.ensures.value
+
+pub found_sum-keep-requires : goal.found_sum-keep-requires
+found_sum-keep-requires t c =
+    c.deref-7.ensures.value ∙ c.in_ok-sum-2.ensures
     ∙ sum_of_lists c.args.shape c.deref-5.result.now c.args.minuend.items c.deref-6.result.now c.args.subtrahend.items c.deref-5.ensures.value c.deref-6.ensures.value
 
-pub left_sum-keep-requires : goal.left_sum-keep-requires
-left_sum-keep-requires t c =
-    c.deref-9.ensures.value ∙ c.in_ok-sum-3.ensures
-    ∙ sum_of_lists c.args.shape c.deref-7.result.now c.args.minuend.items c.deref-8.result.now c.args.subtrahend.items c.deref-7.ensures.value c.deref-8.ensures.value
-
-pub left_sum-returns : goal.left_sum-returns
-left_sum-returns t c =
-    c.in_ok-sum-3.ensures
-    ∙ sum_of_lists c.args.shape c.deref-7.result.now c.args.minuend.items c.deref-8.result.now c.args.subtrahend.items c.deref-7.ensures.value c.deref-8.ensures.value
+pub found_sum-returns : goal.found_sum-returns
+found_sum-returns t c =
+    c.in_ok-sum-2.ensures
+    ∙ sum_of_lists c.args.shape c.deref-5.result.now c.args.minuend.items c.deref-6.result.now c.args.subtrahend.items c.deref-5.ensures.value c.deref-6.ensures.value
 
 pub split_sum-sum_between-requires : goal.split_sum-sum_between-requires
 split_sum-sum_between-requires t c =
