@@ -7,7 +7,7 @@
 //! and how many products that has. It measures, and no contract says what it prints.
 #![tactic(auto)]
 
-use minimum::{Choice, Effort, Table, primes, reduce};
+use minimum::{Choice, Effort, OfPrimes, Table, least_cover_with_effort, primes, reduce};
 use pla::{Echo, Pla, ReadFault, ReadKind, Reading, Sets, Writing, read_pla};
 use std::alloc::{AllocError, AllocGlobal, Global};
 use std::env::Env;
@@ -79,7 +79,7 @@ fn live_count(table: &Table) -> usize {
 /// The figures of a search in the table, in the order of their names.
 fn figures_of(table: &Table, choice: Choice) -> Result<[u64; 7], AllocError> {
     let mut effort = Effort::none();
-    let products = table.least_cover_with_effort(choice, &mut effort)?.len();
+    let products = least_cover_with_effort(table, choice, &mut effort)?.len();
     Ok([
         table.columns() as u64,
         table.row_count() as u64,

@@ -14,13 +14,13 @@ use Rattle.std.proofs.lemmas.List.Elements.{filter_map-append, Contains-append_c
 use Rattle.cube.specs.Cube.{Cube}
 use Rattle.cube.proofs.Members.{Contains-here, Contains-there, Contains-nil, Contains-cases, Contains-map, Contains-map_cases, Contains-filter, Contains-filter_cases}
 use Rattle.pla.specs.Sets.{SetLists}
-use Rattle.minimum.specs.declared.choice.Choice.{Choice}
-use Rattle.minimum.specs.Table.{Table, has, RisesFrom}
-use Rattle.minimum.specs.Cover.{IsLeast, Precedes, counted, sum_over}
+use Rattle.covering.specs.declared.choice.Choice.{Choice}
+use Rattle.covering.specs.Table.{Table, has, RisesFrom}
+use Rattle.covering.specs.Cover.{IsLeast, Precedes, counted, sum_over}
 use Rattle.minimum.specs.Primes.{primes_of, sublists, is_prime_cover, prime_covers, cover_cmp, prime_count, least_prime_cover, chosen}
 use Rattle.minimum.specs.PrimeTable.{HasPrimeCovers, HasPrimeColumns}
-use Rattle.minimum.proofs.Sets.{has_here, has_later, has_cases, rises_above, rises_lower}
-use Rattle.minimum.proofs.Rising.{range_rises, range_has, range_below}
+use Rattle.covering.proofs.Sets.{has_here, has_later, has_cases, rises_above, rises_lower}
+use Rattle.covering.proofs.Rising.{range_rises, range_has, range_below}
 
 -- ---- the sublists of a rising list
 

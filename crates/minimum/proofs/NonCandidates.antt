@@ -14,7 +14,7 @@ use Rattle.cover.specs.Places.{places}
 use Rattle.cover.specs.Marks.{cube_at}
 use Rattle.cover.proofs.Lists.{list_any_from}
 use Rattle.pla.specs.Sets.{SetLists}
-use Rattle.minimum.specs.Search.{marked}
+use Rattle.covering.specs.Search.{marked}
 use Rattle.minimum.specs.PrimeRows.{spans}
 use Rattle.minimum.specs.EssentialPrimes.{HasOther, UnmarksCandidate, AreNonCandidates}
 use Rattle.minimum.specs.Primes.{primes_of, care_on, others, is_essential}

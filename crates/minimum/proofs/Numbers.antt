@@ -8,7 +8,7 @@ use Rattle.cube.specs.Pattern.{matches}
 use Rattle.cover.specs.Places.{places}
 use Rattle.cover.specs.Marks.{cube_at}
 use Rattle.cover.proofs.Lists.{list_any_from, list_any_witness, all_members}
-use Rattle.minimum.specs.Table.{has}
+use Rattle.covering.specs.Table.{has}
 use Rattle.minimum.specs.PrimeRows.{holds_at}
 
 pub has_member : (n : ℕ) (xs : List ℕ) → has n xs ≡ true → Contains xs n

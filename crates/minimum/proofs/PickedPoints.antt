@@ -31,15 +31,15 @@ use Rattle.cover.proofs.Regions.{place_at, narrowed, narrowed_at, zero_literal}
 use Rattle.cover.proofs.SumEnds.{complete_sum-agree}
 use Rattle.cover.proofs.SumSplit.{IsCube-with_symbol}
 use Rattle.pla.specs.Sets.{SetLists}
-use Rattle.minimum.specs.Table.{has, RisesFrom}
-use Rattle.minimum.specs.Search.{is_blank}
+use Rattle.covering.specs.Table.{has, RisesFrom}
+use Rattle.covering.specs.Search.{is_blank}
 use Rattle.minimum.specs.Primes.{care_on, primes_of}
 use Rattle.minimum.specs.PrimeRows.{touches, spans, HasOneOutput, AreCandidates}
 use Rattle.minimum.specs.declared.signatures.source.Source.{Source}
 use Rattle.minimum.specs.Points.{Function, function_of, function_by, source_primes, IsSource, StandsFor, IsPointAt, IsWantedPoint, AreHolders, Forces, AreForced, AreFound, AreSigned, AddsPoints, IsOnePoint, IsPointOf, IsPart, AreLists}
-use Rattle.minimum.proofs.Sets.{has_here, filter_parts}
+use Rattle.covering.proofs.Sets.{has_here, filter_parts}
 use Rattle.minimum.proofs.Numbers.{has_member, places_at, numbered, holds_at-below}
-use Rattle.minimum.proofs.Rising.{range_rises, range_has}
+use Rattle.covering.proofs.Rising.{range_rises, range_has}
 use Rattle.minimum.proofs.PrimeTables.{set_one}
 use Rattle.minimum.proofs.PrimeRows.{candidates_touching, spans_holds, blank_from}
 

@@ -16,23 +16,23 @@ use Rattle.cover.specs.Places.{places}
 use Rattle.cover.specs.Marks.{cube_at}
 use Rattle.cover.proofs.SumOrder.{rising-head, rising-tail}
 use Rattle.pla.specs.Sets.{SetLists}
-use Rattle.minimum.specs.declared.choice.Choice.{Choice}
-use Rattle.minimum.specs.Table.{Table, has, RisesFrom, IsWithin, IsTable, AreRows, fresh, table_of}
-use Rattle.minimum.specs.Cover.{meets, IsCover, IsLeast, Precedes, counted}
-use Rattle.minimum.specs.Choices.{join}
-use Rattle.minimum.specs.Parts.{pick}
-use Rattle.minimum.specs.Steps.{HasRow}
+use Rattle.covering.specs.declared.choice.Choice.{Choice}
+use Rattle.covering.specs.Table.{Table, has, RisesFrom, IsWithin, IsTable, AreRows, fresh, table_of}
+use Rattle.covering.specs.Cover.{meets, IsCover, IsLeast, Precedes, counted}
+use Rattle.covering.specs.Choices.{join}
+use Rattle.covering.specs.Parts.{pick}
+use Rattle.covering.specs.Steps.{HasRow}
 use Rattle.minimum.specs.Primes.{primes_of, chosen, least_prime_cover, exact_of}
 use Rattle.minimum.specs.PrimeRows.{spans, IsDemand, AreRowsOf, AllHold}
 use Rattle.minimum.specs.Points.{function_of, IsWantedPoint, AreHolders, Forces, AreForced, holders, point_table, HasExact}
-use Rattle.minimum.proofs.Sets.{has_here, has_later, has_cases, filter_parts, filter_keeps, filter_rises, filter_length, meets_at, meets_from}
-use Rattle.minimum.proofs.Subsets.{same_list, join_rises, join_right, join_only}
-use Rattle.minimum.proofs.Rising.{range_rises, range_has, range_below}
+use Rattle.covering.proofs.Sets.{has_here, has_later, has_cases, filter_parts, filter_keeps, filter_rises, filter_length, meets_at, meets_from}
+use Rattle.covering.proofs.Subsets.{same_list, join_rises, join_right, join_only}
+use Rattle.covering.proofs.Rising.{range_rises, range_has, range_below}
 use Rattle.minimum.proofs.Numbers.{holds_at-below, cube_at-member}
 use Rattle.minimum.proofs.PrimeRows.{spans_holds}
 use Rattle.minimum.proofs.PrimeTables.{enough_for, same_covers}
 use Rattle.minimum.proofs.LeastPrimes.{least_is}
-use Rattle.minimum.proofs.Renumbered.{pick_has, map_keeps, map_only, map_rises, renumbered}
+use Rattle.covering.proofs.Renumbered.{pick_has, map_keeps, map_only, map_rises, renumbered}
 
 -- ---- a part of a list that rises, by the numbers of its cubes
 

@@ -17,13 +17,13 @@ use Rattle.cover.specs.Marks.{cube_at}
 use Rattle.cover.proofs.Lists.{list_any_from, list_any_witness}
 use Rattle.cover.proofs.Meeting.{is_disjoint-from_fact}
 use Rattle.cover.proofs.Regions.{narrowed, narrowed_at, inputs_hold}
-use Rattle.minimum.specs.Table.{has, RisesFrom}
-use Rattle.minimum.specs.Cover.{meets}
-use Rattle.minimum.specs.Steps.{HasRow}
-use Rattle.minimum.specs.Search.{is_blank}
-use Rattle.minimum.specs.Reduce.{holds_all}
+use Rattle.covering.specs.Table.{has, RisesFrom}
+use Rattle.covering.specs.Cover.{meets}
+use Rattle.covering.specs.Steps.{HasRow}
+use Rattle.covering.specs.Search.{is_blank}
+use Rattle.covering.specs.Reduce.{holds_all}
 use Rattle.minimum.specs.PrimeRows.{touches, spans, holds_at, HasNoneInside, AreCandidates, AreTouching, HasOneOutput, IsSplit, IsTouched, HasRowsFor, IsSettled, IsOpen, IsDemand, AddsRows}
-use Rattle.minimum.proofs.Sets.{filter_parts, filter_keeps, filter_rises, meets_from}
+use Rattle.covering.proofs.Sets.{filter_parts, filter_keeps, filter_rises, meets_from}
 use Rattle.minimum.proofs.Numbers.{has_member, member_has, has_all, cube_at-all, places_at, numbered, holds_at-below}
 
 -- ---- the cubes near a region

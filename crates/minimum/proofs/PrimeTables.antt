@@ -18,14 +18,14 @@ use Rattle.cover.proofs.Lists.{list_any_from, list_any_witness, all_members}
 use Rattle.cover.proofs.ContainmentLemmas.{All-range}
 use Rattle.cover.proofs.Everywhere.{holds_universal}
 use Rattle.pla.specs.Sets.{SetLists}
-use Rattle.minimum.specs.Table.{has, RisesFrom, AreRows, fresh}
-use Rattle.minimum.specs.Cover.{meets}
-use Rattle.minimum.specs.Steps.{HasRow}
+use Rattle.covering.specs.Table.{has, RisesFrom, AreRows, fresh}
+use Rattle.covering.specs.Cover.{meets}
+use Rattle.covering.specs.Steps.{HasRow}
 use Rattle.minimum.specs.Primes.{primes_of, care_on, chosen, is_prime_cover}
 use Rattle.minimum.specs.PrimeTable.{HasPrimeCovers}
 use Rattle.minimum.specs.PrimeRows.{holds_at, AreCandidates, AreEnough, IsSplit, IsHolding, IsDemand, AddsRows, AreRowsOf, RowsSoFar}
-use Rattle.minimum.proofs.Sets.{meets_at}
-use Rattle.minimum.proofs.Rising.{range_rises, range_has, range_below}
+use Rattle.covering.proofs.Sets.{meets_at}
+use Rattle.covering.proofs.Rising.{range_rises, range_has, range_below}
 use Rattle.minimum.proofs.Numbers.{has_member, member_has, numbered, holds_at-below}
 
 -- ---- the primes are enough

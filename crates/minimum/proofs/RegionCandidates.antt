@@ -15,7 +15,7 @@ use Rattle.cover.proofs.ContainmentLemmas.{cube_at-is}
 use Rattle.cover.proofs.Everywhere.{same_test, is_subset-iff}
 use Rattle.cover.proofs.Meeting.{is_disjoint-from_answer}
 use Rattle.cover.proofs.Lists.{list_any_from}
-use Rattle.minimum.specs.Table.{has}
+use Rattle.covering.specs.Table.{has}
 use Rattle.minimum.specs.PrimeRows.{touches, spans, HasNoneInside}
 
 module _ (cubes : List Cube) (region : Cube) (sizes : All (λ d. SameSize d region) cubes) (i : ℕ) (lt : i < length cubes) (d : Cube) (at : d ≡ get_or cubes i d) where

@@ -6,7 +6,7 @@ use Rattle.cube.specs.Cube.{Cube, holds, size_of}
 use Rattle.cube.specs.Order.{row_cmp}
 use Rattle.cover.specs.Places.{is_disjoint}
 use Rattle.cover.specs.Marks.{cube_at}
-use Rattle.minimum.specs.Search.{marked}
+use Rattle.covering.specs.Search.{marked}
 use Rattle.minimum.specs.PrimeRows.{spans}
 
 -- whether d has a place of c

@@ -1,14 +1,3 @@
-pub mod Table
-pub mod Cover
-pub mod Examples
-pub mod Steps
-pub mod Search
-pub mod Parts
-pub mod Choices
-pub mod Laws
-pub mod Weights
-pub mod Lagrange
-pub mod Reduce
 pub mod Primes
 pub mod PrimeTable
 pub mod PrimeRows

@@ -10,12 +10,12 @@ use Rattle.cube.specs.Sum.{complete_sum}
 use Rattle.cover.specs.Cubes.{AreCubes, Cubes}
 use Rattle.cover.specs.Places.{places}
 use Rattle.pla.specs.Sets.{SetLists}
-use Rattle.minimum.specs.declared.choice.Choice.{Choice}
+use Rattle.covering.specs.declared.choice.Choice.{Choice}
 use Rattle.minimum.specs.declared.signatures.source.Source.{Source}
 use Rattle.minimum.specs.declared.signatures.source.Source.TheVariants.{Outside, Primes}
 use Rattle.minimum.specs.declared.signatures.found.Found.{Found}
-use Rattle.minimum.specs.Table.{Table, fresh}
-use Rattle.minimum.specs.Cover.{IsLeast}
+use Rattle.covering.specs.Table.{Table, fresh}
+use Rattle.covering.specs.Cover.{IsLeast}
 use Rattle.minimum.specs.Primes.{primes_of, care_on, chosen, exact_of}
 use Rattle.minimum.specs.PrimeRows.{spans, HasOneOutput, AreCandidates}
 

@@ -6,9 +6,9 @@ use Rattle.cube.specs.Cube.{Cube, Place, holds, difference, SameSize, size_of}
 use Rattle.cube.specs.Sum.{is_subset}
 use Rattle.cover.specs.Places.{places, is_disjoint}
 use Rattle.cover.specs.Marks.{cube_at}
-use Rattle.minimum.specs.Table.{has, RisesFrom}
-use Rattle.minimum.specs.Cover.{meets}
-use Rattle.minimum.specs.Steps.{HasRow}
+use Rattle.covering.specs.Table.{has, RisesFrom}
+use Rattle.covering.specs.Cover.{meets}
+use Rattle.covering.specs.Steps.{HasRow}
 
 -- whether the cube with this number holds the place
 abbrev pub holds_at : List Cube → ℕ → Place → Bool

@@ -3,8 +3,8 @@ use Rattle.std.specs.Prelude.{◌≡◌, ℕ, ◌<◌, true, List, [], length, m
 use Rattle.std.specs.List.{range_with_len}
 use Rattle.cube.specs.Cube.{literals}
 use Rattle.pla.specs.Sets.{SetLists}
-use Rattle.minimum.specs.Table.{Table, has, RisesFrom}
-use Rattle.minimum.specs.Cover.{IsCover}
+use Rattle.covering.specs.Table.{Table, has, RisesFrom}
+use Rattle.covering.specs.Cover.{IsCover}
 use Rattle.minimum.specs.Primes.{primes_of, is_prime_cover}
 
 -- a rising list of numbers of primes that together hold each wanted place

@@ -11,9 +11,9 @@ use Rattle.cube.specs.Order.{row_cmp}
 use Rattle.cube.specs.Sum.{complete_sum, is_subset}
 use Rattle.cover.specs.Places.{places}
 use Rattle.pla.specs.Sets.{SetLists}
-use Rattle.minimum.specs.declared.choice.Choice.{Choice}
-use Rattle.minimum.specs.declared.choice.Choice.TheVariants.{First}
-use Rattle.minimum.specs.Cover.{counted, sum_over}
+use Rattle.covering.specs.declared.choice.Choice.{Choice}
+use Rattle.covering.specs.declared.choice.Choice.TheVariants.{First}
+use Rattle.covering.specs.Cover.{counted, sum_over}
 
 -- the complete sum of the ON-set with the DC-set
 abbrev pub primes_of : SetLists → List Cube
@@ -64,7 +64,8 @@ cover_cmp count s x = ordering_then (nat_cmp (length s) (length x))
 abbrev pub prime_count : Choice → SetLists → ℕ → ℕ
 prime_count choice sets = counted choice (map literals (primes_of sets))
 
--- the least cover by primes
+-- the least cover by primes; there always is one, since all primes are a cover, so that `[]` stands
+-- for nothing
 abbrev pub least_prime_cover : Choice → SetLists → List ℕ
 least_prime_cover choice sets = unwrap_or
     (reduce (λ s x. min_by_ordering (cover_cmp (prime_count choice sets) s x) s x)

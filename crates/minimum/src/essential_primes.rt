@@ -10,9 +10,9 @@ ghost use Rattle.minimum.specs.EssentialPrimes.{touches_cube, is_rival, AreNonCa
 
 mod candidates;
 
-use crate::covering::marks::is_marked;
 use crate::essential_primes::candidates::non_candidates;
 use cover::Cover;
+use covering::is_marked;
 use cube::Cube;
 use pla::Sets;
 use std::alloc::{AllocError, Global};

@@ -14,15 +14,14 @@ ghost use Rattle.pla.specs.Sets.{SetLists};
 ghost use Rattle.minimum.specs.Points.{IsSource, StandsFor};
 ghost use Rattle.minimum.specs.Primes.{chosen, exact_of, primes_of};
 
-use crate::choice::Choice;
-use crate::covering::reduce::reduce;
-use crate::covering::table::Table;
 use crate::essential_primes::add;
 use crate::prime_implicants::primes;
+use crate::prime_table::OfPrimes;
 use crate::signatures::picks::{places_of_primes, places_outside};
 use crate::signatures::source::{Source, Stop};
 use crate::signatures::table_of_points;
 use cover::{Budget, Cover, outside};
+use covering::{Choice, Table, least_cover, reduce};
 use pla::Sets;
 use signature_search::Place as Pick;
 use std::alloc::{AllocError, Global};
@@ -113,7 +112,7 @@ pub(crate) fn exact_by_points(
     match table_of_points(alloc, given, source, places) {
         Ok((columns, table)) => {
             let table = reduce(table, choice)?;
-            let least = table.least_cover(choice)?;
+            let least = least_cover(&table, choice)?;
             let list = cubes_at(alloc, &columns, &least)?;
             Ok(Some(list))
         }
@@ -173,7 +172,7 @@ fn exact_by_table(
 {
     let table = Table::build(alloc, primes, sets)?;
     let table = reduce(table, choice)?;
-    let least = table.least_cover(choice)?;
+    let least = least_cover(&table, choice)?;
     cubes_at(alloc, primes, &least)
 }
 
@@ -183,7 +182,7 @@ fn exact_by_table(
 ///
 /// With many inputs and several outputs it lists no more primes than contain some picked points.
 /// Else its cost is that of [`primes`], with few inputs that of [`Table::build`], and then that of
-/// [`Table::least_cover`] on the reduced table, whose number of branches has no small bound.
+/// [`least_cover`] on the reduced table, whose number of branches has no small bound.
 pub fn exact(alloc: Global, sets: &Sets, choice: Choice) -> Result<Cover, AllocError>
     ensures { IfOk result (λ list. list ≡ record
         { size = sets.now.size; cubes = exact_of choice sets.now }) }

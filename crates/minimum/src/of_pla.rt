@@ -6,7 +6,6 @@ ghost use Rattle.cover.specs.Places.{places};
 ghost use Rattle.pla.specs.Completed.{sets_of};
 ghost use Rattle.minimum.specs.Primes.{essential_of, exact_of, primes_of};
 
-use crate::choice::Choice;
 use crate::essential_by_neighbours::{find_essential, find_essential_outside};
 use crate::essential_primes::essential;
 use crate::exact_minimum::{exact, exact_by_points, wishes_points};
@@ -14,6 +13,7 @@ use crate::prime_implicants::primes;
 use crate::signatures::picks::{places_of_primes, places_outside};
 use crate::signatures::source::Source;
 use cover::{Budget, Cover, subtract};
+use covering::Choice;
 use pla::{FileType, Pla, Sets};
 use std::alloc::{AllocError, Global};
 

@@ -8,7 +8,7 @@
 ghost use Rattle.std.specs.Prelude.{◌≡◌, ◌<◌, true, false, IfOk, map, replicate, slice_set};
 ghost use Rattle.cube.specs.Cube.{literals as literals_of};
 ghost use Rattle.cover.specs.Cubes.{AreCubes};
-ghost use Rattle.minimum.specs.Table.{items_of};
+ghost use Rattle.covering.specs.Table.{items_of};
 ghost use Rattle.minimum.specs.Primes.{primes_of};
 ghost use Rattle.minimum.specs.PrimeTable.{HasPrimeColumns, HasPrimeCovers};
 ghost use Rattle.minimum.specs.PrimeRows.{AreEnough, AreRowsOf};
@@ -16,9 +16,9 @@ ghost use Rattle.minimum.specs.PrimeRows.{AreEnough, AreRowsOf};
 mod halving_input;
 pub(crate) mod rows;
 
-use crate::covering::table::{Table, numbers};
 use crate::prime_table::rows::{Candidates, Lists};
 use cover::Cover;
+use covering::{Table, numbers};
 use cube::{Cube, Shape, Symbol};
 use pla::Sets;
 use std::alloc::{AllocError, Global};
@@ -76,14 +76,20 @@ fn rows_of(alloc: Global, lists: &Lists, shape: Shape) -> Result<Vec<Vec<usize>>
     Ok(rows)
 }
 
-impl Table {
+/// What is made of all primes: `Table::build` is called through it, since a table knows no cubes.
+pub trait OfPrimes: Sized {
     /// The table of the primes, as [`crate::primes`] answers them: a column for each, none taken
     /// and all live, weighed by its literals. Its covers are the lists of primes that together hold
     /// each place of the ON-set that is not in the DC-set.
     ///
     /// It may have as many rows as there are such places that lie in different primes; no point is
     /// listed.
-    pub fn build(alloc: Global, primes: &Cover, sets: &Sets) -> Result<Table, AllocError>
+    fn build(alloc: Global, primes: &Cover, sets: &Sets) -> Result<Self, AllocError>
+        requires { primes.now ≡ record { size = sets.now.size; cubes = primes_of sets.now } };
+}
+
+impl OfPrimes for Table {
+    fn build(alloc: Global, primes: &Cover, sets: &Sets) -> Result<Table, AllocError>
         requires { primes.now ≡ record { size = sets.now.size; cubes = primes_of sets.now } }
         ensures columns { IfOk result (HasPrimeColumns sets.now) }
         ensures covers { IfOk result (HasPrimeCovers sets.now) }

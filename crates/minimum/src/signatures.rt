@@ -15,7 +15,7 @@ ghost use Rattle.std.specs.List.{Contains};
 ghost use Rattle.cube.specs.Cube.{IsCube, SameSize, literals, Cube as Row};
 ghost use Rattle.cover.specs.Cubes.{AreCubes};
 ghost use Rattle.pla.specs.Sets.{SetLists};
-ghost use Rattle.minimum.specs.Table.{AreRows};
+ghost use Rattle.covering.specs.Table.{AreRows};
 ghost use Rattle.minimum.specs.PrimeRows.{HasOneOutput};
 ghost use Rattle.minimum.specs.Points.{AreForced, AreLists, IsSource, function_by, HasExact, holders, IsFound, point_table as point_table_of, StandsFor};
 
@@ -24,13 +24,13 @@ pub(crate) mod picks;
 pub(crate) mod regions;
 pub(crate) mod source;
 
-use crate::covering::table::{Table, numbers};
 use crate::prime_table::rows::spanning;
 use crate::prime_table::weights;
 use crate::signatures::found::Found;
 use crate::signatures::regions::{add_cube, pick_point};
 use crate::signatures::source::{Source, Stop};
 use cover::{Cover, in_row_order};
+use covering::{Table, numbers};
 use cube::{Cube, Shape, Symbol};
 use pla::Sets;
 use signature_search::Place;

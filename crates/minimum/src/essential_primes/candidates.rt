@@ -10,8 +10,8 @@ ghost use Rattle.cube.specs.Cube.{SameSize};
 ghost use Rattle.minimum.specs.PrimeRows.{spans};
 ghost use Rattle.minimum.specs.EssentialPrimes.{UnmarksCandidate, AreNonCandidates};
 
-use crate::covering::marks::{all_marked, unmark};
 use crate::prime_table::rows::spans;
+use covering::{all_marked, unmark};
 use cube::Cube;
 use std::alloc::{AllocError, Global};
 

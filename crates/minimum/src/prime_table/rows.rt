@@ -12,12 +12,12 @@ ghost use Rattle.std.specs.List.{list_any};
 ghost use Rattle.cube.specs.Cube.{SameSize, Place, holds, difference};
 ghost use Rattle.cover.specs.Places.{places};
 ghost use Rattle.cover.specs.Marks.{cube_at};
-ghost use Rattle.minimum.specs.Table.{has, RisesFrom, items_of};
-ghost use Rattle.minimum.specs.Reduce.{holds_all};
+ghost use Rattle.covering.specs.Table.{has, RisesFrom, items_of};
+ghost use Rattle.covering.specs.Reduce.{holds_all};
 ghost use Rattle.minimum.specs.PrimeRows.{touches, spans, holds_at, HasNoneInside, IsFree, IsSplit, IsTouched, IsSettled, IsOpen, HasRowsFor, AddsRows};
 
-use crate::covering::columns::{copy_of, is_blank, is_within};
 use crate::prime_table::halving_input::halving_input;
+use covering::{copy_of, is_blank, is_within};
 use cube::{Cube, Symbol};
 use std::alloc::{AllocError, Global};
 

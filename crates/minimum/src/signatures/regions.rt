@@ -12,11 +12,11 @@ ghost use Rattle.minimum.specs.Primes.{care_on};
 ghost use Rattle.minimum.specs.PrimeRows.{IsFree};
 ghost use Rattle.minimum.specs.Points.{AddsPoints, AreForced, AreLists, AreSigned, IsSource, function_by, IsFound, IsOnePoint, IsPart, IsPointOf};
 
-use crate::covering::columns::is_blank;
 use crate::prime_table::one_output;
 use crate::prime_table::rows::{any_spans, first_inside, literal_inside, touching};
 use crate::signatures::found::{Found, add_point};
 use crate::signatures::source::{Source, Stop};
+use covering::is_blank;
 use cube::{Cube, Symbol};
 use pla::Sets;
 use std::alloc::{AllocError, Global};

@@ -1,5 +1,5 @@
 use Rattle.std.proofs.Common.{arith, sym, subst}
-use Rattle.minimum.specs.Table.{items_of}
+use Rattle.covering.specs.Table.{items_of}
 use Rattle.minimum.specs.PrimeRows.{RowsSoFar}
 use Rattle.minimum.proofs.PrimeTables.{region_split, rows_none, rows_more, rows_all}
 use Rattle.minimum.proofs.prime_table.rows_of.Goals as goal

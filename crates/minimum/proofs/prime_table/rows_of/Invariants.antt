@@ -1,4 +1,4 @@
-use Rattle.minimum.specs.Table.{items_of}
+use Rattle.covering.specs.Table.{items_of}
 use Rattle.minimum.specs.PrimeRows.{RowsSoFar}
 use Rattle.minimum.proofs.prime_table.rows_of.Given as goal
 

@@ -1,5 +1,5 @@
 use Rattle.std.proofs.Common.{◌≡◌, map, take}
-use Rattle.minimum.specs.Table.{items_of}
+use Rattle.covering.specs.Table.{items_of}
 use Rattle.minimum.specs.Points.{holders}
 use Rattle.minimum.proofs.signatures.point_table.Given as goal
 

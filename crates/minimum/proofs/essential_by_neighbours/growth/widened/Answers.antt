@@ -52,8 +52,8 @@ is_implicant-requires c =
     let wide = (wide_cube t).has_size in
     let own = c.requires.is_cube.has_size in
     subst (HasSize c.in_ok-rest.rest) (sym (ap (λ k. k.size) c.asked.ensures ∙ c.requires.near.size)) (
-      ap (λ k. length k.symbols) c.in_ok-rest.ensures ∙ wide.0,
-      ap (λ k. length k.outputs) c.in_ok-rest.ensures ∙ length-minus c.in-Some.wide.outputs c.args.grown.cube.outputs (wide.1 ∙ sym own.1) ∙ wide.1,
+      ap (λ k. length k.symbols) c.in_ok-rest.ensures.value ∙ wide.0,
+      ap (λ k. length k.outputs) c.in_ok-rest.ensures.value ∙ length-minus c.in-Some.wide.outputs c.args.grown.cube.outputs (wide.1 ∙ sym own.1) ∙ wide.1,
     )
 
 pub returns-then-branch-clause-near : goal.returns-then-branch-clause-near
@@ -70,9 +70,9 @@ returns-then-branch-clause-grows c =
     let s = (goal.at.returns-then-branch-clause-grows c).After-stack in
     let t = (goal.at.returns-then-branch-clause-grows c).After-shape-shape in
     widened_grows rows.size (on_side c.args.side rows.cubes) c.args.grown.cube c.requires.is_cube c.args.j c.requires.output c.in_ok-output.output (is_output s) c.in-Some.wide (wide_cube t) (stacked t)
-    c.in_ok-rest.rest c.in_ok-rest.ensures
+    c.in_ok-rest.rest c.in_ok-rest.ensures.value
     (near_to_all c.args.grown.cube rows c.asked.result.now (subst (AreNear c.args.grown.cube rows) (sym c.asked.ensures) c.requires.near) c.args.side c.in_ok-rest.rest (beside_rest rows.size (on_side c.args.side rows.cubes) c.args.grown.cube c.requires.is_cube c.args.j c.requires.output c.in_ok-output.output (is_output s) c.in-Some.wide (wide_cube t) (stacked t)
-    c.in_ok-rest.rest c.in_ok-rest.ensures) (c.in_ok-is_implicant.ensures.0 c.if-branch.true))
+    c.in_ok-rest.rest c.in_ok-rest.ensures.value) (c.in_ok-is_implicant.ensures.0 c.if-branch.true))
 
 pub returns-then-branch-clause-settled : goal.returns-then-branch-clause-settled
 returns-then-branch-clause-settled c =
@@ -80,7 +80,7 @@ returns-then-branch-clause-settled c =
     let s = (goal.at.returns-then-branch-clause-settled c).After-stack in
     let t = (goal.at.returns-then-branch-clause-settled c).After-shape-shape in
     widened_settles rows.size (on_side c.args.side rows.cubes) c.args.grown.cube c.requires.is_cube c.args.j c.requires.output c.in_ok-output.output (is_output s) c.in-Some.wide (wide_cube t) (stacked t)
-    c.in_ok-rest.rest c.in_ok-rest.ensures
+    c.in_ok-rest.rest c.in_ok-rest.ensures.value
 
 pub returns-clause-settled : goal.returns-clause-settled
 returns-clause-settled c =
@@ -88,9 +88,9 @@ returns-clause-settled c =
     let s = (goal.at.returns-clause-settled c).After-stack in
     let t = (goal.at.returns-clause-settled c).After-shape-shape in
     unwidened_settles rows.size (on_side c.args.side rows.cubes) c.args.grown.cube c.requires.is_cube c.args.j c.requires.output c.in_ok-output.output (is_output s) c.in-Some.wide (wide_cube t) (stacked t)
-    c.in_ok-rest.rest c.in_ok-rest.ensures (λ sub. false≢true (sym c.if-branch.false ∙ c.in_ok-is_implicant.ensures.1
+    c.in_ok-rest.rest c.in_ok-rest.ensures.value (λ sub. false≢true (sym c.if-branch.false ∙ c.in_ok-is_implicant.ensures.1
     (all_to_near c.args.grown.cube rows c.asked.result.now (subst (AreNear c.args.grown.cube rows) (sym c.asked.ensures) c.requires.near) c.args.side c.in_ok-rest.rest (beside_rest rows.size (on_side c.args.side rows.cubes) c.args.grown.cube c.requires.is_cube c.args.j c.requires.output c.in_ok-output.output (is_output s) c.in-Some.wide (wide_cube t) (stacked t)
-    c.in_ok-rest.rest c.in_ok-rest.ensures) sub)))
+    c.in_ok-rest.rest c.in_ok-rest.ensures.value) sub)))
 
 pub is_off-requires : goal.is_off-requires
 is_off-requires c = let size = c.requires.reached.size.1 in let long = c.requires.is_cube.has_size.1 in let lt = c.requires.output in omega (arith, size, long, lt)

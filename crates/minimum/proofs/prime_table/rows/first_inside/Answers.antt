@@ -1,6 +1,6 @@
 use Rattle.std.proofs.Common.{ap, ◌∙◌}
 use Rattle.std.proofs.lemmas.List.{take_all}
-use Rattle.minimum.specs.Table.{has}
+use Rattle.covering.specs.Table.{has}
 use Rattle.minimum.proofs.RegionCandidates.{outside_next}
 use Rattle.minimum.proofs.prime_table.rows.first_inside.Goals as goal
 

@@ -1,6 +1,6 @@
 use Rattle.std.proofs.Common.{◌≡◌, ℕ, true, take}
 use Rattle.cover.specs.Marks.{cube_at}
-use Rattle.minimum.specs.Table.{has}
+use Rattle.covering.specs.Table.{has}
 use Rattle.minimum.specs.PrimeRows.{HasNoneInside}
 use Rattle.minimum.proofs.prime_table.rows.first_inside.Given as goal
 

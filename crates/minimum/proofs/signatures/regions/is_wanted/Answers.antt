@@ -1,7 +1,7 @@
 use Rattle.std.proofs.Common.{◌≡◌, ◌∙◌, ap, sym, filter}
 use Rattle.std.specs.List.{list_any}
 use Rattle.minimum.specs.PrimeRows.{spans, touches}
-use Rattle.minimum.specs.Search.{is_blank}
+use Rattle.covering.specs.Search.{is_blank}
 use Rattle.minimum.proofs.PickedPoints.{is_wanted-yes, is_wanted-no_on, is_wanted-no_dc}
 use Rattle.minimum.proofs.signatures.regions.is_wanted.Goals as goal
 

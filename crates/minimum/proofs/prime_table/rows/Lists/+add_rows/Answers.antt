@@ -5,7 +5,7 @@ use Rattle.std.proofs.lemmas.List.{map-append}
 use Rattle.cube.specs.declared.symbol.Symbol.TheVariants.{Dash, Zero, One}
 use Rattle.cover.proofs.Regions.{fewer_dashes, zero_literal, one_literal}
 use Rattle.cube.specs.Cube.{holds}
-use Rattle.minimum.specs.Table.{items_of}
+use Rattle.covering.specs.Table.{items_of}
 use Rattle.minimum.specs.PrimeRows.{HasRowsFor}
 use Rattle.minimum.proofs.PrimeRows.{adds_nothing, adds_row, adds_halves, split_half, match_true, match_false}
 use Rattle.minimum.proofs.prime_table.rows.Lists.+add_rows.Goals as goal

@@ -3,7 +3,7 @@ use Rattle.std.proofs.lemmas.Option.{slice_get_within}
 use Rattle.std.proofs.lemmas.Result.{IfOk-weaker}
 use Rattle.cube.specs.declared.symbol.Symbol.TheVariants.{Dash, Zero, One}
 use Rattle.cover.proofs.Regions.{fewer_dashes, zero_literal, one_literal}
-use Rattle.minimum.specs.Table.{items_of}
+use Rattle.covering.specs.Table.{items_of}
 use Rattle.minimum.proofs.PrimeRows.{adds_halves, split_half}
 use Rattle.minimum.proofs.prime_table.rows.Lists.+add_rows_by_halves.Goals as goal
 

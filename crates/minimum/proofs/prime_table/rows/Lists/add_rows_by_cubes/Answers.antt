@@ -1,7 +1,7 @@
 use Rattle.std.proofs.Common.{◌∙◌, ◌+◌, ◌<◌, ◌≤◌, length, get_or, sym, subst, refl, All}
 use Rattle.std.proofs.lemmas.List.{get_or_default}
 use Rattle.cube.specs.Cube.{holds}
-use Rattle.minimum.specs.Table.{items_of}
+use Rattle.covering.specs.Table.{items_of}
 use Rattle.minimum.specs.PrimeRows.{AddsRows}
 use Rattle.minimum.proofs.RowsByCube.{among, split_part, parted_some, parted_skip, parted_all}
 use Rattle.minimum.proofs.prime_table.rows.Lists.add_rows_by_cubes.Goals as goal

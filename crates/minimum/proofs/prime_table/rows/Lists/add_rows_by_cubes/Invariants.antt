@@ -1,4 +1,4 @@
-use Rattle.minimum.specs.Table.{items_of}
+use Rattle.covering.specs.Table.{items_of}
 use Rattle.minimum.specs.PrimeRows.{AddsRows}
 use Rattle.minimum.proofs.RowsByCube.{among}
 use Rattle.minimum.proofs.prime_table.rows.Lists.add_rows_by_cubes.Given as goal

@@ -1,7 +1,7 @@
 use Rattle.std.proofs.Common.{◌∙◌, ap, sym, filter, eqb, length}
 use Rattle.std.proofs.lemmas.Bool.{eqb-true}
 use Rattle.std.proofs.lemmas.Result.{IfOk-weaker}
-use Rattle.minimum.specs.Table.{has}
+use Rattle.covering.specs.Table.{has}
 use Rattle.minimum.specs.PrimeRows.{spans}
 use Rattle.minimum.proofs.PrimeRows.{alone_holds, common_primes_spanning}
 use Rattle.minimum.proofs.prime_table.rows.Lists.common_primes.Goals as goal

@@ -1,11 +1,11 @@
 use Rattle.std.proofs.Common.{◌≡◌, ◌∙◌, ap, sym, refl, Bool, true, false}
 use Rattle.std.specs.Prelude.{MatchBool}
 use Rattle.std.specs.List.{list_any}
-use Rattle.minimum.specs.Table.{items_of}
-use Rattle.minimum.specs.Search.{is_blank}
-use Rattle.minimum.specs.Reduce.{holds_all}
+use Rattle.covering.specs.Table.{items_of}
+use Rattle.covering.specs.Search.{is_blank}
+use Rattle.covering.specs.Reduce.{holds_all}
 use Rattle.minimum.specs.PrimeRows.{spans}
-use Rattle.minimum.proofs.Rows.{any_items}
+use Rattle.covering.proofs.Rows.{any_items}
 use Rattle.minimum.proofs.PrimeRows.{no_row_without_on, no_row_within_dc, no_row_by_known, open_from, blank_from}
 use Rattle.minimum.proofs.prime_table.rows.Lists.needs_no_row.Goals as goal
 use Rattle.minimum.proofs.prime_table.rows.Lists.needs_no_row.Goals.{then-is_blank-via-then-is_blank, then-is_blank-via-else-is_blank+then-any_spans}

@@ -1,8 +1,8 @@
 use Rattle.std.proofs.Common.{◌∙◌, ℕ, ap, sym, eqb, length, Option, Some, None}
 use Rattle.std.specs.Prelude.{MatchOption}
 use Rattle.std.proofs.lemmas.Bool.{eqb-true}
-use Rattle.minimum.specs.Table.{has}
-use Rattle.minimum.specs.Search.{is_blank}
+use Rattle.covering.specs.Table.{has}
+use Rattle.covering.specs.Search.{is_blank}
 use Rattle.minimum.specs.PrimeRows.{IsFree}
 use Rattle.minimum.proofs.PrimeRows.{settled_alone, settled_inside, blank_from}
 use Rattle.minimum.proofs.prime_table.rows.Lists.split.Goals as goal

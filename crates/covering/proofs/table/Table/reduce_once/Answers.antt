@@ -1,0 +1,9 @@
+use Rattle.std.proofs.lemmas.Result.{IfOk-weaker}
+use Rattle.covering.proofs.Reduced.{reduced_once_from}
+use Rattle.covering.proofs.table.Table.reduce_once.Goals as goal
+
+pub returns : goal.returns
+returns c =
+    let one = rw c.in_default.is at c.in_ok-table.ensures in
+    let dominating = rw c.in_default-2.is at c.in_ok-table-2.ensures in
+    IfOk-weaker c.drop_dominated_columns.result _ _ (λ o h. reduced_once_from c.args.choice c.args.self.now one dominating o h) c.drop_dominated_columns.ensures

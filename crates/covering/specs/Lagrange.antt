@@ -1,0 +1,62 @@
+-- Any weights of rows, also those of which a column bears more than its scaled cost.
+use Rattle.std.specs.Prelude.{◌≡◌, ℕ, ◌+◌, ◌-◌, ◌<◌, ◌≤◌, ◌⊎◌, true, false, List, length}
+use Rattle.std.specs.List.{AllByRecursion, range_with_len}
+use Rattle.covering.specs.Table.{has, RisesFrom}
+use Rattle.covering.specs.Cover.{meets, sum_over}
+use Rattle.covering.specs.Weights.{load, total, at}
+
+-- what the column bears beyond its scaled cost
+abbrev pub overload : (ℕ → ℕ) → List (List ℕ) → List ℕ → ℕ → ℕ
+overload scaled_cost rows ys c = load c rows ys - scaled_cost c
+
+-- what the column could still bear
+abbrev pub slack : (ℕ → ℕ) → List (List ℕ) → List ℕ → ℕ → ℕ
+slack scaled_cost rows ys c = scaled_cost c - load c rows ys
+
+-- what the first n columns bear beyond their scaled costs, together
+abbrev pub overloads : ℕ → (ℕ → ℕ) → List (List ℕ) → List ℕ → ℕ
+overloads n scaled_cost rows ys = sum_over (overload scaled_cost rows ys) (range_with_len 0 n)
+
+-- a rising list of some of the first n columns, with a column of each row
+pub record Hits (n : ℕ) (rows : List (List ℕ)) (x : List ℕ) : Type 0 where
+  pub rises : RisesFrom 0 x
+  pub below : (c : ℕ) → has c x ≡ true → c < n
+  pub each : AllByRecursion (λ row. meets x row ≡ true) rows
+
+-- the weight of all rows is no more than the scaled costs of the list and what all columns bear
+-- beyond
+-- theirs; a column in the list has no slack beside that, and one that is not in it no overload
+abbrev pub LagrangianHolds : Type 0
+LagrangianHolds = (scaled_cost : ℕ → ℕ) (n : ℕ) (rows : List (List ℕ)) (ys x : List ℕ)
+    → length ys ≡ length rows → Hits n rows x →
+    (total ys ≤ sum_over scaled_cost x + overloads n scaled_cost rows ys)
+    × ((c : ℕ) → has c x ≡ true → total ys + slack scaled_cost rows ys c ≤ sum_over scaled_cost x
+    + overloads n scaled_cost rows ys)
+    × ((c : ℕ) → c < n → has c x ≡ false
+    → total ys + overload scaled_cost rows ys c ≤ sum_over scaled_cost x
+    + overloads n scaled_cost rows ys)
+
+-- what the column bears beyond its scaled cost, by lists of both
+abbrev pub beyond : List ℕ → List ℕ → ℕ → ℕ
+beyond loads scaled_costs c = at loads c - at scaled_costs c
+
+-- what each column bears, the weight of all rows, and what columns bear beyond their scaled costs,
+-- or so
+-- large a number that it bounds nothing
+pub record IsLoaded (rows : List (List ℕ)) (ys scaled_costs loads : List ℕ)
+    (n over : ℕ) : Type 0 where
+  pub bears : (c : ℕ) → c < length scaled_costs → at loads c ≡ load c rows ys
+  pub weighs : n ≡ total ys
+  pub exceeds : (over ≡ overloads (length scaled_costs) (at scaled_costs) rows ys) ⊎ (n + n ≤ over)
+
+-- the weight of all rows is no more than the scaled costs of a list with a column of each row and
+-- the
+-- overloads; a column of the list has no slack beside that, and one that is not in it no overload
+pub record BoundsCovers (rows : List (List ℕ)) (scaled_costs loads : List ℕ)
+    (n over : ℕ) : Type 0 where
+  pub all : (x : List ℕ) → Hits (length scaled_costs) rows x
+      → n ≤ sum_over (at scaled_costs) x + over
+  pub having : (x : List ℕ) → Hits (length scaled_costs) rows x → (c : ℕ) → has c x ≡ true
+      → n + (at scaled_costs c - at loads c) ≤ sum_over (at scaled_costs) x + over
+  pub lacking : (x : List ℕ) → Hits (length scaled_costs) rows x → (c : ℕ) → c < length scaled_costs
+      → has c x ≡ false → n + (at loads c - at scaled_costs c) ≤ sum_over (at scaled_costs) x + over

@@ -1,0 +1,114 @@
+//! The exhaustive search: every choice of live columns, in rising size.
+
+ghost use Rattle.std.specs.Prelude.{◌≡◌, ◌<◌, ◌^◌, [], IfOk, option_map, length, Some, None};
+ghost use Rattle.std.specs.List.{list_all};
+ghost use Rattle.itertools.specs.Odometer.{ways};
+ghost use Rattle.itertools.specs.Pool.{ascending_low, ascending_high, combination_can, combination_left};
+ghost use Rattle.covering.specs.Table.{IsTable};
+ghost use Rattle.covering.specs.Cover.{meets, counted, IsLeast};
+ghost use Rattle.covering.specs.Choices.{choices, join, better, best_of, best_choice};
+
+use crate::choice::Choice;
+use crate::columns::{all_met, join, sum};
+use crate::table::Table;
+use itertools::{Combinations, Itertools};
+use std::alloc::{AllocError, Global};
+
+fn live_choices(
+    alloc: Global,
+    live: &[usize],
+    size: usize,
+) -> Result<Combinations<usize, Global>, AllocError>
+    ensures can { IfOk result combination_can }
+    ensures pool { IfOk result (λ c. c.pool.items ≡ live.now) }
+    ensures places { IfOk result (λ c. combination_left c
+        ≡ ways ascending_low (ascending_high (length c.pool.items) size) size []) }
+{
+    live.iter().copied().combinations(alloc, size)
+}
+
+/// The one that counts less, and the earlier of two that count alike.
+fn better_of(
+    choice: Choice,
+    weights: &[u32],
+    best: Option<Vec<usize>>,
+    chosen: Vec<usize>,
+) -> Vec<usize>
+    ensures { better (counted choice weights.now) (option_map (λ v. v.items) best) chosen.items
+        ≡ Some result.items }
+{
+    let Some(best) = best else {
+        return chosen;
+    };
+    if sum(choice, weights, &chosen) < sum(choice, weights, &best) {
+        chosen
+    } else {
+        best
+    }
+}
+
+/// The best choice of so many live columns that has a column of each row.
+fn best_choice(
+    alloc: Global,
+    choice: Choice,
+    weights: &[u32],
+    live: &[usize],
+    rows: &[Vec<usize>],
+    size: usize,
+) -> Result<Option<Vec<usize>>, AllocError>
+    ensures { IfOk result (λ o. option_map (λ v. v.items) o
+        ≡ best_of (counted choice weights.now) (λ s. list_all (λ row. meets s row.items) rows.now)
+        None (choices size live.now)) }
+{
+    let mut best: Option<Vec<usize>> = None;
+    for chosen in live_choices(alloc, live, size)? {
+        let chosen = chosen?;
+        if all_met(&chosen, rows) {
+            best = Some(better_of(choice, weights, best, chosen));
+        }
+    }
+    Ok(best)
+}
+
+impl Table {
+    /// The best choice of so many live columns that has a column of each row.
+    fn best_choice(
+        &self,
+        alloc: Global,
+        choice: Choice,
+        size: usize,
+    ) -> Result<Option<Vec<usize>>, AllocError>
+        ensures found { IfOk result (λ o. option_map (λ v. v.items) o
+            ≡ best_choice choice self.now size) }
+        ensures table { IsTable self.now }
+        ensures long { length self.now.live < 2 ^ 64 }
+    {
+        let _count = self.live.len();
+        best_choice(alloc, choice, &self.weights, &self.live, &self.rows, size)
+    }
+
+    /// The rising list of the taken columns and these.
+    fn with_taken(&self, alloc: Global, columns: &[usize]) -> Result<Vec<usize>, AllocError>
+        ensures { IfOk result (λ v. v.items ≡ join self.now.taken columns.now) }
+    {
+        join(alloc, &self.taken, columns)
+    }
+}
+
+/// The first of the shortest covers under the choice, by trying all choices of live columns in
+/// rising size.
+///
+/// It looks at every choice of the least size, so that it serves only small tables; it stands for
+/// comparison.
+pub fn least_cover_plain(table: &Table, choice: Choice) -> Result<Vec<usize>, AllocError>
+    ensures { IfOk result (λ v. IsLeast choice table.now v.items) }
+{
+    let alloc = *table.rows.allocator();
+    let mut size = 0;
+    loop {
+        if let Some(best) = table.best_choice(alloc, choice, size)? {
+            return table.with_taken(alloc, &best);
+        }
+        size += 1;
+    }
+}

@@ -1,0 +1,132 @@
+//! Marks of columns and of rows, and what is left of those that have one.
+
+ghost use Rattle.std.specs.Prelude.{◌≡◌, ◌<◌, IfOk, filter, map, not, ◌==◌, true, false, ◌*◌, ◌-◌, Vec, replicate};
+ghost use Rattle.std.specs.List.{list_all, range_with_len};
+ghost use Rattle.covering.specs.Table.{items_of};
+ghost use Rattle.covering.specs.Search.{marked};
+ghost use Rattle.covering.specs.Reduce.{Unmarks, rows_from};
+
+use crate::columns::copy_of;
+use std::alloc::{AllocError, Global};
+
+/// Marks what the marks leave.
+pub(crate) fn others(alloc: Global, marks: &[bool], end: usize) -> Result<Vec<bool>, AllocError>
+    ensures { IfOk result (λ v. v.items ≡ map (λ c. not (marked marks.now c))
+        (range_with_len 0 end)) }
+{
+    (0..end).map(|c| !is_marked(marks, c)).collect(alloc)
+}
+
+/// Marks all but one.
+pub(crate) fn all_but(alloc: Global, column: usize, end: usize) -> Result<Vec<bool>, AllocError>
+    ensures { IfOk result (λ v. v.items ≡ map (λ c. not (c == column)) (range_with_len 0 end)) }
+{
+    (0..end).map(|c| !(c == column)).collect(alloc)
+}
+
+/// Takes the mark from the place.
+pub fn unmark(marks: &mut Vec<bool>, place: usize)
+    ensures { Unmarks marks.old.items place marks.new.items }
+{
+    if place < marks.len() {
+        marks[place] = false;
+    }
+}
+
+pub(crate) fn all_kept(row: &[usize], keep: &[bool]) -> bool
+    ensures { result ≡ list_all (marked keep.now) row.now }
+{
+    row.iter().all(|column| is_marked(keep, *column))
+}
+
+/// The rows of which all columns are marked.
+pub(crate) fn untouched_rows(
+    alloc: Global,
+    rows: &[Vec<usize>],
+    keep: &[bool],
+) -> Result<Vec<Vec<usize>>, AllocError>
+    ensures { IfOk result (λ v. items_of v.items
+        ≡ filter (list_all (marked keep.now)) (items_of rows.now)) }
+{
+    let mut kept = Vec::new(alloc);
+    for row in rows {
+        if all_kept(row, keep) {
+            kept.push(copy_of(alloc, row)?)?;
+        }
+    }
+    Ok(kept)
+}
+
+/// The marked rows.
+pub(crate) fn marked_rows(
+    alloc: Global,
+    rows: &[Vec<usize>],
+    stay: &[bool],
+) -> Result<Vec<Vec<usize>>, AllocError>
+    ensures { IfOk result (λ v. items_of v.items
+        ≡ rows_from (marked stay.now) 0 (items_of rows.now)) }
+{
+    let mut kept = Vec::new(alloc);
+    for (i, row) in rows.iter().enumerate() {
+        if is_marked(stay, i) {
+            kept.push(copy_of(alloc, row)?)?;
+        }
+    }
+    Ok(kept)
+}
+
+/// Whether the place has a mark.
+pub fn is_marked(marks: &[bool], place: usize) -> bool
+    ensures { result ≡ marked marks.now place }
+{
+    if place < marks.len() {
+        marks[place]
+    } else {
+        false
+    }
+}
+
+/// Whether each place has a mark.
+pub(crate) fn is_full(marks: &[bool]) -> bool
+    ensures { result ≡ list_all (λ mark. mark) marks.now }
+{
+    marks.iter().all(|mark| *mark)
+}
+
+/// A mark at each place below the end.
+pub fn all_marked(alloc: Global, end: usize) -> Result<Vec<bool>, AllocError>
+    ensures { IfOk result (λ v. v.items ≡ replicate end true) }
+{
+    vec![in alloc; true; end]
+}
+
+pub(crate) fn marked_columns(
+    alloc: Global,
+    xs: &[usize],
+    keep: &[bool],
+) -> Result<Vec<usize>, AllocError>
+    ensures { IfOk result (λ v. v.items ≡ filter (marked keep.now) xs.now) }
+{
+    let mut kept = Vec::with_capacity(alloc, xs.len())?;
+    for x in xs {
+        if is_marked(keep, *x) {
+            kept.push(*x)?;
+        }
+    }
+    Ok(kept)
+}
+
+pub(crate) fn rows_of_marked(
+    alloc: Global,
+    rows: &[Vec<usize>],
+    keep: &[bool],
+) -> Result<Vec<Vec<usize>>, AllocError>
+    ensures { IfOk result (λ v. items_of v.items
+        ≡ map (filter (marked keep.now)) (items_of rows.now)) }
+{
+    let mut kept = Vec::new(alloc);
+    for row in rows {
+        kept.push(marked_columns(alloc, row, keep)?)?;
+    }
+    Ok(kept)
+}

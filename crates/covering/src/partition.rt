@@ -1,0 +1,117 @@
+//! The least cover, part by part.
+//!
+//! If the rows fall into parts that share no column, a list is a cover if it has a cover of each
+//! part, and no part asks what another has. Lists compare by their length, then by what they count,
+//! and then by the least column in which they differ; so the least covers of the parts together are
+//! the least cover. Without this, the questions that find the least cover would be asked of all
+//! parts together. Which columns make a part is wished for, and it is looked at that each row lies
+//! on one side.
+
+ghost use Rattle.std.specs.Prelude.{◌≡◌, ◌||◌, IfOk, IfSome};
+ghost use Rattle.std.specs.List.{list_all};
+ghost use Rattle.covering.specs.Table.{IsWithin, RisesFrom};
+ghost use Rattle.covering.specs.Cover.{IsLeast};
+ghost use Rattle.covering.specs.Search.{marked};
+ghost use Rattle.covering.specs.Parts.{AreParts, is_on_one_side, part_of};
+
+use crate::choice::Choice;
+use crate::columns::{copy_of, join};
+use crate::marks::{all_kept, marked_columns, others, untouched_rows};
+use crate::table::Table;
+use heuristics::{Effort, wished_side};
+use std::alloc::{AllocError, Global};
+
+/// Two tables of parts that share no column.
+#[derive(Drop)]
+struct Parts {
+    one: Table,
+    other: Table,
+}
+
+/// Whether all columns of the row have marks of the one list, or all of the other.
+fn is_on_one_side(row: &[usize], marks: &[bool], others: &[bool]) -> bool
+    ensures { result ≡ is_on_one_side marks.now others.now row.now }
+{
+    all_kept(row, marks) || all_kept(row, others)
+}
+
+/// Whether each row lies on one side.
+fn are_apart(rows: &[Vec<usize>], marks: &[bool], others: &[bool]) -> bool
+    ensures { result ≡ list_all (λ row. is_on_one_side marks.now others.now row.items) rows.now }
+{
+    rows.iter().all(|row| is_on_one_side(row, marks, others))
+}
+
+impl Table {
+    /// The live columns with marks, and the rows of these alone, under these taken columns.
+    fn part(&self, alloc: Global, taken: Vec<usize>, marks: &[bool]) -> Result<Table, AllocError>
+        requires rises { RisesFrom 0 taken.items }
+        requires taken { IsWithin taken.items self.now.taken }
+        ensures { IfOk result (λ t. t ≡ part_of (marked marks.now) taken.items self.now) }
+    {
+        let live = marked_columns(alloc, self.live_columns(), marks)?;
+        let rows = untouched_rows(alloc, self.row_lists(), marks)?;
+        self.with(alloc, taken, live, rows)
+    }
+
+    /// Two tables of about half of the rows each, if the rows fall into parts that share no column.
+    fn parts(&self, alloc: Global) -> Result<Option<Parts>, AllocError>
+        ensures { IfOk result (λ o. IfSome o (λ p. AreParts self.now p.one p.other)) }
+    {
+        let Some(marks) = wished_side(alloc, self.row_lists(), self.columns())? else {
+            return Ok(None);
+        };
+        let others = others(alloc, &marks, self.columns())?;
+        if !are_apart(self.row_lists(), &marks, &others) {
+            return Ok(None);
+        }
+        let taken = copy_of(alloc, self.taken_columns())?;
+        let one = self.part(alloc, taken, &marks)?;
+        let other = self.part(alloc, Vec::new(alloc), &others)?;
+        let most = one.row_count().max(other.row_count());
+        if self.row_count() <= most {
+            return Ok(None);
+        }
+        Ok(Some(Parts { one, other }))
+    }
+
+    /// The least cover: of a table in numbers of its own, which is cheaper if many columns are not
+    /// live.
+    #[cycle(parts)]
+    pub(crate) fn least_by_parts(
+        &self,
+        alloc: Global,
+        choice: Choice,
+        effort: &mut Effort,
+    ) -> Result<Vec<usize>, AllocError>
+        ensures { IfOk result (λ v. IsLeast choice self.now v.items) }
+    {
+        match self.renumber(alloc)? {
+            None => self.least_of_parts(alloc, choice, effort),
+            Some(table) => {
+                let numbers = table.least_of_parts(alloc, choice, effort)?;
+                self.with_numbers(alloc, &numbers)
+            }
+        }
+    }
+
+    /// The least cover, of each part by itself.
+    #[cycle(parts)]
+    fn least_of_parts(
+        &self,
+        alloc: Global,
+        choice: Choice,
+        effort: &mut Effort,
+    ) -> Result<Vec<usize>, AllocError>
+        ensures { IfOk result (λ v. IsLeast choice self.now v.items) }
+    {
+        match self.parts(alloc)? {
+            None => self.least_of_whole(alloc, choice, effort),
+            Some(Parts { one, other }) => {
+                let first = one.least_by_parts(alloc, choice, effort)?;
+                let second = other.least_by_parts(alloc, choice, effort)?;
+                join(alloc, &first, &second)
+            }
+        }
+    }
+}

@@ -1,0 +1,165 @@
+//! The reductions of a table, in passes over all rows or all columns until none changes it.
+//!
+//! A pass first lists for each column the rows in which it stands. A row that has all columns of
+//! another stands among the rows of that row's rarest column; a column that stands in all rows of
+//! another stands in that column's shortest row. So candidates are few, and each is tested by a
+//! binary search for each number. What leaves is marked, and leaves in one go: each of it has a
+//! witness that stays, so that it could leave step by step. If a pass marks nothing, no step of its
+//! kind applies.
+
+ghost use Rattle.std.specs.Prelude.{◌≡◌, ◌<◌, ◌==◌, ◌||◌, IfOk, IfSome, MatchOption, not, filter};
+ghost use Rattle.std.specs.List.{range_with_len};
+ghost use Rattle.covering.specs.Table.{IsTable, RisesFrom, items_of, has};
+ghost use Rattle.covering.specs.Steps.{Steps, IsReduced, SameLeast};
+ghost use Rattle.covering.specs.Search.{IsLighter, IsLightened, marked};
+ghost use Rattle.covering.specs.Reduce.{UnmarksEssentialColumn, MarksInessentialColumns, HasNoEssentialColumn, Shrinks};
+
+use crate::choice::Choice;
+use crate::columns::holds;
+use crate::marks::{all_marked, is_marked, marked_columns, unmark, untouched_rows};
+use crate::table::Table;
+use std::alloc::{AllocError, Global};
+
+/// Takes the mark from the only column of the row, if it has only one: an essential column.
+fn unmark_essential_column(keep: &mut Vec<bool>, row: &[usize])
+    ensures { UnmarksEssentialColumn keep.old.items row.now keep.new.items }
+{
+    if row.len() == 1 {
+        unmark(keep, row[0]);
+    }
+}
+
+/// Marks the columns that are not the only one of a row.
+fn inessential_columns(
+    alloc: Global,
+    rows: &[Vec<usize>],
+    columns: usize,
+) -> Result<Vec<bool>, AllocError>
+    ensures { IfOk result (λ v. MarksInessentialColumns columns (items_of rows.now) v.items) }
+{
+    let mut keep = all_marked(alloc, columns)?;
+    for row in rows {
+        unmark_essential_column(&mut keep, row);
+    }
+    Ok(keep)
+}
+
+/// The rising list of the taken columns and the unmarked ones.
+pub(crate) fn with_unmarked(
+    alloc: Global,
+    taken: &[usize],
+    keep: &[bool],
+    columns: usize,
+) -> Result<Vec<usize>, AllocError>
+    requires { RisesFrom 0 taken.now }
+    ensures { IfOk result (λ v. v.items ≡ filter (λ n. has n taken.now || not (marked keep.now n))
+        (range_with_len 0 columns)) }
+{
+    (0..columns)
+        .filter(|n| holds(taken, *n) || !is_marked(keep, *n))
+        .collect(alloc)
+}
+
+impl Table {
+    /// Takes each column that is the only one of a row; `None` if there is no such row.
+    fn take_essential_columns(
+        &self,
+        alloc: Global,
+        choice: Choice,
+    ) -> Result<Option<Table>, AllocError>
+        ensures { IfOk result (λ o. MatchOption o (HasNoEssentialColumn self.now)
+            (Shrinks choice self.now)) }
+    {
+        let keep = inessential_columns(alloc, self.row_lists(), self.columns())?;
+        let live = marked_columns(alloc, self.live_columns(), &keep)?;
+        if live.len() == self.live_columns().len() {
+            return Ok(None);
+        }
+        let taken = with_unmarked(alloc, self.taken_columns(), &keep, self.columns())?;
+        let rows = untouched_rows(alloc, self.row_lists(), &keep)?;
+        Ok(Some(self.with(alloc, taken, live, rows)?))
+    }
+
+    /// The table after one pass that changes it, in a search for some cover within a budget; `None`
+    /// if none does.
+    fn lighten_once(&self, alloc: Global, choice: Choice) -> Result<Option<Table>, AllocError>
+        ensures { IfOk result (λ o. IfSome o (IsLighter choice self.now)) }
+    {
+        let _live = self.live_columns();
+        if let Some(table) = self.take_essential_columns(alloc, choice)? {
+            return Ok(Some(table));
+        }
+        if let Some(table) = self.drop_dominating_rows(alloc, choice)? {
+            return Ok(Some(table));
+        }
+        self.drop_weakly_dominated_columns(alloc, choice)
+    }
+
+    /// The table after all passes, in a search for some cover within a budget.
+    pub(crate) fn lighten(self, alloc: Global, choice: Choice) -> Result<Table, AllocError>
+        ensures { IfOk result (λ u. IsLightened choice self u) }
+    {
+        let mut table = self;
+        while let Some(lighter) = table.lighten_once(alloc, choice)? {
+            table = lighter;
+        }
+        Ok(table)
+    }
+
+    /// The same of a table that stays.
+    pub(crate) fn lightened_copy(&self, alloc: Global, choice: Choice) -> Result<Table, AllocError>
+        ensures { IfOk result (λ u. IsLightened choice self.now u) }
+    {
+        match self.lighten_once(alloc, choice)? {
+            None => self.copy(alloc),
+            Some(table) => table.lighten(alloc, choice),
+        }
+    }
+
+    /// The cyclic core: the table after all passes.
+    pub(crate) fn cyclic_core(&self, alloc: Global, choice: Choice) -> Result<Table, AllocError>
+        ensures steps { IfOk result (Steps choice self.now) }
+        ensures table { IsTable self.now }
+    {
+        let _live = self.live_columns();
+        let mut table = self.copy(alloc)?;
+        while let Some(reduced) = table.reduce_once(alloc, choice)? {
+            table = reduced;
+        }
+        Ok(table)
+    }
+
+    /// The table after one pass that changes it; `None` if none does.
+    fn reduce_once(&self, alloc: Global, choice: Choice) -> Result<Option<Table>, AllocError>
+        ensures { IfOk result (λ o. MatchOption o (IsReduced choice self.now)
+            (Shrinks choice self.now)) }
+    {
+        if let Some(table) = self.take_essential_columns(alloc, choice)? {
+            return Ok(Some(table));
+        }
+        if let Some(table) = self.drop_dominating_rows(alloc, choice)? {
+            return Ok(Some(table));
+        }
+        self.drop_dominated_columns(alloc, choice)
+    }
+}
+
+/// Reduces a table until no step applies: a row leaves that has all columns of another, the only
+/// column of a row is taken and its rows leave, and a live column leaves under a live one that
+/// stands in all its rows and comes first, which with `Choice::Literals` means fewer literals, or
+/// as many and a smaller number.
+///
+/// The least cover stays as it is. If memory is refused the table is gone.
+pub fn reduce(table: Table, choice: Choice) -> Result<Table, AllocError>
+    ensures steps { IfOk result (Steps choice table) }
+    ensures reduced { IfOk result (IsReduced choice) }
+    ensures least { IfOk result (SameLeast choice table) }
+{
+    let _columns = table.columns;
+    let alloc = *table.rows.allocator();
+    let mut table = table;
+    while let Some(reduced) = table.reduce_once(alloc, choice)? {
+        table = reduced;
+    }
+    Ok(table)
+}

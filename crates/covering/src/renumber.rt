@@ -1,0 +1,124 @@
+//! A table in numbers of its own.
+//!
+//! What is done for each column of a table is done for each live one alone once these are numbered
+//! in their order: the least cover in the new numbers stands for the least cover, since the order
+//! of columns is kept.
+
+ghost use Rattle.std.specs.Prelude.{◌≡◌, IfOk, IfSome, map, slice_index_or};
+ghost use Rattle.covering.specs.Table.{items_of};
+ghost use Rattle.covering.specs.Choices.{join};
+ghost use Rattle.covering.specs.Parts.{IsRenumbered, pick};
+
+use crate::choice::Choice;
+use crate::columns::{count, join};
+use crate::table::Table;
+use std::alloc::{AllocError, Global};
+
+/// The column with the number, 0 if there is none.
+fn column_at(live: &[usize], number: usize) -> usize
+    ensures { result ≡ pick live.now number }
+{
+    if number < live.len() { live[number] } else { 0 }
+}
+
+/// The number of the column.
+fn number_of(live: &[usize], column: usize) -> Option<usize>
+    ensures { IfSome result (λ i. pick live.now i ≡ column) }
+{
+    match live.binary_search(&column) {
+        Ok(number) => {
+            if column_at(live, number) == column {
+                Some(number)
+            } else {
+                None
+            }
+        }
+        Err(_) => None,
+    }
+}
+
+/// The numbers of the row's columns.
+fn numbers_of(
+    alloc: Global,
+    live: &[usize],
+    row: &[usize],
+) -> Result<Option<Vec<usize>>, AllocError>
+    ensures { IfOk result (λ o. IfSome o (λ v. map (pick live.now) v.items ≡ row.now)) }
+{
+    let mut numbers = Vec::new(alloc);
+    for column in row {
+        let Some(number) = number_of(live, *column) else {
+            return Ok(None);
+        };
+        numbers.push(number)?;
+    }
+    Ok(Some(numbers))
+}
+
+/// The numbers of the columns of each row.
+fn numbers_of_rows(
+    alloc: Global,
+    live: &[usize],
+    rows: &[Vec<usize>],
+) -> Result<Option<Vec<Vec<usize>>>, AllocError>
+    ensures { IfOk result (λ o. IfSome o (λ v. map (map (pick live.now)) (items_of v.items)
+        ≡ items_of rows.now)) }
+{
+    let mut lists = Vec::new(alloc);
+    for row in rows {
+        let Some(numbers) = numbers_of(alloc, live, row)? else {
+            return Ok(None);
+        };
+        lists.push(numbers)?;
+    }
+    Ok(Some(lists))
+}
+
+/// The columns with these numbers.
+fn columns_of(alloc: Global, live: &[usize], numbers: &[usize]) -> Result<Vec<usize>, AllocError>
+    ensures { IfOk result (λ v. v.items ≡ map (pick live.now) numbers.now) }
+{
+    numbers
+        .iter()
+        .map(|number| column_at(live, *number))
+        .collect(alloc)
+}
+
+/// The literals of the columns.
+fn literals_of(alloc: Global, weights: &[u32], live: &[usize]) -> Result<Vec<u32>, AllocError>
+    ensures { IfOk result (λ v. v.items ≡ map (λ c. slice_index_or weights.now c 0) live.now) }
+{
+    live.iter()
+        .map(|column| count(Choice::Literals, weights, *column))
+        .collect(alloc)
+}
+
+impl Table {
+    /// The table in numbers of its own, if it has columns that are not live.
+    pub(crate) fn renumber(&self, alloc: Global) -> Result<Option<Table>, AllocError>
+        ensures { IfOk result (λ o. IfSome o (IsRenumbered self.now)) }
+    {
+        let live = self.live_columns();
+        if live.len() == self.columns() {
+            return Ok(None);
+        }
+        let Some(rows) = numbers_of_rows(alloc, live, self.row_lists())? else {
+            return Ok(None);
+        };
+        let weights = literals_of(alloc, self.literals(), live)?;
+        Table::new(alloc, rows, weights)
+    }
+
+    /// The columns for which the numbers stand, and the taken ones.
+    pub(crate) fn with_numbers(
+        &self,
+        alloc: Global,
+        numbers: &[usize],
+    ) -> Result<Vec<usize>, AllocError>
+        ensures { IfOk result (λ v. v.items ≡ join self.now.taken
+            (map (pick self.now.live) numbers.now)) }
+    {
+        let columns = columns_of(alloc, self.live_columns(), numbers)?;
+        join(alloc, self.taken_columns(), &columns)
+    }
+}

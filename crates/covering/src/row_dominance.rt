@@ -1,0 +1,101 @@
+//! Row dominance: a row that has all columns of another one leaves.
+//!
+//! Such a row stands among the rows of the other's rarest column, so that candidates are few.
+
+ghost use Rattle.std.specs.Prelude.{◌≡◌, ◌≢◌, ◌<◌, ◌==◌, ◌&&◌, ℕ, [], IfOk, MatchOption, length, true};
+ghost use Rattle.covering.specs.Table.{items_of, has};
+ghost use Rattle.covering.specs.Reduce.{row_at, AreRising, IsTranspose, UnmarksDominatingRows, LeavesNoDominatingRow, is_dominating_row, HasNoDominatingRow, Shrinks};
+
+use crate::choice::Choice;
+use crate::columns::{copy_of, is_within};
+use crate::marks::{all_marked, is_full, is_marked, marked_rows, unmark};
+use crate::table::Table;
+use crate::transpose::entry;
+use std::alloc::{AllocError, Global};
+
+/// The column of the row that stands in the fewest rows.
+fn rarest(transpose: &[Vec<usize>], row: &[usize]) -> usize
+    ensures { row.now ≢ [] → has result row.now ≡ true }
+{
+    if row.is_empty() {
+        return 0;
+    }
+    let mut rarest = row[0];
+    for column in row {
+        if entry(transpose, *column).len() < entry(transpose, rarest).len() {
+            rarest = *column;
+        }
+    }
+    rarest
+}
+
+/// Whether the row is another than the one at `at` and has all its columns.
+fn is_dominating_row(rows: &[Vec<usize>], at: usize, number: usize) -> bool
+    requires { AreRising (items_of rows.now) }
+    ensures { result ≡ is_dominating_row (items_of rows.now) at number }
+{
+    number != at && is_within(entry(rows, at), entry(rows, number))
+}
+
+/// Takes the marks from those of the rows `among` that have all columns of the row `at`, but not
+/// from `at`.
+fn unmark_dominating_rows(stay: &mut Vec<bool>, rows: &[Vec<usize>], among: &[usize], at: usize)
+    requires { AreRising (items_of rows.now) }
+    ensures { UnmarksDominatingRows (items_of rows.now) at among.now stay.old.items stay.new.items }
+{
+    for number in among {
+        if is_dominating_row(rows, at, *number) {
+            unmark(stay, *number);
+        }
+    }
+}
+
+/// Marks rows so that each other row has all columns of a marked one, and each other row is
+/// unmarked if there is one.
+fn row_dominance(
+    alloc: Global,
+    rows: &[Vec<usize>],
+    transpose: &[Vec<usize>],
+) -> Result<Vec<bool>, AllocError>
+    requires rising { AreRising (items_of rows.now) }
+    requires transpose { IsTranspose (length transpose.now) (items_of rows.now)
+        (items_of transpose.now) }
+    requires within { (i c : ℕ) → has c (row_at (items_of rows.now) i) ≡ true
+        → c < length transpose.now }
+    requires filled { (i : ℕ) → i < length rows.now → row_at (items_of rows.now) i ≢ [] }
+    ensures { IfOk result (λ v. LeavesNoDominatingRow (items_of rows.now) v.items) }
+{
+    let mut stay = all_marked(alloc, rows.len())?;
+    for number in 0..rows.len() {
+        if is_marked(&stay, number) {
+            let column = rarest(transpose, entry(rows, number));
+            unmark_dominating_rows(&mut stay, rows, entry(transpose, column), number);
+        }
+    }
+    Ok(stay)
+}
+
+impl Table {
+    /// Lets each row leave that has all columns of another; `None` if there is none.
+    pub(crate) fn drop_dominating_rows(
+        &self,
+        alloc: Global,
+        choice: Choice,
+    ) -> Result<Option<Table>, AllocError>
+        ensures { IfOk result (λ o. MatchOption o (HasNoDominatingRow self.now.rows)
+            (Shrinks choice self.now)) }
+    {
+        let transpose = self.transpose(alloc)?;
+        let stay = row_dominance(alloc, self.row_lists(), &transpose)?;
+        if is_full(&stay) {
+            return Ok(None);
+        }
+        let rows = marked_rows(alloc, self.row_lists(), &stay)?;
+        if rows.len() == self.row_lists().len() {
+            return Ok(None);
+        }
+        let taken = copy_of(alloc, self.taken_columns())?;
+        let live = copy_of(alloc, self.live_columns())?;
+        Ok(Some(self.with(alloc, taken, live, rows)?))
+    }
+}

@@ -1,0 +1,535 @@
+//! Whether there is a cover within a budget.
+//!
+//! A budget is a number of columns and of what they count. A search answers a cover within it, or
+//! that there is none: it narrows the table, branches on a column, taken and then dropped, and
+//! searches on. A table is narrowed by the steps of a reduction, by columns that stand under any
+//! other that counts no more, and by weights of its rows (the dual bound): if the weights are more
+//! than the budget can bear there is no cover within it, and a column with more slack than the gap
+//! that is left is in none. Which cover is answered is left open, so that any order of branches
+//! serves.
+
+ghost use Rattle.std.specs.Prelude.{◌≡◌, ◌≤◌, ◌<◌, ◌*◌, ◌-◌, ℕ, Vec, IfOk, IfSome, MatchOption, MatchBool, IsTrue, ◌↔◌, [], ◌==◌, ◌&&◌, ◌||◌, option_map, map, filter, not, length, true, false};
+ghost use Rattle.std.specs.List.{list_all, list_any, range_with_len};
+ghost use Rattle.covering.specs.Table.{IsTable, items_of, has, RisesFrom};
+ghost use Rattle.covering.specs.Cover.{counted, meets, sum_over};
+ghost use Rattle.covering.specs.Steps.{without, take_column, drop_column};
+ghost use Rattle.covering.specs.Search.{NoneWithin, Answers, IsAnswer, IsNarrowed, IsForced, IsOutside, keep_columns, marked, is_blank};
+
+use crate::bound::{Budget, columns_within_gap, limit_of, scaled_costs};
+use crate::choice::Choice;
+use crate::columns::{contains, copy_of, count, holds, is_blank, sum, with_column};
+use crate::lagrangian::lagrangian;
+use crate::marks::{all_kept, all_marked, is_marked, marked_columns, rows_of_marked};
+use crate::table::Table;
+use heuristics::{
+    Compact, Goal, Multipliers, WarmStart, entanglement, is_worth_a_bound, likeliest, local_search,
+    marks_of,
+};
+use std::alloc::{AllocError, Global};
+
+/// Why a question has no answer.
+#[derive(Drop)]
+pub(crate) enum Stop {
+    /// A growth of memory was refused.
+    Memory,
+    /// The search would look at more tables than it may.
+    Cut,
+}
+
+impl From<AllocError> for Stop {
+    ghost use Rattle.covering.specs.declared.search.Stop.TheVariants.{Memory};
+
+    ghost from_gives = { λ _ e. e ≡ Memory };
+
+    fn from(_: AllocError) -> Stop {
+        Stop::Memory
+    }
+}
+
+fn without_column(alloc: Global, xs: &[usize], column: usize) -> Result<Vec<usize>, AllocError>
+    ensures { IfOk result (λ v. v.items ≡ without column xs.now) }
+{
+    xs.iter()
+        .copied()
+        .filter(|x| !(column == *x))
+        .collect(alloc)
+}
+
+fn rows_without(
+    alloc: Global,
+    rows: &[Vec<usize>],
+    column: usize,
+) -> Result<Vec<Vec<usize>>, AllocError>
+    ensures { IfOk result (λ v. items_of v.items ≡ map (without column) (items_of rows.now)) }
+{
+    let mut kept = Vec::new(alloc);
+    for row in rows {
+        kept.push(without_column(alloc, row, column)?)?;
+    }
+    Ok(kept)
+}
+
+fn rows_lacking(
+    alloc: Global,
+    rows: &[Vec<usize>],
+    column: usize,
+) -> Result<Vec<Vec<usize>>, AllocError>
+    ensures { IfOk result (λ v. items_of v.items
+        ≡ filter (λ row. not (has column row)) (items_of rows.now)) }
+{
+    let mut kept = Vec::new(alloc);
+    for row in rows {
+        if !contains(row, column) {
+            kept.push(copy_of(alloc, row)?)?;
+        }
+    }
+    Ok(kept)
+}
+
+fn any_blank(rows: &[Vec<usize>]) -> bool
+    ensures { result ≡ list_any (λ row. is_blank row.items) rows.now }
+{
+    rows.iter().any(|row| is_blank(row))
+}
+
+/// The marked numbers of the second list and all of the first, below the end.
+fn taken_and_marked(
+    alloc: Global,
+    taken: &[usize],
+    live: &[usize],
+    marks: &[bool],
+    end: usize,
+) -> Result<Vec<usize>, AllocError>
+    requires taken { RisesFrom 0 taken.now }
+    requires live { RisesFrom 0 live.now }
+    ensures { IfOk result (λ v. v.items ≡ filter
+        (λ n. has n taken.now || (marked marks.now n && has n live.now)) (range_with_len 0 end)) }
+{
+    (0..end)
+        .filter(|n| holds(taken, *n) || (is_marked(marks, *n) && holds(live, *n)))
+        .collect(alloc)
+}
+
+/// Whether the row has a number of the list, which rises.
+fn is_held(columns: &[usize], row: &[usize]) -> bool
+    requires { RisesFrom 0 columns.now }
+    ensures { result ≡ meets columns.now row.now }
+{
+    row.iter().any(|c| holds(columns, *c))
+}
+
+/// Whether each row has a number of the list, which rises.
+fn all_held(columns: &[usize], rows: &[Vec<usize>]) -> bool
+    requires { RisesFrom 0 columns.now }
+    ensures { result ≡ list_all (λ row. meets columns.now row.items) rows.now }
+{
+    rows.iter().all(|row| is_held(columns, row))
+}
+
+/// What each live column counts, for those who wish.
+fn live_costs(
+    alloc: Global,
+    choice: Choice,
+    weights: &[u32],
+    live: &[usize],
+) -> Result<Vec<i64>, AllocError> {
+    let mut costs = Vec::with_capacity(alloc, live.len())?;
+    for column in live {
+        costs.push(i64::from(count(choice, weights, *column)))?;
+    }
+    Ok(costs)
+}
+
+impl Table {
+    pub(crate) fn is_solved(&self) -> bool
+        ensures solved { IsTrue result ↔ (self.now.rows ≡ []) }
+        ensures table { IsTable self.now }
+    {
+        self.rows.is_empty()
+    }
+
+    pub(crate) fn take(&self, alloc: Global, column: usize) -> Result<Table, AllocError>
+        requires { has column self.now.live ≡ true }
+        ensures { IfOk result (λ t. t ≡ take_column column self.now) }
+    {
+        let taken = with_column(alloc, self.taken_columns(), column)?;
+        let live = without_column(alloc, self.live_columns(), column)?;
+        let rows = rows_lacking(alloc, self.row_lists(), column)?;
+        self.with(alloc, taken, live, rows)
+    }
+
+    /// The table without a live column, where each row keeps one.
+    fn drop_live(&self, alloc: Global, column: usize) -> Result<Option<Table>, AllocError>
+        ensures { IfOk result (λ o. MatchOption o (IsForced self.now column)
+            (λ t. t ≡ drop_column column self.now)) }
+    {
+        let rows = rows_without(alloc, self.row_lists(), column)?;
+        if any_blank(&rows) {
+            return Ok(None);
+        }
+        let taken = copy_of(alloc, self.taken_columns())?;
+        let live = without_column(alloc, self.live_columns(), column)?;
+        Ok(Some(self.with(alloc, taken, live, rows)?))
+    }
+
+    /// The table with no columns but the marked ones, where each row keeps one.
+    pub(crate) fn keep_marked(
+        &self,
+        alloc: Global,
+        keep: &[bool],
+    ) -> Result<Option<Table>, AllocError>
+        ensures kept { IfOk result (λ o. MatchOption o (list_any is_blank
+            (map (filter (marked keep.now)) self.now.rows) ≡ true)
+            (λ t. t ≡ keep_columns (marked keep.now) self.now)) }
+        ensures table { IsTable self.now }
+    {
+        let rows = rows_of_marked(alloc, self.row_lists(), keep)?;
+        if any_blank(&rows) {
+            return Ok(None);
+        }
+        let taken = copy_of(alloc, self.taken_columns())?;
+        let live = marked_columns(alloc, self.live_columns(), keep)?;
+        Ok(Some(self.with(alloc, taken, live, rows)?))
+    }
+
+    /// Whether the taken columns alone go past the budget.
+    fn is_over_budget(&self, choice: Choice, budget: Budget) -> bool
+        ensures { MatchBool result (NoneWithin choice self.now budget.columns budget.counts)
+            ((length self.now.taken ≤ budget.columns)
+            × (sum_over (counted choice self.now.weights) self.now.taken ≤ budget.counts)) }
+    {
+        if self.taken_columns().len() > budget.columns {
+            return true;
+        }
+        sum(choice, self.literals(), self.taken_columns()) > budget.counts
+    }
+
+    /// What a cover within the budget may have beside the taken columns, for those who wish.
+    fn goal(&self, choice: Choice, budget: Budget) -> Goal {
+        let columns = budget.columns.saturating_sub(self.taken_columns().len());
+        let counts = budget
+            .counts
+            .saturating_sub(sum(choice, self.literals(), self.taken_columns()));
+        Goal {
+            columns: i64::try_from(columns).unwrap_or(i64::MAX),
+            counts: i64::try_from(counts).unwrap_or(i64::MAX),
+        }
+    }
+
+    /// The live columns and the rows, for those who wish.
+    fn compact(&self, alloc: Global, choice: Choice) -> Result<Compact, AllocError> {
+        let live = self.live_columns();
+        let costs = live_costs(alloc, choice, self.literals(), live)?;
+        Compact::of(alloc, self.row_lists(), live, self.columns(), costs)
+    }
+
+    /// All columns marked.
+    fn any_marked(&self, alloc: Global) -> Result<Vec<bool>, AllocError>
+        ensures { IfOk result (λ v. (c : ℕ) → has c self.now.live ≡ true
+            → marked v.items c ≡ true) }
+    {
+        let _live = self.live_columns();
+        all_marked(alloc, self.columns())
+    }
+
+    /// Marks the columns that a cover within the budget may have, as far as these multipliers show;
+    /// `None` if they show that there is no such cover.
+    fn columns_by_bound(
+        &self,
+        alloc: Global,
+        choice: Choice,
+        budget: Budget,
+        multipliers: &Multipliers,
+    ) -> Result<Option<Vec<bool>>, AllocError>
+        ensures { IfOk result (λ o. MatchOption o (NoneWithin choice self.now budget.columns
+            budget.counts) (λ v. (c : ℕ) → has c self.now.live ≡ true → marked v.items c ≡ false
+            → IsOutside choice self.now budget.columns budget.counts c)) }
+    {
+        let rows = self.row_lists();
+        if multipliers.weights.len() != rows.len() || rows.len() >= 4611686018427387904 {
+            return Ok(Some(self.any_marked(alloc)?));
+        }
+        let scaled_costs = scaled_costs(
+            alloc,
+            choice,
+            self.literals(),
+            multipliers.column,
+            multipliers.count,
+        )?;
+        let loads = lagrangian(alloc, rows, &multipliers.weights, &scaled_costs)?;
+        let columns = budget.columns.saturating_sub(self.taken_columns().len());
+        let counts = budget
+            .counts
+            .saturating_sub(sum(choice, self.literals(), self.taken_columns()));
+        let Some(limit) = limit_of(
+            multipliers.column,
+            columns,
+            multipliers.count,
+            counts,
+            loads.over,
+        ) else {
+            return Ok(Some(self.any_marked(alloc)?));
+        };
+        if loads.total > limit {
+            return Ok(None);
+        }
+        Ok(Some(columns_within_gap(alloc, &scaled_costs, &loads.loads, limit - loads.total)?))
+    }
+
+    /// Marks them by multipliers that are wished for.
+    pub(crate) fn columns_within_budget(
+        &self,
+        alloc: Global,
+        choice: Choice,
+        budget: Budget,
+        warm_start: &mut WarmStart,
+    ) -> Result<Option<Vec<bool>>, AllocError>
+        ensures { IfOk result (λ o. MatchOption o (NoneWithin choice self.now budget.columns
+            budget.counts) (λ v. (c : ℕ) → has c self.now.live ≡ true → marked v.items c ≡ false
+            → IsOutside choice self.now budget.columns budget.counts c)) }
+    {
+        let compact = self.compact(alloc, choice)?;
+        let goal = self.goal(choice, budget);
+        let multipliers = warm_start.multipliers(
+            alloc,
+            &compact,
+            self.live_columns(),
+            self.row_lists(),
+            self.columns(),
+            goal,
+        )?;
+        self.columns_by_bound(alloc, choice, budget, &multipliers)
+    }
+
+    /// The table without the columns that no cover within the budget has, as far as row weights
+    /// show.
+    fn drop_by_bound(
+        self,
+        alloc: Global,
+        choice: Choice,
+        budget: Budget,
+        warm_start: &mut WarmStart,
+    ) -> Result<Option<Table>, AllocError>
+        ensures { IfOk result (λ o. MatchOption o (NoneWithin choice self budget.columns
+            budget.counts) (IsNarrowed choice budget.columns budget.counts self)) }
+    {
+        let Some(keep) = self.columns_within_budget(alloc, choice, budget, warm_start)? else {
+            return Ok(None);
+        };
+        if all_kept(self.live_columns(), &keep) {
+            return Ok(Some(self));
+        }
+        self.keep_marked(alloc, &keep)
+    }
+
+    /// The table as far as a search within the budget has to look at it; `None` if there is no
+    /// cover.
+    fn narrow(
+        &self,
+        alloc: Global,
+        choice: Choice,
+        budget: Budget,
+        warm_start: &mut WarmStart,
+    ) -> Result<Option<Table>, AllocError>
+        ensures { IfOk result (λ o. MatchOption o (NoneWithin choice self.now budget.columns
+            budget.counts) (IsNarrowed choice budget.columns budget.counts self.now)) }
+    {
+        let mut table = self.lightened_copy(alloc, choice)?;
+        loop {
+            let live = table.live_columns().len();
+            let Some(next) = table.drop_by_bound(alloc, choice, budget, warm_start)? else {
+                return Ok(None);
+            };
+            if live <= next.live_columns().len() {
+                return Ok(Some(next));
+            }
+            table = next.lighten(alloc, choice)?;
+            if !is_worth_a_bound(live, table.live_columns().len()) {
+                return Ok(Some(table));
+            }
+        }
+    }
+
+    /// A live column to branch on: the likeliest one of a shortest row.
+    fn likeliest(&self, alloc: Global, warm_start: &WarmStart) -> Result<Option<usize>, AllocError>
+        ensures live { IfOk result (λ o. MatchOption o (self.now.live ≡ [])
+            (λ c. has c self.now.live ≡ true)) }
+        ensures table { IsTable self.now }
+    {
+        let numbers = entanglement(alloc, self.row_lists(), self.columns())?;
+        let wished = likeliest(self.row_lists(), warm_start.likely(), &numbers);
+        if contains(self.live_columns(), wished) {
+            return Ok(Some(wished));
+        }
+        Ok(self.live.first().copied())
+    }
+
+    /// A cover within the budget, or none if there is none; each table that is looked at takes one
+    /// of those left. What the search learns of row weights goes back once it is over.
+    #[cycle(search)]
+    fn search(
+        &self,
+        alloc: Global,
+        choice: Choice,
+        budget: Budget,
+        warm_start: &mut WarmStart,
+        left: &mut u64,
+    ) -> Result<Option<Vec<usize>>, Stop>
+        ensures { IfOk result (λ o. Answers choice self.now budget.columns budget.counts
+            (option_map (λ v. v.items) o)) }
+    {
+        let Some(rest) = left.checked_sub(1) else {
+            return Err(Stop::Cut);
+        };
+        *left = rest;
+        let mut own = warm_start.copy(alloc)?;
+        own.count_table();
+        let found = self.search_on(alloc, choice, budget, &mut own, left);
+        warm_start.learn(&own);
+        found
+    }
+
+    /// The same, with a warm start of its own.
+    #[cycle(search)]
+    fn search_on(
+        &self,
+        alloc: Global,
+        choice: Choice,
+        budget: Budget,
+        warm_start: &mut WarmStart,
+        left: &mut u64,
+    ) -> Result<Option<Vec<usize>>, Stop>
+        ensures { IfOk result (λ o. Answers choice self.now budget.columns budget.counts
+            (option_map (λ v. v.items) o)) }
+    {
+        match self.narrow(alloc, choice, budget, warm_start)? {
+            None => Ok(None),
+            Some(table) => table.branch(alloc, choice, budget, warm_start, left),
+        }
+    }
+
+    /// A cover within the budget by taking a live column, and if that leads to none by dropping it.
+    #[cycle(search)]
+    fn branch(
+        &self,
+        alloc: Global,
+        choice: Choice,
+        budget: Budget,
+        warm_start: &mut WarmStart,
+        left: &mut u64,
+    ) -> Result<Option<Vec<usize>>, Stop>
+        ensures { IfOk result (λ o. Answers choice self.now budget.columns budget.counts
+            (option_map (λ v. v.items) o)) }
+    {
+        if self.is_over_budget(choice, budget) {
+            return Ok(None);
+        }
+        if self.is_solved() {
+            return Ok(Some(copy_of(alloc, self.taken_columns())?));
+        }
+        let Some(column) = self.likeliest(alloc, warm_start)? else {
+            return Ok(None);
+        };
+        let with = self.take(alloc, column)?;
+        if let Some(cover) = with.search(alloc, choice, budget, warm_start, left)? {
+            return Ok(Some(cover));
+        }
+        match self.drop_live(alloc, column)? {
+            None => Ok(None),
+            Some(rest) => rest.search(alloc, choice, budget, warm_start, left),
+        }
+    }
+
+    /// The cover of the taken columns and the marked live ones, if it is one and within the budget.
+    fn cover_from_marks(
+        &self,
+        alloc: Global,
+        choice: Choice,
+        budget: Budget,
+        marks: &[bool],
+    ) -> Result<Option<Vec<usize>>, AllocError>
+        ensures { IfOk result (λ o. IfSome o (λ v. IsAnswer choice self.now budget.columns
+            budget.counts v.items)) }
+    {
+        let cover = taken_and_marked(
+            alloc,
+            self.taken_columns(),
+            self.live_columns(),
+            marks,
+            self.columns(),
+        )?;
+        if budget.columns < cover.len() {
+            return Ok(None);
+        }
+        if budget.counts < sum(choice, self.literals(), &cover) {
+            return Ok(None);
+        }
+        if !all_held(&cover, self.row_lists()) {
+            return Ok(None);
+        }
+        Ok(Some(cover))
+    }
+
+    /// A cover within the budget that a local search comes upon.
+    pub(crate) fn witness(
+        &self,
+        alloc: Global,
+        choice: Choice,
+        budget: Budget,
+        goal: Goal,
+        steps: usize,
+    ) -> Result<Option<Vec<usize>>, AllocError>
+        ensures { IfOk result (λ o. IfSome o (λ v. IsAnswer choice self.now budget.columns
+            budget.counts v.items)) }
+    {
+        let compact = self.compact(alloc, choice)?;
+        let steps = steps.saturating_mul(self.row_lists().len()).min(100000);
+        let wished = local_search(alloc, &compact, goal, steps)?;
+        let marks = marks_of(alloc, self.live_columns(), &wished, self.columns())?;
+        self.cover_from_marks(alloc, choice, budget, &marks)
+    }
+
+    /// A cover within the budget, or none if there is none: a local search looks for one before the
+    /// branches, in which as many tables are looked at as given.
+    pub(crate) fn decide_within(
+        &self,
+        alloc: Global,
+        choice: Choice,
+        budget: Budget,
+        warm_start: &mut WarmStart,
+        most: u64,
+    ) -> Result<Option<Vec<usize>>, Stop>
+        ensures { IfOk result (λ o. Answers choice self.now budget.columns budget.counts
+            (option_map (λ v. v.items) o)) }
+    {
+        warm_start.count_question();
+        warm_start.count_table();
+        let Some(table) = self.narrow(alloc, choice, budget, warm_start)? else {
+            return Ok(None);
+        };
+        let goal = table.goal(choice, budget);
+        if let Some(cover) = table.witness(alloc, choice, budget, goal, 12)? {
+            return Ok(Some(cover));
+        }
+        let mut left = most;
+        table.branch(alloc, choice, budget, warm_start, &mut left)
+    }
+
+    /// A cover within the budget, or none if there is none.
+    pub(crate) fn decide(
+        &self,
+        alloc: Global,
+        choice: Choice,
+        budget: Budget,
+        warm_start: &mut WarmStart,
+    ) -> Result<Option<Vec<usize>>, AllocError>
+        ensures { IfOk result (λ o. Answers choice self.now budget.columns budget.counts
+            (option_map (λ v. v.items) o)) }
+    {
+        // No search lives to look at 2^64 tables.
+        match self.decide_within(alloc, choice, budget, warm_start, u64::MAX) {
+            Ok(cover) => Ok(cover),
+            Err(_) => Err(AllocError),
+        }
+    }
+}

@@ -1,0 +1,629 @@
+//! The least cover: its length, then what it counts, and then the first such cover in list order.
+//!
+//! A cover of the least length is found by asking for shorter ones until there is none; with
+//! literals, covers with fewer are asked for in the same way. Then the columns are settled one by
+//! one, in list order. If the witness, a cover within the budget, has the next column, so has the
+//! least cover; else it is asked whether some cover within the budget has it, which gives a new
+//! witness or drops the column. Many columns are asked for at once, by a further row of them: if no
+//! cover has one of them all are dropped. Such a question may look at a few tables only, and is else
+//! given up for the first column alone.
+
+ghost use Rattle.std.specs.Prelude.{◌≡◌, ◌≢◌, ◌≤◌, ◌<◌, ◌+◌, ◌++◌, ◌∷◌, [], ℕ, IfOk, IfSome, MatchOption, filter, length, option_map, ◌==◌, true, false};
+ghost use Rattle.std.specs.List.{list_all};
+ghost use Rattle.covering.specs.Table.{has, IsWithin, RisesFrom};
+ghost use Rattle.covering.specs.Cover.{IsCover, IsLeast, counted};
+ghost use Rattle.covering.specs.Search.{Answers, Continues, HasFewer, HasShorter, IsBest, IsFewest, IsOutside, IsShortest, IsStage, marked};
+ghost use Rattle.covering.specs.Steps.{with_rows};
+
+use crate::bound::Budget;
+use crate::choice::Choice;
+use crate::columns::{contains, copy_of, copy_rows, count, join, sum};
+use crate::exhaustive::least_cover_plain;
+use crate::marks::{all_but, marked_columns, others};
+use crate::search::Stop;
+use crate::table::Table;
+use heuristics::{Effort, Goal, WarmStart, batch, is_worth_a_bound};
+use std::alloc::{AllocError, Global};
+
+/// A table with so few live columns is solved by trying all choices.
+const FEW: usize = 8;
+
+/// A question about several columns looks at so many tables, and is then given up.
+const BATCH_TABLES: u64 = 200;
+
+/// What is left to settle: a table, and a cover of it within the budget.
+#[derive(Drop)]
+struct Stage {
+    table: Table,
+    witness: Vec<usize>,
+}
+
+/// What helps with it: weights, and how many columns are asked for at once.
+#[derive(Drop)]
+struct Help {
+    warm_start: WarmStart,
+    most: usize,
+}
+
+impl Help {
+    /// After a yes one column is asked for at once, and after a no twice as many.
+    fn adapt(&mut self, is_yes: bool) {
+        self.most = if is_yes {
+            1
+        } else {
+            self.most.saturating_mul(2)
+        };
+    }
+
+    /// A cover within the budget, or none if there is none.
+    fn decide(
+        &mut self,
+        alloc: Global,
+        choice: Choice,
+        budget: Budget,
+        table: &Table,
+    ) -> Result<Option<Vec<usize>>, AllocError>
+        ensures { IfOk result (λ o. Answers choice table.now budget.columns budget.counts
+            (option_map (λ v. v.items) o)) }
+    {
+        let mut warm_start = self.warm_start.copy(alloc)?;
+        let witness = table.decide(alloc, choice, budget, &mut warm_start)?;
+        self.warm_start.learn(&warm_start);
+        self.adapt(witness.is_some());
+        Ok(witness)
+    }
+
+    /// The same of a batch, or no answer where that takes too many tables: a cover that has one of
+    /// many columns can be far harder to rule out than a cover that has the first of them.
+    fn decide_batch(
+        &mut self,
+        alloc: Global,
+        choice: Choice,
+        budget: Budget,
+        table: &Table,
+    ) -> Result<Option<Option<Vec<usize>>>, AllocError>
+        ensures { IfOk result (λ r. IfSome r (λ o. Answers choice table.now budget.columns
+            budget.counts (option_map (λ v. v.items) o))) }
+    {
+        let mut warm_start = self.warm_start.copy(alloc)?;
+        let decided = table.decide_within(alloc, choice, budget, &mut warm_start, BATCH_TABLES);
+        self.warm_start.learn(&warm_start);
+        match decided {
+            Ok(witness) => {
+                self.adapt(witness.is_some());
+                Ok(Some(witness))
+            }
+            Err(Stop::Cut) => {
+                self.most = 1;
+                Ok(None)
+            }
+            Err(Stop::Memory) => Err(AllocError),
+        }
+    }
+}
+
+/// Whether each of the columns counts so much.
+fn all_count(choice: Choice, weights: &[u32], columns: &[usize], number: u32) -> bool
+    ensures { result ≡ list_all (λ c. counted choice weights.now c == number) columns.now }
+{
+    columns
+        .iter()
+        .all(|column| count(choice, weights, *column) == number)
+}
+
+impl Stage {
+    /// The table without columns that no cover within the budget has.
+    fn without_columns(
+        self,
+        alloc: Global,
+        choice: Choice,
+        budget: Budget,
+        keep: &[bool],
+    ) -> Result<Stage, AllocError>
+        requires stage { IsStage choice budget.columns budget.counts self.table self.witness.items }
+        requires outside { (c : ℕ) → has c self.table.live ≡ true → marked keep.now c ≡ false
+            → IsOutside choice self.table budget.columns budget.counts c }
+        ensures stage { IfOk result (λ s. IsStage choice budget.columns budget.counts s.table
+            s.witness.items) }
+        ensures next { IfOk result (λ s. Continues choice self.table s.table) }
+        ensures live { IfOk result (λ s. s.table.live ≡ filter (marked keep.now) self.table.live) }
+    {
+        let Stage { table, witness } = self;
+        match table.keep_marked(alloc, keep)? {
+            Some(table) => Ok(Stage { table, witness }),
+            None => unreachable!(),
+        }
+    }
+
+    /// The table without the marked columns, which no cover within the budget has.
+    fn without_marked(
+        self,
+        alloc: Global,
+        choice: Choice,
+        budget: Budget,
+        marks: &[bool],
+    ) -> Result<Stage, AllocError>
+        requires stage { IsStage choice budget.columns budget.counts self.table self.witness.items }
+        requires outside { (c : ℕ) → has c self.table.live ≡ true → marked marks.now c ≡ true
+            → IsOutside choice self.table budget.columns budget.counts c }
+        ensures stage { IfOk result (λ s. IsStage choice budget.columns budget.counts s.table
+            s.witness.items) }
+        ensures next { IfOk result (λ s. Continues choice self.table s.table) }
+    {
+        let _live = self.table.live_columns();
+        let keep = others(alloc, marks, self.table.columns())?;
+        self.without_columns(alloc, choice, budget, &keep)
+    }
+
+    /// The table without the column, which no cover within the budget has.
+    fn without_column(
+        self,
+        alloc: Global,
+        choice: Choice,
+        budget: Budget,
+        column: usize,
+    ) -> Result<Stage, AllocError>
+        requires stage { IsStage choice budget.columns budget.counts self.table self.witness.items }
+        requires outside { IsOutside choice self.table budget.columns budget.counts column }
+        ensures stage { IfOk result (λ s. IsStage choice budget.columns budget.counts s.table
+            s.witness.items) }
+        ensures next { IfOk result (λ s. Continues choice self.table s.table) }
+        ensures gone { IfOk result (λ s. has column s.table.live ≡ false) }
+    {
+        let _live = self.table.live_columns();
+        let keep = all_but(alloc, column, self.table.columns())?;
+        self.without_columns(alloc, choice, budget, &keep)
+    }
+
+    /// Drops a batch of columns if no cover within the budget has one of them; else there is a new
+    /// witness.
+    fn ask_for_many(
+        self,
+        alloc: Global,
+        choice: Choice,
+        budget: Budget,
+        column: usize,
+        help: &mut Help,
+    ) -> Result<Stage, AllocError>
+        requires { IsStage choice budget.columns budget.counts self.table self.witness.items }
+        ensures stage { IfOk result (λ s. IsStage choice budget.columns budget.counts s.table
+            s.witness.items) }
+        ensures next { IfOk result (λ s. Continues choice self.table s.table) }
+    {
+        let marks = batch(
+            alloc,
+            self.table.live_columns(),
+            &self.witness,
+            column,
+            help.most,
+            self.table.columns(),
+        )?;
+        let Some(asked) = self.table.with_marked_row(alloc, &marks)? else {
+            return Ok(self);
+        };
+        let Some(answer) = help.decide_batch(alloc, choice, budget, &asked)? else {
+            return Ok(self);
+        };
+        match answer {
+            Some(witness) => Ok(Stage {
+                table: self.table,
+                witness,
+            }),
+            None => self.without_marked(alloc, choice, budget, &marks),
+        }
+    }
+
+    /// Takes the first live column if some cover within the budget has it, and else drops it.
+    fn ask_for_one(
+        self,
+        alloc: Global,
+        choice: Choice,
+        budget: Budget,
+        column: usize,
+        help: &mut Help,
+    ) -> Result<Stage, AllocError>
+        requires stage { IsStage choice budget.columns budget.counts self.table self.witness.items }
+        requires live { has column self.table.live ≡ true }
+        requires first { (c : ℕ) → has c self.table.live ≡ true → column ≤ c }
+        ensures stage { IfOk result (λ s. IsStage choice budget.columns budget.counts s.table
+            s.witness.items) }
+        ensures next { IfOk result (λ s. Continues choice self.table s.table) }
+        ensures gone { IfOk result (λ s. has column s.table.live ≡ false) }
+    {
+        let _live = self.table.live_columns();
+        let with = self.table.take(alloc, column)?;
+        if contains(&self.witness, column) {
+            return Ok(Stage {
+                table: with,
+                witness: self.witness,
+            });
+        }
+        match help.decide(alloc, choice, budget, &with)? {
+            Some(witness) => Ok(Stage {
+                table: with,
+                witness,
+            }),
+            None => self.without_column(alloc, choice, budget, column),
+        }
+    }
+
+    /// Drops the columns that row weights show to be in no cover within the budget.
+    fn drop_by_bound(
+        self,
+        alloc: Global,
+        choice: Choice,
+        budget: Budget,
+        help: &mut Help,
+    ) -> Result<Stage, AllocError>
+        requires { IsStage choice budget.columns budget.counts self.table self.witness.items }
+        ensures stage { IfOk result (λ s. IsStage choice budget.columns budget.counts s.table
+            s.witness.items) }
+        ensures next { IfOk result (λ s. Continues choice self.table s.table) }
+    {
+        match self
+            .table
+            .columns_within_budget(alloc, choice, budget, &mut help.warm_start)?
+        {
+            Some(keep) => self.without_columns(alloc, choice, budget, &keep),
+            None => unreachable!(),
+        }
+    }
+
+    /// Drops such columns until weights show few more.
+    fn narrow(
+        self,
+        alloc: Global,
+        choice: Choice,
+        budget: Budget,
+        help: &mut Help,
+    ) -> Result<Stage, AllocError>
+        requires { IsStage choice budget.columns budget.counts self.table self.witness.items }
+        ensures stage { IfOk result (λ s. IsStage choice budget.columns budget.counts s.table
+            s.witness.items) }
+        ensures next { IfOk result (λ s. Continues choice self.table s.table) }
+    {
+        let mut stage = self;
+        loop {
+            let live = stage.table.live_columns().len();
+            stage = stage.drop_by_bound(alloc, choice, budget, help)?;
+            let left = stage.table.live_columns().len();
+            if live <= left || !is_worth_a_bound(live, left) {
+                return Ok(stage);
+            }
+        }
+    }
+
+    /// Takes or drops the column, which is the first that may be live.
+    fn settle(
+        self,
+        alloc: Global,
+        choice: Choice,
+        budget: Budget,
+        column: usize,
+        help: &mut Help,
+    ) -> Result<Stage, AllocError>
+        requires stage { IsStage choice budget.columns budget.counts self.table self.witness.items }
+        requires first { (c : ℕ) → has c self.table.live ≡ true → column ≤ c }
+        ensures stage { IfOk result (λ s. IsStage choice budget.columns budget.counts s.table
+            s.witness.items) }
+        ensures next { IfOk result (λ s. Continues choice self.table s.table) }
+        ensures gone { IfOk result (λ s. has column s.table.live ≡ false) }
+    {
+        if !contains(self.table.live_columns(), column) {
+            return Ok(self);
+        }
+        let stage = self.ask_for_many(alloc, choice, budget, column, help)?;
+        if !contains(stage.table.live_columns(), column) {
+            return stage.narrow(alloc, choice, budget, help);
+        }
+        if contains(&stage.witness, column) {
+            return stage.ask_for_one(alloc, choice, budget, column, help);
+        }
+        let stage = stage.ask_for_one(alloc, choice, budget, column, help)?;
+        stage.narrow(alloc, choice, budget, help)
+    }
+}
+
+impl Table {
+    fn with_row(&self, alloc: Global, row: Vec<usize>) -> Result<Table, AllocError>
+        requires some { row.items ≢ [] }
+        requires rises { RisesFrom 0 row.items }
+        requires within { IsWithin row.items self.now.live }
+        ensures { IfOk result (λ t. t ≡ with_rows self.now (self.now.rows ++ row.items ∷ [])) }
+    {
+        let mut rows = copy_rows(alloc, self.row_lists())?;
+        rows.push(row)?;
+        let taken = copy_of(alloc, self.taken_columns())?;
+        let live = copy_of(alloc, self.live_columns())?;
+        self.with(alloc, taken, live, rows)
+    }
+
+    /// The table with a further row of the marked columns; `None` if they are fewer than two.
+    fn with_marked_row(&self, alloc: Global, marks: &[bool]) -> Result<Option<Table>, AllocError>
+        ensures { IfOk result (λ o. MatchOption o (length (filter (marked marks.now)
+            self.now.live) < 2) (λ t. t ≡ with_rows self.now (self.now.rows
+            ++ filter (marked marks.now) self.now.live ∷ []))) }
+    {
+        let row = marked_columns(alloc, self.live_columns(), marks)?;
+        if row.len() < 2 {
+            return Ok(None);
+        }
+        Ok(Some(self.with_row(alloc, row)?))
+    }
+
+    /// The first of the best covers, from one of them.
+    fn first_of(
+        &self,
+        alloc: Global,
+        choice: Choice,
+        best: Vec<usize>,
+        help: &mut Help,
+    ) -> Result<Vec<usize>, AllocError>
+        requires { IsBest choice self.now best.items }
+        ensures { IfOk result (λ v. IsLeast choice self.now v.items) }
+    {
+        let budget = Budget {
+            columns: best.len(),
+            counts: sum(choice, self.literals(), &best),
+        };
+        let mut stage = Stage {
+            table: self.copy(alloc)?,
+            witness: best,
+        };
+        stage = stage.narrow(alloc, choice, budget, help)?;
+        for column in 0..self.columns() {
+            if stage.table.is_solved() {
+                return copy_of(alloc, stage.table.taken_columns());
+            }
+            stage = stage.settle(alloc, choice, budget, column, help)?;
+        }
+        copy_of(alloc, stage.table.taken_columns())
+    }
+
+    /// A shorter cover; `None` if there is none.
+    fn shorter(
+        &self,
+        alloc: Global,
+        columns: usize,
+        warm_start: &mut WarmStart,
+    ) -> Result<Option<Vec<usize>>, AllocError>
+        ensures { IfOk result (λ o. MatchOption o (IsShortest self.now columns)
+            (λ v. HasShorter self.now columns v.items)) }
+    {
+        let Some(columns) = columns.checked_sub(1) else {
+            return Ok(None);
+        };
+        let budget = Budget { columns, counts: 0 };
+        self.decide(alloc, Choice::First, budget, warm_start)
+    }
+
+    /// All taken and live columns: a cover.
+    fn all_columns(&self, alloc: Global) -> Result<Vec<usize>, AllocError>
+        ensures { IfOk result (λ v. IsCover self.now v.items) }
+    {
+        join(alloc, self.taken_columns(), self.live_columns())
+    }
+
+    /// A cover that a local search comes upon, in so many steps a row or once it has so few columns
+    /// and nothing is counted.
+    fn some_cover(
+        &self,
+        alloc: Global,
+        choice: Choice,
+        columns: usize,
+        steps: usize,
+    ) -> Result<Vec<usize>, AllocError>
+        ensures { IfOk result (λ v. IsCover self.now v.items) }
+    {
+        let budget = Budget {
+            columns: self.columns(),
+            counts: u128::MAX,
+        };
+        let others = columns.saturating_sub(self.taken_columns().len());
+        let goal = Goal {
+            columns: i64::try_from(others).unwrap_or(0),
+            counts: 0,
+        };
+        let all = self.all_columns(alloc)?;
+        match self.witness(alloc, choice, budget, goal, steps)? {
+            None => Ok(all),
+            Some(cover) => Ok(cover),
+        }
+    }
+
+    /// How many columns each cover has at least, if one has so many, as far as row weights show: a
+    /// wish.
+    fn least_length(
+        &self,
+        alloc: Global,
+        columns: usize,
+        warm_start: &mut WarmStart,
+    ) -> Result<usize, AllocError> {
+        let asked = columns.saturating_sub(1);
+        let budget = Budget {
+            columns: asked,
+            counts: 0,
+        };
+        match self.columns_within_budget(alloc, Choice::First, budget, warm_start)? {
+            None => Ok(columns),
+            Some(_) => {
+                let missing = usize::try_from(warm_start.shortfall()).unwrap_or(usize::MAX);
+                Ok(asked.saturating_sub(missing))
+            }
+        }
+    }
+
+    /// A cover that is likely short: a bound on the length says when a local search is at its end.
+    fn short_cover(
+        &self,
+        alloc: Global,
+        choice: Choice,
+        warm_start: &mut WarmStart,
+    ) -> Result<Vec<usize>, AllocError>
+        ensures { IfOk result (λ v. IsCover self.now v.items) }
+    {
+        let greedy = self.some_cover(alloc, Choice::First, 0, 1)?;
+        let least = self.least_length(alloc, greedy.len(), warm_start)?;
+        self.some_cover(alloc, choice, least, 50)
+    }
+
+    /// A cover of the least length.
+    fn shortest(
+        &self,
+        alloc: Global,
+        choice: Choice,
+        warm_start: &mut WarmStart,
+    ) -> Result<Vec<usize>, AllocError>
+        ensures { IfOk result (λ v. IsBest Choice.First self.now v.items) }
+    {
+        let mut cover = self.short_cover(alloc, choice, warm_start)?;
+        while let Some(shorter) = self.shorter(alloc, cover.len(), warm_start)? {
+            cover = shorter;
+        }
+        Ok(cover)
+    }
+
+    /// A cover of so many columns with fewer literals; `None` if every cover is longer or has as
+    /// many.
+    fn with_fewer(
+        &self,
+        alloc: Global,
+        columns: usize,
+        literals: u128,
+        warm_start: &mut WarmStart,
+    ) -> Result<Option<Vec<usize>>, AllocError>
+        ensures { IfOk result (λ o. MatchOption o (IsFewest self.now columns literals)
+            (λ v. HasFewer self.now columns literals v.items)) }
+    {
+        let Some(counts) = literals.checked_sub(1) else {
+            return Ok(None);
+        };
+        let budget = Budget { columns, counts };
+        self.decide(alloc, Choice::Literals, budget, warm_start)
+    }
+
+    /// A cover of the least length with the fewest literals, from one of the least length.
+    fn fewest(
+        &self,
+        alloc: Global,
+        cover: Vec<usize>,
+        warm_start: &mut WarmStart,
+    ) -> Result<Vec<usize>, AllocError>
+        requires { IsBest Choice.First self.now cover.items }
+        ensures { IfOk result (λ v. IsBest Choice.Literals self.now v.items) }
+    {
+        let columns = cover.len();
+        let mut cover = cover;
+        let mut low: u128 = 0;
+        loop {
+            let counts = sum(Choice::Literals, self.literals(), &cover);
+            if counts <= low {
+                return Ok(cover);
+            }
+            let target = self.target_count(alloc, columns, counts, warm_start)?;
+            let asked = target.max(low + 1).min(counts);
+            match self.with_fewer(alloc, columns, asked, warm_start)? {
+                None => low = asked,
+                Some(fewer) => cover = fewer,
+            }
+        }
+    }
+
+    /// Fewer literals than which covers of so many columns hardly have, as far as row weights show:
+    /// a wish.
+    fn target_count(
+        &self,
+        alloc: Global,
+        columns: usize,
+        counts: u128,
+        warm_start: &mut WarmStart,
+    ) -> Result<u128, AllocError> {
+        let budget = Budget { columns, counts };
+        let _keep = self.columns_within_budget(alloc, Choice::Literals, budget, warm_start)?;
+        Ok(counts.saturating_sub(u128::from(warm_start.shortfall())))
+    }
+
+    /// A cover of the least length, and with literals of the fewest among those.
+    fn best(
+        &self,
+        alloc: Global,
+        choice: Choice,
+        warm_start: &mut WarmStart,
+    ) -> Result<Vec<usize>, AllocError>
+        ensures { IfOk result (λ v. IsBest choice self.now v.items) }
+    {
+        let cover = self.shortest(alloc, choice, warm_start)?;
+        match choice {
+            Choice::First => Ok(cover),
+            Choice::Literals => self.fewest(alloc, cover, warm_start),
+        }
+    }
+
+    /// The least cover, of all rows at once. If all live columns count alike, size decides before
+    /// what they count.
+    pub(crate) fn least_of_whole(
+        &self,
+        alloc: Global,
+        choice: Choice,
+        effort: &mut Effort,
+    ) -> Result<Vec<usize>, AllocError>
+        ensures { IfOk result (λ v. IsLeast choice self.now v.items) }
+    {
+        let live = self.live_columns();
+        if live.len() <= FEW {
+            return least_cover_plain(self, choice);
+        }
+        if all_count(
+            choice,
+            self.literals(),
+            live,
+            count(choice, self.literals(), live[0]),
+        ) {
+            return self.first_of_best(alloc, Choice::First, effort);
+        }
+        self.first_of_best(alloc, choice, effort)
+    }
+
+    /// The first of the best covers.
+    fn first_of_best(
+        &self,
+        alloc: Global,
+        choice: Choice,
+        effort: &mut Effort,
+    ) -> Result<Vec<usize>, AllocError>
+        ensures { IfOk result (λ v. IsLeast choice self.now v.items) }
+    {
+        let mut warm_start = WarmStart::new(alloc, *effort);
+        let best = self.best(alloc, choice, &mut warm_start)?;
+        let mut help = Help {
+            warm_start: WarmStart::new(alloc, warm_start.effort()),
+            most: 1,
+        };
+        let first = self.first_of(alloc, choice, best, &mut help)?;
+        *effort = help.warm_start.effort();
+        Ok(first)
+    }
+}
+
+/// The least cover: the first of the shortest; with `Choice::Literals`, of those with the fewest
+/// literals.
+pub fn least_cover(table: &Table, choice: Choice) -> Result<Vec<usize>, AllocError>
+    ensures { IfOk result (λ v. IsLeast choice table.now v.items) }
+{
+    let mut effort = Effort::none();
+    least_cover_with_effort(table, choice, &mut effort)
+}
+
+/// The least cover, as [`least_cover`] gives it; adds what was done to find it, figures that no
+/// contract speaks of.
+pub fn least_cover_with_effort(
+    table: &Table,
+    choice: Choice,
+    effort: &mut Effort,
+) -> Result<Vec<usize>, AllocError>
+    ensures { IfOk result (λ v. IsLeast choice table.now v.items) }
+{
+    let alloc = *table.rows.allocator();
+    let core = table.cyclic_core(alloc, choice)?;
+    core.least_by_parts(alloc, choice, effort)
+}

@@ -1,0 +1,181 @@
+//! The covering table.
+
+ghost use Rattle.std.specs.Prelude.{◌≡◌, ◌<◌, ◌&&◌, IfOk, MatchOption, length};
+ghost use Rattle.std.specs.List.{list_all, range_with_len};
+ghost use Rattle.covering.specs.Table.{Table as Matrix, IsTable, items_of, has, AreRows, fresh, is_row, table_of};
+
+use crate::columns::{contains, copy_of, copy_rows, rises};
+use std::alloc::{AllocError, Global};
+use std::marker::Model;
+
+fn is_row(row: &[usize], columns: usize) -> bool
+    ensures { result ≡ is_row columns row.now }
+{
+    row.len() != 0 && rises(row, columns)
+}
+
+/// Whether each row has a column, rises and is below `columns`.
+fn are_rows(rows: &[Vec<usize>], columns: usize) -> bool
+    ensures { result ≡ list_all (λ row. is_row columns row.items) rows.now }
+{
+    rows.iter().all(|row| is_row(row, columns))
+}
+
+/// The numbers below the end.
+pub fn numbers(alloc: Global, end: usize) -> Result<Vec<usize>, AllocError>
+    ensures { IfOk result (λ v. v.items ≡ range_with_len 0 end) }
+{
+    (0..end).collect(alloc)
+}
+
+/// A covering table: each cover has the taken columns and, of each row, one of its live columns.
+#[derive(Drop)]
+pub struct Table {
+    pub(crate) columns: usize,
+    pub(crate) taken: Vec<usize>,
+    pub(crate) live: Vec<usize>,
+    pub(crate) rows: Vec<Vec<usize>>,
+    pub(crate) weights: Vec<u32>,
+}
+
+impl Model for Table {
+    ghost use Rattle.covering.specs.Table.{Table as Matrix, IsTable, items_of};
+
+    ghost Value = { Matrix };
+
+    ghost view = { λ t. record {
+      columns = t.columns;
+      taken = t.taken.items;
+      live = t.live.items;
+      rows = items_of t.rows.items;
+      weights = t.weights.items;
+    } };
+
+    ghost invariant = { λ t. IsTable (record {
+      columns = t.columns;
+      taken = t.taken.items;
+      live = t.live.items;
+      rows = items_of t.rows.items;
+      weights = t.weights.items;
+    }) };
+}
+
+impl Table {
+    /// The table of these rows, with a column for each weight; none is taken and all are live.
+    ///
+    /// A row lists its columns in rising order; a column's weight is its number of literals. `None`
+    /// if some row is empty, doesn't rise or has a column that has no weight. Its cost is that of
+    /// reading the rows once.
+    pub fn new(
+        alloc: Global,
+        rows: Vec<Vec<usize>>,
+        weights: Vec<u32>,
+    ) -> Result<Option<Table>, AllocError>
+        ensures { IfOk result (λ o. MatchOption o (AreRows (length weights.items)
+            (items_of rows.items) → ⊥) (λ t. AreRows (length weights.items) (items_of rows.items)
+            × (t ≡ fresh (items_of rows.items) weights.items))) }
+    {
+        let columns = weights.len();
+        if !are_rows(&rows, columns) {
+            return Ok(None);
+        }
+        Ok(Some(Table {
+            columns,
+            taken: Vec::new(alloc),
+            live: numbers(alloc, columns)?,
+            rows,
+            weights,
+        }))
+    }
+
+    /// How many columns the table was made with.
+    pub fn columns(&self) -> usize
+        ensures { result ≡ self.now.columns }
+    {
+        self.columns
+    }
+
+    /// How many rows are left.
+    pub fn row_count(&self) -> usize
+        ensures { result ≡ length self.now.rows }
+    {
+        self.rows.len()
+    }
+
+    /// Whether the column is in every cover by an earlier step.
+    pub fn is_taken(&self, i: usize) -> bool
+        requires { i < self.now.columns }
+        ensures { result ≡ has i self.now.taken }
+    {
+        contains(&self.taken, i)
+    }
+
+    /// Whether a cover may still have the column or not.
+    pub fn is_live(&self, i: usize) -> bool
+        requires { i < self.now.columns }
+        ensures { result ≡ has i self.now.live }
+    {
+        contains(&self.live, i)
+    }
+
+    pub(crate) fn taken_columns(&self) -> &[usize]
+        ensures value { result.now ≡ self.now.taken }
+        ensures table { IsTable self.now }
+    {
+        &self.taken
+    }
+
+    pub(crate) fn live_columns(&self) -> &[usize]
+        ensures value { result.now ≡ self.now.live }
+        ensures table { IsTable self.now }
+    {
+        &self.live
+    }
+
+    pub(crate) fn row_lists(&self) -> &[Vec<usize>]
+        ensures value { items_of result.now ≡ self.now.rows }
+        ensures table { IsTable self.now }
+    {
+        &self.rows
+    }
+
+    pub(crate) fn literals(&self) -> &[u32]
+        ensures value { result.now ≡ self.now.weights }
+        ensures table { IsTable self.now }
+    {
+        &self.weights
+    }
+
+    /// The table with the columns and weights of this one.
+    pub(crate) fn with(
+        &self,
+        alloc: Global,
+        taken: Vec<usize>,
+        live: Vec<usize>,
+        rows: Vec<Vec<usize>>,
+    ) -> Result<Table, AllocError>
+        requires { IsTable (table_of self.now.columns taken.items live.items (items_of rows.items)
+            self.now.weights) }
+        ensures { IfOk result (λ t. t ≡ table_of self.now.columns taken.items live.items
+            (items_of rows.items) self.now.weights) }
+    {
+        let weights: Vec<u32> = self.weights.iter().copied().collect(alloc)?;
+        Ok(Table {
+            columns: self.columns,
+            taken,
+            live,
+            rows,
+            weights,
+        })
+    }
+
+    /// A copy of the table.
+    pub(crate) fn copy(&self, alloc: Global) -> Result<Table, AllocError>
+        ensures { IfOk result (λ t. t ≡ self.now) }
+    {
+        let taken = copy_of(alloc, self.taken_columns())?;
+        let live = copy_of(alloc, self.live_columns())?;
+        let rows = copy_rows(alloc, self.row_lists())?;
+        self.with(alloc, taken, live, rows)
+    }
+}

@@ -1,0 +1,85 @@
+//! The transpose of a table: for each column the rows in which it stands.
+
+ghost use Rattle.std.specs.Prelude.{◌≡◌, ◌<◌, [], IfOk, length};
+ghost use Rattle.covering.specs.Table.{RisesFrom, items_of};
+ghost use Rattle.covering.specs.Reduce.{row_at, AreRising, Appends, Enters, IsTranspose};
+
+use crate::table::Table;
+use heuristics::entanglement;
+use std::alloc::{AllocError, Global};
+
+/// The list at the place, empty if there is none.
+pub(crate) fn entry(lists: &[Vec<usize>], place: usize) -> &[usize]
+    ensures { result.now ≡ row_at (items_of lists.entry.now) place }
+{
+    if place < lists.len() {
+        &lists[place]
+    } else {
+        &[]
+    }
+}
+
+/// Adds the number to the list at the place.
+fn append(lists: &mut Vec<Vec<usize>>, place: usize, number: usize) -> Result<(), AllocError>
+    ensures { IfOk result (λ _. Appends (items_of lists.old.items) place number
+        (items_of lists.new.items)) }
+{
+    if place < lists.len() {
+        lists[place].push(number)?;
+    }
+    Ok(())
+}
+
+/// Adds the row's number to each of its columns.
+fn enter(columns: &mut Vec<Vec<usize>>, row: &[usize], number: usize) -> Result<(), AllocError>
+    requires { RisesFrom 0 row.now }
+    ensures { IfOk result (λ _. Enters (items_of columns.old.items) row.now number
+        (items_of columns.new.items)) }
+{
+    for column in row {
+        append(columns, *column, number)?;
+    }
+    Ok(())
+}
+
+/// An empty list with room for what is wished for at the place.
+fn list_with_room(alloc: Global, room: &[i64], place: usize) -> Result<Vec<usize>, AllocError>
+    ensures { IfOk result (λ v. v.items ≡ []) }
+{
+    let room = if place < room.len() { room[place] } else { 0 };
+    Vec::with_capacity(alloc, usize::try_from(room).unwrap_or(0))
+}
+
+/// The rows in which each column stands.
+fn transpose(
+    alloc: Global,
+    rows: &[Vec<usize>],
+    columns: usize,
+) -> Result<Vec<Vec<usize>>, AllocError>
+    requires { AreRising (items_of rows.now) }
+    ensures transpose { IfOk result (λ v. IsTranspose columns (items_of rows.now)
+        (items_of v.items)) }
+    ensures long { IfOk result (λ v. length v.items ≡ columns) }
+{
+    let row_counts = entanglement(alloc, rows, columns)?;
+    let mut transpose: Vec<Vec<usize>> = Vec::with_capacity(alloc, columns)?;
+    for column in 0..columns {
+        let list = list_with_room(alloc, &row_counts, column)?;
+        transpose.push(list)?;
+    }
+    for (i, row) in rows.iter().enumerate() {
+        enter(&mut transpose, row, i)?;
+    }
+    Ok(transpose)
+}
+
+impl Table {
+    /// The rows in which each column stands.
+    pub(crate) fn transpose(&self, alloc: Global) -> Result<Vec<Vec<usize>>, AllocError>
+        ensures transpose { IfOk result (λ v. IsTranspose self.now.columns self.now.rows
+            (items_of v.items)) }
+        ensures long { IfOk result (λ v. length v.items ≡ self.now.columns) }
+    {
+        transpose(alloc, self.row_lists(), self.columns())
+    }
+}

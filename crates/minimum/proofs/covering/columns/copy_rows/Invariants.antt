@@ -1,6 +1,0 @@
-use Rattle.std.proofs.Common.{◌≡◌, take}
-use Rattle.minimum.specs.Table.{items_of}
-use Rattle.minimum.proofs.covering.columns.copy_rows.Given as goal
-
-abbrev pub invariant-loop-row : goal.invariant-loop-row
-invariant-loop-row l = items_of l.kept.items ≡ items_of (take l.row-index l.rows)

@@ -1,6 +1,0 @@
-use Rattle.std.proofs.Common.{◌≡◌, drop}
-use Rattle.minimum.specs.Table.{is_rising}
-use Rattle.minimum.proofs.covering.columns.rises.Given as goal
-
-abbrev pub invariant-loop-x : goal.invariant-loop-x
-invariant-loop-x l = is_rising l.end 0 l.row ≡ is_rising l.end l.low (drop l.x-index l.row)

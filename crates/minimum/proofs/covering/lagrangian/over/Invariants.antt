@@ -1,8 +1,0 @@
-use Rattle.std.proofs.Common.{◌≡◌}
-use Rattle.std.specs.List.{range_with_len}
-use Rattle.minimum.specs.Cover.{sum_over}
-use Rattle.minimum.specs.Lagrange.{beyond}
-use Rattle.minimum.proofs.covering.lagrangian.over.Given as goal
-
-abbrev pub invariant-loop-column : goal.invariant-loop-column
-invariant-loop-column l = l.over ≡ sum_over (beyond l.loads l.scaled_costs) (range_with_len 0 l.column)

@@ -1,6 +1,0 @@
-use Rattle.std.proofs.Common.{◌≡◌, ◌≤◌, ◌*◌, ◌^◌, take}
-use Rattle.minimum.specs.Weights.{total}
-use Rattle.minimum.proofs.covering.lagrangian.total.Given as goal
-
-abbrev pub invariant-loop-weight : goal.invariant-loop-weight
-invariant-loop-weight l = record { sum : l.total ≡ total (take l.weight-index l.weights); bound : l.total ≤ l.weight-index * 2 ^ 64 }

@@ -1,7 +1,0 @@
-use Rattle.std.proofs.Common.{◌≡◌, map, take}
-use Rattle.minimum.specs.Table.{items_of}
-use Rattle.minimum.specs.Parts.{pick}
-use Rattle.minimum.proofs.covering.renumber.numbers_of_rows.Given as goal
-
-abbrev pub invariant-loop-row : goal.invariant-loop-row
-invariant-loop-row l = map (map (pick l.live)) (items_of l.lists.items) ≡ items_of (take l.row-index l.rows)

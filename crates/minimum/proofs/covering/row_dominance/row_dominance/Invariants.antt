@@ -1,6 +1,0 @@
-use Rattle.minimum.specs.Table.{items_of}
-use Rattle.minimum.specs.Reduce.{RowDominanceSoFar}
-use Rattle.minimum.proofs.covering.row_dominance.row_dominance.Given as goal
-
-abbrev pub invariant-loop-number : goal.invariant-loop-number
-invariant-loop-number l = RowDominanceSoFar (items_of l.rows) l.number l.stay.items

@@ -1,7 +1,0 @@
-use Rattle.std.proofs.Common.{take}
-use Rattle.minimum.specs.Table.{items_of}
-use Rattle.minimum.specs.Reduce.{UnmarksDominatingRows}
-use Rattle.minimum.proofs.covering.row_dominance.unmark_dominating_rows.Given as goal
-
-abbrev pub invariant-loop-number : goal.invariant-loop-number
-invariant-loop-number l = UnmarksDominatingRows (items_of l.rows) l.at (take l.number-index l.among) l.initial.stay.items l.stay.items

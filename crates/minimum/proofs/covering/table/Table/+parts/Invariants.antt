@@ -1,8 +1,0 @@
-use Rattle.std.proofs.Common.{length, ◌+◌, ◌*◌}
-use Rattle.minimum.proofs.covering.table.Table.+parts.Given as goal
-
-abbrev pub decreases-least_by_parts : goal.decreases-least_by_parts
-decreases-least_by_parts l = 2 * length l.self.now.rows + 1
-
-abbrev pub decreases-least_of_parts : goal.decreases-least_of_parts
-decreases-least_of_parts l = 2 * length l.self.now.rows

@@ -1,9 +1,0 @@
-use Rattle.std.proofs.Common.{length}
-use Rattle.minimum.specs.Search.{IsNarrowed}
-use Rattle.minimum.proofs.covering.table.Table.narrow.Given as goal
-
-abbrev pub invariant-loop-next : goal.invariant-loop-next
-invariant-loop-next l = IsNarrowed l.choice l.budget.columns l.budget.counts l.self l.table
-
-abbrev pub decreases-loop-next : goal.decreases-loop-next
-decreases-loop-next l = length l.table.live

@@ -1,0 +1,41 @@
+use Rattle.std.proofs.Common.{◌∙◌, ap, sym, subst, length}
+use Rattle.std.proofs.lemmas.List.{length-map}
+use Rattle.cube.specs.Cube.{literals}
+use Rattle.cover.specs.Cubes.{AreCubes}
+use Rattle.covering.specs.Table.{items_of}
+use Rattle.minimum.specs.PrimeTable.{HasPrimeCovers}
+use Rattle.minimum.proofs.PrimeTables.{enough_for, rows_for, same_covers, are_rows}
+use Rattle.minimum.proofs.prime_table.TableOfPrimes.build.Goals as goal
+
+pub rows_of-requires-clause-enough : goal.rows_of-requires-clause-enough
+rows_of-requires-clause-enough c =
+    let sets = c.args.sets.now in
+    let primes = c.as_slice.ensures.value ∙ ap (λ k. k.cubes) c.requires in
+    let on = c.as_slice-2.ensures.value ∙ ap (λ k. k.cubes) c.on.ensures in
+    let dc = c.as_slice-3.ensures.value ∙ ap (λ k. k.cubes) c.dc.ensures in
+    let are = subst (AreCubes sets.size) on (subst (λ n. AreCubes n c.as_slice-2.result.now) (ap (λ k. k.size) c.on.ensures) c.as_slice-2.ensures.cubes) in
+    enough_for sets c.as_slice.result.now c.as_slice-2.result.now c.as_slice-3.result.now primes on dc are
+
+pub unreachable-requires : goal.unreachable-requires
+unreachable-requires c =
+    let sets = c.args.sets.now in
+    let primes = c.as_slice.ensures.value ∙ ap (λ k. k.cubes) c.requires in
+    let on = c.as_slice-2.ensures.value ∙ ap (λ k. k.cubes) c.on.ensures in
+    let dc = c.as_slice-3.ensures.value ∙ ap (λ k. k.cubes) c.dc.ensures in
+    let are = subst (AreCubes sets.size) on (subst (λ n. AreCubes n c.as_slice-2.result.now) (ap (λ k. k.size) c.on.ensures) c.as_slice-2.ensures.cubes) in
+    let rows = rows_for sets c.as_slice.result.now c.as_slice-2.result.now c.as_slice-3.result.now (items_of c.in_ok-rows.rows.items) primes on dc c.in_ok-rows.ensures in
+    let long = ap length c.in_ok-weights.ensures ∙ length-map c.as_slice.result.now literals ∙ ap length primes in
+    let none' = rw c.in-None.is at c.in_ok-table.ensures in
+    none' (are_rows sets are (items_of c.in_ok-rows.rows.items) (length c.in_ok-weights.weights.items) long rows.demands)
+
+pub returns-clause-covers : goal.returns-clause-covers
+returns-clause-covers c =
+    let sets = c.args.sets.now in
+    let primes = c.as_slice.ensures.value ∙ ap (λ k. k.cubes) c.requires in
+    let on = c.as_slice-2.ensures.value ∙ ap (λ k. k.cubes) c.on.ensures in
+    let dc = c.as_slice-3.ensures.value ∙ ap (λ k. k.cubes) c.dc.ensures in
+    let are = subst (AreCubes sets.size) on (subst (λ n. AreCubes n c.as_slice-2.result.now) (ap (λ k. k.size) c.on.ensures) c.as_slice-2.ensures.cubes) in
+    let rows = rows_for sets c.as_slice.result.now c.as_slice-2.result.now c.as_slice-3.result.now (items_of c.in_ok-rows.rows.items) primes on dc c.in_ok-rows.ensures in
+    let long = ap length c.in_ok-weights.ensures ∙ length-map c.as_slice.result.now literals ∙ ap length primes in
+    let some = rw c.in-Some.is at c.in_ok-table.ensures in
+    subst (HasPrimeCovers sets) (sym some.1) (same_covers sets are (items_of c.in_ok-rows.rows.items) c.in_ok-weights.weights.items long rows)
