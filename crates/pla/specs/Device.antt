@@ -6,7 +6,8 @@ use Rattle.pla.specs.declared.calls.Counts.{Counts}
 use Rattle.pla.specs.declared.calls.ReadCalls.{ReadCalls}
 use Rattle.pla.specs.declared.calls.WriteCalls.{WriteCalls}
 
--- a count one higher, which stays at the last value of a u64
+-- a count one higher, which stays at the last value of a u64; no code can look at the count of a
+-- device, so that nothing depends on it
 abbrev pub one_more : ℕ → ℕ
 one_more count = min (count + 1) (2 ^ 64 - 1)
 

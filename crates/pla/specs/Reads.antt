@@ -97,7 +97,7 @@ pub record Reads (echo : Echo) (left left_after : Option (List ℕ))
   pub echoes : (e : Ending) → MayEnd ending e
       → OnWhole result (due format_limits echo (Some e) bytes ≡ due format_limits echo ending bytes)
   pub counted : CountsWrites writes writes_after result
-  -- no more than a piece was asked for beyond a line that ends the description or a fault
+  -- no more than a piece was delivered beyond a line that ends the description or a fault
   pub front : List ℕ
   pub piece : List ℕ
   pub bounded : (bytes ≡ front ++ piece) × (length piece ≤ piece_bytes) × GoesOn front

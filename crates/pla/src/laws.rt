@@ -23,12 +23,13 @@ pub fn read_back()
     ensures { TextsAreReadBack }
 {}
 
-/// What echo prints of a file with all three sets is read again as what it was printed of. A file
-/// without a fault describes something that [`read_back`] speaks of: a shape within the limits,
-/// names such as a file can give, and lists of cubes of the shape, those that are computed too. So
-/// the text with type fdr has no fault, and describes the file's shape and names and the three
-/// lists as they were printed. The text has at most as many lines as are looked at: a file may give
-/// more rows than that in fewer lines.
+/// The text that echo prints of a file with all three sets, without the comments and unknown lines
+/// that it passes on before, is read again as what it was printed of. A file without a fault
+/// describes something that [`read_back`] speaks of: a shape within the limits, names such as a
+/// file can give, and lists of cubes of the shape, those that are computed too. So the text with
+/// type fdr has no fault, and describes the file's shape and names and the three lists as they were
+/// printed. The text has at most as many lines as are looked at: a file may give more rows than
+/// that in fewer lines.
 pub fn echo_read_back()
     ensures readable { FaultlessAreReadable }
     ensures again { EchoesAreReadBack }

@@ -1,31 +1,16 @@
 -- The first source of a run, and the second behind it.
 use Rattle.std.proofs.Common.{◌≡◌, ℕ, refl, sym, ap, subst, List, [], ◌++◌, Option, Some, None, Result, Ok, Err, append-nil}
-use Rattle.std.specs.Prelude.{string_bytes}
-use Rattle.pla.specs.declared.calls.ReadCalls.{ReadCalls}
 use Rattle.pla.specs.declared.calls.WriteCalls.{WriteCalls}
 use Rattle.pla.specs.Description.{Description}
-use Rattle.tool.specs.declared.sources.Source.{Source}
-use Rattle.tool.specs.declared.sources.Source.TheVariants.{Open, Closed}
 use Rattle.tool.specs.declared.status.Status.{Status}
 use Rattle.tool.specs.declared.failure.Operand.TheVariants.{First, Second}
 use Rattle.tool.specs.declared.failure.Failure.{Failure}
-use Rattle.tool.specs.Run.{Absent, Asked, Bytes, Intake, Intakes, IsSecondOf, Nothing, SecondIntake, Takes, TakesSecond, Trace, Untouched, echoes_due, name_of, second_due, trace}
-use Rattle.tool.specs.Steps.{Answers, FileOf, FilesOf, IsReadAs, Names, PutsOut, Reports, Stands, StandsAt, StandsBehind, second_text}
+use Rattle.tool.specs.Run.{Absent, Asked, Intake, Intakes, IsSecondOf, Trace, echoes_due, second_due, trace}
+use Rattle.tool.specs.Steps.{Answers, FileOf, FilesOf, IsReadAs, Names, PutsOut, Reports, Stands, StandsAt, StandsBehind}
 use Rattle.tool.specs.Answer.{Answer, answer_of}
 use Rattle.tool.specs.Tool.{File, answered, first_name, reading_then, second_name, with_both, with_first}
 use Rattle.tool.specs.Words.{Meaning, Text}
 use Rattle.tool.proofs.Ways.{answers_stand, put_answers, stands_same, stopped_there, went_on}
-
--- ---- a second source that was not asked for
-
-abbrev pub untouched : {R : Type 0} → Option (Source R) → SecondIntake
-untouched None = Absent
-untouched (Some source) = Untouched
-
-pub takes_untouched : (R : Type 0) (left : R → Option (List ℕ)) (calls : R → ReadCalls) (first : Intake) (second : Option (Source R))
-    → TakesSecond left calls first second second (untouched second)
-takes_untouched R left calls first None = tt
-takes_untouched R left calls first (Some source) = refl
 
 -- ---- behind the second
 
@@ -35,6 +20,11 @@ module _ (line : Meaning) (pla : Description) (name : Text) (taken : Intake) (ol
       → StandsAt (FileOf taken) (λ second. reading_then line name second.file (with_both line pla)) (echoes_due line taken) names out result
   no_more names out result h = subst (λ t. StandsAt (FileOf taken) (λ second. reading_then line name second.file (with_both line pla)) t names out result)
       (append-nil (echoes_due line taken)) h
+
+  pub both_stopped : (s : Failure) → IsReadAs line Second name taken (trace old mid before count) (Err s)
+      → StandsBehind line pla taken name (trace old mid before count) (Err s)
+  both_stopped s read first = let names : Names = record { first = first; second = name } in no_more names _ (Err s)
+      (stopped_there line Second name taken (FileOf taken) (λ x. x.file) (λ x. x.is_file) (λ _. with_both line pla) [] names old mid before count s refl read)
 
   pub both_answered : (other : Description) (new : Option (List ℕ)) (after : WriteCalls) (result : Result Status Failure)
       → IsReadAs line Second name taken (trace old mid before count) (Ok other)
@@ -95,27 +85,6 @@ module _ (line : Meaning) (taken : Intakes) (names : Names) (named : names.first
         same (Some file) fits = ap (λ name. reading_then line name file (with_both line pla)) is
 
 -- ---- names
-
--- a source keeps its name
-pub takes_name : (R : Type 0) (left : R → Option (List ℕ)) (calls : R → ReadCalls) (source after : Source R) (taken : Intake) → Takes left calls source after taken → name_of after ≡ name_of source
-takes_name R left calls (Closed name) (Closed name_after) Nothing h = ap string_bytes h
-takes_name R left calls (Open name input) (Open name_after input_after) (Bytes bytes met) h = ap string_bytes h.0
-takes_name R left calls (Closed name) (Closed name_after) (Bytes bytes met) h = absurd h
-takes_name R left calls (Closed name) (Open name_after input_after) taken h = absurd h
-takes_name R left calls (Open name input) (Open name_after input_after) Nothing h = absurd h
-takes_name R left calls (Open name input) (Closed name_after) taken h = absurd h
-
--- a second one does
-pub second_kept : (R : Type 0) (left : R → Option (List ℕ)) (calls : R → ReadCalls) (first : Intake) (second after : Option (Source R)) (taken : SecondIntake)
-    → TakesSecond left calls first second after taken → second_text after ≡ second_text second
-second_kept R left calls first None None Absent h = refl
-second_kept R left calls first None None Untouched h = absurd h
-second_kept R left calls first None None (Asked intake) h = absurd h
-second_kept R left calls first None (Some after) taken h = absurd h
-second_kept R left calls first (Some source) after Absent h = absurd h
-second_kept R left calls first (Some source) after Untouched h = ap second_text h
-second_kept R left calls first (Some source) None (Asked intake) h = absurd h
-second_kept R left calls first (Some source) (Some after) (Asked intake) h = takes_name R left calls source after intake h.1
 
 -- the last word, by names that are the same
 pub reports_by : (names others : Names) (err : Trace) (done : Result Status Failure) (status : Status) → names.first ≡ others.first → names.second ≡ others.second

@@ -8,7 +8,7 @@ use Rattle.std.proofs.Common.{◌+◌, ℕ, zero, suc}
 use Rattle.std.specs.Prelude.{codes}
 use Rattle.tool.specs.Words.{chosen, choices_of, fewest, Item, Letter, command_letter, type_letter, eat_letter, option, file, same_letter, values_of, files_of, said, meaning, meaning_of, command_named, type_named, eat_named}
 use Rattle.tool.specs.declared.command.Command.{Command}
-use Rattle.minimum.specs.declared.choice.Choice.{Choice}
+use Rattle.covering.specs.declared.choice.Choice.{Choice}
 use Rattle.pla.specs.declared.out_type.OutType.{OutType}
 use Rattle.pla.specs.declared.out_type.OutType.TheVariants.{F}
 use Rattle.tool.proofs.Rows.{with_values-same, with_values-other}

@@ -14,7 +14,7 @@ use Rattle.tool.specs.declared.failure.Operand.{Operand}
 use Rattle.tool.specs.declared.failure.Failure.{Failure}
 use Rattle.tool.specs.declared.failure.Failure.TheVariants as failure
 use Rattle.tool.specs.Messages.{closed_message, fault_message, is_answer}
-use Rattle.tool.specs.Run.{CouldNotWrite, Ends, Finishes, FlushBroke, FlushWent, FlushedLast, Intake, Intakes, IsFileOf, LastWriteBroke, RanOut, WroteOrFailed, Trace, Wrote, WrotePart, WrotePrefix, WroteWhole, WritesWent, echoes_due, second_due, trace}
+use Rattle.tool.specs.Run.{CouldNotWrite, EndsAs, Finishes, FlushBroke, FlushWent, FlushedLast, Intake, Intakes, IsFileOf, LastWriteBroke, RanOut, WroteOrFailed, Trace, Wrote, WrotePart, WrotePrefix, WroteWhole, WritesWent, echoes_due, second_due, trace}
 use Rattle.tool.specs.Steps.{Answers, Began, Closes, FilesOf, IsReadAs, Names, PassesOn, Prints, PutsOut, Reports, Stands, StandsAt, name_at}
 use Rattle.tool.specs.Answer.{Answer}
 use Rattle.tool.specs.Tool.{File, Outcome, answered, behind, outcome_of, reading_of, reading_then, unless_stopped}
@@ -220,7 +220,7 @@ module _ (line : Meaning) (taken : Intakes) (names : Names) (out err : Trace) (s
   could_not_write h r = record { beginning = beginning h.0.0; failed = failing h.0.1; flushed = h.1; message = r.1; same_status = r.0 }
 
   -- a run ends in one of the three ways
-  pub ends : (done : Result Status Failure) → Closes line taken names out done → Reports names err done status → Ends line taken out err status
+  pub ends : (done : Result Status Failure) → Closes line taken names out done → Reports names err done status → EndsAs (outcome_of line) (echoes_due line taken.first ++ second_due line taken.second) taken out err status
   ends (Ok x) h r = inl (finishes [] x h.0.0 r.1 r.0 h.0.1 h.1 (λ _. h.0.2))
   ends (Err (failure.NotOpened operand)) h r = inl (finishes _ Fault h.0.0 r.1 r.0 h.0.1 h.1 (λ e. absurd (true≢false (sym e))))
   ends (Err (failure.Faulty operand fault)) h r = inl (finishes _ Fault h.0.0 r.1 r.0 h.0.1 h.1 (λ e. absurd (true≢false (sym e))))

@@ -10,7 +10,7 @@ use Rattle.pla.specs.Completed.{sets_of}
 use Rattle.pla.specs.Description.{Description}
 use Rattle.pla.specs.Sets.{SetLists}
 use Rattle.pla.specs.Text.{text_of}
-use Rattle.minimum.specs.declared.choice.Choice.{Choice}
+use Rattle.covering.specs.declared.choice.Choice.{Choice}
 use Rattle.minimum.specs.Primes.{essential_of, exact_of, primes_of}
 use Rattle.tool.specs.declared.command.Command.{Command}
 use Rattle.tool.specs.declared.command.Command.TheVariants as command

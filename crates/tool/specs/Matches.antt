@@ -4,8 +4,8 @@ use Rattle.std.specs.Option.{option_map_or}
 use Rattle.std.specs.Str.{bytes_eq}
 use Rattle.clap.specs.Matches.{first_value, matched_of, raw_values}
 use Rattle.clap.specs.declared.parser.matches.Found.{Found}
-use Rattle.minimum.specs.declared.choice.Choice.{Choice}
-use Rattle.minimum.specs.declared.choice.Choice.TheVariants.{First, Literals}
+use Rattle.covering.specs.declared.choice.Choice.{Choice}
+use Rattle.covering.specs.declared.choice.Choice.TheVariants.{First, Literals}
 use Rattle.pla.specs.declared.out_type.OutType.TheVariants.{F}
 use Rattle.tool.specs.Words.{Meaning, command_named, eat_named, meaning, type_named}
 

@@ -20,7 +20,8 @@ is_answer No = true
 is_answer Fault = false
 is_answer Memory = false
 
--- what each kind of fault is called
+-- what each kind of fault is called; the last two are never printed so, as a failed write and want of
+-- memory have messages of their own
 abbrev pub kind_text : ReadKind → List ℕ
 kind_text TooManyLines = codes "more than 16777216 lines"
 kind_text LineTooLong = codes "line longer than 131072 bytes"

@@ -1,5 +1,5 @@
--- How a run ends, by what its devices report: in one of three ways.
-use Rattle.std.specs.Prelude.{◌≡◌, ◌≤◌, ℕ, true, List, [], ◌++◌, length, Option, Some, None, ⊤, ◌⊎◌, string_bytes, MatchOption, IsTrue}
+-- What a run takes from its sources and how it ends, in one of three ways, by what its devices report.
+use Rattle.std.specs.Prelude.{◌≡◌, ◌≤◌, ℕ, true, false, List, [], ◌++◌, length, Option, Some, None, ⊤, ◌⊎◌, string_bytes, is_some, MatchOption, IsTrue}
 use Rattle.std.specs.Io.KnownBytes.{Appends, Consumes}
 use Rattle.cube.specs.Limits.{format_limits}
 use Rattle.pla.specs.declared.calls.ReadCalls.{ReadCalls}
@@ -14,9 +14,9 @@ use Rattle.tool.specs.declared.sources.Source.TheVariants.{Open, Closed}
 use Rattle.tool.specs.declared.status.Status.{Status}
 use Rattle.tool.specs.declared.status.Status.TheVariants.{Fault, Memory}
 use Rattle.tool.specs.Messages.{is_answer, memory_message, write_failed_message}
-use Rattle.tool.specs.Tool.{File, Outcome, echo_by, outcome_of}
+use Rattle.tool.specs.Tool.{File, Outcome, echo_by}
 use Rattle.tool.specs.Tool as tool
-use Rattle.tool.specs.Words.{Meaning, Text}
+use Rattle.tool.specs.Words.{Meaning, Text, takes_two}
 
 -- ---- the files of the sources
 
@@ -68,7 +68,7 @@ pub record Delivers (left left_after : Option (List ℕ)) (calls calls_after : R
     (bytes : List ℕ) (met : Option Ending) : Type 0 where
   pub consumed : Consumes left left_after bytes
   pub ended : MatchOption met (NoneFailed calls calls_after) (Meets left_after calls calls_after)
-  -- no more than a piece was asked for beyond a line that ends the description or a fault
+  -- no more than a piece was delivered beyond a line that ends the description or a fault
   pub front : List ℕ
   pub piece : List ℕ
   pub bounded : (bytes ≡ front ++ piece) × (length piece ≤ piece_bytes) × GoesOn front
@@ -88,14 +88,29 @@ IsFaultless Nothing = ⊥
 IsFaultless (Bytes bytes met) =
     (ending : Ending) → MayEnd met ending → fault_of format_limits ending bytes ≡ None
 
--- what was taken of the second source, which is asked for only after a first one without a fault
-abbrev pub TakesSecond : {R : Type 0} → (R → Option (List ℕ)) → (R → ReadCalls)
-    → Intake → Option (Source R) → Option (Source R) → SecondIntake → Type 0
-TakesSecond left calls first None None Absent = ⊤
-TakesSecond left calls first (Some source) after Untouched = after ≡ Some source
-TakesSecond left calls first (Some source) (Some after) (Asked intake) =
-    IsFaultless first × Takes left calls source after intake
-TakesSecond left calls first _ _ _ = ⊥
+-- what was taken of a first source that stops the run: it was closed, or has a fault
+abbrev pub Stops : Intake → Type 0
+Stops Nothing = ⊤
+Stops (Bytes bytes met) =
+    (ending : Ending) → MayEnd met ending → is_some (fault_of format_limits ending bytes) ≡ true
+
+-- what was taken of a source that there is
+abbrev pub TakesSome : {R : Type 0} → (R → Option (List ℕ)) → (R → ReadCalls)
+    → Option (Source R) → Intake → Option (Source R) → Type 0
+TakesSome left calls (Some source) intake (Some after) = Takes left calls source after intake
+TakesSome left calls _ intake _ = ⊥
+
+-- what was taken of the second source, with what it is taken from before and after: the command
+-- takes none; or it was left as it was, since the run was stopped before; or the first was read whole
+-- and has no fault, and then it was asked for
+abbrev pub AsksSecond : {S : Type 0} → (S → Intake → S → Type 0) → Meaning → Intake → Type 0
+    → S → SecondIntake → S → Type 0
+AsksSecond asks line first Stopped before Absent after =
+    (takes_two line.command ≡ false) × (after ≡ before)
+AsksSecond asks line first Stopped before Untouched after =
+    (takes_two line.command ≡ true) × Stopped × (after ≡ before)
+AsksSecond asks line first Stopped before (Asked intake) after =
+    (takes_two line.command ≡ true) × IsFaultless first × asks before intake after
 
 -- ---- what the outputs took
 
@@ -114,6 +129,10 @@ trace taken taken_after calls calls_after = record {
   calls = calls;
   calls_after = calls_after;
 }
+
+-- the output was not called
+abbrev pub Uncalled : Trace → Type 0
+Uncalled out = (out.taken_after ≡ out.taken) × (out.calls_after ≡ out.calls)
 
 -- the run wrote this to the output
 abbrev pub Wrote : Trace → List ℕ → Type 0
@@ -214,16 +233,30 @@ pub record CouldNotWrite (answer : File → Option File → Outcome) (echoes : L
   pub message : WroteOrFailed err write_failed_message
   pub same_status : status ≡ Fault
 
+-- memory was refused on the way, or the output failed
+abbrev pub IsCutShort : (File → Option File → Outcome) → List ℕ → Intakes → Trace
+    → Trace → Status → Type 0
+IsCutShort answer echoes taken out err status =
+    RanOut answer echoes taken out err status ⊎ CouldNotWrite answer echoes taken out err status
+
 -- a run that took this from its sources, and on whose files the tool answers this
 abbrev pub EndsAs : (File → Option File → Outcome) → List ℕ → Intakes → Trace
     → Trace → Status → Type 0
-EndsAs answer echoes taken out err status = Finishes answer taken out err status
-    ⊎ (RanOut answer echoes taken out err status ⊎ CouldNotWrite answer echoes taken out err status)
+EndsAs answer echoes taken out err status =
+    Finishes answer taken out err status ⊎ IsCutShort answer echoes taken out err status
 
 -- the echoes that are due of all that was taken
 abbrev pub all_due : Meaning → Intakes → List ℕ
 all_due line taken = echoes_due line taken.first ++ second_due line taken.second
 
--- a run with this line, which took this from its sources
-abbrev pub Ends : Meaning → Intakes → Trace → Trace → Status → Type 0
-Ends line taken = EndsAs (outcome_of line) (all_due line taken) taken
+-- a run with this line, on whose files the tool answers this: what it took from its first source,
+-- what from its second, by what that is taken from before and after, and how it ends
+pub record Runs {S : Type 0} (takes : Intake → Type 0) (asks : S → Intake → S → Type 0)
+    (line : Meaning) (answer : File → Option File → Outcome) (before after : S) (out err : Trace)
+    (status : Status) : Type 0 where
+  pub taken : Intakes
+  pub first : takes taken.first
+  pub second : AsksSecond asks line taken.first
+      (Stops taken.first ⊎ IsCutShort answer (all_due line taken) taken out err status)
+      before taken.second after
+  pub ends : EndsAs answer (all_due line taken) taken out err status

@@ -2,7 +2,7 @@
 -- line: on small runs.
 use Rattle.std.specs.Prelude.{◌≡◌, ℕ, true, false, List, [], ◌∷◌, Option, None, Some, Ok, Err, ⊤, String, codes, refl}
 use Rattle.std.specs.Global.{Global}
-use Rattle.minimum.specs.declared.choice.Choice.TheVariants.{First}
+use Rattle.covering.specs.declared.choice.Choice.TheVariants.{First}
 use Rattle.pla.specs.declared.calls.ReadCalls.{ReadCalls}
 use Rattle.pla.specs.declared.calls.WriteCalls.{WriteCalls}
 use Rattle.pla.specs.declared.ending.Ending.TheVariants.{End, Failed}
@@ -12,11 +12,11 @@ use Rattle.pla.specs.Fault.{fault_in, is_past_limit, is_too_long, is_refused, is
 use Rattle.tool.specs.declared.command.Command.{Command}
 use Rattle.tool.specs.declared.command.Command.TheVariants.{Echo, Verify}
 use Rattle.tool.specs.declared.line.LineFault.TheVariants as line_fault
-use Rattle.tool.specs.declared.sources.Source.{Source}
 use Rattle.tool.specs.declared.sources.Source.TheVariants.{Open, Closed}
 use Rattle.tool.specs.declared.status.Status.TheVariants.{Fault, Memory}
-use Rattle.tool.specs.Program.{IsOpenedAs, GivesUp, OpensSecond, Stops, line_said, named_file, names_said, tool_on, words_behind}
-use Rattle.tool.specs.Run.{Absent, Asked, Bytes, CouldNotWrite, FlushBroke, FlushedLast, FlushWent, Intake, Intakes, IsFaultless, IsFileOf, IsSecondOf, LastWriteBroke, Nothing, RanOut, Takes, TakesSecond, Trace, Untouched, WritesWent, all_due, trace}
+use Rattle.tool.specs.Program.{GivesUp, IsOpenedAs, OpensAndTakes, line_said, named_file, tool_on, words_behind}
+use Rattle.tool.specs.Run.{Absent, Asked, AsksSecond, Bytes, CouldNotWrite, FlushBroke, FlushedLast, FlushWent, Intake, Intakes, IsFaultless, IsFileOf, IsSecondOf, LastWriteBroke, Nothing, RanOut, Stops, Takes, TakesSome, Trace, Untouched, WritesWent, all_due, trace}
+use Rattle.tool.specs.Steps.{names_said}
 use Rattle.tool.specs.Tool.{File, Outcome}
 use Rattle.tool.specs.Tool as tool
 use Rattle.tool.specs.Words.{Meaning, Text, meaning_by}
@@ -139,14 +139,18 @@ unfolding fault_in is_past_limit is_too_long is_refused is_inside_row is_repeate
     is_row_too_early is_bad_symbol
 echoes_in_order = refl
 
--- ---- the sources, which are numbers here
+-- ---- the sources, which are numbers here, and an opener that keeps what was opened, the last first
 
 -- a file of this name is opened as 1, and standard input is 0
-abbrev opens : Text → Text → Option ℕ → Type 0
-opens name word device = (word ≡ name) × (device ≡ Some 1)
+abbrev opens : Text → List Text → Text → Option ℕ → List Text → Type 0
+opens name before word device after = (word ≡ name) × (device ≡ Some 1) × (after ≡ word ∷ before)
 
-abbrev is_input : ℕ → Type 0
-is_input device = device ≡ 0
+abbrev is_input : List Text → ℕ → List Text → Type 0
+is_input before device after = (device ≡ 0) × (after ≡ codes "-" ∷ before)
+
+-- no file can be opened
+abbrev opens_none : List Text → Text → Option ℕ → List Text → Type 0
+opens_none before word device after = (device ≡ None) × (after ≡ word ∷ before)
 
 abbrev untold : ℕ → Option (List ℕ)
 untold device = None
@@ -154,65 +158,69 @@ untold device = None
 abbrev uncalled : ℕ → ReadCalls
 uncalled device = record { failures = 0; broken = false }
 
+-- the second source of a line on the files a and b
+abbrev asks : List Text → Intake → List Text → Type 0
+asks = OpensAndTakes (IsOpenedAs opens_none is_input) (Takes untold uncalled) (Some (codes "b"))
+
 pub record Opened (name : String Global) : Type 0 where
-  pub input : IsOpenedAs (opens (codes "a")) is_input None (Open name 0)
-  pub another_input : IsOpenedAs (opens (codes "a")) is_input None (Open name 1) → ⊥
-  pub closed_input : IsOpenedAs (opens (codes "a")) is_input None (Closed name) → ⊥
-  pub file : IsOpenedAs (opens (codes "a")) is_input (Some (codes "a")) (Open name 1)
-  pub another_file : IsOpenedAs (opens (codes "a")) is_input (Some (codes "a")) (Open name 0) → ⊥
-  pub closed_file : IsOpenedAs (opens (codes "a")) is_input (Some (codes "a")) (Closed name) → ⊥
+  pub input : IsOpenedAs (opens (codes "a")) is_input None [] (Open name 0) (codes "-" ∷ [])
+  pub another_input : IsOpenedAs (opens (codes "a")) is_input None [] (Open name 1)
+      (codes "-" ∷ []) → ⊥
+  pub closed_input : IsOpenedAs (opens (codes "a")) is_input None [] (Closed name)
+      (codes "-" ∷ []) → ⊥
+  pub file : IsOpenedAs (opens (codes "a")) is_input (Some (codes "a")) [] (Open name 1)
+      (codes "a" ∷ [])
+  pub another_file : IsOpenedAs (opens (codes "a")) is_input (Some (codes "a")) [] (Open name 0)
+      (codes "a" ∷ []) → ⊥
+  pub closed_file : IsOpenedAs (opens (codes "a")) is_input (Some (codes "a")) [] (Closed name)
+      (codes "a" ∷ []) → ⊥
+  pub opened_twice : IsOpenedAs (opens (codes "a")) is_input (Some (codes "a")) [] (Open name 1)
+      (codes "a" ∷ codes "a" ∷ []) → ⊥
   -- what was taken
   pub of_closed : Takes untold uncalled (Closed name) (Closed name) Nothing
   pub bytes_of_closed : Takes untold uncalled (Closed name) (Closed name) (Bytes [] None) → ⊥
   pub nothing_of_open : Takes untold uncalled (Open name 0) (Open name 0) Nothing → ⊥
   pub closed_then : Takes untold uncalled (Open name 0) (Closed name) (Bytes [] None) → ⊥
-  -- of the second source
-  pub no_second : TakesSecond untold uncalled Nothing None None Absent
-  pub not_asked : TakesSecond untold uncalled Nothing (Some (Closed name))
-      (Some (Closed name)) Untouched
-  pub lost : TakesSecond untold uncalled Nothing (Some (Closed name)) None Untouched → ⊥
-  pub unsaid : TakesSecond untold uncalled Nothing (Some (Closed name)) (Some (Closed name)) Absent
-      → ⊥
-  pub behind_closed : TakesSecond untold uncalled Nothing (Some (Closed name))
-      (Some (Closed name)) (Asked Nothing) → ⊥
-  -- and when it is opened
-  pub takes_one : OpensSecond (opens (codes "b")) is_input untold uncalled
-      (on_two Echo) Nothing ⊥ None None Absent
-  pub takes_two : OpensSecond (opens (codes "b")) is_input untold uncalled
-      (on_two Verify) Nothing ⊤ None None Absent → ⊥
-  pub stopped : OpensSecond (opens (codes "b")) is_input untold uncalled
-      (on_two Verify) Nothing ⊤ None None Untouched
-  pub not_stopped : OpensSecond (opens (codes "b")) is_input untold uncalled
-      (on_two Verify) Nothing ⊥ None None Untouched → ⊥
-  pub stopped_one : OpensSecond (opens (codes "b")) is_input untold uncalled
-      (on_two Echo) Nothing ⊤ None None Untouched → ⊥
-  pub unasked : OpensSecond (opens (codes "b")) is_input untold uncalled
-      (on_two Verify) Nothing ⊤ (Some (Open name 1)) (Some (Open name 1)) Untouched → ⊥
+  -- of a source that there is
+  pub of_some : TakesSome untold uncalled (Some (Closed name)) Nothing (Some (Closed name))
+  pub lost : TakesSome untold uncalled (Some (Closed name)) Nothing None → ⊥
+  pub of_none : TakesSome untold uncalled None Nothing None → ⊥
+  -- of the second one
+  pub takes_one : AsksSecond asks (on_two Echo) Nothing ⊥ [] Absent []
+  pub opens_more : AsksSecond asks (on_two Echo) Nothing ⊥ [] Absent (codes "b" ∷ []) → ⊥
+  pub takes_two : AsksSecond asks (on_two Verify) Nothing ⊤ [] Absent [] → ⊥
+  pub stopped : AsksSecond asks (on_two Verify) Nothing ⊤ [] Untouched []
+  pub opened_behind : AsksSecond asks (on_two Verify) Nothing ⊤ [] Untouched (codes "b" ∷ []) → ⊥
+  pub not_stopped : AsksSecond asks (on_two Verify) Nothing ⊥ [] Untouched [] → ⊥
+  pub stopped_one : AsksSecond asks (on_two Echo) Nothing ⊤ [] Untouched [] → ⊥
+  pub asked_behind : AsksSecond asks (on_two Verify) Nothing ⊤ [] (Asked Nothing)
+      (codes "b" ∷ []) → ⊥
 
 opened : (name : String Global) → Opened name
 opened name = record {
-  input = refl;
-  another_input = λ h. let one : 1 ≡ 0 = h in cc;
+  input = (refl, refl);
+  another_input = λ h. let one : 1 ≡ 0 = h.0 in cc;
   closed_input = λ h. h;
-  file = (refl, refl);
+  file = (refl, refl, refl);
   another_file = λ h. let other : Some 0 ≡ Some 1 = h.1 in cc;
   closed_file = λ h. let none : (let closed : Option ℕ = None in closed) ≡ Some 1 = h.1 in cc;
+  opened_twice = λ h. let once : (let twice : List Text = codes "a" ∷ codes "a" ∷ [] in twice)
+      ≡ codes "a" ∷ [] = h.2 in cc;
   of_closed = refl;
   bytes_of_closed = λ h. h;
   nothing_of_open = λ h. h;
   closed_then = λ h. h;
-  no_second = tt;
-  not_asked = refl;
-  lost = λ h. let none : (let gone : Option (Source ℕ) = None in gone)
-      ≡ Some (Closed name) = h in cc;
-  unsaid = λ h. h;
-  behind_closed = λ h. h.0;
-  takes_one = refl;
-  takes_two = λ h. let two : true ≡ false = h in cc;
-  stopped = (refl, tt);
+  of_some = refl;
+  lost = λ h. h;
+  of_none = λ h. h;
+  takes_one = (refl, refl);
+  opens_more = λ h. let more : (let one : List Text = codes "b" ∷ [] in one) ≡ [] = h.1 in cc;
+  takes_two = λ h. let two : true ≡ false = h.0 in cc;
+  stopped = (refl, tt, refl);
+  opened_behind = λ h. let more : (let one : List Text = codes "b" ∷ [] in one) ≡ [] = h.2 in cc;
   not_stopped = λ h. h.1;
   stopped_one = λ h. let one : false ≡ true = h.0 in cc;
-  unasked = λ h. h;
+  asked_behind = λ h. h.1;
 }
 
 -- a text without a fault goes on, and one with a fault stops the run
@@ -248,9 +256,18 @@ a_closed_one_has_no_text h = h
 
 -- the second file is opened after it
 opened_behind : (name : String Global)
-    → OpensSecond (λ word device. (word ≡ codes "b") × (device ≡ None)) is_input untold uncalled
-    (on_two Verify) faultless ⊥ (Some (Closed name)) (Some (Closed name)) (Asked Nothing)
-opened_behind name = (refl, (refl, refl), (it_goes_on, refl))
+    → AsksSecond asks (on_two Verify) faultless ⊥ (codes "a" ∷ []) (Asked Nothing)
+    (codes "b" ∷ codes "a" ∷ [])
+opened_behind name = (
+  refl,
+  it_goes_on,
+  record {
+    source = Closed name;
+    source_after = Closed name;
+    opened = (refl, refl);
+    taken = refl;
+  },
+)
 
 -- ---- the statuses of the ways to end
 
@@ -258,12 +275,12 @@ pub record Ends (answer : File → Option File → Outcome) (echoes : List ℕ)
     (taken : Intakes) (out err : Trace) : Type 0 where
   pub ran_out : RanOut answer echoes taken out err Fault → ⊥
   pub could_not_write : CouldNotWrite answer echoes taken out err Memory → ⊥
-  pub gave_up : GivesUp out err Fault → ⊥
+  pub gave_up : (before after : List Text) → GivesUp before after out err Fault → ⊥
 
 ends : (answer : File → Option File → Outcome) (echoes : List ℕ) (taken : Intakes) (out err : Trace)
     → Ends answer echoes taken out err
 ends answer echoes taken out err = record {
   ran_out = λ h. let other : Fault ≡ Memory = h.same_status in cc;
   could_not_write = λ h. let other : Memory ≡ Fault = h.same_status in cc;
-  gave_up = λ h. let other : Fault ≡ Memory = h.same_status in cc;
+  gave_up = λ before after h. let other : Fault ≡ Memory = h.same_status in cc;
 }

@@ -1,11 +1,10 @@
 -- The steps of a run: what stopped it, and what the devices report by then.
-use Rattle.std.specs.Prelude.{◌≡◌, ◌⊎◌, ℕ, List, [], ◌++◌, Option, Some, None, Result, Ok, Err}
+use Rattle.std.specs.Prelude.{◌≡◌, ◌⊎◌, ℕ, List, [], ◌++◌, Option, Some, None, Result, Ok, Err, ⊤}
 use Rattle.pla.specs.declared.calls.WriteCalls.{WriteCalls}
 use Rattle.pla.specs.declared.fault.ReadFault.{ReadFault}
 use Rattle.pla.specs.declared.fault.ReadKind.{ReadKind}
 use Rattle.pla.specs.declared.fault.ReadKind.TheVariants.{WriteFailed, OutOfMemory}
 use Rattle.pla.specs.Description.{Description}
-use Rattle.tool.specs.declared.sources.Source.{Source}
 use Rattle.tool.specs.declared.failure.Operand.{Operand}
 use Rattle.tool.specs.declared.failure.Operand.TheVariants.{First, Second}
 use Rattle.tool.specs.declared.failure.Failure.{Failure}
@@ -14,8 +13,8 @@ use Rattle.tool.specs.declared.status.Status.{Status}
 use Rattle.tool.specs.declared.status.Status.TheVariants.{Fault, Memory}
 use Rattle.tool.specs.Answer.{Answer}
 use Rattle.tool.specs.Messages.{closed_message, fault_message, memory_message, sizes_message, write_failed_message}
-use Rattle.tool.specs.Run.{Failed, FlushBroke, FlushedLast, FlushWent, Intake, Intakes, IsFaultless, IsFileOf, IsSecondOf, LastWriteBroke, WroteOrFailed, Trace, Wrote, WrotePrefix, Unbroken, WritesWent, echoes_due, name_of, second_due, trace}
-use Rattle.tool.specs.Tool.{File, Outcome, outcome_of, passed_on, reading_of, reading_then, with_both}
+use Rattle.tool.specs.Run.{Absent, Asked, AsksSecond, Failed, FlushBroke, FlushedLast, FlushWent, Intake, Intakes, IsFaultless, IsFileOf, IsSecondOf, LastWriteBroke, SecondIntake, Stops, Trace, Unbroken, Uncalled, Untouched, WritesWent, Wrote, WroteOrFailed, WrotePrefix, echoes_due, second_due, trace}
+use Rattle.tool.specs.Tool.{File, Outcome, first_name, outcome_of, passed_on, reading_of, reading_then, second_name, with_both}
 use Rattle.tool.specs.Words.{Meaning, Text}
 
 -- ---- what stops a run
@@ -36,15 +35,14 @@ pub record Names : Type 0 where
   pub first : Text
   pub second : Text
 
+-- the names of the two sources in messages, opened or not
+abbrev pub names_said : Meaning → Names
+names_said line = record { first = first_name line.files; second = second_name line.files }
+
 -- the name of a source
 abbrev pub name_at : Operand → Names → Text
 name_at First names = names.first
 name_at Second names = names.second
-
--- the name of a second source, if there is one
-abbrev pub second_text : {R : Type 0} → Option (Source R) → Text
-second_text None = []
-second_text (Some source) = name_of source
 
 -- what is said on standard error
 abbrev pub message_of : Names → Failure → List ℕ
@@ -77,6 +75,34 @@ IsReadAs line operand name taken out (Err failure.WriteFailed) =
     WrotePrefix out (echoes_due line taken) × Failed out
 IsReadAs line operand name taken out (Err failure.OutOfMemory) =
     WrotePrefix out (echoes_due line taken) × Unbroken out
+
+-- what came of reading the second source: there is none, or memory was refused for it, or it was
+-- read
+abbrev pub IsSecondReadAs : Meaning → SecondIntake → Trace → Result (Option Description) Failure
+    → Type 0
+IsSecondReadAs line Absent out (Ok None) = Uncalled out
+IsSecondReadAs line Untouched out (Err failure.OutOfMemory) = Uncalled out
+IsSecondReadAs line (Asked intake) out (Ok (Some pla)) =
+    IsReadAs line Second (second_name line.files) intake out (Ok pla)
+IsSecondReadAs line (Asked intake) out (Err stopped) =
+    IsReadAs line Second (second_name line.files) intake out (Err stopped)
+IsSecondReadAs line _ out _ = ⊥
+
+-- what was taken of it behind a first without a fault, with what it is taken from before and after
+abbrev pub ReadsSecond : {S : Type 0} → (S → Intake → S → Type 0) → Meaning → S → SecondIntake
+    → S → Trace → Result (Option Description) Failure → Type 0
+ReadsSecond asks line before taken after out result =
+    ((first : Intake) → IsFaultless first → AsksSecond asks line first ⊤ before taken after)
+    × IsSecondReadAs line taken out result
+
+-- what stopped a run before its second source: the first, a write that failed, or out of memory
+abbrev pub StoppedBefore : Intake → Result Status Failure → Type 0
+StoppedBefore first (Ok status) = ⊥
+StoppedBefore first (Err (failure.NotOpened operand)) = Stops first
+StoppedBefore first (Err (failure.Faulty operand fault)) = Stops first
+StoppedBefore first (Err failure.SizesDiffer) = ⊥
+StoppedBefore first (Err failure.WriteFailed) = ⊤
+StoppedBefore first (Err failure.OutOfMemory) = ⊤
 
 -- ---- where a run stands
 

@@ -1,7 +1,7 @@
 -- Lists of words whose meaning is computed: what is taken, and what is refused.
 use Rattle.std.specs.Prelude.{◌≡◌, refl, [], ◌∷◌, Some, None, codes, true, false}
 use Rattle.tool.specs.declared.command.Command.TheVariants.{Echo, Check, Contain, Primes, Essen, Exact, Tautology, Verify, Intersect, Sharp}
-use Rattle.minimum.specs.declared.choice.Choice.TheVariants.{First, Literals}
+use Rattle.covering.specs.declared.choice.Choice.TheVariants.{First, Literals}
 use Rattle.pla.specs.declared.out_type.OutType.TheVariants.{F, Fd, Fr, Fdr}
 use Rattle.tool.specs.Words.{line_of, meaning_by}
 

@@ -6,8 +6,8 @@ use Rattle.std.specs.Option.{option_map_or}
 use Rattle.std.specs.Str.{bytes_eq}
 use Rattle.tool.specs.declared.command.Command.{Command}
 use Rattle.tool.specs.declared.command.Command.TheVariants.{Echo, Check, Contain, Primes, Essen, Exact, Tautology, Verify, Intersect, Sharp}
-use Rattle.minimum.specs.declared.choice.Choice.{Choice}
-use Rattle.minimum.specs.declared.choice.Choice.TheVariants.{First, Literals}
+use Rattle.covering.specs.declared.choice.Choice.{Choice}
+use Rattle.covering.specs.declared.choice.Choice.TheVariants.{First, Literals}
 use Rattle.pla.specs.declared.out_type.OutType.{OutType}
 use Rattle.pla.specs.declared.out_type.OutType.TheVariants.{F, Fd, Fr, Fdr}
 

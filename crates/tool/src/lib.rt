@@ -58,6 +58,7 @@ mod line;
 mod parser;
 mod program;
 mod run_files;
+mod second_source;
 mod sources;
 mod status;
 mod two_files;
@@ -68,7 +69,7 @@ pub use line::{Line, LineFault};
 use pla::Writing;
 pub use program::execute;
 pub use run_files::{refuse, run};
-use sources::words_of;
+use sources::{Files, words_of};
 pub use sources::{Opener, Source, after_first, source_name};
 pub use status::Status;
 use std::process::ExitCode;
@@ -78,5 +79,6 @@ use std::process::ExitCode;
 pub fn start(rt: &HostRuntime) -> ExitCode {
     let mut out = Writing::new(rt.stdout());
     let mut err = Writing::new(rt.stderr());
-    ExitCode::from(execute(rt.alloc(), words_of(rt), rt, &mut out, &mut err).code())
+    let mut files = Files { rt };
+    ExitCode::from(execute(rt.alloc(), words_of(rt), &mut files, &mut out, &mut err).code())
 }

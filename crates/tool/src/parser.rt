@@ -1,5 +1,5 @@
 //! The parse of the words by `clap`, and the line that its matches say.
-ghost use Rattle.std.specs.Prelude.{◌≡◌, IfOk, Some, None, Err, map, string_bytes, codes, false, option_and_then};
+ghost use Rattle.std.specs.Prelude.{◌≡◌, ◌≢◌, IfOk, Some, None, Err, map, string_bytes, codes, false, option_and_then};
 ghost use Rattle.std.specs.Option.{option_map_or};
 ghost use Rattle.clap.specs.Simple.{with_rule};
 ghost use Rattle.clap.specs.Words.{app_of, first_value, found_of, kind_of};
@@ -75,7 +75,8 @@ pub(crate) fn espresso_command<'a>(alloc: Global) -> Result<clap::Command<'a>, A
 
 // Out of memory if the parse was, and else a usage fault.
 pub(crate) fn fault_from(error: &Error) -> LineFault
-    ensures { result ≡ LineFault.Usage → kind_of error.now ≡ ErrorKind.OutOfMemory → ⊥ }
+    ensures memory { kind_of error.now ≡ ErrorKind.OutOfMemory → result ≡ LineFault.Memory }
+    ensures usage { kind_of error.now ≢ ErrorKind.OutOfMemory → result ≡ LineFault.Usage }
 {
     match error.kind() {
         ErrorKind::OutOfMemory => LineFault::Memory,

@@ -1,17 +1,18 @@
 //! A run: reading one source or two, the command, and the last word to standard error.
 ghost use Rattle.std.specs.Prelude.{◌≡◌, Err, IfErr, IfSome, IsTrue, is_some};
 ghost use Rattle.tool.specs.Messages.{is_answer};
-ghost use Rattle.tool.specs.Run.{Ends, Intake, Intakes, WroteOrFailed, Takes, TakesSecond, name_of, trace};
-ghost use Rattle.tool.specs.Steps.{Answers, IsReadAs, Passes, Reports, Stands, StandsBehind, second_text};
-ghost use Rattle.tool.specs.Tool.{first_name, refusal_of, second_name, with_both};
+ghost use Rattle.tool.specs.Run.{AsksSecond, Intakes, Runs, Takes, TakesSome, WroteOrFailed, name_of, trace};
+ghost use Rattle.tool.specs.Steps.{Answers, Passes, Reports, Stands, StoppedBefore, names_said};
+ghost use Rattle.tool.specs.Tool.{first_name, outcome_of, refusal_of, second_name, with_both};
 ghost use Rattle.tool.specs.Words.{takes_two};
 
 use crate::answer::put_answer;
 use crate::failure::{Failure, Operand};
 use crate::line::{Line, LineFault};
-use crate::sources::Source;
+use crate::second_source::{Second, read_source};
+use crate::sources::{Source, after_first, name_in_messages};
 use crate::status::Status;
-use pla::{Broken, Input, Output, Pla, read_pla, write_bytes};
+use pla::{Broken, Input, Output, Pla, write_bytes};
 use std::alloc::Global;
 
 /// Says on standard error why words gave no line, and answers how the process ends: with a fault,
@@ -61,65 +62,65 @@ pub fn run<R: Input, W: Output, E: Output>(
     requires pair { is_some second.old ≡ takes_two line.now.command }
     requires first_name { name_of first.old ≡ first_name line.now.files }
     requires second_name { IfSome second.old (λ s. name_of s ≡ second_name line.now.files) }
-    ensures ends { (taken : Intakes) × Takes R.left R.calls first.old first.new taken.first
-        × TakesSecond R.left R.calls taken.first second.old second.new taken.second
-        × Ends line.now taken
+    ensures ends { Runs (Takes R.left R.calls first.old first.new) (TakesSome R.left R.calls)
+        line.now (outcome_of line.now) second.old second.new
+        (trace (W.taken out.old) (W.taken out.new) (W.calls out.old) (W.calls out.new))
+        (trace (E.taken err.old) (E.taken err.new) (E.calls err.old) (E.calls err.new)) result }
+    ensures silent { IsTrue (is_answer result) → err.new ≡ err.old }
+{
+    run_on(alloc, line, first, second, out, err)
+}
+
+// Runs the line on a first source and whatever gives the second.
+pub(crate) fn run_on<R: Input, S: Second, W: Output, E: Output>(
+    alloc: Global,
+    line: &Line,
+    first: &mut Source<R>,
+    second: &mut S,
+    out: &mut W,
+    err: &mut E,
+) -> Status
+    requires first_name { name_of first.old ≡ first_name line.now.files }
+    requires second { S.fits line.now second.old }
+    ensures ends { Runs (Takes R.left R.calls first.old first.new) (S.asked line.now)
+        line.now (outcome_of line.now) second.old second.new
         (trace (W.taken out.old) (W.taken out.new) (W.calls out.old) (W.calls out.new))
         (trace (E.taken err.old) (E.taken err.new) (E.calls err.old) (E.calls err.new)) result }
     ensures silent { IsTrue (is_answer result) → err.new ≡ err.old }
 {
     let done = read_and_answer(alloc, line, first, second, out);
     let done = flush_last(out, done);
-    report(done, first.name().as_bytes(), second_bytes(second), err)
-}
-
-// The name of a second source, if there is one.
-fn second_bytes<R>(second: &Option<Source<R>>) -> &[u8]
-    ensures { result.now ≡ second_text second.now }
-{
-    match second {
-        Some(source) => source.name().as_bytes(),
-        None => b"",
-    }
+    let files = line.files();
+    let second_name = name_in_messages(after_first(files));
+    report(
+        done,
+        name_in_messages(files).as_bytes(),
+        second_name.as_bytes(),
+        err,
+    )
 }
 
 // Reads the sources in their order, and prints what the command answers.
-fn read_and_answer<R: Input, W: Output>(
+fn read_and_answer<R: Input, S: Second, W: Output>(
     alloc: Global,
     line: &Line,
     first: &mut Source<R>,
-    second: &mut Option<Source<R>>,
+    second: &mut S,
     out: &mut W,
 ) -> Result<Status, Failure>
     requires first_name { name_of first.old ≡ first_name line.now.files }
-    requires second_name { IfSome second.old (λ s. name_of s ≡ second_name line.now.files) }
+    requires second { S.fits line.now second.old }
     ensures { (taken : Intakes) × Takes R.left R.calls first.old first.new taken.first
-        × TakesSecond R.left R.calls taken.first second.old second.new taken.second
-        × Stands line.now taken
-        (record { first = name_of first.old; second = second_text second.old })
+        × AsksSecond (S.asked line.now) line.now taken.first (StoppedBefore taken.first result)
+        second.old taken.second second.new
+        × Stands line.now taken (names_said line.now)
         (trace (W.taken out.old) (W.taken out.new) (W.calls out.old) (W.calls out.new)) result }
 {
     let pla = read_source(alloc, line, Operand::First, first, out)?;
-    match second {
+    match second.read(alloc, line, out)? {
         None => put_answer(alloc, line, &pla, &pla, out),
-        Some(source) => go_on(alloc, line, &pla, source, out),
+        Some(other) => put_together(alloc, line, &pla, &other, out),
     }
-}
-
-// Reads the second source, and answers on both.
-pub(crate) fn go_on<R: Input, W: Output>(
-    alloc: Global,
-    line: &Line,
-    pla: &Pla,
-    source: &mut Source<R>,
-    out: &mut W,
-) -> Result<Status, Failure>
-    ensures { (taken : Intake) × Takes R.left R.calls source.old source.new taken
-        × StandsBehind line.now pla.now taken (name_of source.old)
-        (trace (W.taken out.old) (W.taken out.new) (W.calls out.old) (W.calls out.new)) result }
-{
-    let other = read_source(alloc, line, Operand::Second, source, out)?;
-    put_together(alloc, line, pla, &other, out)
 }
 
 // Compares the sizes, and prints what the command answers.
@@ -142,32 +143,8 @@ fn put_together<W: Output>(
     }
 }
 
-// Reads a source, whose echoes go out as its lines end.
-pub(crate) fn read_source<R: Input, W: Output>(
-    alloc: Global,
-    line: &Line,
-    operand: Operand,
-    source: &mut Source<R>,
-    out: &mut W,
-) -> Result<Pla, Failure>
-    ensures { (taken : Intake) × Takes R.left R.calls source.old source.new taken
-        × IsReadAs line.now operand (name_of source.old) taken
-        (trace (W.taken out.old) (W.taken out.new) (W.calls out.old) (W.calls out.new)) result }
-{
-    match source {
-        Source::Open { name: _, input } => match read_pla(alloc, input, out, line.echo()) {
-            Ok(pla) => Ok(pla),
-            Err(fault) => Err(Failure::by(operand, fault)),
-        },
-        Source::Closed { name: _ } => Err(Failure::NotOpened(operand)),
-    }
-}
-
 // Flushes the output, once and last. A failure stops a run that was not stopped yet.
-pub(crate) fn flush_last<W: Output>(
-    out: &mut W,
-    done: Result<Status, Failure>,
-) -> Result<Status, Failure>
+fn flush_last<W: Output>(out: &mut W, done: Result<Status, Failure>) -> Result<Status, Failure>
     ensures stopped { IfErr done (λ failure. result ≡ Err failure) }
     ensures passes { Passes (W.taken out.old) (W.taken out.new) (W.calls out.old)
         (W.calls out.new) done result }
@@ -185,7 +162,7 @@ pub(crate) fn flush_last<W: Output>(
 }
 
 // Says what stopped the run, if anything did.
-pub(crate) fn report<E: Output>(
+fn report<E: Output>(
     done: Result<Status, Failure>,
     first: &[u8],
     second: &[u8],

@@ -1,12 +1,13 @@
 //! Where the words and the bytes of a run come from.
-ghost use Rattle.std.specs.Prelude.{◌≡◌, IfOk, List, Option, drop, map, string_bytes, ℕ, ⊤};
+ghost use Rattle.std.specs.IoError.{error_kind};
+ghost use Rattle.std.specs.Prelude.{◌≡◌, ◌≢◌, Err, IfErr, IfOk, List, Option, drop, map, string_bytes, ℕ, ⊤};
 ghost use Rattle.tool.specs.Run.{name_of};
 ghost use Rattle.tool.specs.Tool.{first_name};
 
 use crate::line::LineFault;
 use pla::{Input, Reading};
 use std::alloc::{AllocError, AllocGlobal, Global};
-use std::env::Env;
+use std::env::{Args, Env};
 use std::fs::File;
 use std::io::{ErrorKind, Read};
 use std::rt::Stdin;
@@ -33,43 +34,51 @@ impl<R> Source<R> {
 }
 
 /// What opens files by their names and has standard input, and can do nothing else. A contract sees
-/// what the file of a name was opened as, and what standard input is.
+/// what each call gave, and the opener before and after it: so what was opened, and in which order,
+/// is seen from the opener before and after all calls.
 pub trait Opener {
     /// What is read from.
     type Device: Input + Drop;
 
-    /// The file of this name was opened as this device, or could not be opened.
-    ghost file: { Self → List ℕ → Option Self.Device → Type 0 };
+    /// From the first state to the last, the file of this name was opened as this device, or could
+    /// not be opened.
+    ghost file: { Self → List ℕ → Option Self.Device → Self → Type 0 };
 
-    /// This device is standard input.
-    ghost input: { Self → Self.Device → Type 0 };
+    /// From the first state to the last, this device was given for standard input.
+    ghost input: { Self → Self.Device → Self → Type 0 };
 
     /// Opens the file of this name; `None` if it cannot be opened.
-    fn open(&self, name: &str) -> Option<Self::Device>
-        ensures { file self.now name.now result };
+    fn open(&mut self, name: &str) -> Option<Self::Device>
+        ensures { file self.old name.now result self.new };
 
     /// Standard input.
-    fn standard_input(&self) -> Self::Device
-        ensures { input self.now result };
+    fn standard_input(&mut self) -> Self::Device
+        ensures { input self.old result self.new };
+}
+
+// The files and the standard input of the system.
+#[derive(Drop)]
+pub(crate) struct Files<'a> {
+    pub(crate) rt: &'a HostRuntime,
 }
 
 // No contract says what a file of the system holds.
-impl Opener for HostRuntime {
+impl Opener for Files<'_> {
     type Device = Reading<Content<File, Stdin>>;
 
-    ghost file = { λ _ _ _. ⊤ };
+    ghost file = { λ _ _ _ _. ⊤ };
 
-    ghost input = { λ _ _. ⊤ };
+    ghost input = { λ _ _ _. ⊤ };
 
-    fn open(&self, name: &str) -> Option<Reading<Content<File, Stdin>>> {
-        match fs::open(self, name) {
+    fn open(&mut self, name: &str) -> Option<Reading<Content<File, Stdin>>> {
+        match fs::open(self.rt, name) {
             Ok(file) => Some(Reading::new(Content::File(file))),
             Err(_) => None,
         }
     }
 
-    fn standard_input(&self) -> Reading<Content<File, Stdin>> {
-        Reading::new(Content::Input(self.stdin()))
+    fn standard_input(&mut self) -> Reading<Content<File, Stdin>> {
+        Reading::new(Content::Input(self.rt.stdin()))
     }
 }
 
@@ -93,10 +102,21 @@ impl<F: Read, I: Read> Read for Content<F, I> {
     }
 }
 
-// The words of the process, the program's name first. Words that are no text say no line.
+// The words of the process, the program's name first.
 pub(crate) fn words_of<R: Env + AllocGlobal>(rt: &R) -> Result<Vec<String>, LineFault> {
-    match env::args(rt) {
-        Ok(words) => words.collect(rt.alloc()).map_err(|_| LineFault::Memory),
+    words_in(rt.alloc(), env::args(rt))
+}
+
+// The words that were found. Words that are no text say no line.
+fn words_in(alloc: Global, found: io::Result<Args>) -> Result<Vec<String>, LineFault>
+    ensures refused { IfOk found (λ _. IfErr result (λ fault. fault ≡ LineFault.Memory)) }
+    ensures no_memory { IfErr found
+        (λ error. error_kind error ≡ ErrorKind.OutOfMemory → result ≡ Err LineFault.Memory) }
+    ensures no_text { IfErr found
+        (λ error. error_kind error ≢ ErrorKind.OutOfMemory → result ≡ Err LineFault.Usage) }
+{
+    match found {
+        Ok(words) => words.collect(alloc).map_err(|_| LineFault::Memory),
         Err(error) => match error.kind() {
             ErrorKind::OutOfMemory => Err(LineFault::Memory),
             _ => Err(LineFault::Usage),

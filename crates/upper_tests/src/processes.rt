@@ -28,11 +28,11 @@ impl Opener for Shelf {
 
     type Device = Given;
 
-    ghost file = { λ _ _ _. ⊤ };
+    ghost file = { λ _ _ _ _. ⊤ };
 
-    ghost input = { λ _ _. ⊤ };
+    ghost input = { λ _ _ _. ⊤ };
 
-    fn open(&self, name: &str) -> Option<Given> {
+    fn open(&mut self, name: &str) -> Option<Given> {
         match name {
             "a" => self.given(self.a),
             "b" => self.given(self.b),
@@ -42,7 +42,7 @@ impl Opener for Shelf {
         }
     }
 
-    fn standard_input(&self) -> Given {
+    fn standard_input(&mut self) -> Given {
         match self.given(self.input) {
             Some(given) => given,
             None => Given::new(Vec::new(self.alloc), 1, Ending::Failed),
@@ -78,7 +78,8 @@ fn words_of(alloc: Global, words: &[&str]) -> Result<Vec<String>, Fail> {
 fn left_by(alloc: Global, words: Result<Vec<String>, LineFault>) -> Result<Left, Fail> {
     let mut output = Taken::new(alloc, 200, 200, false)?;
     let mut message = Taken::new(alloc, 200, 200, false)?;
-    let status = execute(alloc, words, &two_files(alloc), &mut output, &mut message);
+    let mut files = two_files(alloc);
+    let status = execute(alloc, words, &mut files, &mut output, &mut message);
     Ok(Left {
         output,
         message,
@@ -186,11 +187,11 @@ impl Opener for Watched<'_> {
 
     type Device = Given;
 
-    ghost file = { λ _ _ _. ⊤ };
+    ghost file = { λ _ _ _ _. ⊤ };
 
-    ghost input = { λ _ _. ⊤ };
+    ghost input = { λ _ _ _. ⊤ };
 
-    fn open(&self, name: &str) -> Option<Given> {
+    fn open(&mut self, name: &str) -> Option<Given> {
         let mark = match name {
             "a" => 4,
             "b" => 5,
@@ -200,7 +201,7 @@ impl Opener for Watched<'_> {
         self.shelf.open(name)
     }
 
-    fn standard_input(&self) -> Given {
+    fn standard_input(&mut self) -> Given {
         put(self.slate, 7);
         self.shelf.standard_input()
     }
@@ -247,12 +248,12 @@ fn marks_of(alloc: Global, words: &[&str]) -> Result<u64, Fail> {
         mark: 3,
         calls: WriteCalls::new(),
     };
-    let files = Watched {
+    let mut files = Watched {
         slate: &slate,
         shelf: two_files(alloc),
     };
     let words = words_of(alloc, words)?;
-    let _ = execute(alloc, Ok(words), &files, &mut out, &mut err);
+    let _ = execute(alloc, Ok(words), &mut files, &mut out, &mut err);
     Ok(slate.get())
 }
 
@@ -284,7 +285,7 @@ fn calls_come_in_order(rt: HostRuntime) -> Result<(), Fail> {
 fn ends_at_write<O: Opener>(
     alloc: Global,
     words: Vec<String>,
-    files: &O,
+    files: &mut O,
     writes: u64,
 ) -> Result<bool, Fail> {
     let output = Taken::new(alloc, 200, 10, false)?;
@@ -312,12 +313,12 @@ fn is_flushed_after_a_failure(calls: WriteCalls) -> bool {
 fn a_second_file_stays_closed_after_a_failed_write(rt: HostRuntime) -> Result<(), Fail> {
     let alloc = rt.alloc();
     let slate = Cell::new(0);
-    let files = Watched {
+    let mut files = Watched {
         slate: &slate,
         shelf: two_files(alloc),
     };
     let words = words_of(alloc, &["x", "-Dverify", "b", "a"])?;
-    assert!(rt; ends_at_write(alloc, words, &files, 0)?);
+    assert!(rt; ends_at_write(alloc, words, &mut files, 0)?);
     assert!(rt; slate.get() == 5);
     Ok(())
 }
@@ -327,7 +328,7 @@ fn a_failed_call_is_the_last_of_its_kind(rt: HostRuntime) -> Result<(), Fail> {
     let alloc = rt.alloc();
     for writes in 0..2 {
         let words = words_of(alloc, &["x", "-Decho", "a"])?;
-        assert!(rt; ends_at_write(alloc, words, &two_files(alloc), writes)?);
+        assert!(rt; ends_at_write(alloc, words, &mut two_files(alloc), writes)?);
     }
     Ok(())
 }

@@ -3,7 +3,7 @@ ghost use Rattle.std.specs.Prelude.{◌≡◌};
 
 use crate::tables::{read, searches_agree};
 use cover::Cover;
-use minimum::{Choice, Table, essential, exact, primes};
+use minimum::{Choice, OfPrimes, Table, essential, exact, primes};
 use pla::{OutType, Pla, Sets, Taken, write_covers};
 use std::alloc::{AllocError, Global};
 use std::test::Fail;

@@ -1,5 +1,7 @@
 //! Tables of worked functions, written as rows.
-use minimum::{Choice, Effort, Table, reduce};
+use minimum::{
+    Choice, Effort, Table, least_cover, least_cover_plain, least_cover_with_effort, reduce,
+};
 use pla::{Echo, Ending, Given, Pla, Taken, read_pla};
 use std::alloc::{AllocError, Global};
 use std::test::Fail;
@@ -32,13 +34,13 @@ fn table(alloc: Global, rows: &[u8], weights: &[u32]) -> Result<Option<Table>, A
 
 /// Whether the search answers these columns.
 fn least_is(table: &Table, choice: Choice, columns: &[usize]) -> Result<bool, AllocError> {
-    let least = table.least_cover(choice)?;
+    let least = least_cover(table, choice)?;
     Ok(least.as_slice() == columns)
 }
 
 /// Whether the plain search answers these columns.
 fn plain_is(table: &Table, choice: Choice, columns: &[usize]) -> Result<bool, AllocError> {
-    let plain = table.least_cover_plain(choice)?;
+    let plain = least_cover_plain(table, choice)?;
     Ok(plain.as_slice() == columns)
 }
 
@@ -133,7 +135,7 @@ fn least_is_counted(
     columns: &[usize],
     effort: &mut Effort,
 ) -> Result<bool, AllocError> {
-    let least = table.least_cover_with_effort(Choice::First, effort)?;
+    let least = least_cover_with_effort(table, Choice::First, effort)?;
     Ok(least.as_slice() == columns)
 }
 
@@ -252,12 +254,12 @@ fn drawn(alloc: Global, seed: u64) -> Result<Option<Table>, AllocError> {
 
 /// Whether both searches answer the same, on the table as it is and as reduced.
 pub(crate) fn searches_agree(made: Table, choice: Choice) -> Result<bool, AllocError> {
-    let plain = made.least_cover_plain(choice)?;
-    let least = made.least_cover(choice)?;
+    let plain = least_cover_plain(&made, choice)?;
+    let least = least_cover(&made, choice)?;
     let reduced = reduce(made, choice)?;
     let mut effort = Effort::none();
-    let again = reduced.least_cover_with_effort(choice, &mut effort)?;
-    let plainly = reduced.least_cover_plain(choice)?;
+    let again = least_cover_with_effort(&reduced, choice, &mut effort)?;
+    let plainly = least_cover_plain(&reduced, choice)?;
     Ok(
         least.as_slice() == plain.as_slice()
             && again.as_slice() == plain.as_slice()

@@ -18,4 +18,5 @@ returns-in-Ok-try_get_matches_from-clause-usage c =
 pub returns-in-Err-try_get_matches_from-clause-usage : goal.returns-in-Err-try_get_matches_from-clause-usage
 returns-in-Err-try_get_matches_from-clause-usage c =
     let parse = c.in-Err-try_get_matches_from in
-    λ e. line_of_error (app_of c.in-Ok.command) (map string_bytes c.args.words.now) c.in-Ok.ensures (all_utf8 c.args.words.now) parse.error parse.ensures.kinds (c.fault_from.ensures (usage_is _ e))
+    λ e. line_of_error (app_of c.in-Ok.command) (map string_bytes c.args.words.now) c.in-Ok.ensures (all_utf8 c.args.words.now) parse.error parse.ensures.kinds
+    (λ memory. let is = c.fault_from.ensures.memory memory in let said = usage_is _ e in cc)

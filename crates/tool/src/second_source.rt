@@ -1,0 +1,148 @@
+//! Reading a source, and the second source of a run: one that is there, or one to be opened.
+ghost use Rattle.std.specs.Prelude.{◌≡◌, IfErr, IfOk, map, string_bytes};
+ghost use Rattle.tool.specs.Program.{IsOpenedAs, named_file};
+ghost use Rattle.tool.specs.Run.{Asked, Intake, SecondIntake, Takes, name_of, trace};
+ghost use Rattle.tool.specs.Steps.{IsReadAs, IsSecondReadAs, ReadsSecond};
+ghost use Rattle.tool.specs.Tool.{first_name, second_name};
+ghost use Rattle.tool.specs.Words.{Meaning};
+
+use crate::failure::{Failure, Operand};
+use crate::line::Line;
+use crate::sources::{Opener, Source, after_first, source_name};
+use pla::{Input, Output, Pla, read_pla};
+use std::alloc::{AllocError, Global};
+
+// What gives the second source of a run.
+pub(crate) trait Second {
+    // It can give the second source of this line.
+    ghost fits: { Meaning → Self → Type 0 };
+
+    // From the first state to the last, this was taken of the second source of this line.
+    ghost asked: { Meaning → Self → Intake → Self → Type 0 };
+
+    // Reads the second source of the line, if its command takes two.
+    fn read<W: Output>(
+        &mut self,
+        alloc: Global,
+        line: &Line,
+        out: &mut W,
+    ) -> Result<Option<Pla>, Failure>
+        requires { fits line.now self.old }
+        ensures { (taken : SecondIntake) × ReadsSecond (asked line.now) line.now self.old taken
+            self.new
+            (trace (W.taken out.old) (W.taken out.new) (W.calls out.old) (W.calls out.new)) result };
+}
+
+// A second source that is there.
+impl<R: Input> Second for Option<Source<R>> {
+    ghost use Rattle.std.specs.Prelude.{◌≡◌, IfSome, is_some};
+    ghost use Rattle.tool.specs.Run.{TakesSome, name_of};
+    ghost use Rattle.tool.specs.Tool.{second_name};
+    ghost use Rattle.tool.specs.Words.{takes_two};
+
+    ghost fits = { λ line second. (is_some second ≡ takes_two line.command)
+        × IfSome second (λ source. name_of source ≡ second_name line.files) };
+
+    ghost asked = { λ line. TakesSome R.left R.calls };
+
+    fn read<W: Output>(
+        &mut self,
+        alloc: Global,
+        line: &Line,
+        out: &mut W,
+    ) -> Result<Option<Pla>, Failure> {
+        match self {
+            Some(source) => read_second(alloc, line, source, out),
+            None => Ok(None),
+        }
+    }
+}
+
+// A second source that has to be opened.
+impl<O: Opener> Second for O {
+    ghost use Rattle.std.specs.Prelude.{drop, ⊤};
+    ghost use Rattle.tool.specs.Program.{IsOpenedAs, OpensAndTakes, named_file};
+    ghost use Rattle.tool.specs.Run.{Takes};
+
+    ghost fits = { λ _ _. ⊤ };
+
+    ghost asked = { λ line. OpensAndTakes (IsOpenedAs O.file O.input)
+        (Takes O.Device.left O.Device.calls) (named_file (drop 1 line.files)) };
+
+    fn read<W: Output>(
+        &mut self,
+        alloc: Global,
+        line: &Line,
+        out: &mut W,
+    ) -> Result<Option<Pla>, Failure> {
+        if !line.pair() {
+            return Ok(None);
+        }
+        match open_source(alloc, self, after_first(line.files())) {
+            Ok(mut source) => read_second(alloc, line, &mut source, out),
+            Err(AllocError) => Err(Failure::OutOfMemory),
+        }
+    }
+}
+
+// The first of these files, opened, or standard input if there is none or it is `-`.
+pub(crate) fn open_source<O: Opener>(
+    alloc: Global,
+    opener: &mut O,
+    files: &[String],
+) -> Result<Source<O::Device>, AllocError>
+    ensures name { IfOk result (λ s. name_of s ≡ first_name (map string_bytes files.now)) }
+    ensures source { IfOk result (λ s.
+        IsOpenedAs O.file O.input (named_file (map string_bytes files.now)) opener.old s
+        opener.new) }
+    ensures unopened { IfErr result (λ _. opener.new ≡ opener.old) }
+{
+    let name = source_name(alloc, files)?;
+    let input = match files.first() {
+        Some(file) if file.as_str() != "-" => match opener.open(file.as_str()) {
+            Some(input) => input,
+            None => return Ok(Source::Closed { name }),
+        },
+        _ => opener.standard_input(),
+    };
+    Ok(Source::Open { name, input })
+}
+
+// Reads the second source of the line.
+fn read_second<R: Input, W: Output>(
+    alloc: Global,
+    line: &Line,
+    source: &mut Source<R>,
+    out: &mut W,
+) -> Result<Option<Pla>, Failure>
+    requires { name_of source.old ≡ second_name line.now.files }
+    ensures { (taken : Intake) × Takes R.left R.calls source.old source.new taken
+        × IsSecondReadAs line.now (Asked taken)
+        (trace (W.taken out.old) (W.taken out.new) (W.calls out.old) (W.calls out.new)) result }
+{
+    match read_source(alloc, line, Operand::Second, source, out) {
+        Ok(pla) => Ok(Some(pla)),
+        Err(failure) => Err(failure),
+    }
+}
+
+// Reads a source, whose echoes go out as its lines end.
+pub(crate) fn read_source<R: Input, W: Output>(
+    alloc: Global,
+    line: &Line,
+    operand: Operand,
+    source: &mut Source<R>,
+    out: &mut W,
+) -> Result<Pla, Failure>
+    ensures { (taken : Intake) × Takes R.left R.calls source.old source.new taken
+        × IsReadAs line.now operand (name_of source.old) taken
+        (trace (W.taken out.old) (W.taken out.new) (W.calls out.old) (W.calls out.new)) result }
+{
+    match source {
+        Source::Open { name: _, input } => match read_pla(alloc, input, out, line.echo()) {
+            Ok(pla) => Ok(pla),
+            Err(fault) => Err(Failure::by(operand, fault)),
+        },
+        Source::Closed { name: _ } => Err(Failure::NotOpened(operand)),
+    }
+}
