@@ -197,12 +197,13 @@ class ProgramTest(unittest.TestCase):
             told = f"{' '.join(map(str, words))}\n" if words else ""
             self.fail(f"{told}due:   {due}\nfound: {found}")
 
-    def check(self, *cases):
-        """Each case gives its answer, leaves its files as they were, and reads standard input where it is asked for."""
+    def check(self, *cases, **more):
+        """Each case gives its answer, leaves its files as they were, and reads standard input where it is asked for. What
+        more is said is said of each run."""
         for case in cases:
             with self.subTest(case.name), folder_of(case.files) as folder:
                 before = contents(folder)
-                found, taken = answer_in(folder, case.word_list, case.files.get("-", STRANGER))
+                found, taken = answer_in(folder, case.word_list, case.files.get("-", STRANGER), **more)
                 self.same(found, case.due, case.word_list)
                 self.assertEqual(contents(folder), before, "the folder's files changed")
                 if "-" not in case.files:

@@ -21,6 +21,15 @@ class Files(ProgramTest):
         self.check(*(Case(f"missing {name}", ["-Decho", "--", name], {}, b"", closed(name), 2)
                      for name in ("none", "no/such", "a b", "-x", "--", "(stdin)", "\u00fc", "x" * 300, "two\nlines")))
 
+    def test_names_of_neighbours(self):
+        """A file is not read in the place of one with nearly its name."""
+        files = {"a.pla": ONE, " b": ONE, "b ": ONE, "c": ONE, "C.PLA": ONE, "d\n": ONE, "e": ONE, "e.pla": None}
+        names = ("a", " a.pla", "a.pla ", "a.pla\n", "./a", "b", " b ", "c.pla", "C", "c ", "c/", "C.pla", "d", "e.", "e.pl", "*",
+                 "?", "a.pl?", "~", "$HOME", "file:c", "c\\")
+        self.check(*(Case(f"missing {name!r}", ["-Decho", "--", name], files, b"", closed(name), 2) for name in names),
+                   *(Case(f"missing {name!r}, the second", ["-Dverify", "c", "--", name], files, b"", closed(name), 2)
+                     for name in names))
+
     def test_an_empty_word(self):
         """It is a file without a name, which cannot be opened."""
         self.check(Case("alone", ["-Decho", ""], {}, b"", closed(""), 2),

@@ -112,7 +112,3 @@ class Limits(ProgramTest):
             refused("a line too many before one too long", "-Decho", feeds + b"x" * (LONGEST + 1), MOST_LINES + 1, TOO_MANY),
             refused("a fault on the last line", "-Decho", feeds[1:] + b".mv", MOST_LINES, "keyword outside the profile"),
             on_input("a file on the last lines", "-Decho", feeds[3:] + lines(*NUMBERS, "1 1"), printed(1, 1, "1 1")))
-
-    def test_many_rows(self):
-        rows = [f"{k:020b} 1" for k in range(0, 1 << 20, 5)]
-        self.check(on_input("209,716 rows", "-Decho", pla(20, 1, *rows), printed(20, 1, *rows)))

@@ -1,5 +1,6 @@
-"""The page with all that has to be believed is the one that its script writes of the sources as they stand."""
+"""The pages with what has to be believed are those that their script writes of the sources as they stand, and they are closed."""
 import os
+import re
 import shutil
 import subprocess
 import sys
@@ -7,25 +8,73 @@ import tempfile
 import unittest
 
 TOP = os.path.dirname(os.path.dirname(os.path.abspath(__file__)))
+DOCS = os.path.join(TOP, "docs")
+sys.path.insert(0, DOCS)
+
+import definitions  # noqa: E402
+
+PAGES = {"STATEMENT.md": (), "LIBRARIES.md": ("--libraries",)}
 
 
-def printed(top):
+def printed(top, *words):
     """What the script prints of the sources in a folder."""
-    return subprocess.run([sys.executable, os.path.join(top, "docs", "statement.py"), "--print"], capture_output=True, timeout=60)
+    command = [sys.executable, os.path.join(top, "docs", "statement.py"), "--print", *words]
+    return subprocess.run(command, capture_output=True, timeout=300)
 
 
+def page(name):
+    with open(os.path.join(DOCS, name), encoding="utf-8") as file:
+        return file.read()
+
+
+def defined_on(text):
+    """The names that a page defines: in its code, and in its table of the logic's own words."""
+    names = set()
+    for kind, code in re.findall(r"^```(rust)?\n(.*?)^```$", text, re.M | re.S):
+        if kind:
+            names |= set(re.findall(r"\b(?:enum|struct|trait|const|fn) (\w+)|^    (\w+)(?:\(.*\))?(?: = .*)?,$|^    ghost (\w+)", code, re.M))
+        else:
+            names |= set(re.findall(r"^(?:abbrev |unfoldable |pub |data |record )+(\S+)|^  ((?:\S+ )+):", code, re.M))
+    names |= {a or b for a, b in re.findall(r"`(\w+)` is `\w+` of|^// (\w+) is \w+ of", text, re.M)}
+    words = re.findall(r"^\| (`.*`) \|", text, re.M) + re.findall(r"\b[A-Z]\b", text.partition("are any types")[0].rpartition("\n\n")[2])
+    found = {word for group in names for part in ([group] if isinstance(group, str) else group) for word in part.split()} | set(re.findall(r"[^\s`,\"]+", " ".join(words)))
+    return found | {part for name in found for part in definitions.parts(name)}
+
+
+class OnPage(definitions.Module):
+    """A block of a page's code, read as a module whose imports are all that the page defines."""
+
+    def __init__(self, code, names):
+        self.place, self.about, self.entries, self.own = "page", "", [], {}
+        self.names, self.short, self.missing = dict.fromkeys(names, ("page", "")), {}, set()
+        self.read(code.split("\n"))
+        for entry in self.entries:
+            self.cite(entry)
+
+    def find(self, name, projection=""):
+        return name if name in self.names or definitions.LEVELS & {name} else None
+
+    def is_constructor(self, name, projection):
+        return self.find(name) is not None
+
+    def note(self, entry, found, bound):
+        self.missing |= {(entry.name, name) for name, _ in definitions.free(found, bound) if self.find(name) is None}
+
+
+@unittest.skipUnless(shutil.which("rt"), "the command rt is not on the PATH")
 class Statement(unittest.TestCase):
-    def test_it_is_fresh(self):
-        run = printed(TOP)
-        self.assertEqual((run.returncode, run.stderr), (0, b""))
-        with open(os.path.join(TOP, "docs", "STATEMENT.md"), "rb") as page:
-            self.assertTrue(page.read() == run.stdout, "docs/STATEMENT.md is old: run docs/statement.py")
+    def test_the_pages_are_fresh(self):
+        for name, words in PAGES.items():
+            with self.subTest(name):
+                run = printed(TOP, *words)
+                self.assertEqual((run.returncode, run.stderr), (0, b""))
+                self.assertTrue(page(name).encode() == run.stdout, f"docs/{name} is old: run docs/statement.py")
 
     def test_a_name_without_a_meaning_stops_the_script(self):
         with tempfile.TemporaryDirectory() as copy:
             os.mkdir(os.path.join(copy, "docs"))
             for script in ("statement.py", "definitions.py"):
-                shutil.copy(os.path.join(TOP, "docs", script), os.path.join(copy, "docs"))
+                shutil.copy(os.path.join(DOCS, script), os.path.join(copy, "docs"))
             for crate in os.listdir(os.path.join(TOP, "crates")):
                 for part in ("specs", "src"):
                     folder = os.path.join("crates", crate, part)
@@ -39,3 +88,30 @@ class Statement(unittest.TestCase):
             run = printed(copy)
             self.assertEqual(run.returncode, 1)
             self.assertIn(b"tool cites line_behind, which is found nowhere", run.stderr)
+
+
+class Closed(unittest.TestCase):
+    def check(self, text, names):
+        """Each name in the definitions and contracts of a page is one of these."""
+        contracts = re.compile(r"^```rust\n(.*?)^```$", re.M | re.S)
+        blocks = re.findall(r"^```\n(.*?)^```$", contracts.sub("", text), re.M | re.S)
+        self.assertGreater(len(blocks), 20)
+        self.assertEqual(set().union(*(OnPage(code, names).missing for code in blocks)), set())
+        for code in contracts.findall(text):
+            plain = re.sub(r"//.*", "", code)
+            own = {"self", "Self", "result", *re.findall(r"(\w+): ", plain), *re.findall(r"\b[A-Z]\b", plain)}
+            for clause in definitions.clauses(plain):
+                self.assertEqual({name for name, _ in definitions.free(definitions.tokens(clause), own)} - names, set())
+
+    def test_each_name_of_the_statement_is_defined_on_it(self):
+        text = page("STATEMENT.md")
+        self.check(text, defined_on(text))
+
+    def test_each_name_of_the_libraries_page_is_defined_on_it_or_on_the_statement(self):
+        text = page("LIBRARIES.md")
+        self.check(text, defined_on(page("STATEMENT.md")) | defined_on(text))
+
+    def test_a_name_that_is_not_defined_is_seen(self):
+        block = "abbrev pub twice : ℕ → ℕ\ntwice n = add n n\n"
+        self.assertEqual(OnPage(block, {"twice", "ℕ"}).missing, {("twice", "add")})
+        self.assertEqual(OnPage(block, {"twice", "ℕ", "add"}).missing, set())
