@@ -38,6 +38,12 @@ def one_output(cubes):
     return (cube + " 1" for cube in cubes)
 
 
+def products(inputs, count, symbol="1"):
+    """All products of so many inputs, or of their negations."""
+    for chosen in itertools.combinations(range(inputs), count):
+        yield "".join(symbol if i in chosen else "-" for i in range(inputs))
+
+
 def rewritten(name, inputs, cubes, more=0, dropped=False):
     """Files of these cubes and of the same places: each cube in four, and so many consensus cubes, shuffled. Where a
     literal is dropped, one cube of the second file lacks one, and the places may be others."""
@@ -77,11 +83,9 @@ def leaves_cut(inputs, count):
 
 def symmetric_halves(inputs):
     """At least half of the inputs are 1, or fewer: the products of ones, and of noughts. A tautology."""
-    def products():
-        for count, symbol in ((inputs // 2, "1"), (inputs - inputs // 2 + 1, "0")):
-            for chosen in itertools.combinations(range(inputs), count):
-                yield "".join(symbol if i in chosen else "-" for i in range(inputs)) + " 1"
-    return file_of(f"peers-halves-{inputs}", inputs, 1, products())
+    ones = products(inputs, inputs // 2)
+    noughts = products(inputs, inputs - inputs // 2 + 1, "0")
+    return file_of(f"peers-halves-{inputs}", inputs, 1, one_output(itertools.chain(ones, noughts)))
 
 
 def pigeonholes(holes):
@@ -222,6 +226,9 @@ def for_verify():
         family("two ones of n", "the products of two inputs each; against each product cut in four, shuffled",
                (6, 10, 20, 30, 40, 60, 80, 120), inputs_label,
                lambda n: rewritten(f"peers-two-of-{n}", n, list(two_of(n)))),
+        family("three ones of n", "the products of three inputs each; against each product cut in four, shuffled",
+               (12, 18, 24, 30), inputs_label,
+               lambda n: rewritten(f"peers-three-of-{n}", n, list(products(n, 3)))),
         family("partitions",
                "half of the leaves of a random decision tree of 64 inputs; against the same cut into twice as many",
                (250, 500, 1000, 2000, 4000, 8000, 16000, 32000), leaves_label, lambda n: leaves_cut(64, n)),
@@ -238,9 +245,9 @@ def for_tautology():
     counts = (250, 500, 1000, 2000, 4000, 8000, 16000, 32000)
     return [
         family("random covers, 5.2 cubes an input", "cubes of three literals; most covers are tautologies",
-               (20, 40, 60, 80, 100, 120, 160, 200, 250, 300, 400), inputs_label, lambda n: (cover(n, 52),)),
+               (20, 40, 60, 80, 100, 120, 160, 200, 250, 300, 350, 400), inputs_label, lambda n: (cover(n, 52),)),
         family("random covers, 4 cubes an input", "cubes of three literals; most covers are no tautologies",
-               (20, 40, 80, 120, 160, 200, 300, 400, 600, 1000), inputs_label, lambda n: (cover(n, 40),)),
+               (20, 40, 80, 120, 160, 200, 250, 300, 350, 400, 600, 1000), inputs_label, lambda n: (cover(n, 40),)),
         family("partitions", "all leaves of a random decision tree of 64 inputs", counts, leaves_label,
                lambda n: (leaves(64, n),)),
         family("partitions, one missing", "the same without one of the leaves", counts, leaves_label,
