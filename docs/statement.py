@@ -1,7 +1,8 @@
 #!/usr/bin/env python3
 """Writes docs/STATEMENT.md: the contracts of the program and every definition that they reach, and nothing else.
+And docs/LIBRARIES.md: the contracts of the libraries' other public calls, and what these reach beyond.
 
-usage: docs/statement.py [--print]      (--print: to standard output, and no file is written)
+usage: docs/statement.py [--print [--libraries]]      (--print: one of the pages to standard output, and no file is written)
 """
 import os
 import re
@@ -12,10 +13,15 @@ sys.dont_write_bytecode = True
 HERE = os.path.dirname(os.path.abspath(__file__))
 sys.path.insert(0, HERE)
 
-from definitions import Book, Entry  # noqa: E402
+from definitions import Book, Entry, parts  # noqa: E402
 
-# The contracts that are to be believed.
-CONTRACTS = ("tool::execute", "tool::Status::code", "tool::Line::read", "tool::run", "tool::refuse", "tool::tool_in_parts")
+# The contracts that are to be believed of the program.
+CONTRACTS = ("tool::execute", "tool::Status::code")
+
+# The libraries, of whose public calls the second page has the contracts, each with its subject.
+LIBRARIES = (("tool", "The parts of a process"), ("minimum", "Primes and covers"),
+             ("covering", "The covering problem"), ("pla", "The format"),
+             ("cover", "Lists of cubes"), ("cube", "Cubes"))
 
 # The subjects in reading order: a title, what it is about, and its modules (`crate.Module`) and items of src
 # (`crate::item`). An enum or struct that is not listed stands before the first module that names it, and a module that is
@@ -27,8 +33,6 @@ SUBJECTS = (
      ("tool.Tool",)),
     ("How a run ends", "In one of three ways: as `tool` says, without memory, or with an output that failed.",
      ("tool.Run",)),
-    ("The parts of a process", "What `execute` promises, its parts promise too: words are read, a line is run, words are refused.",
-     ("tool::Line::read", "tool::Line", "tool::run", "tool::refuse", "tool::tool_in_parts")),
     ("The words of a command line", "Which words say which line.", ("tool.Words",)),
     ("Messages and statuses", "", ("tool::Status::code", "tool.Messages")),
     ("What each command answers", "", ("tool.Answer", "tool.Check")),
@@ -38,7 +42,7 @@ SUBJECTS = (
     ("Cubes, places and complete sums", "",
      ("cube.Size", "cube.Limits", "cube.Pattern", "cube.Cube", "cube.Order", "cube.Sum")),
     ("Lists of cubes", "", ("cover.Cubes", "cover.Places", "cover.Contained")),
-    ("Primes and covers by primes", "", ("minimum.Primes", "minimum.Cover", "minimum.Table")),
+    ("Primes and covers by primes", "", ("minimum.Primes", "covering.Cover", "covering.Table")),
     ("The printed text", "", ("pla.Text",)),
     ("Devices", "What a contract sees of files, of outputs, and of the calls to them. `start` gives `execute` the files and streams of\n"
      "the system, of which no contract tells what they hold.",
@@ -46,41 +50,79 @@ SUBJECTS = (
       "pla.Device", "pla.Reads")),
 )
 
-INTRODUCTION = """# The statement
-
-What has to be believed of this program, and nothing else: the contracts of its calls, every definition that they reach, and the
-enums, structs and traits that these name: {definitions} in all, on {lines:,} lines and {comments} of comments. A checker has
-proved that the code keeps the contracts; no proof has to be read. The contract of `execute` is that of the whole process and needs
-no other; its parts have theirs.
-
-The page is written by `docs/statement.py` from `crates/*/specs` and `crates/*/src`, and `tests/run` checks that it is fresh.
-
-{table}
-
-`pla.Fault` is the file `crates/pla/specs/Fault.antt`, and `pla::Echo` an item of `crates/pla/src`. A definition has its type, and
+READING = """`pla.Fault` is the file `crates/pla/specs/Fault.antt`, and `pla::Echo` an item of `crates/pla/src`. A definition has its type, and
 then an equation for each case, of which the first that fits counts; a `record` has fields, and a `data` cases. `abbrev`,
 `unfoldable` and `pub` say when the checker looks into a definition and who may use it, and nothing of what it means. `P × Q` is
 both, `P ⊎ Q` either, `P → Q` whenever P then Q, `(x : T) → P` for each x, `(x : T) × P` for some x, `⊤` what always holds and `⊥`
 what never does. `λ x. t` is the function that answers t. Texts are lists of bytes, and `codes` gives those of a quoted one. In a
 contract `x.old` and `x.new` are what a borrowed value is before and after the call, `x.now` is what a shared one is, and `result`
 is what the call answers; a type that has a model is seen as its model. Where a name stands in several sections, it is that of its
-own section, unless it is said otherwise.
+own section, unless it is said otherwise."""
+
+STATEMENT = """# The statement
+
+What has to be believed of this program, and nothing else: the contract of `execute`, which is that of the whole process, given the
+words, files and streams that `start` hands it; and every definition, enum, struct and trait that it reaches, those of the kit too:
+{definitions} in all, on {lines:,} lines and {comments} of comments. A checker has proved that the code keeps the contract; no proof
+has to be read.
+
+The page is written by `docs/statement.py` from `crates/*/specs`, `crates/*/src` and the kit's files, and `tests/run` checks that it is
+fresh and that each name on it is defined on it. The libraries' other contracts are in [LIBRARIES.md](LIBRARIES.md).
+
+{table}
+
+{reading}
 """
 
-STD = """## What std defines
+LIBRARIES_PAGE = """# The contracts of the libraries
 
-These names are those of the kit's std, whose modules stand in the kit. The language's own are `→`, `×`, `λ`, `⊥`, `Type`, `Unit`,
-`let`, `record` and `data`.
+What the public calls of the libraries promise to those who call them from elsewhere, and the definitions that these contracts reach and
+[the statement](STATEMENT.md) does not have: {definitions} in all, on {lines:,} lines and {comments} of comments. The program needs
+none of them to be believed. The statement says how a contract and a definition are read; what is defined there is not repeated.
+
+The page is written by `docs/statement.py`.
+
+{table}
 """
+
+KIT = "What std defines"
+KIT_ABOUT = """Definitions of the kit's libraries, as its files have them: `Rattle.core.specs.List` is `core/specs/List.antt`, `lib.ListN` is
+`logic/Lib/ListN.antt`, and `mathlib.Core.Bool` is `antt/port/mathlib/src/Core/Bool.antt`. A, B, X, Y and T are any types, and ℓ and κ,
+the levels of types, say nothing here. These words are the logic's own:
+"""
+KIT_ORDER = ("mathlib", "lib", "Rattle.core", "Rattle")
+
+# The logic's own words, which have no definition to be read.
+WORDS = (
+    ("`a ≡ b`", "≡", "the two are the same"),
+    ("`ℕ`", "ℕ", "the numbers from 0 on, without a limit"),
+    ("`zero`, `suc n`", "zero suc", "0, and the number after n"),
+    ("`m + n`, `m - n`, `m * n`, `m / n`, `m % n`, `m ^ n`, `min m n`", "+ - * / % ^ min",
+     "arithmetic of such numbers: `m - n` is 0 if m is less, `/` leaves out the rest, and `%` is the rest"),
+    ("`m ≤ n`, `m < n`", "≤ <", "the fact that m is at most n, or less"),
+    ("`nat_le m n`, `nat_lt m n`, `nat_eq m n`, or `leb`, `ltb`, `eqb`", "nat_le nat_lt nat_eq eqb leb ltb",
+     "the answers to whether m is at most n, less, or equal"),
+    ('`codes "ab"`', "codes", "the numbers of the characters of a text"),
+    ("`string_bytes s`", "string_bytes", "the bytes of a `String`"),
+    ("`bit_and m n`", "bit_and", "the number of the bits that are in both"),
+    ("`Bor T`", "Bor", "a borrowed T"),
+    ("`Vec`, `String`, `Global`", "Vec String Global", "Rust's types; `items` are what a `Vec` holds"),
+    ("`vec_len v`", "vec_len", "the length of a `Vec`"),
+    ("`→`, `×`, `λ`, `⊥`, `Type`, `Unit`, `let`, `record`, `data`", "", "as said above; `Unit` has one value, and `¬ P` is `P → ⊥`"),
+)
 
 
 def is_item(entry):
     return entry.place.endswith("::")
 
 
-def reached(book):
+def is_of_kit(entry):
+    return entry.place.startswith(("std.", "Rattle.", "lib.", "mathlib."))
+
+
+def reached(book, contracts):
     """Every entry that the contracts reach."""
-    todo = [book.item_of(*name.split("::", 1)) for name in CONTRACTS]
+    todo = [book.item_of(*name.split("::", 1)) for name in contracts]
     seen = {}
     while todo:
         entry = todo.pop()
@@ -120,31 +162,50 @@ def block(entries):
 
 
 class Page:
-    """The statement: its subjects with their entries, each entry once."""
+    """A page: its subjects with their entries, each entry once, but for those that another page has."""
 
-    def __init__(self, book):
-        self.book, self.seen = book, reached(book)
+    def __init__(self, book, contracts, subjects, elsewhere=()):
+        self.book, self.order = book, {call: k for k, call in enumerate(contracts)}
+        self.seen = [entry for entry in reached(book, contracts) if entry not in elsewhere]
         self.owners = defaultdict(set)
-        for entry in self.seen:
+        for entry in [*self.seen, *elsewhere]:
             for name in [entry.name, *entry.members]:
                 self.owners[name].add(entry)
-        listed = {place for _, _, places in SUBJECTS for place in places}
-        self.done = {entry for entry in self.seen if is_item(entry) and entry.place + entry.name in listed}
-        rest = sorted({entry.place for entry in self.seen if not is_item(entry)} - listed)
+        listed = {place for _, _, places in subjects for place in places}
+        self.done = {entry for entry in self.seen if is_item(entry) and (is_of_kit(entry) or entry.place + entry.name in listed)}
+        self.done |= set(elsewhere)
+        rest = sorted({entry.place for entry in self.seen if not is_item(entry) and not is_of_kit(entry)} - listed)
         self.sections = [(title, about, [part for place in places for part in self.parts(place)])
-                         for title, about, places in (*SUBJECTS, ("Further definitions", "", rest))]
+                         for title, about, places in (*subjects, ("Further definitions", "", rest))]
+        printed = [entry for _, _, found in self.sections for _, entries in found for entry in entries]
+        left_out = {entry for entry in self.seen if not is_of_kit(entry)} - set(printed)
+        if left_out or len(printed) != len(set(printed)):
+            sys.exit(f"statement: not printed once: {', '.join(entry.place + entry.name for entry in left_out)}")
+        self.sections.append((KIT, "\n".join([KIT_ABOUT, *self.words()]), list(self.parts_of_kit())))
 
     def parts(self, place):
         """The entries of a place, behind those of src that they name: each list with its heading, or none."""
         if "::" in place:
-            found = [entry for entry in self.seen if entry.place + entry.name == place]
-            return [([f"### `{place}`", ""] if place.split("::")[-1][0].islower() else [], found)] if found else []
+            found = [entry for entry in self.seen if (entry.place + entry.name + "::").startswith(place + "::")]
+            found.sort(key=lambda entry: self.order.get(entry.place + entry.name, -1))
+            is_call = place.split("::")[-1][0].islower() or any("::" in entry.name for entry in found)
+            items = list(items_of(found, self.done))
+            return [([f"### `{place}`", ""] if is_call else [], items + found)] if found else []
         module = self.book.modules.get(place) or sys.exit(f"statement: there is no module {place}")
         entries = [entry for entry in module.entries if entry in self.seen]
         items = list(items_of(entries, self.done))
         notes = self.notes(entries)
         heading = [f"### `{place}`", "", module.about + (f" Here {notes}." if notes else ""), ""]
         return [(heading, items), ([], entries)] if items else [(heading, entries)] if entries else []
+
+    def parts_of_kit(self):
+        """The entries of the kit: its types, and then its modules."""
+        types = sorted((entry for entry in self.seen if is_of_kit(entry) and is_item(entry)), key=lambda entry: entry.name)
+        if types:
+            yield [], types
+        places = {entry.place for entry in self.seen if is_of_kit(entry) and not is_item(entry)}
+        for place in sorted(places, key=lambda place: (next(k for k, it in enumerate(KIT_ORDER) if place.startswith(it)), place)):
+            yield [f"### `{place}`", ""], [entry for entry in self.book.modules[place].all_entries() if entry in self.seen]
 
     def notes(self, entries):
         """What the entries mean by those names that mean several things on the page."""
@@ -155,49 +216,65 @@ class Page:
                 if not isinstance(meant, Entry):
                     owner = "std" if self.owners[name] else ""
                 elif "." in name or self.owners[name] - {meant} and meant.place != entry.place:
-                    owner = meant.name if last in meant.members else re.sub(r"(.*)::", r"crates/\1/src", meant.place)
+                    owner = meant.name if last in meant.members else "std" if is_of_kit(meant) else re.sub(r"(.*)::", r"crates/\1/src", meant.place)
                 else:
                     owner = ""
                 if owner:
                     groups[owner].add(f"{name.split('.')[0]}.…" if "." in name and last in meant.members else name)
+        renamed = [f"`{name}` is `{origin}` of `{meant.name}`" for entry in entries for name, meant in entry.cited.items()
+                   for origin in [self.book.modules[entry.place].names.get(name, ("", name))[1]]
+                   if origin != name and isinstance(meant, Entry) and origin in meant.members and name not in parts(origin)]
         told = [(", ".join(f"`{name}`" for name in sorted(names)), owner) for owner, names in sorted(groups.items())]
-        return "; ".join(f"{names} {'is' if ',' not in names else 'are'} of `{owner}`" for names, owner in told)
+        told = [f"{names} {'is' if ',' not in names else 'are'} of `{owner}`" for names, owner in told]
+        return "; ".join(told + sorted(set(renamed)))
 
     def table(self):
         rows = [(title, *counted([entry for _, entries in parts for entry in entries])) for title, _, parts in self.sections]
         lines = [f"| {title} | {count} | {code} | {comments} |" for title, count, code, comments in rows if count]
         return "\n".join(["| Subject | Definitions | Lines | Comments |", "|---|---:|---:|---:|", *lines])
 
-    def std(self):
-        """The names of std that are cited, a line for each of its modules."""
-        names = defaultdict(set)
-        for entry in self.seen:
-            for meant in entry.cited.values():
-                if not isinstance(meant, Entry):
-                    module, _, name = meant.rpartition(".")
-                    names[module].add(name)
-        return [f"- `{module}`: " + " ".join(f"`{name}`" for name in sorted(names[module])) for module in sorted(names)]
+    def words(self):
+        """The words of the logic that the entries use, each with what it means."""
+        cited = {name for entry in self.seen for name, meant in entry.cited.items() if not isinstance(meant, Entry)}
+        unknown = sorted(cited - {name for _, names, _ in WORDS for name in names.split()})
+        if unknown:
+            sys.exit(f"statement: what the logic's own words mean is not said: {', '.join(unknown)}")
+        return ["| Word | Meaning |", "|---|---|", *(f"| {shown} | {meaning} |" for shown, names, meaning in WORDS if not names or cited & set(names.split()))]
 
-    def text(self):
+    def text(self, introduction):
         definitions, code, comments = counted(self.seen)
-        lines = [INTRODUCTION.format(definitions=definitions, lines=code, comments=comments, table=self.table())]
+        lines = [introduction.format(definitions=definitions, lines=code, comments=comments, table=self.table(), reading=READING)]
         for title, about, parts in self.sections:
             if parts:
                 lines += [f"## {title}", ""] + ([about, ""] if about else [])
             for heading, entries in parts:
                 lines += heading + block(entries)
-        return "\n".join([*lines, STD, *self.std()]) + "\n"
+        return "\n".join(lines).rstrip("\n") + "\n"
+
+
+def pages():
+    """Both pages, each with its file's name."""
+    book = Book()
+    statement = Page(book, CONTRACTS, SUBJECTS)
+    contracts, subjects = [], []
+    for crate, title in LIBRARIES:
+        calls = book.public_calls(crate)
+        contracts += calls
+        modules = sorted(place for place in book.modules if place.startswith(crate + "."))
+        subjects.append((title, f"The library `{crate}`.", [*dict.fromkeys("::".join(call.split("::")[:2]) for call in calls), *modules]))
+    libraries = Page(book, contracts, subjects, statement.seen)
+    return {"STATEMENT.md": statement.text(STATEMENT), "LIBRARIES.md": libraries.text(LIBRARIES_PAGE)}
 
 
 def main():
-    if sys.argv[1:] not in ([], ["--print"]):
+    if sys.argv[1:] not in ([], ["--print"], ["--print", "--libraries"]):
         sys.exit(__doc__)
-    text = Page(Book()).text()
-    if sys.argv[1:]:
-        sys.stdout.buffer.write(text.encode())
-    else:
-        with open(os.path.join(HERE, "STATEMENT.md"), "w", encoding="utf-8") as page:
-            page.write(text)
+    for name, text in pages().items():
+        if not sys.argv[1:]:
+            with open(os.path.join(HERE, name), "w", encoding="utf-8") as page:
+                page.write(text)
+        elif (name == "LIBRARIES.md") == ("--libraries" in sys.argv):
+            sys.stdout.buffer.write(text.encode())
 
 
 if __name__ == "__main__":
