@@ -26,6 +26,9 @@
 //!    modern SAT solvers, 2009).
 //! 6. Assumptions are decided first, so that what is learned follows from the nogoods alone and
 //!    serves each later question (Een and Soerensson, An extensible SAT-solver, 2003).
+//! 7. Walks: a search that took long also looks for a point by flipping variables of clauses that
+//!    are false (Balint and Schoening, Choosing probability distributions for stochastic local
+//!    search and the role of make versus break, 2012). Walks take an eighth of the steps at most.
 #![tactic(auto)]
 
 mod analysis;
@@ -41,6 +44,7 @@ mod propagation;
 mod refutation;
 mod restarts;
 mod search;
+mod walk;
 mod watches;
 
 pub use refutation::Refutation;

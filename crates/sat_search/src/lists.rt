@@ -72,4 +72,14 @@ impl Lists {
             &[]
         }
     }
+
+    /// Where a list begins and ends among the numbers.
+    pub(crate) fn bounds(&self, list: u32) -> (u32, u32) {
+        (self.begin_of(list), self.end_of(list))
+    }
+
+    /// The number at a place.
+    pub(crate) fn number(&self, place: u32) -> u32 {
+        at(&self.numbers, place)
+    }
 }

@@ -7,6 +7,7 @@ use crate::numbers::{NONE, at, put, small};
 use crate::order::Order;
 use crate::refutation::Refutation;
 use crate::restarts::Pace;
+use crate::walk::Walks;
 use crate::watches::Watches;
 use std::alloc::{AllocError, Global};
 
@@ -24,7 +25,7 @@ pub enum Answer {
 /// How much a question may take.
 #[derive(Clone, Copy)]
 pub struct Limits {
-    /// How many watches are looked at.
+    /// How many watches are looked at, and clauses in walks.
     pub steps: u64,
     /// How many numbers the search keeps of all clauses, with those of earlier questions.
     pub size: usize,
@@ -46,7 +47,8 @@ pub(crate) enum Decision {
 /// It keeps what it learned as long as it lives, since that is what shows what it learns later. A
 /// number is of four bytes, and a clause has thirteen beside its literals and hints; [`Limits`] says
 /// how many there may be. Beyond those it keeps some twenty numbers for each variable, room to grow,
-/// which is no more than it has filled, and while clauses are dropped three numbers for each.
+/// which is no more than it has filled, while clauses are dropped three numbers for each, and while
+/// it walks two for each literal of the nogoods, four for each nogood and six for each variable.
 #[derive(Drop)]
 pub struct Search {
     pub(crate) alloc: Global,
@@ -66,7 +68,9 @@ pub struct Search {
     // The clause without a literal, once there is one.
     pub(crate) contradiction: u32,
     pub(crate) pace: Pace,
-    // How many watches were looked at.
+    // When the next walk is due.
+    pub(crate) walks: Walks,
+    // How many watches were looked at, and clauses in walks.
     pub(crate) steps: u64,
 }
 
@@ -86,6 +90,7 @@ impl Search {
             analysis: Analysis::new(alloc, variables)?,
             contradiction: NONE,
             pace: Pace::new(),
+            walks: Walks::new(),
             steps: 0,
         })
     }
@@ -185,6 +190,9 @@ impl Search {
             self.begin_anew()?;
             if self.steps > last || self.clauses.size() > limits.size {
                 break;
+            }
+            if let Some(point) = self.walk(assumptions)? {
+                return Ok(Answer::Point(point));
             }
             match self.decide(assumptions)? {
                 Decision::Made => (),
