@@ -5,8 +5,8 @@
 //! Synthesis (1984). Its list keeps its order and may repeat a cube. The main calls:
 //!
 //! - [`Cover::push`], [`Cover::get`] and [`Cover::as_slice`] for the list itself;
-//! - [`Cover::cofactor`], the list inside a cube, and [`Cover::holds_cube`] and
-//!   [`Cover::tautology`], which ask whether a cube or everything is held;
+//! - [`Cover::cofactor`], the list inside a cube, and [`Cover::holds_cube`], [`Cover::holds_cubes`]
+//!   and [`Cover::tautology`], which ask whether a cube, each of some or everything is held;
 //! - [`contain`], the list without the cubes that lie in others of it;
 //! - [`Cover::intersects`], [`is_within_either`] and [`agree_outside`], which compare lists by
 //!   their places, and [`are_meets_within_either`], which does so within a third list alone;
@@ -21,7 +21,7 @@
 //! `tautology` answers true; `contain` leaves `1- 1` and `0- 1`; the cofactor by `1- 1` has the
 //! rows `-1 1`, `-- 1` and `-- 1`; its complete sum is the row `-- 1`, and its complement is empty.
 //!
-//! No call lists points. `cofactor` looks at each cube once. `tautology`, `holds_cube` and
+//! No call lists points. `cofactor` looks at each cube once. `tautology`, `holds_cube(s)` and
 //! [`agree_outside`] split at inputs, each half answered by an implicant that says why it is held:
 //! so a split that has no part in the answer is undone at once. They take time in the number of
 //! cubes times that of the splits, which may be exponential in the inputs at worst. Where they

@@ -4,8 +4,9 @@
 //! or `1` there the rows of the second list with the other literal don't count. So each pair of
 //! rows comes together once at most, and both lists get shorter. The input is taken at which most
 //! pairs have opposite literals. If few rows are left, each is asked by itself.
-ghost use Rattle.std.specs.Prelude.{◌↔◌, ◌<◌, ◌≤◌, ◌∷◌, [], IsTrue, IfOk, IfSome, OnOk, All, filter, length, slice_index_or};
+ghost use Rattle.std.specs.Prelude.{◌≡◌, ◌↔◌, ◌<◌, ◌≤◌, ◌∷◌, [], IsTrue, IfOk, IfSome, OnOk, All, filter, length, map, slice_index_or};
 ghost use Rattle.cube.specs.Cube.{HasSize, SameSize, IsSubset, IsDisjoint, holds, size_of};
+ghost use Rattle.cube.specs.Sum.{is_subset};
 ghost use Rattle.cover.specs.Places.{places, behind};
 ghost use Rattle.cover.specs.Marks.{is_symbol};
 ghost use Rattle.cover.specs.Relation.{AreRelated};
@@ -85,6 +86,19 @@ fn rows_sharing_literal<'a>(
     Ok(some)
 }
 
+// The bits of the rows, if these and the regions that are asked for are many.
+fn bits_of(
+    alloc: Global,
+    shape: Shape,
+    regions: usize,
+    rows: &[&Cube],
+) -> Result<Option<RowBits>, AllocError> {
+    if are_many(regions, rows.len()) {
+        return Ok(Some(RowBits::of(alloc, shape, rows)?));
+    }
+    Ok(None)
+}
+
 // Whether the rows hold the region. If they are many, those nearest to it often do so alone, which
 // takes few looks; else those that have a literal of it come first.
 fn is_held(
@@ -125,11 +139,7 @@ fn are_contained(
     ensures { IfOk result
         (λ held. IsTrue held ↔ IsSubset (places (behind rows.now)) (places (behind others.now))) }
 {
-    let bits = if are_many(rows.len(), others.len()) {
-        Some(RowBits::of(alloc, shape, others)?)
-    } else {
-        None
-    };
+    let bits = bits_of(alloc, shape, rows.len(), others)?;
     let mut learned = Learned::new(alloc);
     for row in rows {
         if !is_held(alloc, shape, others, &bits, row, &mut learned)? {
@@ -137,6 +147,29 @@ fn are_contained(
         }
     }
     Ok(true)
+}
+
+/// Of each region, whether the rows hold it. What a search learns of the rows for one region serves
+/// those that follow.
+pub(crate) fn each_held(
+    alloc: Global,
+    shape: Shape,
+    rows: &[&Cube],
+    regions: &[Cube],
+) -> Result<Vec<bool>, AllocError>
+    requires rows { All (λ d. HasSize d.now shape) rows.now }
+    requires regions { All (λ d. HasSize d shape) regions.now }
+    ensures { IfOk result (λ held. held.items
+        ≡ map (λ d. is_subset shape (holds d) (places (behind rows.now))) regions.now) }
+{
+    let bits = bits_of(alloc, shape, regions.len(), rows)?;
+    let mut learned = Learned::new(alloc);
+    let mut held = Vec::with_capacity(alloc, regions.len())?;
+    for region in regions {
+        let answer = is_held(alloc, shape, rows, &bits, region, &mut learned)?;
+        held.push(answer)?;
+    }
+    Ok(held)
 }
 
 // Whether the lists are related, row by row.

@@ -1,11 +1,12 @@
 //! Whether cubes hold every place, and whether they hold a cube.
-ghost use Rattle.std.specs.Prelude.{◌≡◌, ◌++◌, true, IfOk, All};
+ghost use Rattle.std.specs.Prelude.{◌≡◌, ◌++◌, true, IfOk, All, map};
 ghost use Rattle.cube.specs.Cube.{HasSize, holds};
 ghost use Rattle.cube.specs.Sum.{is_subset};
 ghost use Rattle.cover.specs.Places.{places, holds_all, behind, universal as universal_of};
 
 use crate::cube_in_cover::covers_cube;
 use crate::list::Cover;
+use crate::pairwise::each_held;
 use cube::{Cube, Shape, Symbol};
 use std::alloc::{AllocError, Global};
 
@@ -73,5 +74,26 @@ impl Cover {
         let alloc = self.allocator();
         let rows = references(alloc, self.as_slice())?;
         covers_cube(alloc, &rows, cube)
+    }
+
+    /// Of each of the cubes, in their order, whether every place of it is in some cube of the list:
+    /// what [`Cover::holds_cube`] answers for it.
+    ///
+    /// What a search learns of the list serves the cubes that follow, and where list and cubes are
+    /// many, those cubes of the list that are nearest to a cube are asked first. So all of it mostly
+    /// takes less time than as many calls of `holds_cube`.
+    ///
+    /// # Errors
+    ///
+    /// [`AllocError`] if memory is refused.
+    pub fn holds_cubes(&self, cubes: &[Cube]) -> Result<Vec<bool>, AllocError>
+        requires { All (λ d. HasSize d self.now.size) cubes.now }
+        ensures { IfOk result (λ held. held.items
+            ≡ map (λ d. is_subset self.now.size (holds d) (places self.now.cubes)) cubes.now) }
+    {
+        let alloc = self.allocator();
+        let shape = self.shape();
+        let rows = lent(self)?;
+        each_held(alloc, shape, &rows, cubes)
     }
 }

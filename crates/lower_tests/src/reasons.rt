@@ -1,5 +1,5 @@
 //! Tautology and containment against the plain definition, and on wide lists.
-use crate::rows::{cube_of_symbols, holds as holds_cube, push};
+use crate::rows::{cube_of_symbols, held_of, push};
 use cover::Cover;
 use cube::{Cube, Shape, Symbol};
 use std::alloc::Global;
@@ -74,11 +74,12 @@ fn small_cover(alloc: Global, numbers: &[usize]) -> Result<Cover, Fail> {
     Ok(list)
 }
 
-// Whether each cube is held where the definition says so.
-fn holds_as_defined(alloc: Global, numbers: &[usize]) -> Result<bool, Fail> {
+// Whether those of all cubes are held of which the definition says so.
+fn holds_as_defined(alloc: Global, all: &Cover, numbers: &[usize]) -> Result<bool, Fail> {
     let list = small_cover(alloc, numbers)?;
+    let held = held_of(&list, all)?;
     for number in 0..27usize {
-        if holds_cube(&list, &small_cube(alloc, number)?)? != hold_all(numbers, number) {
+        if held.get(number).copied() != Some(hold_all(numbers, number)) {
             return Ok(false);
         }
     }
@@ -88,11 +89,15 @@ fn holds_as_defined(alloc: Global, numbers: &[usize]) -> Result<bool, Fail> {
 
 #[test]
 fn all_small_covers(rt: HostRuntime) -> Result<(), Fail> {
-    assert!(rt; holds_as_defined(rt.alloc(), &[])?);
+    let mut all = small_cover(rt.alloc(), &[])?;
+    for number in 0..27usize {
+        push(&mut all, small_cube(rt.alloc(), number)?)?;
+    }
+    assert!(rt; holds_as_defined(rt.alloc(), &all, &[])?);
     for number in 0..27 * 27 * 27usize {
         let (one, two, three) = (number / 729, number / 27 % 27, number % 27);
         if one >= two && two >= three {
-            assert!(rt; holds_as_defined(rt.alloc(), &[one, two, three])?);
+            assert!(rt; holds_as_defined(rt.alloc(), &all, &[one, two, three])?);
         }
     }
     Ok(())
@@ -112,9 +117,9 @@ fn step(alloc: Global, i: usize, is_second: bool) -> Result<Cube, Fail> {
     Ok(cube_of_symbols(alloc, &symbols, &[!is_second, true, is_second])?.ok_or("empty")?)
 }
 
-// Whether all steps hold everything but for the row left out: cubes of seven words and three
-// outputs, each step in two rows.
-fn steps_hold_all(alloc: Global, left_out: usize) -> Result<bool, Fail> {
+// All steps but for the row left out: cubes of seven words and three outputs, each step in two
+// rows. Together they hold everything.
+fn steps(alloc: Global, left_out: usize) -> Result<Cover, Fail> {
     let mut list = Cover::new(alloc, Shape::new(180, 3).ok_or("limits")?);
     for n in (0..362usize).rev() {
         let (i, is_second) = (n / 2, n % 2 == 0);
@@ -122,7 +127,19 @@ fn steps_hold_all(alloc: Global, left_out: usize) -> Result<bool, Fail> {
             push(&mut list, step(alloc, i, is_second)?)?;
         }
     }
-    Ok(list.tautology()?)
+    Ok(list)
+}
+
+// Whether all rows are held but the one that is left out.
+fn steps_are_held(alloc: Global, left_out: usize) -> Result<bool, Fail> {
+    let held = held_of(&steps(alloc, left_out)?, &steps(alloc, 200)?)?;
+    for k in 0..362usize {
+        let (i, is_second) = ((361 - k) / 2, k % 2 == 1);
+        if held.get(k).copied() != Some(i != left_out || !is_second) {
+            return Ok(false);
+        }
+    }
+    Ok(true)
 }
 
 // Which row is left out, and whether the others hold everything.
@@ -131,7 +148,87 @@ const LEFT_OUT: [(usize, bool); 3] = [(200, true), (180, false), (77, false)];
 #[test]
 fn wide_covers(rt: HostRuntime) -> Result<(), Fail> {
     for (left_out, holds_all) in LEFT_OUT {
-        assert!(rt; steps_hold_all(rt.alloc(), left_out)? == holds_all);
+        assert!(rt; steps(rt.alloc(), left_out)?.tautology()? == holds_all);
+        assert!(rt; steps_are_held(rt.alloc(), left_out)?);
+    }
+    Ok(())
+}
+
+// Seven pigeons and six holes: an input says whether a pigeon is in a hole.
+fn pigeon_row(
+    alloc: Global,
+    first: usize,
+    step: usize,
+    count: usize,
+    symbol: Symbol,
+) -> Result<Cube, Fail> {
+    let mut symbols = [Symbol::Dash; 42];
+    for k in 0..count {
+        let i = first.saturating_add(k.saturating_mul(step));
+        if i < 42 {
+            symbols[i] = symbol;
+        }
+    }
+    Ok(cube_of_symbols(alloc, &symbols, &[true])?.ok_or("empty")?)
+}
+
+// Adds that a pigeon is in a hole in which one before it is.
+fn push_pairs(alloc: Global, list: &mut Cover, pigeon: usize, hole: usize) -> Result<(), Fail> {
+    for other in 0..pigeon {
+        let first = other.saturating_mul(6).saturating_add(hole);
+        let step = (pigeon - other).saturating_mul(6);
+        push(list, pigeon_row(alloc, first, step, 2, Symbol::One)?)?;
+    }
+    Ok(())
+}
+
+// A pigeon from the first on is in no hole, or two are in one.
+fn pigeons(alloc: Global, first: usize) -> Result<Cover, Fail> {
+    let mut list = Cover::new(alloc, Shape::new(42, 1).ok_or("limits")?);
+    for pigeon in first..7usize {
+        push(
+            &mut list,
+            pigeon_row(alloc, pigeon * 6, 1, 6, Symbol::Zero)?,
+        )?;
+    }
+    for n in 0..42usize {
+        push_pairs(alloc, &mut list, n / 6, n % 6)?;
+    }
+    Ok(list)
+}
+
+// Each literal, `0` before `1`.
+fn literals(alloc: Global) -> Result<Cover, Fail> {
+    let mut list = Cover::new(alloc, Shape::new(42, 1).ok_or("limits")?);
+    for n in 0..84usize {
+        let symbol = if n % 2 == 0 {
+            Symbol::Zero
+        } else {
+            Symbol::One
+        };
+        push(&mut list, pigeon_row(alloc, n / 2, 1, 1, symbol)?)?;
+    }
+    Ok(list)
+}
+
+// Whether each literal is held if all seven are to have a hole; and where the first of them needs
+// none, those with which it has one.
+fn pigeons_are_held(alloc: Global, first: usize) -> Result<bool, Fail> {
+    let held = held_of(&pigeons(alloc, first)?, &literals(alloc)?)?;
+    for n in 0..84usize {
+        let has_hole = n < 12 && n % 2 == 1;
+        if held.get(n).copied() != Some(first == 0 || has_hole) {
+            return Ok(false);
+        }
+    }
+    Ok(true)
+}
+
+// Splits do not answer these questions soon.
+#[test]
+fn hard_covers(rt: HostRuntime) -> Result<(), Fail> {
+    for first in 0..2usize {
+        assert!(rt; pigeons_are_held(rt.alloc(), first)?);
     }
     Ok(())
 }

@@ -88,6 +88,19 @@ pub(crate) fn holds(list: &Cover, cube: &Cube) -> Result<bool, Fail> {
     Ok(list.holds_cube(cube)?)
 }
 
+// Which of the cubes the list holds, in one call. Fails where calls for each of them answer
+// otherwise.
+pub(crate) fn held_of(list: &Cover, cubes: &Cover) -> Result<Vec<bool>, Fail> {
+    same_shape(list.shape(), cubes.shape())?;
+    let held = list.holds_cubes(cubes.as_slice())?;
+    for (k, cube) in cubes.as_slice().iter().enumerate() {
+        if *held.get(k).ok_or("too few answers")? != holds(list, cube)? {
+            return Err("another answer")?;
+        }
+    }
+    Ok(held)
+}
+
 // The list of these rows, wider ones where the shape has more inputs.
 pub(crate) fn cover_of(alloc: Global, shape: Shape, rows: &[&str]) -> Result<Cover, Fail>
     ensures { IfOk result (λ c. c.size ≡ shape) }

@@ -9,6 +9,11 @@
 //! Which points are picked is a wish: the best are those whose signatures lie in no larger ones.
 //! Each is looked at before it is taken, and whether the signatures hold each ON cube, beside the
 //! DC cubes, is asked at last; regions of a cube that they leave out are split.
+//!
+//! That is asked for all ON cubes in one call, as the rows are the same: what a search learns of
+//! them for one cube serves the cubes that follow. Mostly a cube lies in few signatures, and costs
+//! a look at the rows, 64 at a time where cubes and rows are many. Beside a flag a cube it takes no
+//! more memory than the rows, or a gigabyte and a half where a search has to be asked.
 
 ghost use Rattle.std.specs.Prelude.{◌≡◌, ◌++◌, true, IfOk, IfSome, OnOk, All, length, map};
 ghost use Rattle.std.specs.List.{Contains};
@@ -146,8 +151,10 @@ fn add_cubes(alloc: Global, sets: &Sets, source: &Source, found: &mut Found) -> 
     let _dc = sets.dc().as_slice();
     let held = signed_or_free(alloc, sets, found)?;
     let cubes = sets.on().as_slice();
-    for cube in cubes {
-        if !held.holds_cube(cube)? {
+    let are_held = held.holds_cubes(cubes)?;
+    for k in 0..cubes.len() {
+        let cube = &cubes[k];
+        if !are_held[k] {
             add_cube(alloc, sets, source, &on, &dc, cube, found)?;
         }
     }

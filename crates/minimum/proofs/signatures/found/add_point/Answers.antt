@@ -19,18 +19,17 @@ returns-clause-found c =
     let list = c.in_ok-row.row in
     let own : row ≡ list.cubes = c.into_cubes-row.ensures.value in
     let is_row = own ∙ ap (λ l. l.cubes) c.in_ok-row.ensures ∙ ap (λ z. filter (is_within z point) (source_primes source)) c.requires.source.sized in
-    let slice : c.as_slice.result.now ≡ row = c.as_slice.ensures.value ∙ sym own in
     elim c.match-branch-3.branch [
       | in-Some+in_ok-push_cube w ↦ (
           let s = w.in-Some.common in
-          let shape = c.shape.ensures.size ∙ ap (λ l. l.size) c.in_ok-row.ensures ∙ c.requires.source.sized in
+          let shape = ap (λ l. l.size) c.in_ok-row.ensures ∙ c.requires.source.sized in
           let cube : IsCube sets.size s = subst (λ z. IsCube z s) shape (rw w.in-Some.is at c.in_ok-common.ensures.cube) in
           let within = rw w.in-Some.is at c.in_ok-common.ensures.within in
           found_signed sets source c.requires.source point c.requires.point row is_row old.points.items old.columns.items old.signatures.items c.requires.found points columns c.match-branch-3.found.signatures.items s
           (c.in_ok-push_cube-2.ensures ∙ ap (λ l. l.points.items ++ point ∷ []) w.found-is)
           (c.in_ok-append.ensures.items ∙ ap (λ l. l.columns.items ++ row) w.found-is)
           (ap (λ l. l.signatures.items) w.found-is ∙ w.in_ok-push_cube.ensures)
-          cube (λ d h. within d (subst (λ l. Contains l d) (sym slice) h)))
+          cube (λ d h. within d (subst (λ l. Contains l d) own h)))
       | in_default w ↦
           subst (λ l. AreFound (function_by sets source) points columns l) (sym (ap (λ l. l.signatures.items) w.found-is))
           (found_plain sets source c.requires.source point c.requires.point row is_row old.points.items old.columns.items old.signatures.items c.requires.found points columns

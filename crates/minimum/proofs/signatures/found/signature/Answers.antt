@@ -10,8 +10,8 @@ loop-cube-preserved c =
     let old = c.loop-cube.invariant.size in
     record {
       size = (size.0 ∙ old.0, size.1 ∙ old.1);
-      within = common_next c.args.cubes.now c.loop-cube.cube-index c.cube-item.result c.loop-cube.common c.in-Some-2.less c.loop-cube-test.true c.cube-item.is c.loop-cube.invariant.within (rw c.in-Some-2.is at c.in_ok-less.ensures.places);
+      within = common_next c.as_slice-cubes.result.now c.loop-cube.cube-index c.cube-item.result c.loop-cube.common c.in-Some-2.less c.loop-cube-test.true c.cube-item.is c.loop-cube.invariant.within (rw c.in-Some-2.is at c.in_ok-less.ensures.places);
     }
 
 pub returns-clause-within : goal.returns-clause-within
-returns-clause-within c d h = c.loop-cube.invariant.within d (subst (λ l. Contains l d) (sym (take_all c.loop-cube.cube-index c.args.cubes.now c.loop-cube-test.false)) h)
+returns-clause-within c d h = c.loop-cube.invariant.within d (subst (λ l. Contains l d) (sym (take_all c.loop-cube.cube-index c.as_slice-cubes.result.now c.loop-cube-test.false)) (subst (λ l. Contains l d) (sym c.as_slice-cubes.ensures.value) h))

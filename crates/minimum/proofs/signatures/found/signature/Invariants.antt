@@ -5,6 +5,6 @@ use Rattle.minimum.proofs.signatures.found.signature.Given as goal
 
 abbrev pub invariant-loop-cube : goal.invariant-loop-cube
 invariant-loop-cube l = record {
-  size : HasSize l.common l.fn.shape;
+  size : HasSize l.common l.list.size;
   within : (c : Cube) → Contains (take l.cube-index l.cubes) c → IsSubset (holds l.common) (holds c);
 }
