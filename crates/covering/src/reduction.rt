@@ -62,13 +62,9 @@ pub(crate) fn with_unmarked(
 
 impl Table {
     /// Takes each column that is the only one of a row; `None` if there is no such row.
-    fn take_essential_columns(
-        &self,
-        alloc: Global,
-        choice: Choice,
-    ) -> Result<Option<Table>, AllocError>
-        ensures { IfOk result (λ o. MatchOption o (HasNoEssentialColumn self.now)
-            (Shrinks choice self.now)) }
+    fn take_essential_columns(&self, alloc: Global) -> Result<Option<Table>, AllocError>
+        ensures { (choice : Choice) → IfOk result (λ o.
+            MatchOption o (HasNoEssentialColumn self.now) (Shrinks choice self.now)) }
     {
         let keep = inessential_columns(alloc, self.row_lists(), self.columns())?;
         let live = marked_columns(alloc, self.live_columns(), &keep)?;
@@ -86,10 +82,10 @@ impl Table {
         ensures { IfOk result (λ o. IfSome o (IsLighter choice self.now)) }
     {
         let _live = self.live_columns();
-        if let Some(table) = self.take_essential_columns(alloc, choice)? {
+        if let Some(table) = self.take_essential_columns(alloc)? {
             return Ok(Some(table));
         }
-        if let Some(table) = self.drop_dominating_rows(alloc, choice)? {
+        if let Some(table) = self.drop_dominating_rows(alloc)? {
             return Ok(Some(table));
         }
         self.drop_weakly_dominated_columns(alloc, choice)
@@ -134,10 +130,10 @@ impl Table {
         ensures { IfOk result (λ o. MatchOption o (IsReduced choice self.now)
             (Shrinks choice self.now)) }
     {
-        if let Some(table) = self.take_essential_columns(alloc, choice)? {
+        if let Some(table) = self.take_essential_columns(alloc)? {
             return Ok(Some(table));
         }
-        if let Some(table) = self.drop_dominating_rows(alloc, choice)? {
+        if let Some(table) = self.drop_dominating_rows(alloc)? {
             return Ok(Some(table));
         }
         self.drop_dominated_columns(alloc, choice)

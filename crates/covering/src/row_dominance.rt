@@ -77,13 +77,9 @@ fn row_dominance(
 
 impl Table {
     /// Lets each row leave that has all columns of another; `None` if there is none.
-    pub(crate) fn drop_dominating_rows(
-        &self,
-        alloc: Global,
-        choice: Choice,
-    ) -> Result<Option<Table>, AllocError>
-        ensures { IfOk result (λ o. MatchOption o (HasNoDominatingRow self.now.rows)
-            (Shrinks choice self.now)) }
+    pub(crate) fn drop_dominating_rows(&self, alloc: Global) -> Result<Option<Table>, AllocError>
+        ensures { (choice : Choice) → IfOk result (λ o.
+            MatchOption o (HasNoDominatingRow self.now.rows) (Shrinks choice self.now)) }
     {
         let transpose = self.transpose(alloc)?;
         let stay = row_dominance(alloc, self.row_lists(), &transpose)?;

@@ -477,6 +477,7 @@ impl Table {
         choice: Choice,
         budget: Budget,
         goal: Goal,
+        hint: &[usize],
         steps: usize,
     ) -> Result<Option<Vec<usize>>, AllocError>
         ensures { IfOk result (λ o. IfSome o (λ v. IsAnswer choice self.now budget.columns
@@ -484,7 +485,8 @@ impl Table {
     {
         let compact = self.compact(alloc, choice)?;
         let steps = steps.saturating_mul(self.row_lists().len()).min(100000);
-        let wished = local_search(alloc, &compact, goal, steps)?;
+        let live = self.live_columns();
+        let wished = local_search(alloc, &compact, live, self.columns(), hint, goal, steps)?;
         let marks = marks_of(alloc, self.live_columns(), &wished, self.columns())?;
         self.cover_from_marks(alloc, choice, budget, &marks)
     }
@@ -504,11 +506,15 @@ impl Table {
     {
         warm_start.count_question();
         warm_start.count_table();
+        let goal = self.goal(choice, budget);
+        if let Some(cover) = self.witness(alloc, choice, budget, goal, warm_start.hint(), 3)? {
+            return Ok(Some(cover));
+        }
         let Some(table) = self.narrow(alloc, choice, budget, warm_start)? else {
             return Ok(None);
         };
         let goal = table.goal(choice, budget);
-        if let Some(cover) = table.witness(alloc, choice, budget, goal, 12)? {
+        if let Some(cover) = table.witness(alloc, choice, budget, goal, warm_start.hint(), 12)? {
             return Ok(Some(cover));
         }
         let mut left = most;

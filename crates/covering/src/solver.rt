@@ -31,6 +31,9 @@ const FEW: usize = 8;
 /// A question about several columns looks at so many tables, and is then given up.
 const BATCH_TABLES: u64 = 200;
 
+/// So many columns are asked for at once at first.
+const FIRST_BATCH: usize = 4;
+
 /// What is left to settle: a table, and a cover of it within the budget.
 #[derive(Drop)]
 struct Stage {
@@ -46,13 +49,19 @@ struct Help {
 }
 
 impl Help {
-    /// After a yes one column is asked for at once, and after a no twice as many.
-    fn adapt(&mut self, is_yes: bool) {
-        self.most = if is_yes {
-            1
-        } else {
-            self.most.saturating_mul(2)
-        };
+    /// After a yes a quarter as many columns are asked for at once, and the next cover is looked for
+    /// near this one; after a no twice as many are asked for.
+    fn adapt(&mut self, alloc: Global, witness: &Option<Vec<usize>>) -> Result<(), AllocError> {
+        match witness {
+            Some(cover) => {
+                self.most = (self.most / 4).max(1);
+                self.warm_start.set_hint(alloc, cover)
+            }
+            None => {
+                self.most = self.most.saturating_mul(2);
+                Ok(())
+            }
+        }
     }
 
     /// A cover within the budget, or none if there is none.
@@ -69,7 +78,7 @@ impl Help {
         let mut warm_start = self.warm_start.copy(alloc)?;
         let witness = table.decide(alloc, choice, budget, &mut warm_start)?;
         self.warm_start.learn(&warm_start);
-        self.adapt(witness.is_some());
+        self.adapt(alloc, &witness)?;
         Ok(witness)
     }
 
@@ -90,7 +99,7 @@ impl Help {
         self.warm_start.learn(&warm_start);
         match decided {
             Ok(witness) => {
-                self.adapt(witness.is_some());
+                self.adapt(alloc, &witness)?;
                 Ok(Some(witness))
             }
             Err(Stop::Cut) => {
@@ -366,11 +375,13 @@ impl Table {
             columns: best.len(),
             counts: sum(choice, self.literals(), &best),
         };
+        help.warm_start.set_hint(alloc, &best)?;
         let mut stage = Stage {
             table: self.copy(alloc)?,
             witness: best,
         };
         stage = stage.narrow(alloc, choice, budget, help)?;
+        help.warm_start.hurry();
         for column in 0..self.columns() {
             if stage.table.is_solved() {
                 return copy_of(alloc, stage.table.taken_columns());
@@ -425,7 +436,7 @@ impl Table {
             counts: 0,
         };
         let all = self.all_columns(alloc)?;
-        match self.witness(alloc, choice, budget, goal, steps)? {
+        match self.witness(alloc, choice, budget, goal, &[], steps)? {
             None => Ok(all),
             Some(cover) => Ok(cover),
         }
@@ -464,7 +475,7 @@ impl Table {
     {
         let greedy = self.some_cover(alloc, Choice::First, 0, 1)?;
         let least = self.least_length(alloc, greedy.len(), warm_start)?;
-        self.some_cover(alloc, choice, least, 50)
+        self.some_cover(alloc, choice, least, 20)
     }
 
     /// A cover of the least length.
@@ -477,6 +488,7 @@ impl Table {
         ensures { IfOk result (λ v. IsBest Choice.First self.now v.items) }
     {
         let mut cover = self.short_cover(alloc, choice, warm_start)?;
+        warm_start.set_hint(alloc, &cover)?;
         while let Some(shorter) = self.shorter(alloc, cover.len(), warm_start)? {
             cover = shorter;
         }
@@ -521,6 +533,7 @@ impl Table {
                 return Ok(cover);
             }
             let target = self.target_count(alloc, columns, counts, warm_start)?;
+            warm_start.set_hint(alloc, &cover)?;
             let asked = target.max(low + 1).min(counts);
             match self.with_fewer(alloc, columns, asked, warm_start)? {
                 None => low = asked,
@@ -596,8 +609,8 @@ impl Table {
         let mut warm_start = WarmStart::new(alloc, *effort);
         let best = self.best(alloc, choice, &mut warm_start)?;
         let mut help = Help {
-            warm_start: WarmStart::new(alloc, warm_start.effort()),
-            most: 1,
+            warm_start,
+            most: FIRST_BATCH,
         };
         let first = self.first_of(alloc, choice, best, &mut help)?;
         *effort = help.warm_start.effort();

@@ -1,5 +1,7 @@
 //! Numbers at places that may not be there, their sums, and a fixed sequence.
 
+use std::alloc::{AllocError, Global};
+
 /// Where the sequence begins.
 pub(crate) const SEED: u64 = 0x9E3779B97F4A7C15;
 
@@ -78,4 +80,13 @@ pub(crate) fn mark(flags: &mut Vec<bool>, place: usize, to: bool) {
     if place < flags.len() {
         flags[place] = to;
     }
+}
+
+/// These of so many places, marked.
+pub(crate) fn marked(alloc: Global, places: &[usize], end: usize) -> Result<Vec<bool>, AllocError> {
+    let mut marks = vec![in alloc; false; end]?;
+    for place in places {
+        mark(&mut marks, *place, true);
+    }
+    Ok(marks)
 }

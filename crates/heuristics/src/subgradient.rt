@@ -17,16 +17,25 @@ use std::alloc::{AllocError, Global};
 pub(crate) const UNIT: i64 = 16777216;
 
 /// How many steps are made for a bound.
-pub(crate) const STEPS: u32 = 120;
+pub(crate) const STEPS: u32 = 600;
+
+/// How many for a bound that goes on from another and only drops columns.
+pub(crate) const FEW_STEPS: u32 = 30;
 
 /// The first length of a step; a step that is shorter than the last brings nothing.
-const PACE: i64 = 1024;
+pub(crate) const PACE: i64 = 4096;
 
-/// After so many steps it is asked whether the goal is within reach.
+/// The first length where the steps go on from those of another table and columns cost alike.
+pub(crate) const NEAR_PACE: i64 = 2048;
+
+/// After so many steps the weights are polished, and it is asked whether the goal is within reach.
 const SPAN: u32 = 25;
 
 /// The steps are given up if so many times what the last of them gained would not come to the goal.
-const REACH: i64 = 20;
+pub(crate) const REACH: i64 = 20;
+
+/// The same where the steps go on from those of another table and columns cost alike.
+pub(crate) const NEAR_REACH: i64 = 4;
 
 const LAST_PACE: i64 = 16;
 
@@ -45,42 +54,66 @@ pub struct Multipliers {
     pub count: u32,
 }
 
-/// The ascent: the weights and the multiplier of a column, their direction, and the best so far.
+/// The ascent: where it is, where it goes, and the best it came to.
 #[derive(Drop)]
 pub(crate) struct Ascent {
+    /// The weight of each row.
     weights: Vec<i64>,
+    /// The multiplier of a column.
     column: i64,
+    /// How the weight of each row moves.
     direction: Vec<i64>,
+    /// How the multiplier of a column moves.
     column_direction: i64,
+    /// What each column may bear.
     pub(crate) scaled_costs: Vec<i64>,
+    /// What each column bears.
     pub(crate) loads: Vec<i64>,
+    /// How many columns of the relaxed choice each row has.
     held: Vec<i64>,
+    /// The multiplier of each thing that a column counts, 0 where columns cost alike.
     pub(crate) count: i64,
+    /// The best value of a step.
     top: i64,
+    /// The weights of that step.
     pub(crate) top_weights: Vec<i64>,
+    /// Its multiplier of a column.
     pub(crate) top_column: i64,
+    /// The best value of polished weights.
     pub(crate) best_value: i64,
-    best_weights: Vec<i64>,
+    /// Those weights.
+    pub(crate) best_weights: Vec<i64>,
+    /// Their multiplier of a column.
     best_column: i64,
+    /// The length of a step.
     pace: i64,
+    /// How many steps brought nothing since the best one.
     idle: u32,
 }
 
-/// The last step, whether the steps have begun anew, and the best value when it was last asked
-/// whether the goal is within reach.
+/// How long the steps go on.
 #[derive(Clone, Copy)]
 pub(crate) struct Course {
+    /// The last step.
     last: u32,
+    /// How many steps there are before they begin anew.
+    steps: u32,
+    /// How many times what the last steps gained is still hoped for.
+    reach: i64,
+    /// Whether they have begun anew, or may not.
     again: bool,
+    /// The best value when it was last asked whether the goal is within reach.
     before: i64,
 }
 
 impl Course {
     /// The course of the first steps.
-    pub(crate) fn new() -> Course {
+    pub(crate) fn new(steps: u32, reach: i64) -> Course {
         Course {
-            last: STEPS,
-            again: false,
+            last: steps,
+            steps,
+            reach,
+            again: steps < STEPS,
             before: i64::MIN,
         }
     }
@@ -88,7 +121,7 @@ impl Course {
     /// Begins anew after a step.
     fn begin_again(&mut self, step: u32) {
         self.again = true;
-        self.last = step.wrapping_add(STEPS);
+        self.last = step.wrapping_add(self.steps);
         self.before = i64::MIN;
     }
 
@@ -99,7 +132,7 @@ impl Course {
         }
         let gain = value.saturating_sub(self.before);
         self.before = value;
-        value.saturating_add(gain.saturating_mul(REACH)) < 0
+        value.saturating_add(gain.saturating_mul(self.reach)) < 0
     }
 }
 
@@ -159,12 +192,13 @@ fn count_multiplier(table: &Compact) -> i64 {
 
 impl Ascent {
     /// The start of the steps, at these weights and at this multiplier of a column where columns
-    /// do not all cost alike.
+    /// do not all cost alike, with steps of this length.
     pub(crate) fn new(
         alloc: Global,
         table: &Compact,
         weights: Vec<i64>,
         column: i64,
+        pace: i64,
     ) -> Result<Ascent, AllocError> {
         let uneven = table.is_uneven();
         let column = if uneven { column } else { UNIT };
@@ -182,7 +216,7 @@ impl Ascent {
             best_value: i64::MIN,
             best_weights: weights.to_vec(alloc)?,
             best_column: column,
-            pace: PACE,
+            pace,
             idle: 0,
             weights,
         };
@@ -367,7 +401,7 @@ impl Ascent {
         step: u32,
         value: i64,
     ) -> Result<bool, AllocError> {
-        if step % (STEPS / 4) == 0 {
+        if step % SPAN == 0 {
             let weights = self.weights.to_vec(alloc)?;
             self.polish(alloc, table, weights, self.column, goal)?;
             if self.best_value > 0 {

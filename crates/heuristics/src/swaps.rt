@@ -8,22 +8,33 @@
 
 use crate::compact::Compact;
 use crate::goal::Goal;
-use crate::numbers::{SEED, at, flag, mark, next_random, number, put, set, shift};
+use crate::numbers::{SEED, at, flag, mark, marked, next_random, number, put, set, shift};
 use std::alloc::{AllocError, Global};
 
-/// A list of columns, which rows it leaves open, what a change of each column would bring, and the
-/// best list that was met.
+/// A list of columns that changes, and the best one that was met.
 #[derive(Drop)]
 struct LocalSearch {
+    /// The weight of each row.
     weights: Vec<i64>,
+    /// How many columns of the list each row has.
     held: Vec<usize>,
+    /// The sum of those columns: the column itself where there is one.
+    holders: Vec<usize>,
+    /// The rows that have none.
     open: Vec<usize>,
+    /// The place of each of these rows among them.
     places: Vec<usize>,
+    /// What a change of each column would bring.
     scores: Vec<i64>,
+    /// Whether each column is in the list.
     inside: Vec<bool>,
+    /// The columns of the list.
     chosen: Vec<usize>,
+    /// Whether each column may come in.
     fresh: Vec<bool>,
+    /// When each column last came or left.
     stamps: Vec<usize>,
+    /// The best list.
     best: Vec<usize>,
 }
 
@@ -33,6 +44,7 @@ impl LocalSearch {
         LocalSearch {
             weights: Vec::new(alloc),
             held: Vec::new(alloc),
+            holders: Vec::new(alloc),
             open: Vec::new(alloc),
             places: Vec::new(alloc),
             scores: Vec::new(alloc),
@@ -50,6 +62,7 @@ impl LocalSearch {
         let rows = table.rows.len();
         self.weights = vec![in alloc; 1; rows]?;
         self.held = vec![in alloc; 0; rows]?;
+        self.holders = vec![in alloc; 0; rows]?;
         self.open = (0..rows).collect(alloc)?;
         self.places = (0..rows).collect(alloc)?;
         self.inside = vec![in alloc; false; columns]?;
@@ -62,18 +75,23 @@ impl LocalSearch {
         Ok(())
     }
 
-    /// The other columns of a row, or those inside, score so much more.
-    fn touch(&mut self, row: &[u32], column: usize, more: i64, inside: bool) {
+    /// The other columns of a row score so much more, and may come in.
+    fn touch(&mut self, row: &[u32], column: usize, more: i64) {
         for other in row {
             let other = *other as usize;
             if other != column {
-                if !inside || flag(&self.inside, other) {
-                    let score = at(&self.scores, other).wrapping_add(more);
-                    put(&mut self.scores, other, score);
-                }
+                let score = at(&self.scores, other).wrapping_add(more);
+                put(&mut self.scores, other, score);
                 mark(&mut self.fresh, other, true);
             }
         }
+    }
+
+    /// The only holder of the row scores so much more.
+    fn touch_holder(&mut self, row: usize, more: i64) {
+        let holder = number(&self.holders, row);
+        let score = at(&self.scores, holder).wrapping_add(more);
+        put(&mut self.scores, holder, score);
     }
 
     /// The row is no longer open.
@@ -96,19 +114,16 @@ impl LocalSearch {
         for row in table.column_rows.list(column) {
             let row = *row as usize;
             let held = number(&self.held, row).wrapping_add(1);
-            set(&mut self.held, row, held);
+            let weight = at(&self.weights, row);
             if held == 1 {
                 self.close(row);
+                self.touch(table.rows.list(row), column, 0i64.wrapping_sub(weight));
+            } else if held == 2 {
+                self.touch_holder(row, weight);
             }
-            if held <= 2 {
-                let weight = at(&self.weights, row);
-                let more = if held == 1 {
-                    0i64.wrapping_sub(weight)
-                } else {
-                    weight
-                };
-                self.touch(table.rows.list(row), column, more, held == 2);
-            }
+            set(&mut self.held, row, held);
+            let holders = number(&self.holders, row).wrapping_add(column);
+            set(&mut self.holders, row, holders);
         }
         Ok(())
     }
@@ -123,19 +138,16 @@ impl LocalSearch {
         for row in table.column_rows.list(column) {
             let row = *row as usize;
             let held = number(&self.held, row).wrapping_sub(1);
+            let weight = at(&self.weights, row);
             set(&mut self.held, row, held);
+            let holders = number(&self.holders, row).wrapping_sub(column);
+            set(&mut self.holders, row, holders);
             if held == 0 {
                 set(&mut self.places, row, self.open.len());
                 self.open.push(row)?;
-            }
-            if held <= 1 {
-                let weight = at(&self.weights, row);
-                let more = if held == 0 {
-                    weight
-                } else {
-                    0i64.wrapping_sub(weight)
-                };
-                self.touch(table.rows.list(row), column, more, held == 1);
+                self.touch(table.rows.list(row), column, weight);
+            } else if held == 1 {
+                self.touch_holder(row, 0i64.wrapping_sub(weight));
             }
         }
         Ok(())
@@ -220,6 +232,21 @@ impl LocalSearch {
     /// Whether the list reaches the goal.
     fn reaches(&self, table: &Compact, goal: Goal) -> bool {
         self.size() <= goal.columns && self.counts(table) <= goal.counts
+    }
+
+    /// Adds those of the marked columns that open rows have.
+    fn begin_with(
+        &mut self,
+        table: &Compact,
+        live: &[usize],
+        hint: &[bool],
+    ) -> Result<(), AllocError> {
+        for (place, column) in live.iter().enumerate() {
+            if flag(hint, *column) && at(&self.scores, place) > 0 {
+                self.add(table, place)?;
+            }
+        }
+        Ok(())
     }
 
     /// Adds columns until no row is open.
@@ -311,14 +338,19 @@ impl LocalSearch {
 }
 
 /// The best list of columns that is met in so many steps, by their places among the live ones, at
-/// once where it reaches the goal. A step reads some rows of two columns.
+/// once where it reaches the goal. It begins with the columns of the hint that are live, of so many
+/// columns in all. A step reads some rows of two columns.
 pub fn local_search(
     alloc: Global,
     table: &Compact,
+    live: &[usize],
+    columns: usize,
+    hint: &[usize],
     goal: Goal,
     steps: usize,
 ) -> Result<Vec<usize>, AllocError> {
     let mut search = LocalSearch::new(alloc);
     search.start(alloc, table)?;
+    search.begin_with(table, live, &marked(alloc, hint, columns)?)?;
     search.best_list(alloc, table, goal, steps)
 }

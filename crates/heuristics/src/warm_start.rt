@@ -9,44 +9,37 @@ use crate::compact::Compact;
 use crate::effort::Effort;
 use crate::goal::Goal;
 use crate::lists::Lists;
-use crate::numbers::{SEED, at, next_random, put};
-use crate::subgradient::{Ascent, Course, Multipliers, STEPS, UNIT};
+use crate::numbers::{SEED, at, flag, marked, next_random, put};
+use crate::subgradient::{
+    Ascent, Course, FEW_STEPS, Multipliers, NEAR_PACE, NEAR_REACH, PACE, REACH, STEPS, UNIT,
+};
 use std::alloc::{AllocError, Global};
 
 /// How likely a column is thought to be at most.
 const LIKELIEST: i64 = 1048576;
 
-/// Whether each number of the first list, which rises, is in the second, which rises too.
-fn lies_in(row: &[usize], other: &[u32]) -> bool {
+/// Whether the row is what is left of the other list, where the marked columns are.
+fn is_left_of(row: &[usize], other: &[u32], live: &[bool]) -> bool {
     let mut met = 0;
     for column in other {
-        if met < row.len() && row[met] == *column as usize {
+        if flag(live, *column as usize) {
+            if met >= row.len() || row[met] != *column as usize {
+                return false;
+            }
             met += 1;
         }
     }
     met == row.len()
 }
 
-/// The row from a place on that has all columns of this one and the fewest others, among some that
-/// follow the first.
-fn matching_row(rows: &Lists, row: &[usize], from: usize) -> usize {
-    let mut best = rows.len();
-    let mut fewest = usize::MAX;
-    let mut seen: usize = 0;
+/// The first row from a place on of which this one is what is left.
+fn matching_row(rows: &Lists, row: &[usize], live: &[bool], from: usize) -> usize {
     for place in from..rows.len() {
-        let other = rows.list(place);
-        if row.len() <= other.len() && other.len() < fewest && lies_in(row, other) {
-            fewest = other.len();
-            best = place;
-        }
-        if fewest == row.len() || seen > 16 {
-            return best;
-        }
-        if fewest < usize::MAX {
-            seen = seen.wrapping_add(1);
+        if row.len() <= rows.list(place).len() && is_left_of(row, rows.list(place), live) {
+            return place;
         }
     }
-    best
+    rows.len()
 }
 
 /// In how many rows a column of the row stands at most, and at least 1.
@@ -71,16 +64,26 @@ fn first_weights(alloc: Global, table: &Compact) -> Result<Vec<i64>, AllocError>
     Ok(weights)
 }
 
-/// What a search remembers: the rows of the last bound with their numbers, the weights of rows by
-/// number, the multiplier of a column, and how likely each column is thought to be in a cover.
+/// What a search remembers from table to table, and what it did.
 #[derive(Drop)]
 pub struct WarmStart {
+    /// The rows of the last bound, if there was one.
     rows: Option<Lists>,
+    /// The number of each of those rows.
     numbers: Vec<usize>,
+    /// The weight of each row, by its number.
     weights: Vec<i64>,
+    /// The multiplier of a column.
     column: i64,
+    /// How likely each column is thought to be in a cover.
     likely: Vec<i64>,
+    /// By how much the last bound fell short.
     missing: u64,
+    /// How many steps a bound has that goes on from another.
+    steps: u32,
+    /// A cover near which the next one is looked for.
+    hint: Vec<usize>,
+    /// What was done so far.
     effort: Effort,
 }
 
@@ -94,8 +97,26 @@ impl WarmStart {
             column: 67108864,
             likely: Vec::new(alloc),
             missing: 0,
+            steps: STEPS,
+            hint: Vec::new(alloc),
             effort,
         }
+    }
+
+    /// From now on a bound that goes on from another has few steps; a copy has as many as ever.
+    pub fn hurry(&mut self) {
+        self.steps = FEW_STEPS;
+    }
+
+    /// A cover near which the next one is looked for.
+    pub fn set_hint(&mut self, alloc: Global, cover: &[usize]) -> Result<(), AllocError> {
+        self.hint = cover.to_vec(alloc)?;
+        Ok(())
+    }
+
+    /// That cover; no column if there is none yet.
+    pub fn hint(&self) -> &[usize] {
+        &self.hint
     }
 
     /// What was done so far.
@@ -137,6 +158,8 @@ impl WarmStart {
             column: self.column,
             likely: self.likely.to_vec(alloc)?,
             missing: self.missing,
+            steps: STEPS,
+            hint: self.hint.to_vec(alloc)?,
             effort: self.effort,
         })
     }
@@ -156,13 +179,18 @@ impl WarmStart {
     /// The numbers of the remembered rows that these rows come from, in their order, where some
     /// left, some have lost columns and some came at the end; those that come from none have new
     /// ones.
-    fn numbers_of(&self, alloc: Global, rows: &[Vec<usize>]) -> Result<Vec<usize>, AllocError> {
+    fn numbers_of(
+        &self,
+        alloc: Global,
+        rows: &[Vec<usize>],
+        live: &[bool],
+    ) -> Result<Vec<usize>, AllocError> {
         let mut numbers = Vec::with_capacity(alloc, rows.len())?;
         let mut from: usize = 0;
         let mut next = self.weights.len();
         for row in rows {
             let place = match &self.rows {
-                Some(known) => matching_row(known, row, from),
+                Some(known) => matching_row(known, row, live, from),
                 None => usize::MAX,
             };
             if place < self.numbers.len() {
@@ -196,12 +224,13 @@ impl WarmStart {
         table: &Compact,
         numbers: &[usize],
     ) -> Result<Ascent, AllocError> {
-        let weights = if self.rows.is_none() {
-            first_weights(alloc, table)?
-        } else {
-            self.weights_of(alloc, numbers)?
-        };
-        Ascent::new(alloc, table, weights, self.column)
+        if self.rows.is_none() {
+            let weights = first_weights(alloc, table)?;
+            return Ascent::new(alloc, table, weights, self.column, PACE);
+        }
+        let weights = self.weights_of(alloc, numbers)?;
+        let pace = if table.is_uneven() { PACE } else { NEAR_PACE };
+        Ascent::new(alloc, table, weights, self.column, pace)
     }
 
     /// Notes which columns bear more than their scaled costs.
@@ -231,7 +260,13 @@ impl WarmStart {
         goal: Goal,
         ascent: &mut Ascent,
     ) -> Result<(), AllocError> {
-        let mut course = Course::new();
+        let mut course = if self.rows.is_none() {
+            Course::new(STEPS, REACH)
+        } else if ascent.count > 0 {
+            Course::new(self.steps, REACH)
+        } else {
+            Course::new(self.steps, NEAR_REACH)
+        };
         for step in 0..STEPS * 2 + 2 {
             let value = ascent.weigh(table, goal);
             if step % 4 == 0 {
@@ -255,7 +290,7 @@ impl WarmStart {
     ///
     /// The rows are those of the table in numbers of the columns, of which there are so many in
     /// all; the live ones are in the order of the table. It reads all rows some times a step, in up
-    /// to some 240 steps.
+    /// to some 1200 steps.
     pub fn multipliers(
         &mut self,
         alloc: Global,
@@ -266,7 +301,8 @@ impl WarmStart {
         goal: Goal,
     ) -> Result<Multipliers, AllocError> {
         self.effort.rounds = self.effort.rounds.saturating_add(1);
-        let numbers = self.numbers_of(alloc, rows)?;
+        let marks = marked(alloc, live, columns)?;
+        let numbers = self.numbers_of(alloc, rows, &marks)?;
         let mut ascent = self.ascent(alloc, table, &numbers)?;
         if !rows.is_empty() {
             self.likely = vec![in alloc; 0; columns]?;
@@ -281,7 +317,7 @@ impl WarmStart {
     /// one another.
     fn keep_weights(&mut self, numbers: &[usize], ascent: &Ascent) -> Result<(), AllocError> {
         for (i, number) in numbers.iter().enumerate() {
-            let weight = at(&ascent.top_weights, i);
+            let weight = at(&ascent.best_weights, i);
             if *number < self.weights.len() {
                 self.weights[*number] = weight;
             } else {

@@ -1,6 +1,7 @@
 use Rattle.std.proofs.Common.{◌≡◌, ◌≢◌, ◌∙◌, ◌||◌, not, length, refl, sym, ap, subst, arith}
 use Rattle.std.specs.Prelude.{filter}
 use Rattle.std.specs.List.{list_all, range_with_len}
+use Rattle.covering.specs.declared.choice.Choice.TheVariants.{First}
 use Rattle.covering.specs.Table.{IsTable, items_of, has, table_of}
 use Rattle.covering.specs.Search.{marked}
 use Rattle.covering.specs.Reduce.{MarksInessentialColumns, Shrinks, take_unmarked}
@@ -26,19 +27,19 @@ made c =
     table_same c.args.self.now.columns _ _ _ _ _ _ _ _ taken (c.in_ok-live.ensures ∙ ap (λ ks. filter (marked ks) c.live_columns.result.now) c.deref.ensures.value ∙ ap (filter (marked keep)) c.live_columns.ensures.value) rows refl
 
 pub returns-then-len-live_columns : goal.returns-then-len-live_columns
-returns-then-len-live_columns c =
+returns-then-len-live_columns c = λ choice.
     let at = goal.at.returns-then-len-live_columns c in
     let long : length c.in_ok-live.live.items ≡ c.len.result = omega (arith, c.len.ensures, c.in_ok-live.live.ok) in
-    none_essential c.args.choice c.args.self.now c.in_ok-keep.keep.items c.row_lists.ensures.table (marks at.In_ok-keep) (sym (ap length (kept at.In_ok-live)) ∙ long ∙ c.if-len-live_columns.true ∙ ap length c.live_columns-2.ensures.value)
+    none_essential choice c.args.self.now c.in_ok-keep.keep.items c.row_lists.ensures.table (marks at.In_ok-keep) (sym (ap length (kept at.In_ok-live)) ∙ long ∙ c.if-len-live_columns.true ∙ ap length c.live_columns-2.ensures.value)
 
 pub with-requires : goal.with-requires
 with-requires c =
     let at = goal.at.with-requires c in
-    subst IsTable (sym (made at.In_ok-rows)) (essentials_table c.args.choice c.args.self.now c.in_ok-keep.keep.items c.row_lists.ensures.table (marks at.In_ok-keep))
+    subst IsTable (sym (made at.In_ok-rows)) (essentials_table First c.args.self.now c.in_ok-keep.keep.items c.row_lists.ensures.table (marks at.In_ok-keep))
 
 pub returns : goal.returns
-returns c =
+returns c = λ choice.
     let at = goal.at.returns c in
     let long : length c.in_ok-live.live.items ≡ c.len.result = omega (arith, c.len.ensures, c.in_ok-live.live.ok) in
     let fewer : length (filter (marked c.in_ok-keep.keep.items) c.args.self.now.live) ≢ length c.args.self.now.live = λ e. c.if-len-live_columns.false (sym long ∙ ap length (kept at.In_ok-live) ∙ e ∙ sym (ap length c.live_columns-2.ensures.value)) in
-    subst (Shrinks c.args.choice c.args.self.now) (sym (c.in_ok-with.ensures ∙ made at.In_ok-rows)) (essentials_shrink c.args.choice c.args.self.now c.in_ok-keep.keep.items c.row_lists.ensures.table (marks at.In_ok-keep) fewer)
+    subst (Shrinks choice c.args.self.now) (sym (c.in_ok-with.ensures ∙ made at.In_ok-rows)) (essentials_shrink choice c.args.self.now c.in_ok-keep.keep.items c.row_lists.ensures.table (marks at.In_ok-keep) fewer)
