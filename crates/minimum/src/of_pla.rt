@@ -3,6 +3,7 @@
 ghost use Rattle.std.specs.Prelude.{◌≡◌, [], IfOk, IfSome, true};
 ghost use Rattle.cube.specs.Cube.{IsPlace, Place, difference as difference_of};
 ghost use Rattle.cover.specs.Places.{places};
+ghost use Rattle.pla.specs.Description.{Description};
 ghost use Rattle.pla.specs.Completed.{sets_of};
 ghost use Rattle.minimum.specs.Primes.{essential_of, exact_of, primes_of};
 
@@ -55,15 +56,14 @@ fn primes_with_dc(alloc: Global, pla: &Pla) -> Result<Cover, AllocError>
 }
 
 // The primes under fr: the complete sum outside these places, which OFF alone holds.
-fn primes_outside(pla: &Pla, off: &Cover) -> Result<Cover, AllocError>
-    requires file_type { pla.now.file_type ≡ FileType.Fr }
-    requires size { off.now.size ≡ pla.now.size }
-    requires places { (p : Place) → IsPlace pla.now.size p
-        → places off.now.cubes p ≡ difference_of (places pla.now.off) (places pla.now.on) p }
-    ensures { IfOk result (λ list. list ≡ record {
-      size = pla.now.size;
-      cubes = primes_of (sets_of pla.now true true);
-    }) }
+fn primes_outside(off: &Cover) -> Result<Cover, AllocError>
+    ensures { (pla : Description) → pla.file_type ≡ FileType.Fr → off.now.size ≡ pla.size
+        → ((p : Place) → IsPlace pla.size p
+        → places off.now.cubes p ≡ difference_of (places pla.off) (places pla.on) p)
+        → IfOk result (λ list. list ≡ record {
+          size = pla.size;
+          cubes = primes_of (sets_of pla true true);
+        }) }
 {
     off.complement()
 }
@@ -77,7 +77,7 @@ fn primes_of_samples(alloc: Global, pla: &Pla) -> Result<Cover, AllocError>
     }) }
 {
     match off_alone(pla)? {
-        Some(off) => primes_outside(pla, &off),
+        Some(off) => primes_outside(&off),
         None => primes_with_dc(alloc, pla),
     }
 }
@@ -229,7 +229,7 @@ fn exact_among_primes(
 {
     let samples = samples_of(alloc, pla)?;
     let _shape = pla.on().shape();
-    let primes = primes_outside(pla, off)?;
+    let primes = primes_outside(off)?;
     let places = places_of_primes(alloc, &samples, &primes, true)?;
     exact_by_points(alloc, &samples, &Source::Primes(primes), &places, choice)
 }

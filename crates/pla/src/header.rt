@@ -1,9 +1,11 @@
 //! What the lines so far have given, and the tests of a line under it.
-ghost use Rattle.std.specs.Prelude.{◌≡◌, ℕ, ◌<◌, ◌≤◌, [], IfOk, OnOk, OnErr, Some, None, slice_index_or, drop, false, bytes_eq};
+ghost use Rattle.std.specs.Prelude.{◌≡◌, ℕ, ◌<◌, ◌≤◌, [], IfOk, OnOk, OnErr, Some, None, List, slice_index_or, drop, false, bytes_eq};
 ghost use Rattle.std.specs.Option.{ForSome};
 ghost use Rattle.cube.specs.Limits.{format_limits};
 ghost use Rattle.pla.specs.Keywords.{texts, is_one_of, endings, refused_keywords, type_named, type_by};
-ghost use Rattle.pla.specs.Fault.{differs_count};
+ghost use Rattle.pla.specs.Lines.{keyword as keyword_on, arguments as arguments_on};
+ghost use Rattle.pla.specs.Fault.{differs_count, is_too_long, is_inside_row, is_bad_number, is_bad_type};
+ghost use Rattle.pla.specs.Header.{Header};
 ghost use Rattle.pla.specs.Names.{name_bytes};
 
 use crate::fault::{FileType, ReadKind};
@@ -119,9 +121,47 @@ pub(crate) fn is_outside_profile(keyword: &[u8]) -> bool
         || is(keyword, b".kiss")
 }
 
+/// Whether a line has more bytes than the limit.
+#[tactic(auto, unfolding(crate::specs::Fault::is_too_long))]
+pub(crate) fn too_long(line: &[u8]) -> bool
+    ensures { (header : Header) → result ≡ is_too_long format_limits header line.now }
+{
+    line.len() > LINE_BYTES
+}
+
+/// Whether a row has to end before this keyword.
+#[tactic(auto, unfolding(crate::specs::Fault::is_inside_row))]
+fn inside_row(unfinished: usize, keyword: &[u8]) -> bool
+    ensures { (header : Header) → (line : List ℕ) → header.unfinished ≡ unfinished
+        → keyword.now ≡ keyword_on line → result ≡ is_inside_row header line }
+{
+    !keyword.is_empty() && !is_end(keyword) && unfinished > 0
+}
+
+/// Whether it is .i or .o without exactly one number in its range.
+#[tactic(auto, unfolding(crate::specs::Fault::is_bad_number))]
+fn bad_number(keyword: &[u8], arguments: &[&[u8]]) -> bool
+    ensures { (header : Header) → (line : List ℕ) → keyword.now ≡ keyword_on line
+        → texts arguments.now ≡ arguments_on line
+        → result ≡ is_bad_number format_limits header line }
+{
+    is(keyword, b".i") && number_in(0, INPUTS, arguments).is_none()
+        || is(keyword, b".o") && number_in(1, OUTPUTS, arguments).is_none()
+}
+
+/// Whether it is .type without exactly one name of a type.
+#[tactic(auto, unfolding(crate::specs::Fault::is_bad_type))]
+fn bad_type(keyword: &[u8], arguments: &[&[u8]]) -> bool
+    ensures { (header : Header) → (line : List ℕ) → keyword.now ≡ keyword_on line
+        → texts arguments.now ≡ arguments_on line
+        → result ≡ is_bad_type header line }
+{
+    is(keyword, b".type") && type_of(arguments).is_none()
+}
+
 impl Head {
-    ghost use Rattle.pla.specs.Lines.{keyword as keyword_on, arguments as arguments_on, keyword_words};
-    ghost use Rattle.pla.specs.Fault.{is_past_limit, is_too_long, is_refused, is_inside_row, is_repeated, is_bad_number, is_name_too_early, is_wrong_count, is_type_too_late, is_bad_type};
+    ghost use Rattle.pla.specs.Lines.{keyword_words};
+    ghost use Rattle.pla.specs.Fault.{is_past_limit, is_repeated, is_name_too_early, is_wrong_count, is_type_too_late};
     ghost use Rattle.pla.specs.Header.{header_of, size_in, type_in};
     ghost use Rattle.pla.specs.HeadView.{seen, keyword_fault, with_keyword};
 
@@ -158,43 +198,21 @@ impl Head {
         self.file_type.unwrap_or(FileType::Fd)
     }
 
+    /// Whether the next line is past the limit.
     #[tactic(auto, unfolding(crate::specs::Fault::is_past_limit))]
-    pub fn past_limit(&self, line: &[u8]) -> bool
-        ensures value { (unfinished : ℕ)
-            → result ≡ is_past_limit format_limits (seen self.now unfinished) line.now }
+    pub fn past_limit(&self) -> bool
+        ensures value { (unfinished : ℕ) → (line : List ℕ)
+            → result ≡ is_past_limit format_limits (seen self.now unfinished) line }
         ensures room { result ≡ false → self.now.lines < 16777216 }
     {
         self.lines >= LINES
     }
 
-    #[tactic(auto, unfolding(crate::specs::Fault::is_too_long))]
-    pub fn too_long(&self, line: &[u8]) -> bool
-        ensures { (unfinished : ℕ)
-            → result ≡ is_too_long format_limits (seen self.now unfinished) line.now }
-    {
-        line.len() > LINE_BYTES
-    }
-
-    #[tactic(auto, unfolding(crate::specs::Fault::is_refused))]
-    fn is_refused(&self, unfinished: usize, line: &[u8], keyword: &[u8]) -> bool
-        requires { keyword.now ≡ keyword_on line.now }
-        ensures { result ≡ is_refused (seen self.now unfinished) line.now }
-    {
-        is_outside_profile(keyword)
-    }
-
-    #[tactic(auto, unfolding(crate::specs::Fault::is_inside_row))]
-    fn inside_row(&self, unfinished: usize, line: &[u8], keyword: &[u8]) -> bool
-        requires { keyword.now ≡ keyword_on line.now }
-        ensures { result ≡ is_inside_row (seen self.now unfinished) line.now }
-    {
-        !keyword.is_empty() && !is_end(keyword) && unfinished > 0
-    }
-
+    /// Whether the setting is given already.
     #[tactic(auto, unfolding(crate::specs::Fault::is_repeated))]
-    fn is_repeated(&self, unfinished: usize, line: &[u8], keyword: &[u8]) -> bool
-        requires { keyword.now ≡ keyword_on line.now }
-        ensures { result ≡ is_repeated (seen self.now unfinished) line.now }
+    fn is_repeated(&self, keyword: &[u8]) -> bool
+        ensures { (unfinished : ℕ) → (line : List ℕ) → keyword.now ≡ keyword_on line
+            → result ≡ is_repeated (seen self.now unfinished) line }
     {
         is(keyword, b".i") && self.inputs.is_some()
             || is(keyword, b".o") && self.outputs.is_some()
@@ -203,107 +221,78 @@ impl Head {
             || is(keyword, b".type") && self.file_type.is_some()
     }
 
-    #[tactic(auto, unfolding(crate::specs::Fault::is_bad_number))]
-    fn bad_number(
-        &self,
-        unfinished: usize,
-        line: &[u8],
-        keyword: &[u8],
-        arguments: &[&[u8]],
-    ) -> bool
-        requires keyword { keyword.now ≡ keyword_on line.now }
-        requires arguments { texts arguments.now ≡ arguments_on line.now }
-        ensures { result ≡ is_bad_number format_limits (seen self.now unfinished) line.now }
-    {
-        is(keyword, b".i") && number_in(0, INPUTS, arguments).is_none()
-            || is(keyword, b".o") && number_in(1, OUTPUTS, arguments).is_none()
-    }
-
+    /// Whether names come before both numbers.
     #[tactic(auto, unfolding(crate::specs::Fault::is_name_too_early))]
-    fn name_too_early(&self, unfinished: usize, line: &[u8], keyword: &[u8]) -> bool
-        requires { keyword.now ≡ keyword_on line.now }
-        ensures { result ≡ is_name_too_early (seen self.now unfinished) line.now }
+    fn name_too_early(&self, keyword: &[u8]) -> bool
+        ensures { (unfinished : ℕ) → (line : List ℕ) → keyword.now ≡ keyword_on line
+            → result ≡ is_name_too_early (seen self.now unfinished) line }
     {
         (is(keyword, b".ilb") || is(keyword, b".ob"))
             && (self.inputs.is_none() || self.outputs.is_none())
     }
 
+    /// Whether there are more or fewer names than inputs or outputs.
     #[tactic(auto, unfolding(crate::specs::Fault::is_wrong_count))]
-    fn wrong_count(
-        &self,
-        unfinished: usize,
-        line: &[u8],
-        keyword: &[u8],
-        arguments: &[&[u8]],
-    ) -> bool
-        requires keyword { keyword.now ≡ keyword_on line.now }
-        requires arguments { texts arguments.now ≡ arguments_on line.now }
-        ensures { result ≡ is_wrong_count (seen self.now unfinished) line.now }
+    fn wrong_count(&self, keyword: &[u8], arguments: &[&[u8]]) -> bool
+        ensures { (unfinished : ℕ) → (line : List ℕ) → keyword.now ≡ keyword_on line
+            → texts arguments.now ≡ arguments_on line
+            → result ≡ is_wrong_count (seen self.now unfinished) line }
     {
         let count = arguments.len();
         is(keyword, b".ilb") && is_other(count, self.inputs)
             || is(keyword, b".ob") && is_other(count, self.outputs)
     }
 
+    /// Whether a type comes after a row has begun.
     #[tactic(auto, unfolding(crate::specs::Fault::is_type_too_late))]
-    fn type_too_late(&self, unfinished: usize, line: &[u8], keyword: &[u8]) -> bool
-        requires { keyword.now ≡ keyword_on line.now }
-        ensures { result ≡ is_type_too_late (seen self.now unfinished) line.now }
+    fn type_too_late(&self, keyword: &[u8]) -> bool
+        ensures { (unfinished : ℕ) → (line : List ℕ) → keyword.now ≡ keyword_on line
+            → result ≡ is_type_too_late (seen self.now unfinished) line }
     {
         is(keyword, b".type") && self.has_symbols
     }
 
-    #[tactic(auto, unfolding(crate::specs::Fault::is_bad_type))]
-    fn bad_type(&self, unfinished: usize, line: &[u8], keyword: &[u8], arguments: &[&[u8]]) -> bool
-        requires keyword { keyword.now ≡ keyword_on line.now }
-        requires arguments { texts arguments.now ≡ arguments_on line.now }
-        ensures { result ≡ is_bad_type (seen self.now unfinished) line.now }
-    {
-        is(keyword, b".type") && type_of(arguments).is_none()
-    }
-
     /// The first kind that stands on a keyword line of these words.
-    #[tactic(auto, unfolding(crate::specs::HeadView::keyword_fault))]
-    pub fn keyword_fault(&self, unfinished: usize, line: &[u8], words: &[&[u8]]) -> Option<ReadKind>
-        requires { texts words.now ≡ keyword_words line.now }
-        ensures { result ≡ keyword_fault format_limits (seen self.now unfinished) line.now }
+    #[tactic(auto, unfolding(crate::specs::HeadView::keyword_fault, crate::specs::Fault::is_refused))]
+    pub fn keyword_fault(&self, unfinished: usize, words: &[&[u8]]) -> Option<ReadKind>
+        ensures { (line : List ℕ) → texts words.now ≡ keyword_words line
+            → result ≡ keyword_fault format_limits (seen self.now unfinished) line }
     {
         let keyword = first(words);
         let arguments = rest(words);
-        if self.is_refused(unfinished, line, keyword) {
+        if is_outside_profile(keyword) {
             return Some(ReadKind::RefusedKeyword);
         }
-        if self.inside_row(unfinished, line, keyword) {
+        if inside_row(unfinished, keyword) {
             return Some(ReadKind::KeywordInsideRow);
         }
-        if self.is_repeated(unfinished, line, keyword) {
+        if self.is_repeated(keyword) {
             return Some(ReadKind::KeywordRepeated);
         }
-        if self.bad_number(unfinished, line, keyword, arguments) {
+        if bad_number(keyword, arguments) {
             return Some(ReadKind::BadNumber);
         }
-        if self.name_too_early(unfinished, line, keyword) {
+        if self.name_too_early(keyword) {
             return Some(ReadKind::NamesBeforeShape);
         }
-        if self.wrong_count(unfinished, line, keyword, arguments) {
+        if self.wrong_count(keyword, arguments) {
             return Some(ReadKind::WrongNumberOfNames);
         }
-        if self.type_too_late(unfinished, line, keyword) {
+        if self.type_too_late(keyword) {
             return Some(ReadKind::TypeAfterRow);
         }
-        if self.bad_type(unfinished, line, keyword, arguments) {
+        if bad_type(keyword, arguments) {
             return Some(ReadKind::BadType);
         }
         None
     }
 
     /// Takes what a keyword line of these words gives.
-    pub fn set(&mut self, alloc: Global, line: &[u8], words: &[&[u8]]) -> Result<(), AllocError>
-        requires { texts words.now ≡ keyword_words line.now }
+    pub fn set(&mut self, alloc: Global, words: &[&[u8]]) -> Result<(), AllocError>
         ensures ok { OnOk result
-            ((unfinished : ℕ)
+            ((unfinished : ℕ) → (line : List ℕ) → texts words.now ≡ keyword_words line
             → seen self.new unfinished
-            ≡ with_keyword format_limits (seen self.old unfinished) line.now) }
+            ≡ with_keyword format_limits (seen self.old unfinished) line) }
         ensures err { OnErr result
             ((unfinished : ℕ) → seen self.new unfinished ≡ seen self.old unfinished) }
         ensures lines { self.new.lines ≡ self.old.lines }

@@ -14,7 +14,7 @@ ghost use Rattle.pla.specs.Description.{description_of};
 
 use crate::description::Pla;
 use crate::fault::{FileType, LineError, ReadKind};
-use crate::header::Head;
+use crate::header::{Head, too_long};
 use crate::line::{LineKind, has_symbol, keyword_code_of, kind_of, words_of};
 use crate::rows::Rows;
 use cube::Shape;
@@ -64,10 +64,10 @@ fn take_keyword(
 {
     let words = words_of(alloc, keyword_code_of(line))?;
     let unfinished = unfinished_in(rows);
-    if let Some(kind) = head.keyword_fault(unfinished, line, &words) {
+    if let Some(kind) = head.keyword_fault(unfinished, &words) {
         return Err(LineError::Fault(kind));
     }
-    head.set(alloc, line, &words)?;
+    head.set(alloc, &words)?;
     open_rows(rows, alloc, head.shape());
     Ok(())
 }
@@ -152,10 +152,10 @@ impl Parser {
             ((self.new.header.lines ≡ self.old.header.lines + 1)
             × (self.old.header.lines < 16777216)) }
     {
-        if self.head.past_limit(line) {
+        if self.head.past_limit() {
             return Err(LineError::Fault(ReadKind::TooManyLines));
         }
-        if self.head.too_long(line) {
+        if too_long(line) {
             return Err(LineError::Fault(ReadKind::LineTooLong));
         }
         match kind_of(line) {

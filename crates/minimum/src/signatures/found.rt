@@ -3,11 +3,11 @@
 ghost use Rattle.std.specs.Prelude.{◌≡◌, ◌∷◌, ◌++◌, [], true, IfOk, IfSome, OnOk, All};
 ghost use Rattle.std.specs.List.{Contains};
 ghost use Rattle.cube.specs.Cube.{SameSize, IsCube, IsSubset, Cube as Row, holds};
-ghost use Rattle.cover.specs.Cubes.{AreCubes};
 ghost use Rattle.minimum.specs.Points.{IsSource, function_by, IsFound, IsWantedPoint};
 
 use crate::signatures::source::{Source, Stop, primes_containing};
-use cube::{Cube, Shape};
+use cover::Cover;
+use cube::Cube;
 use pla::Sets;
 use std::alloc::{AllocError, Global};
 
@@ -51,13 +51,13 @@ impl Found {
     }
 }
 
-/// The places that all of the cubes hold, or `None` if there is none.
-fn signature(shape: Shape, cubes: &[Cube]) -> Result<Option<Cube>, AllocError>
-    requires { AreCubes shape cubes.now }
-    ensures cube { IfOk result (λ o. IfSome o (IsCube shape)) }
-    ensures within { IfOk result (λ o. IfSome o (λ s. (c : Row) → Contains cubes.now c
+/// The places that all cubes of the list hold, or `None` if there is none.
+fn signature(list: &Cover) -> Result<Option<Cube>, AllocError>
+    ensures cube { IfOk result (λ o. IfSome o (IsCube list.now.size)) }
+    ensures within { IfOk result (λ o. IfSome o (λ s. (c : Row) → Contains list.now.cubes c
         → IsSubset (holds s) (holds c))) }
 {
+    let cubes = list.as_slice();
     let Some(first) = cubes.first() else {
         return Ok(None);
     };
@@ -94,7 +94,7 @@ pub(crate) fn add_point(
     ensures points { OnOk result (found.new.points.items ≡ found.old.points.items ++ point ∷ []) }
 {
     let row = primes_containing(source, &point)?;
-    if let Some(common) = signature(row.shape(), row.as_slice())? {
+    if let Some(common) = signature(&row)? {
         push_cube(&mut found.signatures, common)?;
     }
     let mut row = row.into_cubes();

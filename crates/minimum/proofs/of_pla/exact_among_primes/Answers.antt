@@ -16,7 +16,7 @@ exact_by_points-requires c =
     (subst (AreCubes pla.size) (ap (λ (l : Cubes). l.cubes) c.on.ensures) (subst (λ z. AreCubes z c.on.result.now.cubes) (c.shape-shape.ensures.size ∙ ap (λ (l : Cubes). l.size) c.on.ensures) c.shape-shape.ensures.cubes)) in
     let list = c.in_ok-primes.primes in
     let all : SetLists → Cubes = λ sets. record { size = sets.size; cubes = primes_of sets } in
-    let same : list ≡ all (with_open given) = c.in_ok-primes.ensures ∙ ap all (sym (open_sets pla given is c.requires.file_type)) in
+    let same : list ≡ all (with_open given) = c.in_ok-primes.ensures pla c.requires.file_type c.requires.size c.requires.places ∙ ap all (sym (open_sets pla given is c.requires.file_type)) in
     (primes_among (with_open given) list same, (on, stands_primes given (ap (λ (s : SetLists). s.dc) is) list (ap (λ (l : Cubes). l.cubes) same)))
 
 pub returns : goal.returns

@@ -3,6 +3,8 @@ use Rattle.std.specs.Option.{option_or}
 use Rattle.cube.specs.Limits.{format_limits}
 use Rattle.cube.specs.Size.{Size}
 use Rattle.pla.specs.declared.fault.FileType.TheVariants.{Fd}
+use Rattle.pla.specs.Lines.{words, keyword_words, keyword_words_at}
+use Rattle.pla.specs.Keywords.{texts}
 use Rattle.pla.specs.HeadView.{seen, keyword_fault}
 use Rattle.pla.specs.Reading.{RowsRead, rows_of}
 use Rattle.pla.specs.Parsing.{IsTied, opened, unfinished_of}
@@ -21,12 +23,16 @@ returns-clause-rows c =
 pub returns-clause-tied : goal.returns-clause-tied
 returns-clause-tied c = λ tied.
     let line = c.args.line.now in
+    let named : texts c.deref.result.now ≡ keyword_words line =
+    ap texts c.deref.ensures.value ∙ c.in_ok-words.ensures ∙ ap words c.keyword_code_of.ensures ∙ sym (ap (λ k. keyword_words_at k line) c.requires) in
+    let again : texts c.deref-2.result.now ≡ keyword_words line =
+    ap texts (c.deref-2.ensures.value ∙ sym c.deref.ensures.value) ∙ named in
     let unfinished = unfinished_of c.args.rows.now in
     let empty : Size → RowsRead = λ size. rows_of Fd size [] in
     let none : keyword_fault format_limits (seen c.args.head.now unfinished) line ≡ None =
-    ap (λ u. keyword_fault format_limits (seen c.args.head.now u) line) (sym c.unfinished_in-unfinished.ensures) ∙ sym c.keyword_fault.ensures ∙ c.in_default.is in
+    ap (λ u. keyword_fault format_limits (seen c.args.head.now u) line) (sym c.unfinished_in-unfinished.ensures) ∙ sym (c.keyword_fault.ensures line named) ∙ c.in_default.is in
     let repeated = sym (repeated_anywhere (seen c.args.head.now 0) line unfinished) ∙ not_repeated format_limits (seen c.args.head.now unfinished) line none in
     let rows : c.open_rows.new.rows ≡ opened c.args.rows.now (seen c.set.new.self 0) =
     c.open_rows.ensures ∙ ap (λ o. option_or c.args.rows.now (option_map empty o)) (c.shape.ensures 0) in
     subst (λ r. IsTied (seen c.set.new.self 0) r) (sym rows)
-    (subst (λ h. IsTied h (opened c.args.rows.now h)) (sym (c.in_ok-set.ensures.ok 0)) (tied_keyword format_limits (seen c.args.head.now 0) line c.args.rows.now repeated tied))
+    (subst (λ h. IsTied h (opened c.args.rows.now h)) (sym (c.in_ok-set.ensures.ok 0 line again)) (tied_keyword format_limits (seen c.args.head.now 0) line c.args.rows.now repeated tied))

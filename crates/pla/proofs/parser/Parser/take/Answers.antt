@@ -22,19 +22,19 @@ known parser value before view tied going st = record { stands = subst (λ p. St
 pub returns-then-past_limit-clause-stands : goal.returns-then-past_limit-clause-stands
 returns-then-past_limit-clause-stands c = λ before st.
     many_refused format_limits before c.args.line.now c.self.inside.head c.self.inside.rows (known c.self.inside c.args.self.now before c.self.view_is c.self.invariant c.requires.open st)
-    (sym (c.past_limit.ensures.value (unfinished_of c.self.inside.rows)) ∙ c.if-past_limit.true)
+    (sym (c.past_limit.ensures.value (unfinished_of c.self.inside.rows) c.args.line.now) ∙ c.if-past_limit.true)
 
 pub returns-then-too_long-clause-stands : goal.returns-then-too_long-clause-stands
 returns-then-too_long-clause-stands c = λ before st.
     long_refused format_limits before c.args.line.now c.self.inside.head c.self.inside.rows (known c.self.inside c.args.self.now before c.self.view_is c.self.invariant c.requires.open st)
-    (sym (c.past_limit.ensures.value (unfinished_of c.self.inside.rows)) ∙ c.if-past_limit.false) (sym (c.too_long.ensures (unfinished_of c.self.inside.rows)) ∙ c.if-too_long.true)
+    (sym (c.past_limit.ensures.value (unfinished_of c.self.inside.rows) c.args.line.now) ∙ c.if-past_limit.false) (sym (c.too_long.ensures (seen c.self.inside.head (unfinished_of c.self.inside.rows))) ∙ c.if-too_long.true)
 
 pub returns-in_err-take_keyword-in-Keyword-clause-stands : goal.returns-in_err-take_keyword-in-Keyword-clause-stands
 returns-in_err-take_keyword-in-Keyword-clause-stands c =
     let p = err_from_is_err_and c.from_residual.result c.from_residual.ensures.1 in
     rw (p.1, p.2) (λ before st.
     keyword_refuses format_limits before c.args.line.now c.self.inside.head c.self.inside.rows _ (known c.self.inside c.args.self.now before c.self.view_is c.self.invariant c.requires.open st) (sym c.kind_of.ensures ∙ c.in-Keyword.is)
-    (sym (c.past_limit.ensures.value (unfinished_of c.self.inside.rows)) ∙ c.if-past_limit.false) (sym (c.too_long.ensures (unfinished_of c.self.inside.rows)) ∙ c.if-too_long.false)
+    (sym (c.past_limit.ensures.value (unfinished_of c.self.inside.rows) c.args.line.now) ∙ c.if-past_limit.false) (sym (c.too_long.ensures (seen c.self.inside.head (unfinished_of c.self.inside.rows))) ∙ c.if-too_long.false)
     c.in_err-take_keyword-in-Keyword.ensures.fault)
 
 pub returns-in_err-take_row-in-Row-clause-stands : goal.returns-in_err-take_row-in-Row-clause-stands
@@ -42,7 +42,7 @@ returns-in_err-take_row-in-Row-clause-stands c =
     let p = err_from_is_err_and c.from_residual-in_err-take_row-in-Row.result c.from_residual-in_err-take_row-in-Row.ensures.1 in
     rw (p.1, p.2) (λ before st.
     row_refuses format_limits before c.args.line.now c.self.inside.head c.self.inside.rows _ (known c.self.inside c.args.self.now before c.self.view_is c.self.invariant c.requires.open st) (sym c.kind_of.ensures ∙ c.in-Row.is)
-    (sym (c.past_limit.ensures.value (unfinished_of c.self.inside.rows)) ∙ c.if-past_limit.false) (sym (c.too_long.ensures (unfinished_of c.self.inside.rows)) ∙ c.if-too_long.false)
+    (sym (c.past_limit.ensures.value (unfinished_of c.self.inside.rows) c.args.line.now) ∙ c.if-past_limit.false) (sym (c.too_long.ensures (seen c.self.inside.head (unfinished_of c.self.inside.rows))) ∙ c.if-too_long.false)
     (subst (λ (code : List ℕ). IsBadRow (type_in (seen c.self.inside.head 0)) c.self.inside.rows code c.in_err-take_row-in-Row.field-0.0) c.requires.code c.in_err-take_row-in-Row.ensures.fault))
 
 -- what is to be shown of the fields after the line
@@ -57,8 +57,8 @@ returns-clause-stands c = λ before st.
     let rows = c.self.inside.rows in
     let u = unfinished_of rows in
     let b = known c.self.inside c.args.self.now before c.self.view_is c.self.invariant c.requires.open st in
-    let few : is_past_limit format_limits (seen head u) line ≡ false = sym (c.past_limit.ensures.value u) ∙ c.if-past_limit.false in
-    let short : is_too_long format_limits (seen head u) line ≡ false = sym (c.too_long.ensures u) ∙ c.if-too_long.false in
+    let few : is_past_limit format_limits (seen head u) line ≡ false = sym (c.past_limit.ensures.value u line) ∙ c.if-past_limit.false in
+    let short : is_too_long format_limits (seen head u) line ≡ false = sym (c.too_long.ensures (seen head u)) ∙ c.if-too_long.false in
     elim c.match-kind_of.branch [
       | in-Empty w ↦ subst (Taken before line) (sym w.self-inside-is)
           (empty_taken format_limits before line head (λ v. record (seen head v) { lines = head.lines + 1 }) rows b (sym c.kind_of.ensures ∙ w.in-Empty.is) few short (λ v. refl))
