@@ -4,7 +4,7 @@ A program may give up for want of memory at any time, and would still be proved.
 rows, inputs, outputs, primes and columns than a list that it would be tempted to keep short has."""
 from itertools import combinations
 
-from support import Case, ProgramTest, closed, fault, lines, on_input, pla, printed
+from support import Case, ProgramTest, answer_in, closed, fault, folder_of, lines, on_input, pla, printed
 from worked import DIFFERENT, EQUAL, GAPS, NO_TAUTOLOGY, ON_OFF, PARTITION, TAUTOLOGY
 
 
@@ -71,6 +71,15 @@ def by_weight(inputs, fewest, most):
 def marked(outputs, chosen, mark="1", other="0"):
     """The output part of a row: a mark at these outputs."""
     return "".join(mark if j in chosen else other for j in range(outputs))
+
+
+def triples(third):
+    """Triples of the numbers below three times an odd one, such that each two numbers are in one of them (Bose, On the
+    construction of balanced incomplete block designs, 1939)."""
+    half = (third + 1) // 2
+    yield from ((x, third + x, 2 * third + x) for x in range(third))
+    for x, y in combinations(range(third), 2):
+        yield from ((i * third + x, i * third + y, (i + 1) % 3 * third + (x + y) * half % third) for i in range(3))
 
 
 class Large(ProgramTest):
@@ -172,8 +181,22 @@ class ManyPrimes(Large):
         self.each("256 rings", (12, 1), rows, [], ("essen",))
 
 
+    def test_a_search_of_many_tables(self):
+        """A sample for each triple of 51 numbers, with zeros at these, against ones alone: the primes are the single zeros,
+        and a cover has one of each triple. The search for a least one looks at some 50,000 tables."""
+        samples = ["".join("0" if i in triple else "1" for i in range(51)) for triple in triples(17)]
+        text = pla(51, 1, *listed(samples), "1" * 51 + " 0", head=(".type fr",))
+        with folder_of({}) as folder:
+            found, _ = answer_in(folder, ["-Dexact"], text)
+        cubes = [row.split()[0].decode() for row in found.output.split(b"\n") if row.startswith((b"0", b"-"))]
+        zeros = {cube.index("0") for cube in cubes}
+        self.assertEqual((found.status, len(cubes), len(zeros)), (0, 33, 33), found.message)
+        self.assertEqual({cube.count("-") for cube in cubes}, {50})
+        self.assertTrue(all(zeros.intersection(triple) for triple in triples(17)))
+
+
 class Apart(Large):
-    """Rows that are apart by their first symbols, which have an odd number of ones, with a literal behind and two outputs."""
+    """Rows that are apart by their first symbols, which have an odd number of ones, with a literal after them and two outputs."""
 
     def rows(self, count, inputs, outputs):
         """Pairs of a cube and the numbers of its outputs."""

@@ -9,7 +9,7 @@ use std::test::Fail;
 
 // What is made of a list, or of two.
 #[derive(Clone, Copy)]
-enum Operation {
+pub(crate) enum Operation {
     Clone,
     Cubes,
     CompleteSum,
@@ -150,7 +150,11 @@ fn again(list: &Cover) -> Result<Cover, AllocError> {
     Ok(Cover::from_cubes(list.shape(), list.try_clone()?.into_cubes()))
 }
 
-fn result_of(operation: Operation, list: &Cover, other: &Cover) -> Result<Cover, AllocError>
+pub(crate) fn result_of(
+    operation: Operation,
+    list: &Cover,
+    other: &Cover,
+) -> Result<Cover, AllocError>
     requires { other.now.size ≡ list.now.size }
 {
     match operation {
@@ -196,7 +200,7 @@ fn lists_make_lists(rt: HostRuntime) -> Result<(), Fail> {
 
 // What is asked of up to three lists.
 #[derive(Clone, Copy)]
-enum Question {
+pub(crate) enum Question {
     ListsRows,
     IsEmpty,
     Tautology,
@@ -310,7 +314,12 @@ fn lists_rows(list: &Cover) -> bool {
     }
 }
 
-fn answer(question: Question, list: &Cover, other: &Cover, free: &Cover) -> Result<bool, AllocError>
+pub(crate) fn answer(
+    question: Question,
+    list: &Cover,
+    other: &Cover,
+    free: &Cover,
+) -> Result<bool, AllocError>
     requires other { other.now.size ≡ list.now.size }
     requires free { free.now.size ≡ list.now.size }
 {

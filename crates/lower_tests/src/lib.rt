@@ -7,9 +7,10 @@
 //! the tests hold none, and go over tables.
 //!
 //! - Cubes and lists, from rows of text (`rows`): `cubes`, `covers`, `reasons`, `wide`;
-//!   from rules (`rules`): `places`, `place_cases`.
+//!   from rules (`rules`): `places`, `place_cases`, and `large` for each call on long lists and
+//!   wide rows.
 //! - The format: `devices`, `over_std` and `writing` of its devices, `reading`, `sets`, `printing`
-//!   and `laws` of its files.
+//!   and `laws` of its files, `large_files` with long names too.
 #![tactic(auto)]
 
 #[cfg(test)]
@@ -18,6 +19,10 @@ mod covers;
 mod cubes;
 #[cfg(test)]
 mod devices;
+#[cfg(test)]
+mod large;
+#[cfg(test)]
+mod large_files;
 #[cfg(test)]
 mod laws;
 #[cfg(test)]

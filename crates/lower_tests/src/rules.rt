@@ -12,8 +12,10 @@ use std::test::Fail;
 pub(crate) enum Rule {
     // None at all, in any row.
     Universe,
-    // The number at the last 11 inputs.
+    // The number at the last 16 inputs.
     Points,
+    // The number at the first 13 inputs.
+    Front,
     // Twice the number and the next one: as points, without the last input.
     Halves,
     // The number of those before 2047.
@@ -22,6 +24,8 @@ pub(crate) enum Rule {
     Stairs,
     // `0` at all inputs before k.
     Zeros,
+    // `1` at the input with number k from the last one on.
+    Lone,
     // `0` at inputs 2k and 2k + 1.
     Pairs,
     // `1` at the first twelve inputs and then `10`, again and again: Pairs miss it.
@@ -30,8 +34,10 @@ pub(crate) enum Rule {
     Choices,
 }
 
-// How many inputs number points.
-const BITS: usize = 11;
+// How many inputs number points, from the last one on and from the first.
+const BITS: usize = 16;
+
+const FRONT_BITS: usize = 13;
 
 // The rows of a rule from one number to before another.
 pub(crate) type Rows = (Rule, usize, usize);
@@ -73,20 +79,27 @@ fn symbol_of(rule: Rule, inputs: usize, number: usize, i: usize) -> Symbol {
     let place = inputs.saturating_sub(i).saturating_sub(1);
     match rule {
         Rule::Points => bit_of(number, place),
+        Rule::Front if i < FRONT_BITS => bit_of(number, FRONT_BITS - 1 - i),
         Rule::Backwards => bit_of(2047usize.saturating_sub(number), place),
         Rule::Halves if place > 0 => bit_of(number.saturating_mul(2), place),
         Rule::Stairs => stair_of(number, i),
         Rule::Zeros if i < number => Symbol::Zero,
+        Rule::Lone if place == number => Symbol::One,
         Rule::Pairs if i / 2 == number => Symbol::Zero,
         Rule::Free if i >= 12 && i % 2 == 1 => Symbol::Zero,
         Rule::Free => Symbol::One,
         Rule::Choices => choice_of(number, i),
-        Rule::Universe | Rule::Zeros | Rule::Halves | Rule::Pairs => Symbol::Dash,
+        _ => Symbol::Dash,
     }
 }
 
 // The cube of the row, with all outputs.
-fn cube_of_rule(alloc: Global, shape: Shape, rule: Rule, number: usize) -> Result<Cube, Fail> {
+pub(crate) fn cube_of_rule(
+    alloc: Global,
+    shape: Shape,
+    rule: Rule,
+    number: usize,
+) -> Result<Cube, Fail> {
     let (inputs, outputs) = (shape.inputs().min(1024), shape.outputs().min(1024));
     let mut symbols = [Symbol::Dash; 1024];
     for i in 0..inputs {
@@ -110,7 +123,7 @@ pub(crate) fn list_of(alloc: Global, shape: Shape, rows: Rows) -> Result<Cover, 
 }
 
 // Whether the cube is the row of this number, with all outputs.
-fn is_row(cube: &Cube, rule: Rule, number: usize) -> bool {
+pub(crate) fn is_row(cube: &Cube, rule: Rule, number: usize) -> bool {
     let shape = cube.shape();
     for i in 0..shape.inputs() {
         if cube.symbol(i) != symbol_of(rule, shape.inputs(), number, i) {
@@ -125,16 +138,21 @@ fn is_row(cube: &Cube, rule: Rule, number: usize) -> bool {
     true
 }
 
-// Whether the list has just these rows.
-pub(crate) fn has_rows(list: &Cover, rows: Rows) -> bool {
+// Whether the cubes are just these rows.
+pub(crate) fn are_rows(cubes: &[Cube], rows: Rows) -> bool {
     let (rule, from, to) = rows;
-    if list.len() != to.saturating_sub(from) {
+    if cubes.len() != to.saturating_sub(from) {
         return false;
     }
-    for (k, cube) in list.as_slice().iter().enumerate() {
+    for (k, cube) in cubes.iter().enumerate() {
         if !is_row(cube, rule, from.saturating_add(k)) {
             return false;
         }
     }
     true
+}
+
+// Whether the list has just these rows.
+pub(crate) fn has_rows(list: &Cover, rows: Rows) -> bool {
+    are_rows(list.as_slice(), rows)
 }

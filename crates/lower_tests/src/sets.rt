@@ -42,7 +42,7 @@ fn row_count(list: &Option<Cover>) -> Option<usize> {
 }
 
 // Whether the lists that the type of the file leaves open have so many rows, DC and OFF.
-fn are_open(
+pub(crate) fn are_open(
     alloc: Global,
     text: &[u8],
     dc: Option<usize>,

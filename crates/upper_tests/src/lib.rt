@@ -6,11 +6,14 @@
 //! - Minima: `primes`, `tables` of rows, `solutions` of whole files; `descriptions` by `rules`, in
 //!   `small_cases` and `wide`, which also sets functions of a few inputs among many; `signatures` of
 //!   a decoder.
+//! - `large`: each call on long lists, wide rows, many columns and long names.
 //! - Runs: `runs` on devices that fail, `processes` from their words to their status.
 #![tactic(auto)]
 
 #[cfg(test)]
 mod descriptions;
+#[cfg(test)]
+mod large;
 #[cfg(test)]
 mod primes;
 #[cfg(test)]

@@ -25,6 +25,10 @@ pub(crate) enum Rule {
     RingLeast,
     // The number at the last six inputs.
     Point,
+    // The number at the twelve inputs before the last, where it makes the ones odd, or even. No two
+    // of 4,096 such points are neighbours; with twelve inputs in all they are all points.
+    Odd,
+    Even,
     Universe,
 }
 
@@ -64,6 +68,19 @@ fn rings_byte(codes: &[&[u8; 3]], number: usize, place: usize) -> u8 {
     ring_byte(codes, number - begin, place)
 }
 
+fn digit(is_one: bool) -> u8 {
+    if is_one { b'1' } else { b'0' }
+}
+
+// The byte of the number where the last input makes the ones odd, or even.
+fn parity_byte(number: usize, place: usize, is_odd: bool) -> u8 {
+    match place {
+        0 => digit((number.count_ones() % 2 == 1) != is_odd),
+        1..=12 => digit(number >> (place - 1) & 1 == 1),
+        _ => b'-',
+    }
+}
+
 // The byte at the input of this place, from the last one on.
 fn byte_of(rule: Rule, number: usize, place: usize) -> u8 {
     let is_pair = place / 2 == number;
@@ -76,7 +93,9 @@ fn byte_of(rule: Rule, number: usize, place: usize) -> u8 {
         Rule::Ring => rings_byte(&POINTS, number, place),
         Rule::RingPrime => rings_byte(&PRIMES, number, place),
         Rule::RingLeast => rings_byte(&LEAST, number, place),
-        Rule::Point if place < 6 => b'0' + (number >> place & 1 == 1) as u8,
+        Rule::Point if place < 6 => digit(number >> place & 1 == 1),
+        Rule::Odd => parity_byte(number, place, true),
+        Rule::Even => parity_byte(number, place, false),
         Rule::Point | Rule::Universe => b'-',
         Rule::Gap => ring_byte(&GAPS, number >> (place / 3).min(63) & 1, place),
     }

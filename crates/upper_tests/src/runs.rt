@@ -18,7 +18,7 @@ const WRITE_FAILED: &[u8] = b"espresso: write failed\n";
 
 // What a run left, and how many bytes of its files it has asked for.
 #[derive(Drop)]
-struct Ran {
+pub(crate) struct Ran {
     output: Taken,
     message: Taken,
     status: Status,
@@ -70,7 +70,7 @@ fn run_line(
     requires first_name { name_of first ≡ first_name line.now.files }
     requires second_name { IfSome second (λ s. name_of s ≡ second_name line.now.files) }
 {
-    let mut message = Taken::new(alloc, 100, 7, false)?;
+    let mut message = Taken::new(alloc, 70_000, 7, false)?;
     let status = run(
         alloc,
         line,
@@ -89,7 +89,7 @@ fn run_line(
 }
 
 // A run of the words on these files.
-fn run_on(
+pub(crate) fn run_on(
     alloc: Global,
     words: &[&str],
     first: Given,
@@ -111,7 +111,7 @@ fn echo_on(alloc: Global, text: &[u8], output: Taken) -> Result<Ran, Fail> {
 }
 
 // Whether the run has this output, this message and this status.
-fn has_left(ran: &Ran, output: &[u8], message: &[u8], status: Status) -> bool {
+pub(crate) fn has_left(ran: &Ran, output: &[u8], message: &[u8], status: Status) -> bool {
     ran.output.bytes() == output && ran.message.bytes() == message && ran.status == status
 }
 

@@ -1,7 +1,7 @@
 //! Functions written as files, solved and printed.
 ghost use Rattle.std.specs.Prelude.{◌≡◌};
 
-use crate::tables::{read, searches_agree};
+use crate::tables::{read, rings_are_solved, searches_agree};
 use cover::Cover;
 use minimum::{Choice, OfPrimes, Table, essential, exact, primes};
 use pla::{OutType, Pla, Sets, Taken, write_covers};
@@ -49,6 +49,41 @@ fn a_table_of_many_points_is_built(rt: HostRuntime) -> Result<(), Fail> {
     assert!(rt; ring.columns() == 6);
     assert!(rt; ring.row_count() == 6);
     assert!(rt; searches_agree(ring, Choice::First)?);
+    Ok(())
+}
+
+const BEHIND: [&[u8]; 8] = [
+    b"0000", b"0011", b"0101", b"0110", b"1001", b"1010", b"1100", b"1111",
+];
+
+const RING: [&[u8]; 6] = [b"000", b"001", b"010", b"101", b"110", b"111"];
+
+/// Adds the ring behind these inputs.
+fn add_ring(text: &mut Vec<u8>, behind: &[u8]) -> Result<(), AllocError> {
+    for point in RING {
+        text.extend_from_slice(behind)?;
+        text.extend_from_slice(point)?;
+        text.extend_from_slice(b" 1\n")?;
+    }
+    Ok(())
+}
+
+/// The ring behind each of eight points, no two of which are neighbours: 48 rows and 48 primes.
+fn eight_rings(alloc: Global) -> Result<Vec<u8>, AllocError> {
+    let mut text = b".i 7\n.o 1\n".to_vec(alloc)?;
+    for behind in BEHIND {
+        add_ring(&mut text, behind)?;
+    }
+    Ok(text)
+}
+
+/// The exhaustive search would not end on it.
+#[test]
+fn a_table_of_eight_rings_is_built_and_solved(rt: HostRuntime) -> Result<(), Fail> {
+    let alloc = rt.alloc();
+    let made = table(alloc, &eight_rings(alloc)?)?;
+    assert!(rt; made.columns() == 48 && made.row_count() == 48);
+    assert!(rt; rings_are_solved(alloc, made, 8)?);
     Ok(())
 }
 

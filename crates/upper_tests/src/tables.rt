@@ -33,7 +33,11 @@ fn table(alloc: Global, rows: &[u8], weights: &[u32]) -> Result<Option<Table>, A
 }
 
 /// Whether the search answers these columns.
-fn least_is(table: &Table, choice: Choice, columns: &[usize]) -> Result<bool, AllocError> {
+pub(crate) fn least_is(
+    table: &Table,
+    choice: Choice,
+    columns: &[usize],
+) -> Result<bool, AllocError> {
     let least = least_cover(table, choice)?;
     Ok(least.as_slice() == columns)
 }
@@ -60,10 +64,43 @@ fn ring_takes_the_first_of_two(rt: HostRuntime) -> Result<(), Fail> {
     Ok(())
 }
 
+/// Whether no column is taken and all are live.
+fn are_all_live(table: &Table) -> bool {
+    for column in 0..table.columns() {
+        if table.is_taken(column) || !table.is_live(column) {
+            return false;
+        }
+    }
+    true
+}
+
 #[test]
 fn ring_has_nothing_to_reduce(rt: HostRuntime) -> Result<(), Fail> {
-    let reduced = reduce(ring(rt.alloc())?, Choice::First)?;
-    assert!(rt; reduced.row_count() == 6 && reduced.columns() == 6);
+    for choice in [Choice::First, Choice::Literals] {
+        let reduced = reduce(ring(rt.alloc())?, choice)?;
+        assert!(rt; reduced.row_count() == 6 && reduced.columns() == 6);
+        assert!(rt; are_all_live(&reduced));
+    }
+    Ok(())
+}
+
+/// Whether just these columns are taken, none is live and no row is left.
+pub(crate) fn has_taken(table: &Table, columns: &[usize]) -> bool {
+    for column in 0..table.columns() {
+        if table.is_live(column) || table.is_taken(column) != columns.contains(&column) {
+            return false;
+        }
+    }
+    table.row_count() == 0
+}
+
+#[test]
+fn the_only_column_is_taken(rt: HostRuntime) -> Result<(), Fail> {
+    let made = table(rt.alloc(), b"0", &[2])?.ok_or("rows")?;
+    assert!(rt; made.columns() == 1 && are_all_live(&made));
+    let reduced = reduce(made, Choice::First)?;
+    assert!(rt; reduced.columns() == 1 && has_taken(&reduced, &[0]));
+    assert!(rt; least_is(&reduced, Choice::First, &[0])?);
     Ok(())
 }
 
@@ -83,10 +120,7 @@ fn an_earlier_column_stays(rt: HostRuntime) -> Result<(), Fail> {
 #[test]
 fn an_earlier_column_is_taken(rt: HostRuntime) -> Result<(), Fail> {
     let reduced = reduce(three_columns(rt.alloc())?, Choice::First)?;
-    assert!(rt; reduced.row_count() == 0 && reduced.columns() == 3);
-    assert!(rt; 1 < reduced.columns());
-    assert!(rt; reduced.is_taken(0) && reduced.is_taken(1));
-    assert!(rt; !reduced.is_live(0) && !reduced.is_live(1));
+    assert!(rt; reduced.columns() == 3 && has_taken(&reduced, &[0, 1]));
     Ok(())
 }
 
@@ -108,8 +142,15 @@ fn fewer_literals_are_taken(rt: HostRuntime) -> Result<(), Fail> {
 #[test]
 fn the_column_of_fewer_literals_stays(rt: HostRuntime) -> Result<(), Fail> {
     let reduced = reduce(two_columns(rt.alloc())?, Choice::Literals)?;
-    assert!(rt; reduced.row_count() == 0);
+    assert!(rt; reduced.columns() == 2 && has_taken(&reduced, &[1]));
     assert!(rt; least_is(&reduced, Choice::First, &[1])?);
+    Ok(())
+}
+
+#[test]
+fn the_first_column_stays_where_literals_do_not_count(rt: HostRuntime) -> Result<(), Fail> {
+    let reduced = reduce(two_columns(rt.alloc())?, Choice::First)?;
+    assert!(rt; reduced.columns() == 2 && has_taken(&reduced, &[0]));
     Ok(())
 }
 
@@ -173,49 +214,47 @@ fn no_rows_take_no_effort(rt: HostRuntime) -> Result<(), Fail> {
     Ok(())
 }
 
-/// Eight rings side by side.
-fn rings(alloc: Global) -> Result<Option<Table>, AllocError> {
+/// So many rings side by side.
+pub(crate) fn rings(alloc: Global, count: usize) -> Result<Option<Table>, AllocError> {
     let ring: [[usize; 2]; 6] = [[2, 3], [0, 3], [1, 2], [0, 4], [1, 5], [4, 5]];
     let mut rows: Vec<Vec<usize>> = Vec::new(alloc);
-    for k in 0..8usize {
+    for k in 0..count {
+        let first = k.wrapping_mul(6);
         for pair in &ring {
             let mut row = Vec::new(alloc);
-            row.push(pair[0].wrapping_add(6 * k))?;
-            row.push(pair[1].wrapping_add(6 * k))?;
+            row.push(pair[0].wrapping_add(first))?;
+            row.push(pair[1].wrapping_add(first))?;
             rows.push(row)?;
         }
     }
-    let weights: Vec<u32> = vec![in alloc; 6; 48]?;
+    let weights: Vec<u32> = vec![in alloc; 6; count.wrapping_mul(6)]?;
     Table::new(alloc, rows, weights)
 }
 
-/// The first columns of each ring.
-fn firsts(alloc: Global) -> Result<Vec<usize>, AllocError> {
+/// The first columns of each of so many rings.
+pub(crate) fn firsts(alloc: Global, count: usize) -> Result<Vec<usize>, AllocError> {
     let mut columns: Vec<usize> = Vec::new(alloc);
-    for k in 0..8usize {
-        columns.push(6 * k)?;
-        columns.push(6 * k + 2)?;
-        columns.push(6 * k + 5)?;
+    for k in 0..count {
+        let first = k.wrapping_mul(6);
+        columns.push(first)?;
+        columns.push(first.wrapping_add(2))?;
+        columns.push(first.wrapping_add(5))?;
     }
     Ok(columns)
 }
 
-#[test]
-fn eight_rings_are_solved(rt: HostRuntime) -> Result<(), Fail> {
-    let columns = firsts(rt.alloc())?;
-    let made = rings(rt.alloc())?.ok_or("rows")?;
-    assert!(rt; least_is(&made, Choice::First, columns.as_slice())?);
-    assert!(rt; least_is(&made, Choice::Literals, columns.as_slice())?);
-    Ok(())
-}
-
-#[test]
-fn eight_rings_are_solved_as_reduced(rt: HostRuntime) -> Result<(), Fail> {
-    let columns = firsts(rt.alloc())?;
-    let made = rings(rt.alloc())?.ok_or("rows")?;
-    let reduced = reduce(made, Choice::First)?;
-    assert!(rt; least_is(&reduced, Choice::First, columns.as_slice())?);
-    Ok(())
+/// Whether the search answers the first columns of so many rings, with each choice and as reduced.
+pub(crate) fn rings_are_solved(
+    alloc: Global,
+    table: Table,
+    count: usize,
+) -> Result<bool, AllocError> {
+    let columns = firsts(alloc, count)?;
+    let first = least_is(&table, Choice::First, columns.as_slice())?;
+    let fewest = least_is(&table, Choice::Literals, columns.as_slice())?;
+    let reduced = reduce(table, Choice::First)?;
+    let again = least_is(&reduced, Choice::First, columns.as_slice())?;
+    Ok(first && fewest && again && are_all_live(&reduced))
 }
 
 /// The next number of a fixed sequence.

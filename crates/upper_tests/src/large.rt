@@ -1,0 +1,246 @@
+//! Long lists, wide rows, tables of many columns and long names on each call, with answers that are
+//! known from how these are made.
+//!
+//! A call may be refused memory at any time, and would still meet its contract. So each is asked
+//! here for more than it might be tempted to keep short.
+use crate::descriptions::{ALL, Case, ESSENTIAL, OUTSIDE, answers};
+use crate::rules::{Outputs, Rule};
+use crate::runs::{Ran, has_left, run_on};
+use crate::tables::{has_taken, least_is, rings, rings_are_solved};
+use covering::{all_marked, copy_of, is_marked, numbers, unmark};
+use minimum::{Choice, Effort, Table, least_cover_plain, least_cover_with_effort, reduce};
+use pla::{Ending, Given, Taken};
+use signature_search::{Rows, signature_places};
+use std::alloc::{AllocError, Global};
+use std::test::Fail;
+use tool::{Line, LineFault, Status};
+
+const LARGE: [Case; 6] = [
+    // Points of which each is an essential prime, and these in a table of 4,096 columns.
+    (
+        b".i 13\n.o 1\n.type f\n",
+        13,
+        1,
+        Outputs::All,
+        &[(Rule::Odd, 4096, b'1')],
+        ALL,
+        Rule::Odd,
+        4096,
+    ),
+    // The same with two outputs.
+    (
+        b".i 13\n.o 2\n.type f\n",
+        13,
+        2,
+        Outputs::All,
+        &[(Rule::Odd, 4096, b'1')],
+        ALL,
+        Rule::Odd,
+        4096,
+    ),
+    // And with the other points outside.
+    (
+        b".i 13\n.o 1\n.type fr\n",
+        13,
+        1,
+        Outputs::All,
+        &[(Rule::Odd, 4096, b'1'), (Rule::Even, 4096, b'0')],
+        OUTSIDE,
+        Rule::Odd,
+        4096,
+    ),
+    // All points of twelve inputs.
+    (
+        b".i 12\n.o 1\n.type f\n",
+        12,
+        1,
+        Outputs::All,
+        &[(Rule::Odd, 4096, b'1')],
+        ALL,
+        Rule::Universe,
+        1,
+    ),
+    // The most inputs.
+    (
+        b".i 1024\n.o 1\n.type f\n",
+        1024,
+        1,
+        Outputs::All,
+        &[(Rule::Prime, 128, b'1')],
+        ALL,
+        Rule::Prime,
+        128,
+    ),
+    // The most inputs and outputs.
+    (
+        b".i 1024\n.o 1024\n.type f\n",
+        1024,
+        1024,
+        Outputs::Own,
+        &[(Rule::Both, 128, b'1')],
+        ESSENTIAL,
+        Rule::Both,
+        128,
+    ),
+];
+
+#[test]
+fn large_descriptions_answer(rt: HostRuntime) -> Result<(), Fail> {
+    for case in &LARGE {
+        assert!(rt; answers(rt.alloc(), case)?);
+    }
+    Ok(())
+}
+
+#[test]
+fn a_table_of_many_rings_is_solved(rt: HostRuntime) -> Result<(), Fail> {
+    let made = rings(rt.alloc(), 256)?.ok_or("rows")?;
+    assert!(rt; made.columns() == 1536 && made.row_count() == 1536);
+    assert!(rt; rings_are_solved(rt.alloc(), made, 256)?);
+    Ok(())
+}
+
+/// So many columns, and 20,000 rows of which each has the first and one more.
+fn fan(alloc: Global, columns: usize) -> Result<Option<Table>, AllocError> {
+    let mut rows: Vec<Vec<usize>> = Vec::new(alloc);
+    for k in 0..20_000usize {
+        let mut row = Vec::new(alloc);
+        row.push(0)?;
+        row.push((k % 4095).wrapping_add(1))?;
+        rows.push(row)?;
+    }
+    let weights: Vec<u32> = vec![in alloc; 1; columns]?;
+    Table::new(alloc, rows, weights)
+}
+
+/// Whether each search answers the first column of the table, and a reduction takes it.
+fn is_met_by_the_first(table: Table) -> Result<bool, AllocError> {
+    let plain = least_cover_plain(&table, Choice::First)?;
+    let mut effort = Effort::none();
+    let counted = least_cover_with_effort(&table, Choice::Literals, &mut effort)?;
+    let is_least = least_is(&table, Choice::First, &[0])?;
+    let reduced = reduce(table, Choice::First)?;
+    Ok(
+        is_least
+            && plain.as_slice() == [0].as_slice()
+            && counted.as_slice() == [0].as_slice()
+            && has_taken(&reduced, &[0]),
+    )
+}
+
+#[test]
+fn a_table_of_many_rows_is_solved(rt: HostRuntime) -> Result<(), Fail> {
+    let made = fan(rt.alloc(), 4096)?.ok_or("rows")?;
+    assert!(rt; made.columns() == 4096 && made.row_count() == 20_000);
+    assert!(rt; is_met_by_the_first(made)?);
+    assert!(rt; fan(rt.alloc(), 4095)?.is_none());
+    Ok(())
+}
+
+/// Whether the list is the numbers from the first on.
+fn rises_from(list: &[usize], first: usize) -> bool {
+    for (k, number) in list.iter().enumerate() {
+        if *number != k.wrapping_add(first) {
+            return false;
+        }
+    }
+    true
+}
+
+#[test]
+fn long_lists_of_numbers_are_made(rt: HostRuntime) -> Result<(), Fail> {
+    let all = numbers(rt.alloc(), 20_000)?;
+    let copy = copy_of(rt.alloc(), &all)?;
+    assert!(rt; all.len() == 20_000 && copy.len() == 20_000);
+    assert!(rt; rises_from(&all, 0) && rises_from(&copy, 0));
+    Ok(())
+}
+
+#[test]
+fn long_lists_of_marks_are_made(rt: HostRuntime) -> Result<(), Fail> {
+    let mut marks = all_marked(rt.alloc(), 20_000)?;
+    assert!(rt; marks.len() == 20_000 && is_marked(&marks, 0) && is_marked(&marks, 19_999));
+    unmark(&mut marks, 19_999);
+    assert!(rt; is_marked(&marks, 19_998) && !is_marked(&marks, 19_999));
+    assert!(rt; !is_marked(&marks, 20_000));
+    Ok(())
+}
+
+/// A row for each number of ten bits, with the output of this number.
+fn decoder(alloc: Global) -> Result<Rows, AllocError> {
+    let mut rows = Rows::new(alloc, 10, 1024);
+    for number in 0..1024usize {
+        rows.open()?;
+        for input in 0..10usize {
+            rows.put_literal(input, number >> input & 1 == 1);
+        }
+        rows.put_output(number);
+    }
+    Ok(rows)
+}
+
+/// The rows outside: with each output those that differ from its number at an input.
+fn outside_decoder(alloc: Global) -> Result<Rows, AllocError> {
+    let mut rows = Rows::new(alloc, 10, 1024);
+    for number in 0..1024usize {
+        for input in 0..10usize {
+            rows.open()?;
+            rows.put_literal(input, number >> input & 1 == 0);
+            rows.put_output(number);
+        }
+    }
+    Ok(rows)
+}
+
+#[test]
+fn each_row_of_a_large_decoder_has_a_place(rt: HostRuntime) -> Result<(), Fail> {
+    let alloc = rt.alloc();
+    let (on, off) = (decoder(alloc)?, outside_decoder(alloc)?);
+    let none = Rows::new(alloc, 10, 1024);
+    let places = signature_places(alloc, &on, &none, &off, false, 20_000)?;
+    assert!(rt; places.len() == 1024);
+    Ok(())
+}
+
+/// A text of a beginning and 60,000 letters.
+fn letters(alloc: Global, begin: &str, end: &str) -> Result<String, Fail> {
+    let mut text = String::from_str(alloc, begin)?;
+    for _ in 0..60_000 {
+        text.push_str("n")?;
+    }
+    text.push_str(end)?;
+    Ok(text)
+}
+
+/// What a command on files with a long name leaves, where the second file has a fault.
+fn left_by(alloc: Global, name: &str) -> Result<Ran, Fail> {
+    let first = Given::new(b".i 1\n.o 1\n1 1\n".to_vec(alloc)?, 3, Ending::End);
+    let second = Given::new(b".i 1\n.o 1\nx 1\n".to_vec(alloc)?, 3, Ending::End);
+    let output = Taken::new(alloc, 100, 100, false)?;
+    run_on(alloc, &["-Dverify", "a", name], first, second, output)
+}
+
+#[test]
+fn long_names_of_files_are_told(rt: HostRuntime) -> Result<(), Fail> {
+    let alloc = rt.alloc();
+    let ran = left_by(alloc, letters(alloc, "", "")?.as_str())?;
+    let message = letters(alloc, "espresso: ", ":3: bad symbol\n")?;
+    assert!(rt; has_left(&ran, b"", message.as_bytes(), Status::Fault));
+    Ok(())
+}
+
+/// So many words.
+fn words(alloc: Global, count: usize) -> Result<Vec<String>, Fail> {
+    let mut list = Vec::new(alloc);
+    for _ in 0..count {
+        list.push(String::from_str(alloc, "-Decho")?)?;
+    }
+    Ok(list)
+}
+
+#[test]
+fn many_words_are_refused_for_what_they_are(rt: HostRuntime) -> Result<(), Fail> {
+    let words = words(rt.alloc(), 20_000)?;
+    assert!(rt; Line::read(rt.alloc(), &words).err() == Some(LineFault::Usage));
+    Ok(())
+}
