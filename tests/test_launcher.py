@@ -2,6 +2,7 @@
 import importlib.machinery
 import importlib.util
 import os
+import re
 import shutil
 import subprocess
 import unittest
@@ -80,10 +81,10 @@ class Launcher(unittest.TestCase):
     def called(self, *words, status=1, output=None, path=None):
         """The messages of a call, which gives the program's output and status, or else these."""
         process = self.started(*words, path=path)
-        found, told = process.communicate(b"input\n", timeout=support.SECONDS)
+        found, said = process.communicate(b"input\n", timeout=support.SECONDS)
         due = (" ".join(["program", *words]) + "\ninput\n").encode() if output is None else output
-        self.assertEqual((found, process.returncode), (due, status), told)
-        return told.decode()
+        self.assertEqual((found, process.returncode), (due, status), said)
+        return said.decode()
 
     def log(self):
         """What the stub wrote down since the last call of this."""
@@ -95,15 +96,15 @@ class Launcher(unittest.TestCase):
         return found
 
     def test_a_first_call_builds_and_later_ones_run(self):
-        told = self.called("-Decho", "a b")
-        self.assertRegex(told, r"4 crates are proved and built first(.|\n)*proving low \(1 of 4\)(.|\n)*built in [0-9.]+ minutes\n\Z")
+        said = self.called("-Decho", "a b")
+        self.assertRegex(said, r"4 crates are proved and built first(.|\n)*proving low \(1 of 4\)(.|\n)*built in [0-9.]+ minutes\n\Z")
         log = self.log()
-        self.assertEqual(sorted(log), sorted(f"begin {name} {'run -- -h' if name == 'espresso' else 'lib'}" for name in ORDER) +
+        self.assertEqual(sorted(re.sub(" --jobs .$", "", line) for line in log), sorted(f"begin {name} {'run -- -h' if name == 'espresso' else 'lib'}" for name in ORDER) +
                          sorted(f"end {name}" for name in ORDER))
         for name, needs in (("left", "low"), ("right", "low"), ("espresso", "left"), ("espresso", "right")):
             self.assertLess(log.index(f"end {needs}"), next(k for k, line in enumerate(log) if line.startswith(f"begin {name}")))
         if sides() > 1:
-            self.assertLess(log.index("begin right lib"), log.index("end left"), "left and right need not wait for one another")
+            self.assertLess(next(k for k, line in enumerate(log) if line.startswith("begin right lib")), log.index("end left"), "left and right need not wait for one another")
         self.assertEqual(self.called("-Decho", ""), "")
         self.assertEqual(self.log(), [])
 
@@ -133,8 +134,8 @@ class Launcher(unittest.TestCase):
                 self.log()
                 self.write(b"", "crates", name, "src", "fails")
                 for _ in range(2):
-                    told = self.called("-Decho", status=2, output=b"")
-                    self.assertIn(f"{name} is wrong\nespresso: crate {name} was not proved, and the program is not built\n", told)
+                    said = self.called("-Decho", status=2, output=b"")
+                    self.assertIn(f"{name} is wrong\nespresso: the proof of crate {name} failed, so the program is not built\n", said)
                     self.assertEqual(os.listdir(self.path("crates", "espresso", "out")), [])
                 self.assertNotIn("end espresso", self.log())
                 os.remove(self.path("crates", name, "src", "fails"))
@@ -144,8 +145,8 @@ class Launcher(unittest.TestCase):
         for _ in range(5):
             calls = [self.started(str(number)) for number in range(3)]
             for number, call in enumerate(calls):
-                found, told = call.communicate(b"", timeout=support.SECONDS)
-                self.assertEqual((found, call.returncode), (f"program {number}\n".encode(), 1), told)
+                found, said = call.communicate(b"", timeout=support.SECONDS)
+                self.assertEqual((found, call.returncode), (f"program {number}\n".encode(), 1), said)
             self.assertEqual(len(self.log()), 8)
             self.write(b"more", "crates", "low", "src", f"more{os.urandom(4).hex()}.rt")
 
