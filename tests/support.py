@@ -1,4 +1,4 @@
-"""The program under test, texts in its format, and what a run has to leave behind."""
+"""The program under test, texts in its format, and what a run has to leave."""
 import contextlib
 import os
 import subprocess
@@ -14,7 +14,7 @@ USAGE = b"usage: espresso -Dcommand [-o type] [-e eat] [file [file]]\n"
 NO_MEMORY = b"espresso: out of memory\n"
 WRITE_FAILED = b"espresso: write failed\n"
 
-# What standard input holds where no word asks for it: a run that reads it is told so.
+# What standard input holds where no word asks for it: a run that reads it is noticed by its answer.
 STRANGER = b"# standard input\n.i 1\n.o 1\n0 1\n.e\n"
 
 
@@ -88,7 +88,7 @@ def on_input(name, words, text, output=b"", message=b"", status=0):
 
 
 def refused(name, words, text, line, told, output=b""):
-    """The case that tells this fault of standard input."""
+    """The case that reports this fault of standard input."""
     return on_input(name, words, text, output, fault(line, told), 2)
 
 

@@ -1,15 +1,15 @@
 """Each read and each write failing in turn, once and for good.
 
-A read or write that failed isn't tried again, and no other follows it on that stream. Reads that fail are told
-with the line that was being read, and writes as such; what was written is a beginning of what was due. A message
+A read or write that failed isn't tried again, and no other follows it on that stream. Reads that fail are reported
+with the line that was being read, and writes as such; what was written is a prefix of what was due. A message
 that cannot be written changes nothing else."""
 import errno
 import re
+from itertools import product
 
 from faults import END, MESSAGE, READ, WRITE, Fault, alone, answer_under, for_good
 from support import Answer, Case, ProgramTest, WRITE_FAILED, fault, folder_of, printed
-from test_format import FAULTS, ORDERS, PASSED_ON, PRINTED
-from test_sets import COMPUTED, GIVEN
+from test_cases import TABLES
 from worked import ROW, WIDE_CASES, WORKED, one
 
 # A run opens and reads, then writes its output, then its message.
@@ -36,12 +36,12 @@ class FailingCalls(ProgramTest):
         found, log = answer_under(what, case, folder)
         words = [*case.word_list, f"with {what}, calls {log[:200]}:"]
         self.same(found, due, words)
-        self.assertRegex(log, IN_ORDER, "output behind a message")
-        self.assertNotRegex(log, "[RE].*[rRE]|W.*[wW]|M.*[mM]", "a call behind one that failed")
+        self.assertRegex(log, IN_ORDER, "output after a message")
+        self.assertNotRegex(log, "[RE].*[rRE]|W.*[wW]|M.*[mM]", "a call after one that failed")
         return what.call.upper() in log
 
     def test_bytes_that_come_and_go_one_by_one(self):
-        for case in WORKED + WIDE_CASES + PRINTED + PASSED_ON + FAULTS + ORDERS + GIVEN + COMPUTED:
+        for case in (case for cases in TABLES.values() for case in cases):
             for piece in (1, 3):
                 with self.subTest(case.name, piece=piece), folder_of(case.files) as folder:
                     self.due_under(Fault(piece=piece), case, folder, case.due)
@@ -60,10 +60,13 @@ class FailingCalls(ProgramTest):
     def test_all_reads_fail_from_one_on(self):
         self.fail_each_read(for_good)
 
-    def test_a_read_fails_behind_a_text(self):
-        """The text comes whole, and the read that would find its end fails; behind the line `.e` none is needed."""
+    def test_a_read_fails_after_a_text(self):
+        """The text comes whole, and the read that would find its end fails; after the line `.e` none is needed."""
         whole = b".i 1\n.o 1\n.e\n"
+        broken = [(ROW[:count], Answer(b"", fault(ROW[:count].count(b"\n") + 1, "read failed", "f"), 2)) for count in range(len(ROW))]
         for text, due in (
+                *broken,
+                (ROW, Answer(printed(2, 1, "11 1"), b"", 0)),
                 (b".i 1\n.o ", Answer(b"", fault(2, "read failed", "f"), 2)),
                 (b"# a\n", Answer(b"# a\n", fault(2, "read failed", "f"), 2)),
                 (b"# a\n.i 2000", Answer(b"# a\n", fault(2, "read failed", "f"), 2)),
@@ -74,9 +77,9 @@ class FailingCalls(ProgramTest):
                 (b"#" + b"x" * 131071, Answer(b"", fault(1, "read failed", "f"), 2)),
                 (b"#" + b"x" * 131072, Answer(b"", fault(1, "line longer than 131072 bytes", "f"), 2))):
             case = Case("", "-Decho f", {"f": text})
-            for what in (alone, for_good):
-                with self.subTest(text[:20], what=what.__name__), folder_of(case.files) as folder:
-                    self.due_under(what(END, 1), case, folder, due)
+            for what, piece in product((alone, for_good), (1, 3, 0) if len(text) < 100 else (0,)):
+                with self.subTest(text[:20], what=what.__name__, piece=piece), folder_of(case.files) as folder:
+                    self.due_under(what(END, 1, piece=piece), case, folder, due)
 
     def test_the_first_read_of_a_source_fails(self):
         for case in WORKED + WIDE_CASES:

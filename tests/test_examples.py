@@ -1,4 +1,4 @@
-"""Each example prints the answer beside it, and the script for other minimisers tells what they did."""
+"""Each example prints the answer beside it, and the script for other minimisers says what they did."""
 import os
 import shutil
 import subprocess
@@ -75,7 +75,7 @@ class OtherMinimisers(unittest.TestCase):
         self.assertEqual(self.checked("cat", "gray4.pla", limit="0"),
                          ({"gray4.pla": "same function, 15 terms; the least: not known"}, 0))
 
-    def test_a_changed_function_is_told(self):
+    def test_a_changed_function_is_reported(self):
         self.assertEqual(self.checked("sed s/0101/0111/", "add2.pla", "door.pla"),
                          ({"add2.pla": "the function was changed",
                            "door.pla": "same function, 2 terms; the least: 2"}, 1))
@@ -83,14 +83,14 @@ class OtherMinimisers(unittest.TestCase):
     def test_what_is_called_a_dont_care_may_not_replace_a_one(self):
         self.assertEqual(self.checked("sed '/^[01]/s/ 1$/ -/'", "door.pla"), ({"door.pla": "the function was changed"}, 1))
 
-    def test_what_cannot_be_compared_is_told(self):
-        for command, name, told in (
+    def test_what_cannot_be_compared_is_reported(self):
+        for command, name, said in (
                 ("echo ow >&2; false", "add2.pla", "the command failed: ow"),
                 ("echo no PLA", "add2.pla", "no PLA was written: its line 1: row before .i and .o"),
                 ("cat examples/door.pla", "add2.pla", "espresso: sizes differ"),
                 ("cat", "absent.pla", "cannot be read")):
             with self.subTest(command):
-                self.assertEqual(self.checked(command, name), ({name: told}, 2))
+                self.assertEqual(self.checked(command, name), ({name: said}, 2))
 
     @unittest.skipUnless(shutil.which("berkeley-abc"), "berkeley-abc is not installed")
     def test_berkeley_abc_keeps_the_functions(self):

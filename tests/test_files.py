@@ -1,4 +1,4 @@
-"""Files by name: which are opened, which are not, and what is told of those that cannot be opened or read."""
+"""Files by name: which are opened, which are not, and what is reported of those that cannot be opened or read."""
 import os
 import shutil
 import subprocess
@@ -17,7 +17,7 @@ NOBODY = 65534
 
 class Files(ProgramTest):
     def test_a_file_that_is_missing(self):
-        """It is told by its name, and nothing is read in its place."""
+        """It is reported by its name, and nothing is read in its place."""
         self.check(*(Case(f"missing {name}", ["-Decho", "--", name], {}, b"", closed(name), 2)
                      for name in ("none", "no/such", "a b", "-x", "--", "(stdin)", "\u00fc", "x" * 300, "two\nlines")))
 
@@ -34,13 +34,14 @@ class Files(ProgramTest):
         """It is a file without a name, which cannot be opened."""
         self.check(Case("alone", ["-Decho", ""], {}, b"", closed(""), 2),
                    Case("in front", ["", "-Decho"], {}, b"", closed(""), 2),
-                   Case("behind --", ["-Decho", "--", ""], {}, b"", closed(""), 2),
+                   Case("after --", ["-Decho", "--", ""], {}, b"", closed(""), 2),
+                   Case("after another option", ["-Decho", "-eeat", ""], {}, b"", closed(""), 2),
                    Case("the first", ["-Dverify", "", "a"], {"a": ONE}, b"", closed(""), 2),
                    Case("the second", ["-Dverify", "a", ""], {"a": b"# x\n" + ONE}, b"# x\n", closed(""), 2),
                    Case("both", ["-Dverify", "", ""], {}, b"", closed(""), 2))
 
     def test_a_dash_is_standard_input(self):
-        """Also where a file has that name, and behind `--`; by another name the file is read."""
+        """Also where a file has that name, and after `--`; by another name the file is read."""
         files = {"-": ONE, "./-": ZERO}
         for words in ("-Decho", "-Decho -", "- -Decho", "-Decho -- -"):
             self.check(Case(words, words, files, PRINTED))
@@ -48,14 +49,13 @@ class Files(ProgramTest):
                    Case("the first", "-Dsharp - ./-", files, PRINTED),
                    Case("the second", "-Dsharp ./- -", files, printed(1, 1, "0 1")),
                    Case("twice", "-Dverify - -", files, b"", USAGE, 2),
-                   Case("twice behind --", "-Dverify -- - -", files, b"", USAGE, 2))
+                   Case("twice after --", "-Dverify -- - -", files, b"", USAGE, 2))
 
-    def test_words_behind_two_dashes_are_files(self):
+    def test_words_after_two_dashes_are_files(self):
         files = {"-x": ONE, "-Dexact": ONE, "--": ZERO, "-": ZERO}
         for name in ("-x", "-Dexact", "./--"):
             self.check(Case(name, ["-Decho", "--", name], {**files, "./--": ONE}, PRINTED))
-        self.check(Case("two dashes", "-Decho -- --", {"--": ONE}, PRINTED),
-                   Case("two files", "-Dverify -- -x --", {"-x": ONE, "--": ZERO}, DIFFERENT, b"", 1))
+        self.check(Case("two files", "-Dverify -- -x --", {"-x": ONE, "--": ZERO}, DIFFERENT, b"", 1))
 
     def test_a_name_may_hold_folders(self):
         with folder_of({"d": None, "f": ZERO}) as folder:
@@ -78,7 +78,8 @@ class Files(ProgramTest):
     def test_a_folder(self):
         """It opens, and cannot be read."""
         files = {"d": None, "a": b"# x\n" + ONE}
-        self.check(Case("a folder", "-Decho d", files, b"", fault(1, "read failed", "d"), 2),
+        self.check(Case("a folder that is missing", "-Decho no/such", {}, b"", closed("no/such"), 2),
+                   Case("a folder", "-Decho d", files, b"", fault(1, "read failed", "d"), 2),
                    Case("with a slash", "-Decho d/", files, b"", fault(1, "read failed", "d/"), 2),
                    Case("this folder", "-Decho .", files, b"", fault(1, "read failed", "."), 2),
                    Case("the first", "-Dverify d a", files, b"", fault(1, "read failed", "d"), 2),
@@ -143,7 +144,7 @@ class Files(ProgramTest):
             self.assertFalse(is_opened, "the second file was opened")
             self.same(found, due)
 
-    def test_the_second_file_is_opened_behind_a_first_without_a_fault(self):
+    def test_the_second_file_is_opened_after_a_first_without_a_fault(self):
         bad = slashed("# x / .mv")
         for command in ("verify", "intersect", "sharp"):
             self.leaves(f"-D{command} a b", {"a": bad}, Answer(b"# x\n", fault(2, "keyword outside the profile", "a"), 2))
@@ -159,7 +160,7 @@ class Files(ProgramTest):
             self.same(found, Answer(b"# x\n", fault(2, "keyword outside the profile", "a"), 2))
             self.assertEqual(taken, 0)
 
-    def test_no_file_is_read_behind_a_missing_first(self):
+    def test_no_file_is_read_after_a_missing_first(self):
         with folder_of({}) as folder:
             found, taken = support.answer_in(folder, ["-Dverify", "a", "-"], ONE)
             self.same(found, Answer(b"", closed("a"), 2))

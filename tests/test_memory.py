@@ -15,7 +15,7 @@ MORE = [
 
 
 class RefusedMemory(ProgramTest):
-    """A run that is refused memory answers as ever, or ends with status 3, its one message and a beginning of what was due."""
+    """A run that is refused memory answers as ever, or ends with status 3, its one message and a prefix of what was due."""
 
     def end_of(self, fault, case, folder):
         """Whether a request was refused, once the answer is seen to be one of the two."""

@@ -32,10 +32,10 @@ def defined_on(text):
     names = set()
     for kind, code in re.findall(r"^```(rust)?\n(.*?)^```$", text, re.M | re.S):
         if kind:
-            names |= set(re.findall(r"\b(?:enum|struct|trait|const|fn) (\w+)|^    (\w+)(?:\(.*\))?(?: = .*)?,$|^    ghost (\w+)", code, re.M))
+            names |= set(re.findall(r"\b(?:enum|struct|trait|const|fn) (\w+)|^    (\w+)(?:\(.*\))?(?: = .*)?,(?:  //.*)?$|^    ghost (\w+)", code, re.M))
         else:
             names |= set(re.findall(r"^(?:abbrev |unfoldable |pub |data |record )+(\S+)|^  ((?:\S+ )+):", code, re.M))
-    names |= {a or b for a, b in re.findall(r"`(\w+)` is `\w+` of|^// (\w+) is \w+ of", text, re.M)}
+    names |= {a or b for a, b in re.findall(r"`(\w+)`\s+is\s+`\w+`\s+of|^// (\w+) is \w+ of", text, re.M)}
     words = re.findall(r"^\| (`.*`) \|", text, re.M) + re.findall(r"\b[A-Z]\b", text.partition("are any types")[0].rpartition("\n\n")[2])
     found = {word for group in names for part in ([group] if isinstance(group, str) else group) for word in part.split()} | set(re.findall(r"[^\s`,\"]+", " ".join(words)))
     return found | {part for name in found for part in definitions.parts(name)}

@@ -93,7 +93,7 @@ class Streams(ProgramTest):
             self.same(found, Answer(printed(20, 1, *rows), b"", 0))
 
     def test_a_pipe_that_stays_open(self):
-        """Nothing is waited for behind the line that ends the file, or that has a fault."""
+        """Nothing is waited for after the line that ends the file, or that has a fault."""
         for text, due in ((ONE, Answer(printed(1, 1, "1 1"), b"", 0)),
                           (lines(".i 1", ".i 1"), Answer(b"", fault(2, "keyword repeated"), 2))):
             with self.subTest(text), folder_of({}) as folder:

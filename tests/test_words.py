@@ -4,7 +4,8 @@ from worked import EQUAL, NO_TAUTOLOGY, PARTITION
 
 ONE = pla(1, 1, "1 1")
 PRINTED = printed(1, 1, "1 1")
-NOTED = b"# c\n" + ONE
+NOTED = slashed("# c / .i 1 # d / .o 1 / 1 1 / .e")
+NOTES = slashed("# c / # d")
 EMPTY = printed(1, 1)
 
 # Files of many names, so that a word taken for the wrong thing is seen.
@@ -16,23 +17,24 @@ def echoes(words, output, files=None):
 
 
 TAKEN = [
-    *(echoes(words, b"# c\n" + PRINTED) for words in (
+    *(echoes(words, NOTES + PRINTED) for words in (
         "-Decho f", "-D echo f", "-D=echo f", "f -Decho", "-o f -Decho f", "-of -Decho f", "-o=f f -Decho",
         "-Decho -o=f f", "-Decho -- f", "-o f -D echo -- f", "-D echo f -o f", "f -o=f -D=echo")),
     *(echoes(words, PRINTED) for words in (
         "-Decho -e eat f", "-eeat -Decho f", "-e=eat f -D=echo", "-D echo -eeat f", "f -e=eat -D=echo",
         "-Decho f -e eat", "-eeat -of -Decho -- f", "-eeat -D=echo -o=f f")),
     Case("no file", "-Decho", {"-": ONE}, PRINTED),
+    Case("no file and no comments", "-Decho -e eat", {"-": NOTED}, PRINTED),
     Case("a dash alone", "-Decho -", {"-": ONE}, PRINTED),
     Case("a dash alone, no rows", "-Decho -", {"-": pla(1, 1)}, EMPTY),
     Case("a dash before the command", "- -Decho", {"-": ONE}, PRINTED),
-    Case("a dash behind --", "-Decho -- -", {"-": ONE}, PRINTED),
-    Case("options and a dash behind --", "-o f -Decho -e eat -- -", {"-": NOTED}, PRINTED),
+    Case("a dash after --", "-Decho -- -", {"-": ONE}, PRINTED),
+    Case("options and a dash after --", "-o f -Decho -e eat -- -", {"-": NOTED}, PRINTED),
     Case("all options and a dash", "-eeat -of -Decho -", {"-": NOTED}, PRINTED),
     Case("a file -x, and no comments", "-Decho -eeat -- -x", {"-x": NOTED}, PRINTED),
     Case("a file --, and no comments", "-Decho -eeat -- --", {"--": NOTED}, PRINTED),
-    Case("nothing behind --", "-Decho --", {"-": ONE}, PRINTED),
-    Case("a file -x", "-Decho -- -x", {"-x": NOTED}, b"# c\n" + PRINTED),
+    Case("nothing after --", "-Decho --", {"-": ONE}, PRINTED),
+    Case("a file -x", "-Decho -- -x", {"-x": NOTED}, NOTES + PRINTED),
     Case("a file -Decho", "-Dexact -- -Decho", {"-Decho": ONE}, PRINTED),
     Case("a file --", "-Decho -- --", {"--": ONE}, PRINTED),
     Case("a file --literals", "-Dexact -- --literals", {"--literals": ONE}, PRINTED),
@@ -41,8 +43,8 @@ TAKEN = [
     Case("a file with letters that are not English", ["-Decho", "\u00fc\u2228\u2227"], {"\u00fc\u2228\u2227": ONE}, PRINTED),
     Case("two files", "-Dverify a b", {"a": ONE, "b": ONE}, EQUAL),
     Case("files around the command", "a -Dverify b", {"a": ONE, "b": ONE}, EQUAL),
-    Case("files behind --", "-Dverify -- a b", {"a": ONE, "b": ONE}, EQUAL),
-    Case("a file before and one behind --", "-Dverify a -- b", {"a": ONE, "b": ONE}, EQUAL),
+    Case("files after --", "-Dverify -- a b", {"a": ONE, "b": ONE}, EQUAL),
+    Case("a file before and one after --", "-Dverify a -- b", {"a": ONE, "b": ONE}, EQUAL),
     Case("two files -x and --", "-Dverify -- -x --", {"-x": ONE, "--": ONE}, EQUAL),
     Case("a file and a dash", "-Dverify -ofr a -", {"a": ONE, "-": ONE}, EQUAL),
     Case("a dash and a file", "-Dsharp -of - b", {"-": ONE, "b": ONE}, EMPTY),
@@ -51,9 +53,11 @@ TAKEN = [
     Case("an output type for tautology", "-Dtautology -o fr", {"-": ONE}, NO_TAUTOLOGY, b"", 1),
     Case("type f for sharp", "-Dsharp -o f a b", {"a": ONE, "b": ONE}, EMPTY),
     Case("type f for intersect", "-Dintersect -of a b", {"a": ONE, "b": ONE}, PRINTED),
-    Case("literals behind the file", "-Dexact f --literals", {"f": ONE}, PRINTED),
+    Case("literals after the file", "-Dexact f --literals", {"f": ONE}, PRINTED),
     Case("literals in front", "--literals -D exact -", {"-": ONE}, PRINTED),
 ]
+
+CASES = TAKEN
 
 REFUSED = [
     # no command, or none of the ten
@@ -101,7 +105,8 @@ class Words(ProgramTest):
         self.check(*TAKEN)
 
     def test_words_that_are_refused(self):
-        self.check(*(Case(f"refused: {words}", words, FILES, b"", USAGE, 2) for words in REFUSED))
+        """Whether or not there are files of the names that they have."""
+        self.check(*(Case(f"refused: {words}", words, files, b"", USAGE, 2) for words in REFUSED for files in (FILES, {})))
 
     def test_odd_words_that_are_refused(self):
         self.check(*ODD)
@@ -114,7 +119,7 @@ class Words(ProgramTest):
                 self.check(Case(f"no text: {words}", words, {"a": ONE, word: ONE}, b"", USAGE, 2))
 
     def test_words_are_read_before_any_file(self):
-        """Nothing is passed on, and no missing file is told, where the words are refused."""
+        """Nothing is passed on, and no missing file is reported, where the words are refused."""
         self.check(Case("a missing file", "-Decho -x nofile", {}, b"", USAGE, 2),
                    Case("comments of a file", "-Decho f -e x", {"f": slashed("# a / .mv")}, b"", USAGE, 2),
                    Case("a fault in a file", "-Dverify f", {"f": lines("?")}, b"", USAGE, 2))

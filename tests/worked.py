@@ -1,4 +1,4 @@
-"""Small worked functions with their answers: what each command prints, and what reading tells on the way.
+"""Small worked functions with their answers: what each command prints, and what reading passes on.
 
 Each answer is worked out by hand from the format's page and the commands' meaning, none by the program."""
 from dataclasses import dataclass
@@ -20,7 +20,7 @@ SIZES_DIFFER = b"espresso: sizes differ\n"
 
 class Reading(NamedTuple):
     """How a source is read: its name in messages, its text, the lines that it passes on (by their numbers), and
-    the line behind which nothing more is asked for: that of `.e`, or one with a fault. None: it is read to its end."""
+    the line after which nothing more is asked for: that of `.e`, or one with a fault. None: it is read to its end."""
     name: str
     text: bytes
     passed: dict
@@ -72,7 +72,7 @@ FEWER = pla(3, 1, "100 1", "000 -", "101 -", "11- -")
 
 WORKED = [
     one("echo of a row", "-Decho", ROW, printed(2, 1, "11 1")),
-    one("echo of a row behind a comment", "-Decho", b"# a\n" + ROW, b"# a\n" + printed(2, 1, "11 1"), passed={1: b"# a\n"}),
+    one("echo of a row after a comment", "-Decho", b"# a\n" + ROW, b"# a\n" + printed(2, 1, "11 1"), passed={1: b"# a\n"}),
     one("echo of nothing", "-Decho", b"", b"", fault(0, ".i or .o missing"), 2),
     one("echo up to a fault", "-Decho", FAULTY, slashed("# a / .foo x / # b"), fault(6, "bad symbol"), 2,
         passed={1: b"# a\n", 4: b".foo x\n", 5: b"# b\n"}, over=6),
