@@ -120,7 +120,7 @@ def answered_there(rows, tools):
     alone = [row for row in rows if time_of(row, other) is not None and time_of(row, main_tool(tools)) is None]
     if alone:
         sizes = " to ".join(dict.fromkeys((alone[0].label, alone[-1].label)))
-        yield (f"{other.label} alone answers {sizes}, {'the last ' if len(alone) > 1 else ''}"
+        yield (f"only {other.label} answers {sizes}, {'the last ' if len(alone) > 1 else ''}"
                f"in {figure(time_of(alone[-1], other))} s")
 
 
@@ -242,39 +242,38 @@ def tools_table(found):
 
 HEAD = """# Performance
 
-How long `verify`, `tautology`, `exact` and `primes` take on functions that grow, beside tools that answer the same
-questions; and on control logic, which has many outputs and too many primes to be listed. This page and its pictures are
-written by one command, and no figure stands here that it does not print:
+How long `verify`, `tautology`, `exact` and `primes` take on growing functions, beside tools that answer the same questions; and on
+control logic, which has many outputs and too many primes to list. One command writes this page, its pictures and all figures:
 
     bench/peers.py PROGRAM --write{options}
 
 It took {minutes:.0f} minutes. PROGRAM is the built program, `crates/espresso/out/espresso`; the files come from fixed
-seeds and are written to `bench/data`. `--only WORD` runs the families that have the word in their names, and `--quick`
-has a limit of two seconds. Single functions, memory, and long files are timed by `bench/bench.py PROGRAM`. With
-`--only "control logic" --write` the last section alone is measured and written anew.
+seeds and are written to `bench/data`. `--only WORD` runs the families with the word in their names, and `--quick` sets a limit of two
+seconds. `bench/bench.py PROGRAM` times single functions, memory and long files. `--only "control logic" --write` measures
+and writes the last section alone.
 """
 
 HOW = """## How it was measured
 
 On a machine of {cores} cores ({processor}{speed}) and {memory} of memory, under {system}; its load was {load} at the end.
-{running} at a time, each on one core. The time of a process is that from its start to its end, with the reading
-of the files: the least of three runs, or that of one run where it takes more than {short:g} seconds. A tool leaves a
+{running} at a time, each on one core. The time of a process is from its start to its end, including the reading
+of the files: the least of three runs, or that of one run if it takes more than {short:g} seconds. A tool is dropped from a
 family at the first size that it does not answer within {limit:g} seconds and {bytes:.0f} GiB.
 
-In the tables, times are seconds, *none* is no answer within these limits, and – a size that a tool was no longer run on. The
-ratio says how many times as long the other tool takes as this one, in bold where the other is faster. Wherever two tools
-answered, their answers were compared: {agreed}.
+In the tables, times are in seconds, *none* means no answer within these limits, and – a size on which a tool was not run. The
+ratio is the other tool's time divided by this one's, in bold where the other is faster. Wherever two tools answered, their
+answers were compared: {agreed}.
 """
 
 SHORTLY = """## In short
 
-The largest size of each family that this tool and the other answered, and how many times as long the other takes at the
-largest size that both answered. A family also ends where no larger size was tried. For one output, *here* is `exact`.
+The largest size of each family that each tool answered, and the ratio at the largest size that both answered. A family also ends
+where no larger size was tried. For one output, *here* is `exact`.
 """
 
 LOSSES = """## Where others are faster
 
-All sizes at which this tool takes {noted:g} milliseconds or more and the other less time, or the other alone answers.
+All sizes at which this tool takes {noted:g} milliseconds or more and the other is faster, or only the other answers.
 """
 
 COMPARED = """## {title}

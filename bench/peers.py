@@ -6,8 +6,8 @@ usage: bench/peers.py PROGRAM [--limit SECONDS] [--quick] [--only WORD] [--jobs 
 verify runs beside berkeley-abc's cec, tautology beside minisat, exact beside cbc (the size of a least cover alone), and
 primes and exact of single outputs beside sympy's SOPform; primes, exact, essen and verify run side by side on control
 logic, whose primes are often too many to be listed. Their answers are compared too; the status is 1 where two differ. A
-tool that is not installed is left out, and this is said. A tool leaves a family at the first size that it does not
-answer within the limit (60 seconds without --limit) or in 4 GiB of memory; --quick stands for a limit of 2 seconds.
+tool that is not installed is left out, and this is said. A tool is dropped from a family at the first size that it does
+not answer within the limit (60 seconds without --limit) or in 4 GiB of memory; --quick stands for a limit of 2 seconds.
 --only runs the comparisons and families that have the word in their names, and --jobs so many families at the same time
 (one without it; leave cores free, for the sake of the times). --write writes docs/PERFORMANCE.md and the pictures in
 docs/performance; with --only "control logic" that section and its picture alone.
@@ -333,8 +333,8 @@ def comparisons(program):
             [Tool("espresso", run("tautology", yes_or_no), told="espresso -Dtautology A"),
              Tool("minisat", minisat, "minisat", "minisat -verb=0 A.cnf", ("minisat", "--help"))],
             families.for_tautology(), equal, words_for("yes", "no"), "Answer",
-            "minisat is given the cover's negation, a clause for each cube; it has no solution where the cover is a "
-            "tautology. Making the clauses takes none of its time."),
+            "minisat is given the cover's negation, a clause for each cube; it has no solution if the cover is a "
+            "tautology. Making the clauses does not count as its time."),
         Comparison(
             "exact", "exact beside cbc",
             [Tool("espresso", run("exact", printed_rows), told="espresso -Dexact A"),
@@ -342,7 +342,7 @@ def comparisons(program):
             families.for_exact(), same_size, sizes_shown("espresso", "cbc"), "Terms",
             "cbc is given the covering table: a column for each prime, a row for each place of the ON-set outside the "
             "DC-set. It finds the size of a least cover alone; espresso finds the primes, builds the table, and answers the "
-            "first of the least covers. Finding the primes and making the table takes none of cbc's time."),
+            "first of the least covers. Finding the primes and making the table do not count as cbc's time."),
         Comparison(
             "one output", "primes and exact of one output beside sympy",
             [Tool("primes", run("primes", printed_rows), told="espresso -Dprimes A"),
@@ -366,8 +366,8 @@ def side_by_side(program):
         [tool("primes", "primes"), tool("exact", "exact"), tool("literals", "exact --literals"), tool("essen", "essen"),
          Tool("verify", functools.partial(own, program, "verify", yes_or_no), told="espresso -Dverify A B")],
         families.for_control(), functools.partial(same_logic, program), sizes_shown("exact", "essen"), "Least / essential",
-        "Functions of many outputs, as control parts have them. Where the products of several outputs meet, each way to meet "
-        "is a prime: their number grows by a factor with each output, and that of the products that a least cover can have "
+        "Functions of many outputs, like control parts. Where products of several outputs meet, each way to meet is a prime: "
+        "the number of primes grows by a factor with each output, and the number of products that a least cover can have "
         "does not. `exact` and `essen` do not list the primes; `primes` does. *literals* is `exact --literals`, and `verify` "
         "compares the file with its rows in another order.")
 
