@@ -1,4 +1,4 @@
-"""Writes docs/PERFORMANCE.md and its pictures from the results of a run of peers.py."""
+"""Writes docs/PERFORMANCE.md, its pictures and its tables from the results of a run of peers.py."""
 import math
 import os
 import platform
@@ -243,14 +243,15 @@ def tools_table(found):
 HEAD = """# Performance
 
 How long `verify`, `tautology`, `exact` and `primes` take on growing functions, beside tools that answer the same questions; and on
-control logic, which has many outputs and too many primes to list. One command writes this page, its pictures and all figures:
+control logic, which has many outputs and too many primes to list. [All sizes](performance/tables.md) stand in tables of their own.
+One command writes this page, its pictures and the tables:
 
     bench/peers.py PROGRAM --write{options}
 
 It took {minutes:.0f} minutes. PROGRAM is the built program, `crates/espresso/out/espresso`; the files come from fixed
 seeds and are written to `bench/data`. `--only WORD` runs the families with the word in their names, and `--quick` sets a limit of two
 seconds. `bench/bench.py PROGRAM` times single functions, memory and long files. `--only "control logic" --write` measures
-and writes the last section alone.
+and writes the section on control logic alone.
 """
 
 HOW = """## How it was measured
@@ -284,12 +285,15 @@ COMPARED = """## {title}
 """
 
 
-LOGIC = """
-## {title}
+LOGIC = """## {title}
 
 {told}
 
-![{title}: seconds over primes](performance/{picture})
+![{title}: seconds over primes](performance/{picture})"""
+
+TABLES = """# Times by family
+
+The tables of [PERFORMANCE.md](../PERFORMANCE.md), which says how they were measured.
 """
 
 COUNTED = ("The primes were counted with decision diagrams or by a formula, where that could be done; `primes` finds as many. "
@@ -310,12 +314,16 @@ def how(found, limit, jobs):
                       limit=limit, bytes=MEMORY / 2 ** 30, agreed=agreement(found))
 
 
-def logic_lines(logic, limit):
-    comparison, tools, results = logic
+def logic_section(logic, limit):
+    comparison, _, _ = logic
     told = f"{comparison.told} {COUNTED.format(agreed=agreement([logic]), limit=limit)}"
-    yield LOGIC.format(title=capital(comparison.title), told=textwrap.fill(told, 120), picture=picture_name(comparison))
-    for result in results:
-        yield from logic_table(comparison, tools, result)
+    return LOGIC.format(title=capital(comparison.title), told=textwrap.fill(told, 120), picture=picture_name(comparison))
+
+
+def section_of_tables(comparison, tools, results, table_of):
+    """A heading, and the table of each family."""
+    found = [line for result in results for line in table_of(comparison, tools, result)]
+    return "\n".join([f"## {capital(comparison.title)}", "", *found]).rstrip()
 
 
 def lines(found, limit, jobs, minutes):
@@ -328,11 +336,9 @@ def lines(found, limit, jobs, minutes):
     yield LOSSES.format(noted=NOTED * 1000)
     yield from list(losses(found)) or ["None in this run."]
     yield ""
-    for comparison, tools, results in found:
+    for comparison, _, _ in found:
         yield COMPARED.format(title=capital(comparison.title), told=textwrap.fill(comparison.told, 120),
                               picture=picture_name(comparison))
-        for result in results:
-            yield from family_table(comparison, tools, result)
 
 
 def put(name, text):
@@ -345,15 +351,19 @@ def read(name):
         return file.read()
 
 
+def put_last(name, section):
+    """Puts a section at the end of a page, in place of the one with its heading if there is one."""
+    before = read(name).split(section.split("\n")[0])[0]
+    put(name, f"{before.rstrip()}\n\n{section}\n")
+
+
 def write_logic(logic, limit):
-    """Puts the section of `logic`, what ran by itself, at the end of the page, in place of one that is there; and its
-    picture."""
-    comparison, _, results = logic
+    """Puts the sections of `logic`, what ran by itself, at the ends of the page and of the tables; and its picture."""
+    comparison, tools, results = logic
     os.makedirs(os.path.join(DOCS, "performance"), exist_ok=True)
     put(f"performance/{picture_name(comparison)}", logic_drawn(comparison, results, limit))
-    section = "\n".join(logic_lines(logic, limit)).rstrip()
-    before = read("PERFORMANCE.md").split(section.split("\n\n")[0])[0]
-    put("PERFORMANCE.md", f"{before.rstrip()}\n{section}\n")
+    put_last("PERFORMANCE.md", logic_section(logic, limit))
+    put_last("performance/tables.md", section_of_tables(comparison, tools, results, logic_table))
 
 
 def write(found, logic, limit, jobs, minutes):
@@ -362,4 +372,5 @@ def write(found, logic, limit, jobs, minutes):
     for comparison, tools, results in found:
         put(f"performance/{picture_name(comparison)}", drawn(comparison, tools, results, limit))
     put("PERFORMANCE.md", "\n".join(lines(found, limit, jobs, minutes)))
+    put("performance/tables.md", "\n\n".join([TABLES.rstrip(), *(section_of_tables(*compared, family_table) for compared in found)]))
     write_logic(logic, limit)

@@ -9,8 +9,8 @@ logic, whose primes are often too many to be listed. Their answers are compared 
 tool that is not installed is left out, and this is said. A tool is dropped from a family at the first size that it does
 not answer within the limit (60 seconds without --limit) or in 4 GiB of memory; --quick stands for a limit of 2 seconds.
 --only runs the comparisons and families that have the word in their names, and --jobs so many families at the same time
-(one without it; leave cores free, for the sake of the times). --write writes docs/PERFORMANCE.md and the pictures in
-docs/performance; with --only "control logic" that section and its picture alone.
+(one without it; leave cores free, for the sake of the times). --write writes docs/PERFORMANCE.md and the pictures and tables in
+docs/performance; with --only "control logic" those of that section alone.
 
 The files are written to bench/data by fixed seeds, once.
 """
