@@ -1,25 +1,27 @@
-//! Which column a search branches on, and which columns it asks for together.
+//! Which column a search branches on, which columns it asks for together, and whether a bound is
+//! worth computing again; also how many rows each column is in.
 
 use crate::numbers::{at, mark};
 use std::alloc::{AllocError, Global};
 
-/// Marks the live columns with these places among them, of so many columns in all.
+/// Marks the live columns at these indices of their list; the marks are one for each of `end`
+/// columns.
 pub fn marks_of(
     alloc: Global,
     live: &[usize],
-    places: &[usize],
+    indices: &[usize],
     end: usize,
 ) -> Result<Vec<bool>, AllocError> {
     let mut marks = vec![in alloc; false; end]?;
-    for place in places {
-        if *place < live.len() {
-            mark(&mut marks, live[*place], true);
+    for index in indices {
+        if *index < live.len() {
+            mark(&mut marks, live[*index], true);
         }
     }
     Ok(marks)
 }
 
-/// Counts the row at each of its columns.
+/// Adds one at each column of the row.
 fn count_columns(numbers: &mut Vec<i64>, row: &[usize]) {
     for column in row {
         if *column < numbers.len() {
@@ -28,8 +30,8 @@ fn count_columns(numbers: &mut Vec<i64>, row: &[usize]) {
     }
 }
 
-/// In how many rows each column stands: one pass over the rows.
-pub fn entanglement(
+/// How many rows each column is in: one pass over the rows.
+pub fn row_counts(
     alloc: Global,
     rows: &[Vec<usize>],
     columns: usize,
@@ -41,21 +43,21 @@ pub fn entanglement(
     Ok(numbers)
 }
 
-/// The sum of the numbers of the row's columns.
-fn row_entanglement(row: &[usize], numbers: &[i64]) -> i64 {
+/// The sum of the row counts of a row's columns.
+fn sum_of_counts(row: &[usize], counts: &[i64]) -> i64 {
     let mut sum: i64 = 0;
     for column in row {
-        sum = sum.wrapping_add(at(numbers, *column));
+        sum = sum.wrapping_add(at(counts, *column));
     }
     sum
 }
 
-/// The likeliest column of the row, the one of more rows among equals.
-fn likeliest_of(row: &[usize], likely: &[i64], numbers: &[i64]) -> usize {
+/// The likeliest column of the row; among equals, the one in more rows.
+fn likeliest_of(row: &[usize], likely: &[i64], counts: &[i64]) -> usize {
     let mut best = 0;
     let mut most = (i64::MIN, i64::MIN);
     for column in row {
-        let here = (at(likely, *column), at(numbers, *column));
+        let here = (at(likely, *column), at(counts, *column));
         if here > most {
             most = here;
             best = *column;
@@ -64,26 +66,28 @@ fn likeliest_of(row: &[usize], likely: &[i64], numbers: &[i64]) -> usize {
     best
 }
 
-/// The likeliest column of a shortest row, the most entangled among those: one pass over the rows.
+/// The likeliest column of a shortest row; among shortest rows, of the one whose columns are in the
+/// most rows. One pass over the rows.
 ///
-/// How likely each column is thought to be and in how many rows it stands are numbers by column.
-pub fn likeliest(rows: &[Vec<usize>], likely: &[i64], numbers: &[i64]) -> usize {
+/// `likely` and `counts` have a number for each column: how likely it is thought to be in a cover,
+/// and how many rows it is in.
+pub fn likeliest(rows: &[Vec<usize>], likely: &[i64], counts: &[i64]) -> usize {
     let mut shortest = usize::MAX;
     let mut most = i64::MIN;
     let mut best = 0;
     for row in rows {
-        let here = row_entanglement(row, numbers);
+        let here = sum_of_counts(row, counts);
         if row.len() < shortest || (row.len() == shortest && here > most) {
             shortest = row.len();
             most = here;
-            best = likeliest_of(row, likely, numbers);
+            best = likeliest_of(row, likely, counts);
         }
     }
     best
 }
 
-/// Whether a bound is worth taking again where so many columns are left of those before: an eighth
-/// of them has left.
+/// Whether to compute a bound again: whether at least an eighth of the columns was dropped since
+/// the last one.
 pub fn is_worth_a_bound(before: usize, left: usize) -> bool {
     left <= before.saturating_sub(before / 8)
 }
@@ -93,8 +97,9 @@ fn has(columns: &[usize], column: usize) -> bool {
     columns.iter().any(|other| *other == column)
 }
 
-/// Marks the first live columns from one on, at most so many and none from the first on that the
-/// witness has; the columns are below the end. It looks through the witness for each mark.
+/// Marks the next columns to ask for: the first `most` live ones from `column` on, up to the first
+/// that the witness has. The marks are one for each of `end` columns. Each mark costs a pass over
+/// the witness.
 pub fn batch(
     alloc: Global,
     live: &[usize],

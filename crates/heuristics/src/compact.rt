@@ -1,43 +1,46 @@
-//! A table in numbers of its own.
+//! A table with its live columns renumbered.
 
 use crate::lists::{Lists, small};
 use crate::numbers::at;
 use std::alloc::{AllocError, Global};
 
-/// A table in numbers of its own: its live columns are numbered in their order.
+/// A table whose live columns are renumbered from 0 on, in their order.
 #[derive(Drop)]
 pub struct Compact {
+    /// The columns of each row.
     pub(crate) rows: Lists,
+    /// The rows of each column.
     pub(crate) column_rows: Lists,
+    /// What each column costs.
     pub(crate) costs: Vec<i64>,
 }
 
-/// The place of each live column among them.
-fn places(alloc: Global, live: &[usize], columns: usize) -> Result<Vec<u32>, AllocError> {
-    let mut places: Vec<u32> = vec![in alloc; 0; columns]?;
+/// The new number of each live column.
+fn new_numbers(alloc: Global, live: &[usize], columns: usize) -> Result<Vec<u32>, AllocError> {
+    let mut numbers: Vec<u32> = vec![in alloc; 0; columns]?;
     for (i, column) in live.iter().enumerate() {
-        if *column < places.len() {
-            places[*column] = small(i);
+        if *column < numbers.len() {
+            numbers[*column] = small(i);
         }
     }
-    Ok(places)
+    Ok(numbers)
 }
 
-/// Adds the row in places of the live columns.
+/// Adds the row, renumbered.
 fn push_renumbered(
     renumbered: &mut Lists,
     row: &[usize],
-    places: &[u32],
+    numbers: &[u32],
 ) -> Result<(), AllocError> {
     for column in row {
-        if *column < places.len() {
-            renumbered.push(places[*column])?;
+        if *column < numbers.len() {
+            renumbered.push(numbers[*column])?;
         }
     }
     renumbered.end()
 }
 
-/// How many numbers the rows have.
+/// How many entries the rows have.
 fn size_of(rows: &[Vec<usize>]) -> usize {
     let mut size: usize = 0;
     for row in rows {
@@ -46,18 +49,18 @@ fn size_of(rows: &[Vec<usize>]) -> usize {
     size
 }
 
-/// The rows in places of the live columns.
-fn renumber_rows(alloc: Global, rows: &[Vec<usize>], places: &[u32]) -> Result<Lists, AllocError> {
+/// The rows, renumbered.
+fn renumber_rows(alloc: Global, rows: &[Vec<usize>], numbers: &[u32]) -> Result<Lists, AllocError> {
     let mut renumbered = Lists::with_capacity(alloc, rows.len(), size_of(rows))?;
     for row in rows {
-        push_renumbered(&mut renumbered, row, places)?;
+        push_renumbered(&mut renumbered, row, numbers)?;
     }
     Ok(renumbered)
 }
 
 impl Compact {
-    /// The table of these rows with these live columns, of so many in all, and what each of these
-    /// costs, in the same order. It takes one pass over the rows.
+    /// The table of these rows and live columns, which are below `columns`; `costs` has what each
+    /// live column costs, in the same order. One pass over the rows.
     pub fn of(
         alloc: Global,
         rows: &[Vec<usize>],
@@ -66,8 +69,8 @@ impl Compact {
         costs: Vec<i64>,
     ) -> Result<Compact, AllocError> {
         let rows = {
-            let places = places(alloc, live, columns)?;
-            renumber_rows(alloc, rows, &places)?
+            let numbers = new_numbers(alloc, live, columns)?;
+            renumber_rows(alloc, rows, &numbers)?
         };
         let column_rows = rows.transpose(alloc, live.len())?;
         Ok(Compact {
@@ -77,7 +80,7 @@ impl Compact {
         })
     }
 
-    /// Whether the columns do not all cost alike.
+    /// Whether the columns have different costs.
     pub(crate) fn is_uneven(&self) -> bool {
         let mut uneven = false;
         for cost in &self.costs {

@@ -1,14 +1,13 @@
-//! Columns on two sides, such that no row has columns on both.
+//! Two sets of columns such that no row has columns of both.
 //!
-//! Columns hang together if a row has both. They are joined row by row (Tarjan, Efficiency of a
-//! good but not linear set union algorithm, 1975), and whole groups are then put on one side until
-//! it has half of the rows.
+//! Columns are connected if a row has both. The connected components are found by a union-find
+//! structure (Tarjan, Efficiency of a good but not linear set union algorithm, 1975), and whole
+//! components are put on one side until it has half of the rows.
 
 use crate::numbers::{flag, mark, number, set};
 use std::alloc::{AllocError, Global};
 
-/// The column that stands for those that hang together with this one; the way there becomes
-/// shorter.
+/// The column that stands for the component of this one. The path to it is halved.
 fn leader(leaders: &mut Vec<usize>, column: usize) -> usize {
     let mut at = column;
     for _ in 0..leaders.len() {
@@ -23,7 +22,7 @@ fn leader(leaders: &mut Vec<usize>, column: usize) -> usize {
     at
 }
 
-/// Joins the columns of the row.
+/// Joins the components of the row's columns.
 fn join_columns(leaders: &mut Vec<usize>, row: &[usize]) {
     let Some(first) = row.first() else {
         return;
@@ -36,7 +35,7 @@ fn join_columns(leaders: &mut Vec<usize>, row: &[usize]) {
     }
 }
 
-/// How many rows each group has, at the column that stands for it.
+/// How many rows each component has, at the column that stands for it.
 fn sizes(
     alloc: Global,
     rows: &[Vec<usize>],
@@ -45,36 +44,36 @@ fn sizes(
     let mut sizes: Vec<usize> = vec![in alloc; 0; leaders.len()]?;
     for row in rows {
         if let Some(first) = row.first() {
-            let group = leader(leaders, *first);
-            let more = number(&sizes, group).saturating_add(1);
-            set(&mut sizes, group, more);
+            let component = leader(leaders, *first);
+            let more = number(&sizes, component).saturating_add(1);
+            set(&mut sizes, component, more);
         }
     }
     Ok(sizes)
 }
 
-/// Marks groups of columns, at those that stand for them, until these have half of the rows;
-/// `None` if one group has all rows.
-fn wished_groups(
+/// Marks components, at the columns that stand for them, until they have half of the rows; `None`
+/// if one component has all rows.
+fn component_hints(
     alloc: Global,
     sizes: &[usize],
     rows: usize,
 ) -> Result<Option<Vec<bool>>, AllocError> {
     let mut chosen: Vec<bool> = vec![in alloc; false; sizes.len()]?;
-    let mut taken: usize = 0;
+    let mut marked_rows: usize = 0;
     for (column, size) in sizes.iter().enumerate() {
         if *size == rows {
             return Ok(None);
         }
-        if *size > 0 && taken < rows / 2 {
-            taken = taken.saturating_add(*size);
+        if *size > 0 && marked_rows < rows / 2 {
+            marked_rows = marked_rows.saturating_add(*size);
             mark(&mut chosen, column, true);
         }
     }
     Ok(Some(chosen))
 }
 
-/// Marks the columns of the chosen groups.
+/// Marks the columns of the chosen components.
 fn columns_of(
     alloc: Global,
     leaders: &mut Vec<usize>,
@@ -82,15 +81,15 @@ fn columns_of(
 ) -> Result<Vec<bool>, AllocError> {
     let mut side: Vec<bool> = Vec::with_capacity(alloc, chosen.len())?;
     for column in 0..chosen.len() {
-        let group = leader(leaders, column);
-        side.push(flag(chosen, group))?;
+        let component = leader(leaders, column);
+        side.push(flag(chosen, component))?;
     }
     Ok(side)
 }
 
-/// Marks the columns of one side, or `None` if all rows hang together. The columns are below the
-/// number given. It takes about three passes over the rows.
-pub fn wished_side(
+/// Marks the columns of one side, or `None` if all rows are connected; columns are below `columns`.
+/// About three passes over the rows.
+pub fn side_hint(
     alloc: Global,
     rows: &[Vec<usize>],
     columns: usize,
@@ -99,11 +98,11 @@ pub fn wished_side(
     for row in rows {
         join_columns(&mut leaders, row);
     }
-    let groups = {
+    let components = {
         let sizes = sizes(alloc, rows, &mut leaders)?;
-        wished_groups(alloc, &sizes, rows.len())?
+        component_hints(alloc, &sizes, rows.len())?
     };
-    match groups {
+    match components {
         Some(chosen) => Ok(Some(columns_of(alloc, &mut leaders, &chosen)?)),
         None => Ok(None),
     }

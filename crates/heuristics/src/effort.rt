@@ -1,18 +1,18 @@
-//! What a search did.
+//! How much work a search did.
 
-/// How much was done to find a cover: figures to look at, on which no answer depends.
+/// How much work it took to find a cover. No answer depends on these figures.
 #[derive(Clone, Copy)]
 pub struct Effort {
-    /// The tables that were looked at, the nodes of the search.
+    /// The nodes of the search: tables that were looked at.
     pub tables: u64,
-    /// The questions that were asked, whether there is a cover within a budget.
+    /// How often it was asked whether there is a cover within a budget.
     pub questions: u64,
-    /// The rounds of steps towards multipliers, one for each bound.
+    /// How many bounds were computed, each by a round of subgradient steps.
     pub rounds: u64,
 }
 
 impl Effort {
-    /// Nothing was done yet.
+    /// No work yet.
     pub fn none() -> Effort {
         Effort {
             tables: 0,

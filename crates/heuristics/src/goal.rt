@@ -1,10 +1,10 @@
-//! What is wished for.
+//! What a cover is to reach.
 
-/// What a cover may have beside the columns that are taken.
+/// What a cover may have beside the chosen columns.
 #[derive(Clone, Copy)]
 pub struct Goal {
-    /// How many columns.
+    /// How many further columns, at most.
     pub columns: i64,
-    /// What they may count together.
+    /// What these may count together, at most.
     pub counts: i64,
 }

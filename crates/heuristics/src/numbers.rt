@@ -1,34 +1,34 @@
-//! Numbers at places that may not be there, their sums, and a fixed sequence.
+//! Reads and writes at indices that may be out of range, sums, and a fixed pseudo-random sequence.
 
 use std::alloc::{AllocError, Global};
 
-/// Where the sequence begins.
+/// The seed of the sequence.
 pub(crate) const SEED: u64 = 0x9E3779B97F4A7C15;
 
-/// The next number of a fixed sequence (Marsaglia, Xorshift RNGs, 2003).
+/// The next number of the sequence (Marsaglia, Xorshift RNGs, 2003).
 pub(crate) fn next_random(seed: u64) -> u64 {
     let a = seed ^ (seed << 13);
     let b = a ^ (a >> 7);
     b ^ (b << 17)
 }
 
-/// The number at a place, and 0 where there is none.
-pub(crate) fn at(numbers: &[i64], place: usize) -> i64 {
-    if place < numbers.len() {
-        numbers[place]
+/// The number at the index, or 0 past the end.
+pub(crate) fn at(numbers: &[i64], index: usize) -> i64 {
+    if index < numbers.len() {
+        numbers[index]
     } else {
         0
     }
 }
 
-/// Puts a number at a place, where there is one.
-pub(crate) fn put(numbers: &mut Vec<i64>, place: usize, number: i64) {
-    if place < numbers.len() {
-        numbers[place] = number;
+/// Sets the number at the index; does nothing past the end.
+pub(crate) fn put(numbers: &mut Vec<i64>, index: usize, number: i64) {
+    if index < numbers.len() {
+        numbers[index] = number;
     }
 }
 
-/// Adds to the numbers of a row's columns.
+/// Adds `amount` to the number of each of the row's columns.
 pub(crate) fn shift(numbers: &mut Vec<i64>, row: &[u32], amount: i64) {
     for column in row {
         let column = *column as usize;
@@ -38,7 +38,7 @@ pub(crate) fn shift(numbers: &mut Vec<i64>, row: &[u32], amount: i64) {
     }
 }
 
-/// Writes the numbers over others, where they are as many.
+/// Overwrites the numbers with the others, if there are as many.
 pub(crate) fn copy_to(numbers: &mut Vec<i64>, others: &[i64]) {
     if numbers.len() == others.len() {
         numbers.copy_from_slice(others);
@@ -54,39 +54,43 @@ pub(crate) fn total(numbers: &[i64]) -> i64 {
     sum
 }
 
-/// As `at`, of places.
-pub(crate) fn number(numbers: &[usize], place: usize) -> usize {
-    if place < numbers.len() {
-        numbers[place]
+/// The number at the index, or 0 past the end.
+pub(crate) fn number(numbers: &[usize], index: usize) -> usize {
+    if index < numbers.len() {
+        numbers[index]
     } else {
         0
     }
 }
 
-/// As `put`, of places.
-pub(crate) fn set(numbers: &mut Vec<usize>, place: usize, number: usize) {
-    if place < numbers.len() {
-        numbers[place] = number;
+/// Sets the number at the index; does nothing past the end.
+pub(crate) fn set(numbers: &mut Vec<usize>, index: usize, number: usize) {
+    if index < numbers.len() {
+        numbers[index] = number;
     }
 }
 
-/// Whether there is a mark at a place.
-pub(crate) fn flag(flags: &[bool], place: usize) -> bool {
-    place < flags.len() && flags[place]
+/// Whether the index is marked.
+pub(crate) fn flag(flags: &[bool], index: usize) -> bool {
+    index < flags.len() && flags[index]
 }
 
-/// Sets or takes the mark at a place, where there is one.
-pub(crate) fn mark(flags: &mut Vec<bool>, place: usize, to: bool) {
-    if place < flags.len() {
-        flags[place] = to;
+/// Sets or clears the mark at the index; does nothing past the end.
+pub(crate) fn mark(flags: &mut Vec<bool>, index: usize, to: bool) {
+    if index < flags.len() {
+        flags[index] = to;
     }
 }
 
-/// These of so many places, marked.
-pub(crate) fn marked(alloc: Global, places: &[usize], end: usize) -> Result<Vec<bool>, AllocError> {
+/// `end` marks, of which those at the indices are set.
+pub(crate) fn marked(
+    alloc: Global,
+    indices: &[usize],
+    end: usize,
+) -> Result<Vec<bool>, AllocError> {
     let mut marks = vec![in alloc; false; end]?;
-    for place in places {
-        mark(&mut marks, *place, true);
+    for index in indices {
+        mark(&mut marks, *index, true);
     }
     Ok(marks)
 }

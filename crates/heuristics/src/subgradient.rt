@@ -2,44 +2,46 @@
 //!
 //! Whole-number subgradient steps with momentum (Held and Karp, The traveling-salesman problem and
 //! minimum spanning trees, 1970 and 1971). A column has a scaled cost: a multiplier for itself, and
-//! one for each thing that it counts. A step lowers the rows of columns that bear more than their
-//! scaled costs and raises the others. From time to time the weights are polished: cut if more than
-//! one column bears too much, and raised by the least room of the row's columns. If the steps end
-//! just short of what is wished for, they go on from weights a quarter of the way to their mean.
-//! The cost is that of reading all rows some times a step.
+//! one for each thing that it counts. Its load is the sum of its rows' weights. A step lowers the
+//! weights of rows whose columns are overloaded, which have more load than scaled cost, and raises
+//! the others. From time to time the weights are polished: lowered where more than one column of a
+//! row is overloaded, and raised by the least slack of the row's columns. If the steps end just
+//! short of the goal, they go on from weights a quarter of the way to their mean. A step reads all
+//! rows some times.
 
 use crate::compact::Compact;
 use crate::goal::Goal;
 use crate::numbers::{at, copy_to, put, shift, total};
 use std::alloc::{AllocError, Global};
 
-/// The multiplier of a column if it is not itself asked for.
+/// The multiplier of a column where columns cost alike.
 pub(crate) const UNIT: i64 = 16777216;
 
-/// How many steps are made for a bound.
+/// The most steps for a bound.
 pub(crate) const STEPS: u32 = 600;
 
-/// How many for a bound that goes on from another and only drops columns.
+/// The most for a bound that continues from another and only drops columns.
 pub(crate) const FEW_STEPS: u32 = 30;
 
-/// The first length of a step; a step that is shorter than the last brings nothing.
+/// The first length of a step.
 pub(crate) const PACE: i64 = 4096;
 
-/// The first length where the steps go on from those of another table and columns cost alike.
+/// The first length where the steps continue from another table's and columns cost alike.
 pub(crate) const NEAR_PACE: i64 = 2048;
 
-/// After so many steps the weights are polished, and it is asked whether the goal is within reach.
+/// After so many steps the weights are polished, and it is tested whether the goal is within reach.
 const SPAN: u32 = 25;
 
-/// The steps are given up if so many times what the last of them gained would not come to the goal.
+/// The steps are given up if so many times the last gain would not reach the goal.
 pub(crate) const REACH: i64 = 20;
 
-/// The same where the steps go on from those of another table and columns cost alike.
+/// The same where the steps continue from another table's and columns cost alike.
 pub(crate) const NEAR_REACH: i64 = 4;
 
+/// The least length of a step; shorter ones gain nothing.
 const LAST_PACE: i64 = 16;
 
-/// After so many steps that bring nothing they become shorter.
+/// After so many steps without a gain they become shorter.
 const PATIENCE: u32 = 10;
 
 /// The multipliers of the relaxation: weights of rows, and the parts of a column's scaled cost, for
@@ -54,24 +56,24 @@ pub struct Multipliers {
     pub count: u32,
 }
 
-/// The ascent: where it is, where it goes, and the best it came to.
+/// The state of the steps: the present weights, their direction, and the best weights so far.
 #[derive(Drop)]
 pub(crate) struct Ascent {
     /// The weight of each row.
     weights: Vec<i64>,
     /// The multiplier of a column.
     column: i64,
-    /// How the weight of each row moves.
+    /// The direction of each weight.
     direction: Vec<i64>,
-    /// How the multiplier of a column moves.
+    /// The direction of the multiplier of a column.
     column_direction: i64,
-    /// What each column may bear.
+    /// The scaled cost of each column.
     pub(crate) scaled_costs: Vec<i64>,
-    /// What each column bears.
+    /// The load of each column.
     pub(crate) loads: Vec<i64>,
-    /// How many columns of the relaxed choice each row has.
+    /// How many overloaded columns each row has.
     held: Vec<i64>,
-    /// The multiplier of each thing that a column counts, 0 where columns cost alike.
+    /// The multiplier of each thing that a column counts; 0 where columns cost alike.
     pub(crate) count: i64,
     /// The best value of a step.
     top: i64,
@@ -87,7 +89,7 @@ pub(crate) struct Ascent {
     best_column: i64,
     /// The length of a step.
     pace: i64,
-    /// How many steps brought nothing since the best one.
+    /// How many steps there were without a gain.
     idle: u32,
 }
 
@@ -96,13 +98,13 @@ pub(crate) struct Ascent {
 pub(crate) struct Course {
     /// The last step.
     last: u32,
-    /// How many steps there are before they begin anew.
+    /// How many steps there are before a restart.
     steps: u32,
-    /// How many times what the last steps gained is still hoped for.
+    /// The steps are given up if so many times the last gain would not reach the goal.
     reach: i64,
-    /// Whether they have begun anew, or may not.
+    /// Whether they were restarted, or may not be.
     again: bool,
-    /// The best value when it was last asked whether the goal is within reach.
+    /// The best value when this was last tested.
     before: i64,
 }
 
@@ -118,14 +120,14 @@ impl Course {
         }
     }
 
-    /// Begins anew after a step.
-    fn begin_again(&mut self, step: u32) {
+    /// Restarts after a step.
+    fn restart(&mut self, step: u32) {
         self.again = true;
         self.last = step.wrapping_add(self.steps);
         self.before = i64::MIN;
     }
 
-    /// Whether the last steps gained too little to come to the goal, where that is asked.
+    /// Whether the last steps gained too little to reach the goal; tested every `SPAN` steps.
     fn gives_up(&mut self, step: u32, value: i64) -> bool {
         if step == 0 || step % SPAN != 0 {
             return false;
@@ -136,17 +138,17 @@ impl Course {
     }
 }
 
-/// What columns bear beyond their scaled costs.
-fn beyond(loads: &[i64], scaled_costs: &[i64]) -> i64 {
-    let mut beyond: i64 = 0;
+/// By how much the columns are overloaded together.
+fn overload(loads: &[i64], scaled_costs: &[i64]) -> i64 {
+    let mut overload: i64 = 0;
     for (load, scaled_cost) in loads.iter().zip(scaled_costs.iter()) {
-        beyond = beyond.wrapping_add(load.wrapping_sub(*scaled_cost).max(0));
+        overload = overload.wrapping_add(load.wrapping_sub(*scaled_cost).max(0));
     }
-    beyond
+    overload
 }
 
-/// How much a row has to leave so that one more of its columns bears no more than its scaled cost;
-/// nothing if one bears more at most.
+/// How much less the row must weigh so that one more of its columns is not overloaded; nothing if
+/// at most one is.
 fn excess(row: &[u32], weight: i64, loads: &[i64], scaled_costs: &[i64]) -> i64 {
     let mut number: u32 = 0;
     let mut least = weight;
@@ -161,8 +163,8 @@ fn excess(row: &[u32], weight: i64, loads: &[i64], scaled_costs: &[i64]) -> i64 
     if number > 1 { least } else { 0 }
 }
 
-/// How much more each column of the row can bear.
-fn room(row: &[u32], loads: &[i64], scaled_costs: &[i64]) -> i64 {
+/// The least slack of the row's columns: scaled cost less load.
+fn slack(row: &[u32], loads: &[i64], scaled_costs: &[i64]) -> i64 {
     let mut least = i64::MAX;
     for column in row {
         let column = *column as usize;
@@ -171,7 +173,7 @@ fn room(row: &[u32], loads: &[i64], scaled_costs: &[i64]) -> i64 {
     if row.is_empty() { 0 } else { least.max(0) }
 }
 
-/// The rows by rising weight.
+/// The rows by increasing weight.
 fn by_weight(alloc: Global, weights: &[i64]) -> Result<Vec<(i64, usize)>, AllocError> {
     let mut order: Vec<(i64, usize)> = Vec::with_capacity(alloc, weights.len())?;
     for (i, weight) in weights.iter().enumerate() {
@@ -181,7 +183,7 @@ fn by_weight(alloc: Global, weights: &[i64]) -> Result<Vec<(i64, usize)>, AllocE
     Ok(order)
 }
 
-/// The multiplier of each thing that a column counts: columns cost a unit on the average.
+/// The multiplier of each thing that a column counts, by which columns cost a unit on average.
 fn count_multiplier(table: &Compact) -> i64 {
     let number = i64::try_from(table.costs.len()).unwrap_or(i64::MAX);
     UNIT.wrapping_mul(number)
@@ -191,8 +193,8 @@ fn count_multiplier(table: &Compact) -> i64 {
 }
 
 impl Ascent {
-    /// The start of the steps, at these weights and at this multiplier of a column where columns
-    /// do not all cost alike, with steps of this length.
+    /// The start of the steps, from these weights, with steps of this length. `column` is the
+    /// multiplier of a column where columns have different costs.
     pub(crate) fn new(
         alloc: Global,
         table: &Compact,
@@ -224,7 +226,7 @@ impl Ascent {
         Ok(ascent)
     }
 
-    /// The scaled costs under the multiplier of a column, which stays where nothing is counted.
+    /// Sets the scaled costs, for this multiplier of a column.
     fn set_scaled_costs(&mut self, costs: &[i64], column: i64) {
         let count = self.count;
         for (i, scaled_cost) in self.scaled_costs.iter_mut().enumerate() {
@@ -232,16 +234,15 @@ impl Ascent {
         }
     }
 
-    /// What weights say of a cover, where columns bear so much beyond their scaled costs: more than
-    /// nothing if no cover reaches the goal.
-    fn value(&self, weights: &[i64], beyond: i64, column: i64, goal: Goal) -> i64 {
+    /// The Lagrangian bound less the goal: positive if no cover reaches the goal.
+    fn value(&self, weights: &[i64], overload: i64, column: i64, goal: Goal) -> i64 {
         total(weights)
-            .wrapping_sub(beyond)
+            .wrapping_sub(overload)
             .wrapping_sub(column.wrapping_mul(goal.columns))
             .wrapping_sub(self.count.wrapping_mul(goal.counts))
     }
 
-    /// Takes what overbears the columns of a row from its weight, the least weight first.
+    /// Lowers the weights of rows with several overloaded columns, the least weight first.
     fn lower(&mut self, table: &Compact, order: &[(i64, usize)], weights: &mut Vec<i64>) {
         for (_, i) in order {
             let row = table.rows.list(*i);
@@ -254,11 +255,11 @@ impl Ascent {
         }
     }
 
-    /// Adds what the columns of a row can still bear to its weight, the largest weight first.
+    /// Raises the weights of rows by the slack of their columns, the largest weight first.
     fn raise(&mut self, table: &Compact, order: &[(i64, usize)], weights: &mut Vec<i64>) {
         for (_, i) in order.iter().rev() {
             let row = table.rows.list(*i);
-            let more = room(row, &self.loads, &self.scaled_costs);
+            let more = slack(row, &self.loads, &self.scaled_costs);
             if more > 0 {
                 let weight = at(weights, *i);
                 put(weights, *i, weight.wrapping_add(more));
@@ -267,7 +268,7 @@ impl Ascent {
         }
     }
 
-    /// Polishes the weights, and keeps them if they say more than the best so far.
+    /// Polishes the weights, and keeps them if their bound is better than the best so far.
     fn polish(
         &mut self,
         alloc: Global,
@@ -286,8 +287,8 @@ impl Ascent {
             self.lower(table, &order, &mut weights);
             self.raise(table, &order, &mut weights);
         }
-        let beyond = beyond(&self.loads, &self.scaled_costs);
-        let value = self.value(&weights, beyond, column, goal);
+        let overload = overload(&self.loads, &self.scaled_costs);
+        let value = self.value(&weights, overload, column, goal);
         if value > self.best_value {
             self.best_value = value;
             self.best_weights = weights;
@@ -296,11 +297,10 @@ impl Ascent {
         Ok(())
     }
 
-    /// Notes how many columns of the relaxed choice, those that bear more than their scaled costs,
-    /// each row has, and answers how many there are.
-    fn set_relaxed_choice(&mut self, table: &Compact) -> i64 {
+    /// Counts the overloaded columns of each row; answers how many columns are overloaded.
+    fn count_overloaded(&mut self, table: &Compact) -> i64 {
         self.held.fill(0);
-        let mut chosen: i64 = 0;
+        let mut number: i64 = 0;
         for (i, (load, scaled_cost)) in self
             .loads
             .iter()
@@ -309,15 +309,15 @@ impl Ascent {
         {
             if *load > *scaled_cost {
                 shift(&mut self.held, table.column_rows.list(i), 1);
-                chosen = chosen.wrapping_add(1);
+                number = number.wrapping_add(1);
             }
         }
-        chosen
+        number
     }
 
-    /// A step in the direction, which is the violation with three quarters of the last direction.
+    /// A step in the direction of the subgradient plus three quarters of the last direction.
     fn step(&mut self, table: &Compact, goal: Goal, far: i64) {
-        let chosen = self.set_relaxed_choice(table);
+        let overloaded = self.count_overloaded(table);
         let mut square: i64 = 0;
         for ((direction, number), weight) in self
             .direction
@@ -333,7 +333,7 @@ impl Ascent {
             }
         }
         if self.count > 0 {
-            let slope = chosen.wrapping_sub(goal.columns).wrapping_mul(16);
+            let slope = overloaded.wrapping_sub(goal.columns).wrapping_mul(16);
             self.column_direction = slope.wrapping_add(self.column_direction.wrapping_mul(12) >> 4);
             square = square.wrapping_add(self.column_direction.wrapping_mul(self.column_direction));
         }
@@ -349,7 +349,7 @@ impl Ascent {
         self.column = self.column.wrapping_add(more).max(0);
     }
 
-    /// Notes what the weights say.
+    /// Notes the value of the present weights.
     pub(crate) fn note(&mut self, value: i64) {
         if value > self.top.saturating_add(UNIT / 1000) {
             self.idle = 0;
@@ -363,28 +363,28 @@ impl Ascent {
         }
     }
 
-    /// What the weights say of a cover now, with what each column bears.
+    /// Sets the loads for the present weights, and answers their value.
     pub(crate) fn weigh(&mut self, table: &Compact, goal: Goal) -> i64 {
         if self.count > 0 {
             self.set_scaled_costs(&table.costs, self.column);
         }
         table.column_rows.sums(&self.weights, &mut self.loads);
-        let beyond = beyond(&self.loads, &self.scaled_costs);
-        self.value(&self.weights, beyond, self.column, goal)
+        let overload = overload(&self.loads, &self.scaled_costs);
+        self.value(&self.weights, overload, self.column, goal)
     }
 
-    /// Whether the steps bring nothing and cannot become shorter.
+    /// Whether the steps gain nothing and cannot become shorter.
     fn is_slow(&self) -> bool {
         self.idle > PATIENCE && self.pace.wrapping_mul(3) / 5 < LAST_PACE
     }
 
-    /// Whether to end the steps: they are as many as they may be, bring nothing, or gain too little
-    /// to come to the goal.
+    /// Whether to end the steps: there were enough, or they gain nothing, or too little to reach
+    /// the goal.
     pub(crate) fn is_over(&self, step: u32, course: &mut Course) -> bool {
         step >= course.last || self.is_slow() || course.gives_up(step, self.top)
     }
 
-    /// Makes the steps shorter, from the best weights.
+    /// Returns to the best weights, with shorter steps.
     fn slow_down(&mut self) {
         self.idle = 0;
         self.pace = self.pace.wrapping_mul(3) / 5;
@@ -392,7 +392,7 @@ impl Ascent {
         copy_to(&mut self.weights, &self.top_weights);
     }
 
-    /// Polishes from time to time and makes a step, or says that the goal is reached.
+    /// Makes a step, and polishes every `SPAN` steps; answers whether the goal is reached.
     pub(crate) fn go_on(
         &mut self,
         alloc: Global,
@@ -420,8 +420,8 @@ impl Ascent {
         Ok(false)
     }
 
-    /// Polishes the best weights and, once and if they end just short of the goal, begins anew;
-    /// says whether the steps are over.
+    /// Polishes the best weights. If they end just short of the goal, the steps are restarted once.
+    /// Answers whether the steps are over.
     pub(crate) fn stop(
         &mut self,
         alloc: Global,
@@ -435,12 +435,12 @@ impl Ascent {
         if course.again || self.best_value > 0 || self.best_value <= 0 - UNIT / 8 {
             return Ok(true);
         }
-        course.begin_again(step);
+        course.restart(step);
         self.kick(alloc)?;
         Ok(false)
     }
 
-    /// Goes a quarter of the way from the best weights to their mean, to begin anew.
+    /// Moves from the best weights a quarter of the way to their mean, for a restart.
     fn kick(&mut self, alloc: Global) -> Result<(), AllocError> {
         let number = self.top_weights.len();
         let mean = match i64::try_from(number.max(1)) {
@@ -461,7 +461,7 @@ impl Ascent {
         Ok(())
     }
 
-    /// The best weights, in the form that is looked at.
+    /// The best multipliers, as the caller checks them.
     pub(crate) fn multipliers(&self, alloc: Global) -> Result<Multipliers, AllocError> {
         let mut weights = Vec::with_capacity(alloc, self.best_weights.len())?;
         for weight in &self.best_weights {

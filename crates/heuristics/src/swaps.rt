@@ -1,9 +1,9 @@
 //! A local search for a cover.
 //!
-//! It adds columns until each row is held, takes one away, and goes on by swaps: a column leaves
-//! that holds the least alone, and a column of some open row comes in. Rows that stay open weigh
-//! more and more, so that the search does not turn in circles, and a column that left comes in
-//! again only after another column of its rows did (Cai, Su, Luo and Sattar, NuMVC: an efficient
+//! It adds columns until each row is covered, drops one, and goes on by swaps: it drops the column
+//! whose loss is least, and adds a column of some uncovered row. Rows that stay uncovered get
+//! larger weights, so that the search does not cycle, and a column that was dropped is added again
+//! only after another column of its rows was added (Cai, Su, Luo and Sattar, NuMVC: an efficient
 //! local search algorithm for minimum vertex cover, 2013).
 
 use crate::compact::Compact;
@@ -11,35 +11,35 @@ use crate::goal::Goal;
 use crate::numbers::{SEED, at, flag, mark, marked, next_random, number, put, set, shift};
 use std::alloc::{AllocError, Global};
 
-/// A list of columns that changes, and the best one that was met.
+/// The present list of columns, and the best one so far.
 #[derive(Drop)]
 struct LocalSearch {
     /// The weight of each row.
     weights: Vec<i64>,
-    /// How many columns of the list each row has.
+    /// How many chosen columns each row has.
     held: Vec<usize>,
-    /// The sum of those columns: the column itself where there is one.
+    /// The sum of those columns' numbers: the column itself where there is one.
     holders: Vec<usize>,
-    /// The rows that have none.
+    /// The rows without a chosen column.
     open: Vec<usize>,
-    /// The place of each of these rows among them.
+    /// The index of each of these rows in `open`.
     places: Vec<usize>,
-    /// What a change of each column would bring.
+    /// What it would gain to add or to drop each column.
     scores: Vec<i64>,
-    /// Whether each column is in the list.
+    /// Whether each column is chosen.
     inside: Vec<bool>,
-    /// The columns of the list.
+    /// The chosen columns.
     chosen: Vec<usize>,
-    /// Whether each column may come in.
+    /// Whether each column may be added.
     fresh: Vec<bool>,
-    /// When each column last came or left.
+    /// When each column was last added or dropped.
     stamps: Vec<usize>,
-    /// The best list.
+    /// The best list so far.
     best: Vec<usize>,
 }
 
 impl LocalSearch {
-    /// A search of no table yet.
+    /// A search that has not started.
     fn new(alloc: Global) -> LocalSearch {
         LocalSearch {
             weights: Vec::new(alloc),
@@ -56,7 +56,7 @@ impl LocalSearch {
         }
     }
 
-    /// Begins with no column: each row is open, and weighs one.
+    /// Starts with no column: each row is uncovered, and weighs one.
     fn start(&mut self, alloc: Global, table: &Compact) -> Result<(), AllocError> {
         let columns = table.costs.len();
         let rows = table.rows.len();
@@ -75,8 +75,8 @@ impl LocalSearch {
         Ok(())
     }
 
-    /// The other columns of a row score so much more, and may come in.
-    fn touch(&mut self, row: &[u32], column: usize, more: i64) {
+    /// Raises the scores of the row's other columns, and lets these be added.
+    fn raise_others(&mut self, row: &[u32], column: usize, more: i64) {
         for other in row {
             let other = *other as usize;
             if other != column {
@@ -87,14 +87,14 @@ impl LocalSearch {
         }
     }
 
-    /// The only holder of the row scores so much more.
-    fn touch_holder(&mut self, row: usize, more: i64) {
+    /// Raises the score of the only chosen column of the row.
+    fn raise_holder(&mut self, row: usize, more: i64) {
         let holder = number(&self.holders, row);
         let score = at(&self.scores, holder).wrapping_add(more);
         put(&mut self.scores, holder, score);
     }
 
-    /// The row is no longer open.
+    /// Takes the row, which is covered now, from the uncovered ones.
     fn close(&mut self, row: usize) {
         let place = number(&self.places, row);
         if place < self.open.len() {
@@ -106,6 +106,7 @@ impl LocalSearch {
         }
     }
 
+    /// Adds the column to the list.
     fn add(&mut self, table: &Compact, column: usize) -> Result<(), AllocError> {
         let score = at(&self.scores, column);
         put(&mut self.scores, column, 0i64.wrapping_sub(score));
@@ -117,9 +118,9 @@ impl LocalSearch {
             let weight = at(&self.weights, row);
             if held == 1 {
                 self.close(row);
-                self.touch(table.rows.list(row), column, 0i64.wrapping_sub(weight));
+                self.raise_others(table.rows.list(row), column, 0i64.wrapping_sub(weight));
             } else if held == 2 {
-                self.touch_holder(row, weight);
+                self.raise_holder(row, weight);
             }
             set(&mut self.held, row, held);
             let holders = number(&self.holders, row).wrapping_add(column);
@@ -128,6 +129,7 @@ impl LocalSearch {
         Ok(())
     }
 
+    /// Drops the column from the list.
     fn remove(&mut self, table: &Compact, column: usize, now: usize) -> Result<(), AllocError> {
         let score = at(&self.scores, column);
         put(&mut self.scores, column, 0i64.wrapping_sub(score));
@@ -145,15 +147,16 @@ impl LocalSearch {
             if held == 0 {
                 set(&mut self.places, row, self.open.len());
                 self.open.push(row)?;
-                self.touch(table.rows.list(row), column, weight);
+                self.raise_others(table.rows.list(row), column, weight);
             } else if held == 1 {
-                self.touch_holder(row, 0i64.wrapping_sub(weight));
+                self.raise_holder(row, 0i64.wrapping_sub(weight));
             }
         }
         Ok(())
     }
 
-    /// Whether a change of the first column would bring more than one of the second.
+    /// Whether to change the first column rather than the second: it gains more; or as much, and
+    /// costs less; or as much, and was changed longer ago.
     fn is_better(&self, table: &Compact, first: usize, second: usize) -> bool {
         let a = at(&self.scores, first);
         let b = at(&self.scores, second);
@@ -168,7 +171,7 @@ impl LocalSearch {
         number(&self.stamps, first) < number(&self.stamps, second)
     }
 
-    /// The column of the list whose going brings the most, other than the last one.
+    /// The chosen column that is best to drop, other than the last one.
     fn column_to_drop(&self, table: &Compact, last: usize) -> usize {
         let mut best = usize::MAX;
         for column in &self.chosen {
@@ -179,7 +182,7 @@ impl LocalSearch {
         best
     }
 
-    /// The column of the row whose coming brings the most.
+    /// The column of the row that is best to add.
     fn column_to_add(&self, table: &Compact, row: &[u32]) -> usize {
         let mut best = usize::MAX;
         for column in row {
@@ -193,8 +196,8 @@ impl LocalSearch {
         best
     }
 
-    /// The column outside whose coming brings the most.
-    fn greediest(&self, table: &Compact) -> usize {
+    /// The column of all that is best to add.
+    fn best_to_add(&self, table: &Compact) -> usize {
         let mut best = usize::MAX;
         for column in 0..table.costs.len() {
             if !flag(&self.inside, column)
@@ -206,7 +209,7 @@ impl LocalSearch {
         best
     }
 
-    /// The rows that are open weigh more.
+    /// Raises the weights of the uncovered rows.
     fn weigh(&mut self, table: &Compact) {
         for i in 0..self.open.len() {
             let row = number(&self.open, i);
@@ -216,7 +219,7 @@ impl LocalSearch {
         }
     }
 
-    /// What the list counts.
+    /// What the chosen columns count.
     fn counts(&self, table: &Compact) -> i64 {
         let mut sum: i64 = 0;
         for column in &self.chosen {
@@ -225,6 +228,7 @@ impl LocalSearch {
         sum
     }
 
+    /// How many columns are chosen.
     fn size(&self) -> i64 {
         i64::try_from(self.chosen.len()).unwrap_or(i64::MAX)
     }
@@ -234,34 +238,34 @@ impl LocalSearch {
         self.size() <= goal.columns && self.counts(table) <= goal.counts
     }
 
-    /// Adds those of the marked columns that open rows have.
+    /// Adds those of the marked columns that uncovered rows have.
     fn begin_with(
         &mut self,
         table: &Compact,
         live: &[usize],
         hint: &[bool],
     ) -> Result<(), AllocError> {
-        for (place, column) in live.iter().enumerate() {
-            if flag(hint, *column) && at(&self.scores, place) > 0 {
-                self.add(table, place)?;
+        for (i, column) in live.iter().enumerate() {
+            if flag(hint, *column) && at(&self.scores, i) > 0 {
+                self.add(table, i)?;
             }
         }
         Ok(())
     }
 
-    /// Adds columns until no row is open.
-    fn fill(&mut self, table: &Compact) -> Result<(), AllocError> {
+    /// Adds columns until each row is covered.
+    fn cover_greedily(&mut self, table: &Compact) -> Result<(), AllocError> {
         for _ in 0..table.rows.len() {
             if self.open.is_empty() {
                 return Ok(());
             }
-            let column = self.greediest(table);
+            let column = self.best_to_add(table);
             self.add(table, column)?;
         }
         Ok(())
     }
 
-    /// A swap, or a column more.
+    /// Drops a column if the list is as long as the goal, and adds one; answers which it added.
     fn swap(
         &mut self,
         table: &Compact,
@@ -294,13 +298,13 @@ impl LocalSearch {
         Ok(column)
     }
 
-    /// The list is the best one so far.
+    /// Notes the list as the best one so far.
     fn keep(&mut self, alloc: Global) -> Result<(), AllocError> {
         self.best = self.chosen.to_vec(alloc)?;
         Ok(())
     }
 
-    /// The best list that is met, at once where it reaches the goal.
+    /// The best list of so many steps; it stops where one reaches the goal.
     fn best_list(
         &mut self,
         alloc: Global,
@@ -308,7 +312,7 @@ impl LocalSearch {
         goal: Goal,
         steps: usize,
     ) -> Result<Vec<usize>, AllocError> {
-        self.fill(table)?;
+        self.cover_greedily(table)?;
         self.keep(alloc)?;
         let mut least = (i64::MAX, i64::MAX);
         let mut last = usize::MAX;
@@ -337,9 +341,9 @@ impl LocalSearch {
     }
 }
 
-/// The best list of columns that is met in so many steps, by their places among the live ones, at
-/// once where it reaches the goal. It begins with the columns of the hint that are live, of so many
-/// columns in all. A step reads some rows of two columns.
+/// The best list of columns that a search of so many steps finds, as indices of `live`; it stops
+/// where one reaches the goal. It starts with the live columns of the hint; columns are below
+/// `columns`. A step reads some rows of two columns.
 pub fn local_search(
     alloc: Global,
     table: &Compact,

@@ -1,9 +1,9 @@
-//! What a search remembers of its bounds from table to table.
+//! The multipliers that a search carries over from table to table.
 //!
-//! The first weights are disturbed, since with even ones all columns of a symmetric table would
-//! cross their scaled costs together. A later table begins with the weights of the table that it
-//! came from, row by row. A row keeps its number from table to table, so that a branch that is over
-//! can hand back what it has learned.
+//! The first weights are perturbed at random, since with even ones all columns of a symmetric table
+//! would be overloaded together. A later table starts with the weights of the table that it came
+//! from, row by row. A row keeps its number from table to table, so that a branch hands back what
+//! it has learned.
 
 use crate::compact::Compact;
 use crate::effort::Effort;
@@ -15,10 +15,10 @@ use crate::subgradient::{
 };
 use std::alloc::{AllocError, Global};
 
-/// How likely a column is thought to be at most.
+/// The highest likelihood of a column.
 const LIKELIEST: i64 = 1048576;
 
-/// Whether the row is what is left of the other list, where the marked columns are.
+/// Whether the row is the other list without the columns that are not live.
 fn is_left_of(row: &[usize], other: &[u32], live: &[bool]) -> bool {
     let mut met = 0;
     for column in other {
@@ -32,17 +32,17 @@ fn is_left_of(row: &[usize], other: &[u32], live: &[bool]) -> bool {
     met == row.len()
 }
 
-/// The first row from a place on of which this one is what is left.
+/// The first of the rows, from an index on, that this row is what is left of.
 fn matching_row(rows: &Lists, row: &[usize], live: &[bool], from: usize) -> usize {
-    for place in from..rows.len() {
-        if row.len() <= rows.list(place).len() && is_left_of(row, rows.list(place), live) {
-            return place;
+    for index in from..rows.len() {
+        if row.len() <= rows.list(index).len() && is_left_of(row, rows.list(index), live) {
+            return index;
         }
     }
     rows.len()
 }
 
-/// In how many rows a column of the row stands at most, and at least 1.
+/// The most rows that a column of the row is in; at least 1.
 fn most_rows(table: &Compact, row: usize) -> i64 {
     let mut most: usize = 1;
     for column in table.rows.list(row) {
@@ -51,7 +51,7 @@ fn most_rows(table: &Compact, row: usize) -> i64 {
     i64::try_from(most).unwrap_or(i64::MAX)
 }
 
-/// Even weights, disturbed at random.
+/// Even weights, perturbed at random.
 fn first_weights(alloc: Global, table: &Compact) -> Result<Vec<i64>, AllocError> {
     let mut seed = SEED;
     let mut weights = Vec::with_capacity(alloc, table.rows.len())?;
@@ -64,7 +64,7 @@ fn first_weights(alloc: Global, table: &Compact) -> Result<Vec<i64>, AllocError>
     Ok(weights)
 }
 
-/// What a search remembers from table to table, and what it did.
+/// What a search remembers from table to table, and how much work it did.
 #[derive(Drop)]
 pub struct WarmStart {
     /// The rows of the last bound, if there was one.
@@ -79,22 +79,22 @@ pub struct WarmStart {
     likely: Vec<i64>,
     /// By how much the last bound fell short.
     missing: u64,
-    /// How many steps a bound has that goes on from another.
+    /// The most steps of a bound that continues from another.
     steps: u32,
-    /// A cover near which the next one is looked for.
+    /// The last cover, near which the next one is looked for.
     hint: Vec<usize>,
-    /// What was done so far.
+    /// The work so far.
     effort: Effort,
 }
 
 impl WarmStart {
-    /// Nothing is remembered yet, after so much was done.
+    /// Remembers nothing yet; `effort` is the work before.
     pub fn new(alloc: Global, effort: Effort) -> WarmStart {
         WarmStart {
             rows: None,
             numbers: Vec::new(alloc),
             weights: Vec::new(alloc),
-            column: 67108864,
+            column: 4 * UNIT,
             likely: Vec::new(alloc),
             missing: 0,
             steps: STEPS,
@@ -103,33 +103,34 @@ impl WarmStart {
         }
     }
 
-    /// From now on a bound that goes on from another has few steps; a copy has as many as ever.
+    /// From now on a bound that continues from another takes few steps; one of a copy takes as many
+    /// as ever.
     pub fn hurry(&mut self) {
         self.steps = FEW_STEPS;
     }
 
-    /// A cover near which the next one is looked for.
+    /// Sets the cover near which the next one is looked for.
     pub fn set_hint(&mut self, alloc: Global, cover: &[usize]) -> Result<(), AllocError> {
         self.hint = cover.to_vec(alloc)?;
         Ok(())
     }
 
-    /// That cover; no column if there is none yet.
+    /// That cover; empty if there is none yet.
     pub fn hint(&self) -> &[usize] {
         &self.hint
     }
 
-    /// What was done so far.
+    /// The work so far.
     pub fn effort(&self) -> Effort {
         self.effort
     }
 
-    /// A table is looked at.
+    /// Counts a table that is looked at.
     pub fn count_table(&mut self) {
         self.effort.tables = self.effort.tables.saturating_add(1);
     }
 
-    /// A question is asked.
+    /// Counts a question that is asked.
     pub fn count_question(&mut self) {
         self.effort.questions = self.effort.questions.saturating_add(1);
     }
@@ -164,8 +165,8 @@ impl WarmStart {
         })
     }
 
-    /// Takes over what a branch or a question has learned, which began with a copy: the weights of
-    /// the rows that are known here, the multiplier of a column, and what was done.
+    /// Takes over what a branch or a question has learned, which started with a copy: the weights
+    /// of the rows that are known here, the multiplier of a column, and the work.
     pub fn learn(&mut self, branch: &WarmStart) {
         for (number, weight) in self.weights.iter_mut().enumerate() {
             if number < branch.weights.len() {
@@ -176,9 +177,8 @@ impl WarmStart {
         self.effort = branch.effort;
     }
 
-    /// The numbers of the remembered rows that these rows come from, in their order, where some
-    /// left, some have lost columns and some came at the end; those that come from none have new
-    /// ones.
+    /// The number of the remembered row that each row comes from. Since then rows may have been
+    /// dropped, have lost columns, or been added at the end; an added row gets a new number.
     fn numbers_of(
         &self,
         alloc: Global,
@@ -189,13 +189,13 @@ impl WarmStart {
         let mut from: usize = 0;
         let mut next = self.weights.len();
         for row in rows {
-            let place = match &self.rows {
+            let index = match &self.rows {
                 Some(known) => matching_row(known, row, live, from),
                 None => usize::MAX,
             };
-            if place < self.numbers.len() {
-                numbers.push(self.numbers[place])?;
-                from = place.saturating_add(1);
+            if index < self.numbers.len() {
+                numbers.push(self.numbers[index])?;
+                from = index.saturating_add(1);
             } else {
                 numbers.push(next)?;
                 next = next.saturating_add(1);
@@ -217,7 +217,7 @@ impl WarmStart {
         Ok(weights)
     }
 
-    /// Where the steps begin.
+    /// The start of the steps.
     fn ascent(
         &self,
         alloc: Global,
@@ -233,7 +233,7 @@ impl WarmStart {
         Ascent::new(alloc, table, weights, self.column, pace)
     }
 
-    /// Notes which columns bear more than their scaled costs.
+    /// Raises the likelihood of overloaded columns, and lowers the others'.
     fn note_likely(&mut self, live: &[usize], ascent: &Ascent, fresh: bool) {
         for (i, column) in live.iter().enumerate() {
             let now = if at(&ascent.loads, i) > at(&ascent.scaled_costs, i) {
@@ -251,7 +251,7 @@ impl WarmStart {
         }
     }
 
-    /// Makes the steps, until they say enough or bring nothing.
+    /// Makes the steps, until they reach the goal or gain nothing.
     fn climb(
         &mut self,
         alloc: Global,
@@ -285,12 +285,12 @@ impl WarmStart {
         Ok(())
     }
 
-    /// Multipliers that are wished for, to show that no cover reaches the goal, and which columns
-    /// none has that does.
+    /// Multipliers that may show that no cover reaches the goal, or which columns are in no cover
+    /// that does.
     ///
-    /// The rows are those of the table in numbers of the columns, of which there are so many in
-    /// all; the live ones are in the order of the table. It reads all rows some times a step, in up
-    /// to some 1200 steps.
+    /// `rows` are the rows of the table before its columns, which are below `columns`, were
+    /// renumbered, and `live` its live columns in their order. Up to 1,202 steps, each of which
+    /// reads all rows some times.
     pub fn multipliers(
         &mut self,
         alloc: Global,
@@ -313,8 +313,8 @@ impl WarmStart {
         ascent.multipliers(alloc)
     }
 
-    /// Keeps the weights that the steps came to, at the numbers of their rows; new numbers follow
-    /// one another.
+    /// Keeps the best weights of the steps, by the numbers of their rows; new numbers are
+    /// consecutive.
     fn keep_weights(&mut self, numbers: &[usize], ascent: &Ascent) -> Result<(), AllocError> {
         for (i, number) in numbers.iter().enumerate() {
             let weight = at(&ascent.best_weights, i);
@@ -327,7 +327,7 @@ impl WarmStart {
         Ok(())
     }
 
-    /// Remembers the rows, their numbers, and what the steps came to.
+    /// Remembers the rows, their numbers, and the result of the steps.
     fn remember(
         &mut self,
         alloc: Global,

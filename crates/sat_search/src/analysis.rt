@@ -111,15 +111,15 @@ impl Analysis {
 impl Search {
     /// Learns from a clause that is false, goes back, and sets what follows.
     pub(crate) fn learn(&mut self, conflict: u32) -> Result<(), AllocError> {
-        self.first_point(conflict)?;
+        self.first_unique_point(conflict)?;
         self.minimise()?;
         self.link(conflict)?;
         self.analysis.unmark();
         let level = self.level_to_return_to();
         let clause = self.add_learned()?;
-        let distance = self.distance_of(clause);
+        let distance = self.literal_block_distance(clause);
         put(&mut self.clauses.distances, clause, distance);
-        self.back_to(level as usize)?;
+        self.backjump(level as usize)?;
         if self.analysis.learned.len() > 1 {
             let place = self.clauses.place_of(clause);
             self.watches.watch(place, &self.analysis.learned)?;
@@ -132,7 +132,7 @@ impl Search {
 
     // Resolves a clause that is false with reasons of its literals, the last one first, until it
     // has one literal of the last level.
-    fn first_point(&mut self, conflict: u32) -> Result<(), AllocError> {
+    fn first_unique_point(&mut self, conflict: u32) -> Result<(), AllocError> {
         self.analysis.learned.clear();
         self.analysis.learned.push(NONE)?;
         let mut open: u32 = 0;
@@ -207,13 +207,13 @@ impl Search {
         self.clauses.use_now(clause, conflicts);
         let before = at(&self.clauses.distances, clause);
         if clause >= self.clauses.given && before > 2 {
-            let distance = self.distance_of(clause);
+            let distance = self.literal_block_distance(clause);
             put(&mut self.clauses.distances, clause, distance.min(before));
         }
     }
 
     // The literal block distance of a clause: at how many levels its literals were set.
-    fn distance_of(&mut self, clause: u32) -> u32 {
+    fn literal_block_distance(&mut self, clause: u32) -> u32 {
         self.analysis.count = self.analysis.count.wrapping_add(1);
         let mut distance: u32 = 0;
         for place in self.clauses.begin(clause)..self.clauses.end(clause) {

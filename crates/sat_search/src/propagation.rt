@@ -1,4 +1,4 @@
-//! Propagation by watched literals (Moskewicz et al. 2001).
+//! Propagation by watched literals (Moskewicz et al. 2001), and going back to a level.
 //!
 //! The first two literals of a clause are watched. While neither is false, or one is true, it sets
 //! nothing; so it is looked at only when a watched literal becomes false, and then watches another
@@ -116,7 +116,7 @@ impl Search {
     }
 
     /// Goes back to a level.
-    pub(crate) fn back_to(&mut self, level: usize) -> Result<(), AllocError> {
+    pub(crate) fn backjump(&mut self, level: usize) -> Result<(), AllocError> {
         for _ in 0..=self.phases.len() {
             match self.now.take_back(level) {
                 Some(literal) => {

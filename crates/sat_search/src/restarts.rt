@@ -70,14 +70,14 @@ fn luby(place: u64) -> u64 {
 }
 
 impl Search {
-    /// Begins anew where that is due.
-    pub(crate) fn begin_anew(&mut self) -> Result<(), AllocError> {
+    /// Restarts if that is due, and drops clauses if that is; else changes nothing.
+    pub(crate) fn restart_if_due(&mut self) -> Result<(), AllocError> {
         if self.now.level() == 0 {
             self.settle()?;
         }
         if self.pace.conflicts >= self.pace.next_restart {
             self.pace.restart();
-            self.back_to(0)?;
+            self.backjump(0)?;
             if self.pace.conflicts >= self.pace.next_drop {
                 self.drop_clauses()?;
             }

@@ -1,4 +1,5 @@
-//! The search.
+//! The search: its state, its nogoods, and the loop of propagation, conflicts and decisions that
+//! answers a question.
 
 use crate::analysis::Analysis;
 use crate::assignment::{Assignment, Value};
@@ -176,7 +177,7 @@ impl Search {
         limits: Limits,
         name: u32,
     ) -> Result<Answer, AllocError> {
-        self.back_to(0)?;
+        self.backjump(0)?;
         let last = self.steps.saturating_add(limits.steps);
         for _ in 0..u64::MAX {
             if self.contradiction != NONE {
@@ -187,7 +188,7 @@ impl Search {
                 self.take_conflict(conflict)?;
                 continue;
             }
-            self.begin_anew()?;
+            self.restart_if_due()?;
             if self.steps > last || self.clauses.size() > limits.size {
                 break;
             }

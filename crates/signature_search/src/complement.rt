@@ -9,7 +9,7 @@ use crate::bits::{
     Literals, count_at, count_literals_of, free_input, has_literal, literal_at, put_literal,
     row_at, tail,
 };
-use crate::function::{absorbed, is_held};
+use crate::function::{absorb_list, is_held};
 use std::alloc::{AllocError, Global};
 
 /// How often each input has a literal, by sense.
@@ -150,7 +150,7 @@ fn join_halves(
     let one = one_literal(alloc, width, input, true)?;
     add_half(low, width, &low_marks, &zero, &mut both, &mut parted)?;
     add_half(high, width, &high_marks, &one, &mut both, &mut parted)?;
-    let mut joined = absorbed(alloc, &both, width)?;
+    let mut joined = absorb_list(alloc, &both, width)?;
     joined.extend_from_slice(&parted)?;
     Ok(joined)
 }
@@ -172,7 +172,7 @@ fn outside(
     left: &mut usize,
     depth: usize,
 ) -> Result<Option<Vec<Literals>>, AllocError> {
-    let rows = absorbed(alloc, list, width)?;
+    let rows = absorb_list(alloc, list, width)?;
     let first = row_at(&rows, 0, width);
     if first.is_empty() {
         return Ok(Some(vec![in alloc; Literals::NONE; width]?));

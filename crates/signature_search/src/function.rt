@@ -1,4 +1,4 @@
-//! A function by output, as lists of cubes over its inputs.
+//! A function by output, as lists of cubes over its inputs; and the list without absorbed cubes.
 
 use crate::bits::{Literals, contains, has_bit, literal_count, row_at};
 use crate::complement::complement;
@@ -50,7 +50,7 @@ pub(crate) fn rows_of(
 }
 
 /// The list without cubes that lie in others of it, those with fewer literals first.
-pub(crate) fn absorbed(
+pub(crate) fn absorb_list(
     alloc: Global,
     list: &[Literals],
     width: usize,
@@ -87,7 +87,7 @@ fn join_lists(
     for (wanted, free) in on.iter().zip(dc.iter()) {
         let mut list = wanted.to_vec(alloc)?;
         list.extend_from_slice(free)?;
-        lists.push(absorbed(alloc, &list, width)?)?;
+        lists.push(absorb_list(alloc, &list, width)?)?;
     }
     Ok(lists)
 }
@@ -102,7 +102,7 @@ fn outsides(
     let mut outsides: Vec<Vec<Literals>> = Vec::new(alloc);
     for list in lists {
         match complement(alloc, list, width, &mut left)? {
-            Some(outside) => outsides.push(absorbed(alloc, &outside, width)?)?,
+            Some(outside) => outsides.push(absorb_list(alloc, &outside, width)?)?,
             None => return Ok(None),
         }
     }

@@ -32,7 +32,7 @@ enum State {
     Open,
 }
 
-/// A place for questions, which keeps its memory from one to the next.
+/// The state of a question, whose memory serves the next one too.
 #[derive(Drop)]
 pub(crate) struct Question {
     width: usize,

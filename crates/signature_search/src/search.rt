@@ -1,4 +1,5 @@
-//! The passes of the search.
+//! The passes of the search: ON cubes as they stand, then what is left of them; at the end the
+//! signature cubes that lie in others are dropped (`maximal_places`).
 
 use crate::bits::{Literals, bit_count, contains, has_bit, is_within, literal_count, meets};
 use crate::function::Function;
@@ -56,7 +57,7 @@ impl<'a> Search<'a> {
     pub(crate) fn run(mut self, on: &Rows) -> Result<Vec<Place>, AllocError> {
         self.take_rows(on)?;
         self.take_rest()?;
-        self.into_places()
+        self.maximal_places()
     }
 
     // The ON cubes as they stand. This finds most signature cubes of functions that are written
@@ -132,7 +133,7 @@ impl<'a> Search<'a> {
     }
 
     // The places of the signature cubes that lie in no other one.
-    fn into_places(self) -> Result<Vec<Place>, AllocError> {
+    fn maximal_places(self) -> Result<Vec<Place>, AllocError> {
         let alloc = self.finder.alloc;
         let mut picks = self.picks;
         picks.sort_by_key(|pick| pick.size())?;
