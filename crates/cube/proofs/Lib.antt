@@ -18,3 +18,4 @@ pub mod BytesLemmas
 pub mod StackLemmas
 mod LaneLemmas
 pub mod ShiftLemmas
+pub mod LiteralMarks

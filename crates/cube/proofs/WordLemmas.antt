@@ -28,7 +28,7 @@ lower_bit_even k lt =
     eqb-true (bit_at 6148914691236517205 (2 * k)) 1
     (agree_below_at (λ k. eqb (bit_at 6148914691236517205 (2 * k)) 1) (λ _. true) 32 k refl lt)
 
-lower_bit_odd : (k : ℕ) → k < 32 → bit_at 6148914691236517205 (2 * k + 1) ≡ 0
+pub lower_bit_odd : (k : ℕ) → k < 32 → bit_at 6148914691236517205 (2 * k + 1) ≡ 0
 lower_bit_odd k lt =
     eqb-true (bit_at 6148914691236517205 (2 * k + 1)) 0
     (agree_below_at (λ k. eqb (bit_at 6148914691236517205 (2 * k + 1)) 0) (λ _. true) 32 k refl lt)

@@ -3,6 +3,7 @@ pub mod Limits
 pub mod Pattern
 pub mod Cube
 pub mod Order
+pub mod Literals
 pub mod Sum
 pub mod Packing
 pub mod Words

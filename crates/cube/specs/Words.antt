@@ -1,5 +1,5 @@
 -- What the kernels say of rows of words. No public clause cites this module.
-use Rattle.std.specs.Prelude.{◌≡◌, ◌≢◌, ℕ, ◌/◌, ◌%◌, ◌+◌, ◌-◌, ◌*◌, ◌<◌, ◌≤◌, List, length, slice_index, bit_and, min, max}
+use Rattle.std.specs.Prelude.{◌≡◌, ◌≢◌, ℕ, Bool, true, not, ◌&&◌, ◌||◌, ◌==◌, nat_lt, if◌then◌else◌, ◌/◌, ◌%◌, ◌+◌, ◌-◌, ◌*◌, ◌<◌, ◌≤◌, List, length, slice_index, bit_and, min, max}
 use Rattle.std.specs.Int.{bit_at}
 
 -- each bit of b is in a
@@ -53,3 +53,20 @@ pub record IsFirstClear (words : List ℕ) (from at : ℕ) : Type 0 where
   pub within : at < 64 * length words
   pub clear : bit_of_words words at ≡ 0
   pub set_before : (k : ℕ) → from ≤ k → k < at → bit_of_words words k ≡ 1
+
+-- each of the inputs from 32 w on that passes a test has one bit of its pair, and no other has one
+abbrev pub Marks : (ℕ → Bool) → ℕ → ℕ → Type 0
+Marks test w word = (k : ℕ) → k < 32
+    → bit_at word (2 * k) + bit_at word (2 * k + 1) ≡ (if test (32 * w + k) then 1 else 0)
+
+-- the bit that comes to k where groups of bits, which the mask has, are exchanged with those above
+abbrev pub exchanged : ℕ → ℕ → ℕ → ℕ
+exchanged width mask k = if bit_at mask k == 1 then k + width else k - width
+
+-- a bit of the mask has none of it a width below, and another bit has one
+abbrev pub is_exchange : ℕ → ℕ → ℕ → Bool
+is_exchange width mask k = if bit_at mask k == 1 then nat_lt k width || bit_at mask (k - width) == 0
+    else not (nat_lt k width) && bit_at mask (k - width) == 1
+
+abbrev pub IsExchangeMask : ℕ → ℕ → Type 0
+IsExchangeMask width mask = (k : ℕ) → k < 64 → is_exchange width mask k ≡ true

@@ -207,7 +207,7 @@ impl Cube {
         }
     }
 
-    /// How many inputs have a literal, `0` or `1`.
+    /// The number of literals: how many inputs have `0` or `1`.
     pub fn literals(&self) -> usize
         ensures value { result ≡ literals_of self.now }
         ensures at_most { result ≤ length self.now.symbols }
@@ -614,7 +614,7 @@ impl Cube {
     }
 
     // The words of the inputs.
-    fn input_part(&self) -> &[u64]
+    pub(crate) fn input_part(&self) -> &[u64]
         ensures packs { PacksInputs self.now.symbols result.now }
         ensures few { length result.now ≤ 32 }
     {

@@ -9,7 +9,10 @@
 //! a file, and read it by [`Cube::symbol`] and [`Cube::output`]. [`Cube::contains`],
 //! [`Cube::disjoint`] and [`Cube::meet`] compare sets of places, [`Cube::sharp`] takes one from
 //! another, [`Cube::cofactor`] and [`Cube::with_symbol`] serve recursions over inputs, and
-//! [`Cube::row_cmp`] is the order in which lists are kept.
+//! [`Cube::row_cmp`] is the order in which lists are kept. [`Cube::opposites`] and
+//! [`Cube::literals_beyond`] count literals of two cubes, [`Cube::next_literal`],
+//! [`Cube::next_opposite`] and [`Cube::next_beyond`] find them, and [`Cube::literal_inputs`] is a
+//! set of inputs.
 //!
 //! With two inputs and two outputs, what `1-` with both outputs has over `11` with the second
 //! output is covered by two cubes, the largest that do so:
@@ -33,6 +36,7 @@ mod groups;
 mod lanes;
 pub mod laws;
 pub mod limits;
+mod literals;
 mod pack;
 mod shape;
 mod symbol;

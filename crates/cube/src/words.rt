@@ -1,7 +1,7 @@
 //! Kernels over words, which know nothing of symbols. Each looks at each word once.
-ghost use Rattle.std.specs.Prelude.{◌≡◌, ◌==◌, ℕ, ◌↔◌, ◌≤◌, ◌<◌, ◌+◌, ◌^◌, IsTrue, IsOk, IfOk, IfSome, IfNone, length, slice_index, slice_set, ◌≢◌, if◌then◌else◌, max, ◌-◌, ◌*◌, sum_by};
+ghost use Rattle.std.specs.Prelude.{◌≡◌, ◌==◌, ℕ, ◌↔◌, ◌≤◌, ◌<◌, ◌+◌, ◌^◌, IsTrue, IsOk, IfOk, IfSome, IfNone, length, slice_index, slice_set, ◌≢◌, if◌then◌else◌, min, max, ◌-◌, ◌*◌, sum_by};
 ghost use Rattle.std.specs.Int.{bit_at, count_zeros, w64};
-ghost use Rattle.cube.specs.Words.{CoversWords, PairsMeet, ShareBit, IsBitDifference, freed_bit, HasAll, DiffersFirstAt, IsFirstClear, bit_of_words};
+ghost use Rattle.cube.specs.Words.{CoversWords, PairsMeet, ShareBit, IsBitDifference, IsExchangeMask, exchanged, freed_bit, HasAll, DiffersFirstAt, IsFirstClear, bit_of_words};
 
 use smallvec::SmallVec;
 use std::alloc::{AllocError, Global};
@@ -265,4 +265,51 @@ pub(crate) fn first_clear(words: &[u64], from: usize) -> Option<usize>
         }
     }
     None
+}
+
+/// The lower bits of all pairs.
+pub(crate) fn even_bits(word: u64) -> u64
+    ensures even { (k : ℕ) → k < 32 → bit_at result (2 * k) ≡ bit_at word (2 * k) }
+    ensures odd { (k : ℕ) → k < 32 → bit_at result (2 * k + 1) ≡ 0 }
+{
+    word & LOWER_BITS
+}
+
+/// The pairs of which no bit is set, as lower bits.
+pub(crate) fn empty_pairs(word: u64) -> u64
+    ensures even { (k : ℕ) → k < 32 → bit_at result (2 * k)
+        ≡ 1 - max (bit_at word (2 * k)) (bit_at word (2 * k + 1)) }
+    ensures odd { (k : ℕ) → k < 32 → bit_at result (2 * k + 1) ≡ 0 }
+{
+    even_bits(!(word | (word >> 1)))
+}
+
+/// The pairs from `pair` on.
+pub(crate) fn from_pair(word: u64, pair: usize) -> u64
+    requires { pair < 32 }
+    ensures from_on { (k : ℕ) → 2 * pair ≤ k → k < 64 → bit_at result k ≡ bit_at word k }
+    ensures before { (k : ℕ) → k < 2 * pair → bit_at result k ≡ 0 }
+{
+    word & (u64::MAX << (2 * pair))
+}
+
+// The word with groups of bits exchanged with those beside them, which the mask has.
+fn exchange(word: u64, width: u32, mask: u64) -> u64
+    requires width { width < 64 }
+    requires mask { IsExchangeMask width mask }
+    ensures { (k : ℕ) → k < 64 → bit_at result k ≡ bit_at word (exchanged width mask k) }
+{
+    ((word >> width) & mask) | ((word & mask) << width)
+}
+
+/// The word turned around.
+pub(crate) fn reversal(word: u64) -> u64
+    ensures { (k : ℕ) → k < 64 → bit_at result k ≡ bit_at word (63 - k) }
+{
+    let word = exchange(word, 1, 0x5555_5555_5555_5555);
+    let word = exchange(word, 2, 0x3333_3333_3333_3333);
+    let word = exchange(word, 4, 0x0F0F_0F0F_0F0F_0F0F);
+    let word = exchange(word, 8, 0x00FF_00FF_00FF_00FF);
+    let word = exchange(word, 16, 0x0000_FFFF_0000_FFFF);
+    exchange(word, 32, 0x0000_0000_FFFF_FFFF)
 }

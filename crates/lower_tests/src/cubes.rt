@@ -191,3 +191,86 @@ fn gives_bits(rt: HostRuntime) -> Result<(), Fail> {
     assert!(rt; bits_are(rt.alloc(), "01 1011", 0b01_10, 0b1101)?);
     Ok(())
 }
+
+// Two rows, the inputs at which they have opposite literals, and those at which the first has a
+// literal that the second does not have.
+const LITERALS: [(&str, &str, &[usize], &[usize]); 5] = [
+    ("01-1 1", "10-1 1", &[0, 1], &[0, 1]),
+    ("0--1 1", "-0-1 1", &[], &[0]),
+    ("---- 1", "0101 1", &[], &[]),
+    ("1-0 1", "0-0 1", &[0], &[0]),
+    // More inputs than a word has.
+    (
+        "0--------------------------------1---0 1",
+        "1--------------------------------0---- 1",
+        &[0, 33],
+        &[0, 33, 37],
+    ),
+];
+
+// Whether the inputs with opposite literals are these, one after the other.
+fn are_opposite(a: &Cube, b: &Cube, inputs: &[usize]) -> bool {
+    let mut from = 0;
+    for i in inputs {
+        if a.next_opposite(b, from) != Some(*i) {
+            return false;
+        }
+        from = i.saturating_add(1);
+    }
+    a.next_opposite(b, from).is_none()
+}
+
+// Whether the inputs with literals that the second cube does not have are these, one after the other.
+fn are_beyond(a: &Cube, b: &Cube, inputs: &[usize]) -> bool {
+    let mut from = 0;
+    for i in inputs {
+        if a.next_beyond(b, from) != Some(*i) {
+            return false;
+        }
+        from = i.saturating_add(1);
+    }
+    a.next_beyond(b, from).is_none()
+}
+
+// Whether the two rows of the case have its literals.
+fn has_literals(alloc: Global, case: &(&str, &str, &[usize], &[usize])) -> Result<bool, Fail> {
+    let (a, b, opposites, beyond) = *case;
+    let a = cube_of(alloc, a)?;
+    let b = cube_of(alloc, b)?;
+    Ok(
+        are_opposite(&a, &b, opposites)
+            && are_beyond(&a, &b, beyond)
+            && a.opposites(&b) as usize == opposites.len()
+            && a.literals_beyond(&b) as usize == beyond.len(),
+    )
+}
+
+#[test]
+fn compares_literals(rt: HostRuntime) -> Result<(), Fail> {
+    for case in &LITERALS {
+        assert!(rt; has_literals(rt.alloc(), case)?);
+    }
+    Ok(())
+}
+
+// Whether the row has literals at the inputs of the set, `1` at those of the second, and the key.
+fn sets_are(alloc: Global, row: &str, literals: u64, ones: u64, key: u64) -> Result<bool, Fail> {
+    let cube = cube_of(alloc, row)?;
+    Ok(
+        cube.literal_inputs(0) == literals
+            && cube.one_inputs(0) == ones
+            && cube.literal_inputs(1) == 0
+            && cube.has_literal(0) == (literals & 1 == 1)
+            && !cube.has_literal(32)
+            && cube.order_key() == key,
+    )
+}
+
+#[test]
+fn gives_sets_of_inputs(rt: HostRuntime) -> Result<(), Fail> {
+    let key = 0b01_10_00_10 << 56;
+    assert!(rt; sets_are(rt.alloc(), "01-1 1", 0b01_00_01_01, 0b01_00_01_00, key)?);
+    assert!(rt; sets_are(rt.alloc(), "--- 1", 0, 0, 0)?);
+    assert!(rt; sets_are(rt.alloc(), "-0 11", 0b01_00, 0, 1 << 60)?);
+    Ok(())
+}
