@@ -1,5 +1,6 @@
 pub mod Inputs
 pub mod Lists
+pub mod Found
 pub mod Meeting
 pub mod SumSplit
 pub mod SumOrder

@@ -78,21 +78,21 @@ behind-more_cases rows i row lt at d h =
     ]
 
 -- references to cubes of a size go with a cube of that size
-pub sizes_of_cubes : (size : Size) (cubes : List Cube) → AreCubes size cubes → (lent : List (Bor Cube)) → behind lent ≡ cubes
-    → (region : Cube) → HasSize region size → All (λ d. SameSize d.now region) lent
-sizes_of_cubes size cubes are lent e region h =
-    all_behind (λ d. SameSize d region) lent (λ d member.
+pub sizes_of_cubes : (size : Size) (cubes : List Cube) → AreCubes size cubes → (references_to : List (Bor Cube)) → behind references_to ≡ cubes
+    → (region : Cube) → HasSize region size → All (λ d. SameSize d.now region) references_to
+sizes_of_cubes size cubes are references_to e region h =
+    all_behind (λ d. SameSize d region) references_to (λ d member.
     let k = all_members (IsCube size) cubes are d (subst (λ l. Contains l d) e member) in
     (k.has_size.0 ∙ sym h.0, k.has_size.1 ∙ sym h.1))
 
-pub lengths_of_cubes : (size : Size) (cubes : List Cube) → AreCubes size cubes → (lent : List (Bor Cube)) → behind lent ≡ cubes
-    → (inputs : ℕ) → size.inputs ≡ inputs → All (λ d. length d.now.symbols ≡ inputs) lent
-lengths_of_cubes size cubes are lent e inputs same =
-    all_behind (λ d. length d.symbols ≡ inputs) lent (λ d member.
+pub lengths_of_cubes : (size : Size) (cubes : List Cube) → AreCubes size cubes → (references_to : List (Bor Cube)) → behind references_to ≡ cubes
+    → (inputs : ℕ) → size.inputs ≡ inputs → All (λ d. length d.now.symbols ≡ inputs) references_to
+lengths_of_cubes size cubes are references_to e inputs same =
+    all_behind (λ d. length d.symbols ≡ inputs) references_to (λ d member.
     (all_members (IsCube size) cubes are d (subst (λ l. Contains l d) e member)).has_size.0 ∙ same)
 
 -- references to cubes of a size have it
-pub HasSize-lent : (size : Size) (cubes : List Cube) → AreCubes size cubes → (lent : List (Bor Cube)) → behind lent ≡ cubes
-    → All (λ d. HasSize d.now size) lent
-HasSize-lent size cubes are lent e =
-    all_behind (λ d. HasSize d size) lent (λ d member. (all_members (IsCube size) cubes are d (subst (λ l. Contains l d) e member)).has_size)
+pub HasSize-references_to : (size : Size) (cubes : List Cube) → AreCubes size cubes → (references_to : List (Bor Cube)) → behind references_to ≡ cubes
+    → All (λ d. HasSize d.now size) references_to
+HasSize-references_to size cubes are references_to e =
+    all_behind (λ d. HasSize d size) references_to (λ d member. (all_members (IsCube size) cubes are d (subst (λ l. Contains l d) e member)).has_size)

@@ -20,7 +20,7 @@ use Rattle.cube.proofs.Members.{Contains-here, Contains-nil, Contains-cases, Con
 use Rattle.cover.specs.Places.{places, is_disjoint, meeting, behind}
 use Rattle.cover.specs.Splits.{dashes}
 use Rattle.cover.specs.Reason.{IsReason, Explains, Joins, IsClosed, Leads, Share, AreAmong, set_bits, extent}
-use Rattle.cover.specs.declared.cube_in_cover.Step.TheVariants.{Row}
+use Rattle.cover.specs.declared.region.Step.TheVariants.{Row}
 use Rattle.cover.proofs.Inputs.{matches-set_bit, matches-own}
 use Rattle.cover.proofs.Lists.{list_any_from, list_any_witness, length-behind, behind_at, behind_member, behind_all, all_behind}
 use Rattle.cover.proofs.Regions.{zero_literal, one_literal, place_at, held_by_none, narrowed, narrowed_at, bit_for, inputs_hold, held_lent, fewer_dashes, lent_meets}
@@ -359,15 +359,15 @@ sizes_among some rows region sizes h =
     all_behind (λ d. SameSize d region) some (λ d k. behind_all (λ e. SameSize e region) rows sizes d (h d k))
 
 -- the rows that are among those that meet the region meet it
-pub meets_among : (some rows lent : List (Bor Cube)) (region : Cube) → All (λ d. SameSize d.now region) rows
-    → behind lent ≡ meeting (size_of region) region (behind rows) → AreAmong some lent
+pub meets_among : (some rows references_to : List (Bor Cube)) (region : Cube) → All (λ d. SameSize d.now region) rows
+    → behind references_to ≡ meeting (size_of region) region (behind rows) → AreAmong some references_to
     → All (λ d. IsDisjoint (holds d.now) (holds region) → ⊥) some
-meets_among some rows lent region sizes inside h =
-    all_behind (λ d. IsDisjoint (holds d) (holds region) → ⊥) some (λ d k. lent_meets rows lent region sizes inside d (h d k))
+meets_among some rows references_to region sizes inside h =
+    all_behind (λ d. IsDisjoint (holds d) (holds region) → ⊥) some (λ d k. lent_meets rows references_to region sizes inside d (h d k))
 
 -- the rows that meet the region are among all
-pub among_lent : (rows lent : List (Bor Cube)) (region : Cube) → behind lent ≡ meeting (size_of region) region (behind rows) → AreAmong lent rows
-among_lent rows lent region inside d k =
+pub among_lent : (rows references_to : List (Bor Cube)) (region : Cube) → behind references_to ≡ meeting (size_of region) region (behind rows) → AreAmong references_to rows
+among_lent rows references_to region inside d k =
     (Contains-filter_cases (λ e. not (is_disjoint (size_of region) (holds e) (holds region))) (behind rows) d (subst (λ l. Contains l d) inside k)).0
 
 -- ---- whether there are rows
@@ -383,25 +383,25 @@ some_left (x ∷ xs) n b len e off = omega arith
 -- ---- the rows that meet the region
 
 -- an answer for them is one for all rows
-pub explains_lent : (rows lent : List (Bor Cube)) (region : Cube) → All (λ d. SameSize d.now region) rows
-    → behind lent ≡ meeting (size_of region) region (behind rows) → (found : Option Cube) → Explains region (behind lent) found → Explains region (behind rows) found
-explains_lent rows lent region sizes inside None h = λ all. h ((held_lent rows lent region sizes inside).0 all)
-explains_lent rows lent region sizes inside (Some c) h = record {
+pub explains_lent : (rows references_to : List (Bor Cube)) (region : Cube) → All (λ d. SameSize d.now region) rows
+    → behind references_to ≡ meeting (size_of region) region (behind rows) → (found : Option Cube) → Explains region (behind references_to) found → Explains region (behind rows) found
+explains_lent rows references_to region sizes inside None h = λ all. h ((held_lent rows references_to region sizes inside).0 all)
+explains_lent rows references_to region sizes inside (Some c) h = record {
   size = h.size;
   above = h.above;
   within = λ p in_c.
-      let w = list_any_witness (λ d. holds d p) (behind lent) (h.within p in_c) in
+      let w = list_any_witness (λ d. holds d p) (behind references_to) (h.within p in_c) in
       list_any_from (λ d. holds d p) (behind rows) w.0
       (Contains-filter_cases (λ d. not (is_disjoint (size_of region) (holds d) (holds region))) (behind rows) w.0 (subst (λ l. Contains l w.0) inside w.1)).0 w.2;
 }
 
 -- without such rows nothing is held
-pub unexplained_none : (rows lent : List (Bor Cube)) (region : Cube) → All (λ d. SameSize d.now region) rows
-    → behind lent ≡ meeting (size_of region) region (behind rows) → IsTrue (list_any (λ b. b) region.outputs) → behind lent ≡ []
+pub unexplained_none : (rows references_to : List (Bor Cube)) (region : Cube) → All (λ d. SameSize d.now region) rows
+    → behind references_to ≡ meeting (size_of region) region (behind rows) → IsTrue (list_any (λ b. b) region.outputs) → behind references_to ≡ []
     → IsSubset (holds region) (places (behind rows)) → ⊥
-unexplained_none rows lent region sizes inside some none' all =
+unexplained_none rows references_to region sizes inside some none' all =
     let on = some_true region.outputs some in
-    held_by_none region on.0 on.1 (subst (λ l. IsSubset (holds region) (places l)) none' ((held_lent rows lent region sizes inside).0 all))
+    held_by_none region on.0 on.1 (subst (λ l. IsSubset (holds region) (places l)) none' ((held_lent rows references_to region sizes inside).0 all))
 
 -- what is known of a near row without an open literal
 pub row_leads : (rows near : List (Bor Cube)) (region : Cube) → All (λ d. SameSize d.now region) rows → AreAmong near rows

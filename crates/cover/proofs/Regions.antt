@@ -126,19 +126,19 @@ inputs_hold region d size meets free point h =
 
 -- ---- the steps of the recursion, over references
 
-module _ (rows lent : List (Bor Cube)) (region : Cube) (sizes : All (λ d. SameSize d.now region) rows)
-    (inside : behind lent ≡ meeting (size_of region) region (behind rows)) where
+module _ (rows references_to : List (Bor Cube)) (region : Cube) (sizes : All (λ d. SameSize d.now region) rows)
+    (inside : behind references_to ≡ meeting (size_of region) region (behind rows)) where
   sizes_behind : (d : Cube) → Contains (behind rows) d → SameSize d region
   sizes_behind = behind_all (λ d. SameSize d region) rows sizes
 
-  pub lent_meets : (d : Cube) → Contains (behind lent) d → IsDisjoint (holds d) (holds region) → ⊥
+  pub lent_meets : (d : Cube) → Contains (behind references_to) d → IsDisjoint (holds d) (holds region) → ⊥
   lent_meets d h apart =
       false≢true (sym (not-true (is_disjoint (size_of region) (holds d) (holds region))
       (Contains-filter_cases (λ d. not (is_disjoint (size_of region) (holds d) (holds region))) (behind rows) d
       (subst (λ l. Contains l d) inside h)).1)
       ∙ is_disjoint-from_fact (size_of region) (holds d) (holds region) apart)
 
-  pub held_lent : IsSubset (holds region) (places (behind rows)) ↔ IsSubset (holds region) (places (behind lent))
+  pub held_lent : IsSubset (holds region) (places (behind rows)) ↔ IsSubset (holds region) (places (behind references_to))
   held_lent =
       subst (λ l. IsSubset (holds region) (places (behind rows)) ↔ IsSubset (holds region) (places l)) (sym inside)
       (held_inside (behind rows) region sizes_behind)

@@ -13,7 +13,7 @@ use Rattle.cube.proofs.Members.{Contains-filter, Contains-filter_cases}
 use Rattle.cover.specs.Places.{places, behind}
 use Rattle.cover.specs.Marks.{is_symbol, is_compatible}
 use Rattle.cover.specs.Relation.{Relates, AreRelated}
-use Rattle.cover.specs.declared.pairwise.Relation.{Relation}
+use Rattle.cover.specs.declared.compare.pairwise.Relation.{Relation}
 use Rattle.cover.proofs.Lists.{list_any_from, list_any_witness, behind_all}
 use Rattle.cover.proofs.ContainmentLemmas.{is_symbol-same}
 

@@ -13,7 +13,7 @@ use Rattle.cube.specs.Size.{Size}
 use Rattle.cube.specs.Order.{row_cmp}
 use Rattle.cube.specs.Pattern.{agrees, matches}
 use Rattle.cube.specs.Sharp.{minus, rest_row}
-use Rattle.cube.specs.Cube.{Cube, Place, holds, IsCube, IsSubset}
+use Rattle.cube.specs.Cube.{Cube, Place, holds, IsCube, IsSubset, SameSize}
 use Rattle.cube.specs.Sum.{complete_sum, IsMaximal}
 use Rattle.cube.proofs.HoldsLemmas.{length-matches, matches-from_agrees, pick, matches-map_pick, Covers-from_IsSubset}
 use Rattle.cube.proofs.Members.{Contains-here, Contains-nil, Contains-cases}
@@ -26,6 +26,7 @@ use Rattle.cover.specs.Parts.{has_literal, live}
 use Rattle.cover.specs.Reduced.{HasSameCubes}
 use Rattle.cover.specs.Apart.{IsFree}
 use Rattle.cover.specs.Free.{IsFreePart, IsRest, IsWider, AreWider}
+use Rattle.cover.proofs.Found.{output_of_place}
 use Rattle.cover.proofs.Lists.{all_members, members_all, list_any_from}
 use Rattle.cover.proofs.SumApart.{dash_above}
 use Rattle.cover.proofs.SumMeets.{places-append}
@@ -80,6 +81,24 @@ IsFreePart-joined size cubes old row both h cube member no_literal cube_both is 
         | inr theirs ↦ list_any_from (λ (c : Cube). holds c p) cubes row member (and_from (matches row.symbols p.point) (get_or row.outputs p.output false) points.1 theirs)
       ];
 }
+
+-- a cube stacked with one without a literal is a cube
+pub stack_IsCube : (size : Size) (row free both : Cube) → IsCube size row → IsCube size free → IsFree free → SameSize both row
+    → ((p : Place) → holds both p ≡ ((matches row.symbols p.point && matches free.symbols p.point) && (get_or row.outputs p.output false || get_or free.outputs p.output false)))
+    → IsCube size both
+stack_IsCube size row free both cube cube_free no_literal same is =
+    let on = some_true row.outputs cube.some_output in
+    let point = map pick row.symbols in
+    let mine = matches-map_pick row.symbols in
+    let other = free_matches size free cube_free no_literal point (long size row point cube mine) in
+    let place : Place = record { point = point; output = on.0 } in
+    record {
+      has_size = (same.0 ∙ cube.has_size.0, same.1 ∙ cube.has_size.1);
+      some_output = output_of_place both place
+          (is place ∙ and_from (matches row.symbols point && matches free.symbols point) (get_or row.outputs on.0 false || get_or free.outputs on.0 false)
+          (and_from (matches row.symbols point) (matches free.symbols point) mine other)
+          (or_left (get_or row.outputs on.0 false) (get_or free.outputs on.0 false) on.1));
+    }
 
 -- ---- the rows at other outputs, row by row
 

@@ -1,99 +1,67 @@
--- Rows met by their numbers.
+-- Rows met by their keys.
 use Rattle.std.proofs.Common.{◌≡◌, ℕ, ◌+◌, ◌*◌, ◌/◌, ◌%◌, ◌<◌, ◌≤◌, Bool, true, false, not, if◌then◌else◌, max, ◌&&◌, ◌||◌, List, [], ◌∷◌, ◌++◌, length, take, drop, get_or, refl, ap, sym, subst, ◌∙◌, arith, bit_and, bit_or, inl, inr}
 use Rattle.std.specs.Int.{bit_at}
 use Rattle.std.specs.List.{Contains}
 use Rattle.std.proofs.lemmas.Bool.{cases_lt, cases_eq, cases_Bool, false≢true, and_parts}
-use Rattle.std.proofs.lemmas.Nat.Bits.{bit_at_and, bit_at-lt, same_from_bits_below}
 use Rattle.std.proofs.lemmas.List.{append-nil, take-append-drop, take_more, get_or_past, get_or_append_left, get_or-take, get_or-drop, length-append, length-take, length-drop}
 use Rattle.std.proofs.Math.Seq.{get_or-append_seam}
 use Rattle.std.proofs.lemmas.List.Elements.{All-nil}
 use Rattle.cube.specs.declared.symbol.Symbol.{Symbol}
 use Rattle.cube.specs.declared.symbol.Symbol.TheVariants.{Dash, Zero, One}
 use Rattle.cube.specs.Size.{Size}
-use Rattle.cube.specs.Pattern.{agrees, matches}
+use Rattle.cube.specs.Pattern.{agrees, matches, is_literal}
+use Rattle.cube.specs.Literals.{has_literal}
 use Rattle.cube.specs.Cube.{Cube, Place, holds, IsCube}
 use Rattle.cube.proofs.HoldsLemmas.{agrees_at-matches}
-use Rattle.cube.proofs.WordLemmas.{folded_bit, lower_bit_even}
+use Rattle.cube.proofs.LiteralMarks.{order_key-same}
 use Rattle.cover.specs.Cubes.{AreCubes}
 use Rattle.cover.specs.Places.{places}
-use Rattle.cover.specs.Keys.{IsKey, HasKeys, reversal}
+use Rattle.cover.specs.Keys.{IsKey, HasKeys}
 use Rattle.cover.specs.Reduced.{IsMeets}
 use Rattle.cover.proofs.Lists.{list_any_witness}
 use Rattle.cover.proofs.SumMeets.{IsMeets-others}
 
--- the two bits of a symbol
-lit : Symbol → Bool → ℕ
-lit s b = if not (agrees s b) then 1 else 0
-
 -- two symbols, both literals or both none, that agree with one bit are equal
-one_symbol : (s t : Symbol) (b : Bool) → max (lit s false) (lit s true) ≡ max (lit t false) (lit t true)
-    → agrees s b ≡ true → agrees t b ≡ true → s ≡ t
-unfolding lit
+one_symbol : (s t : Symbol) (b : Bool) → is_literal s ≡ is_literal t → agrees s b ≡ true → agrees t b ≡ true → s ≡ t
 one_symbol Dash Dash b e h g = refl
-one_symbol Dash Zero b e h g = absurd (omega (arith, e))
-one_symbol Dash One b e h g = absurd (omega (arith, e))
-one_symbol Zero Dash b e h g = absurd (omega (arith, e))
+one_symbol Dash Zero b e h g = absurd (false≢true e)
+one_symbol Dash One b e h g = absurd (false≢true e)
+one_symbol Zero Dash b e h g = absurd (false≢true (sym e))
 one_symbol Zero Zero b e h g = refl
 one_symbol Zero One true e h g = absurd (false≢true h)
 one_symbol Zero One false e h g = absurd (false≢true g)
-one_symbol One Dash b e h g = absurd (omega (arith, e))
+one_symbol One Dash b e h g = absurd (false≢true (sym e))
 one_symbol One Zero true e h g = absurd (false≢true g)
 one_symbol One Zero false e h g = absurd (false≢true h)
 one_symbol One One b e h g = refl
 
--- two cubes that share a place have one number
+same_test : (x y : Bool) (n : ℕ) → n ≡ (if x then 1 else 0) → n ≡ (if y then 1 else 0) → x ≡ y
+same_test true true n e h = refl
+same_test true false n e h = absurd (omega arith)
+same_test false true n e h = absurd (omega arith)
+same_test false false n e h = refl
+
+-- two cubes that share a place have one key
 module _ (inputs : ℕ) (c d : Cube) (n m : ℕ) (mine : IsKey inputs c n) (theirs : IsKey inputs d m) (size : length c.symbols ≡ length d.symbols)
     (p : Place) (in_c : holds c p ≡ true) (in_d : holds d p ≡ true) where
-  literal_at : (word : ℕ) (k : ℕ) → k < 32 → bit_at (bit_and (bit_or word (word / 2)) 6148914691236517205) (2 * k) ≡ max (bit_at word (2 * k)) (bit_at word (2 * k + 1))
-  literal_at word k lt =
-      omega (
-        arith,
-        bit_at_and (bit_or word (word / 2)) 6148914691236517205 (2 * k),
-        folded_bit word (2 * k),
-        lower_bit_even k lt,
-        bit_at-lt word (2 * k),
-        bit_at-lt word (2 * k + 1),
-      )
-
-  same_symbol : (k : ℕ) → k < 32 → get_or c.symbols (32 * 0 + k) Dash ≡ get_or d.symbols (32 * 0 + k) Dash
-  unfolding lit
+  same_symbol : (k : ℕ) → k < 32 → get_or c.symbols k Dash ≡ get_or d.symbols k Dash
   same_symbol k lt =
       let plain : 32 * 0 + k ≡ k = omega arith in
       elim (cases_lt k (length c.symbols)) [
         | inl inside ↦
-            let s = get_or c.symbols (32 * 0 + k) Dash in
-            let t = get_or d.symbols (32 * 0 + k) Dash in
-            let literals : max (bit_at mine.word (2 * k)) (bit_at mine.word (2 * k + 1)) ≡ max (bit_at theirs.word (2 * k)) (bit_at theirs.word (2 * k + 1)) =
-            sym (literal_at mine.word k lt) ∙ ap (λ x. bit_at x (2 * k)) (mine.literals ∙ sym theirs.literals) ∙ literal_at theirs.word k lt in
-            one_symbol s t (get_or p.point k false)
-            (ap (λ x. max x (lit s true)) (sym (mine.ones k lt)) ∙ ap (λ x. max (bit_at mine.word (2 * k)) x) (sym (mine.zeros k lt))
-            ∙ literals
-            ∙ ap (λ x. max x (bit_at theirs.word (2 * k + 1))) (theirs.ones k lt) ∙ ap (λ x. max (lit t false) x) (theirs.zeros k lt))
-            (ap (λ i. agrees (get_or c.symbols i Dash) (get_or p.point k false)) plain ∙ agrees_at-matches c.symbols p.point k (and_parts (matches c.symbols p.point) (get_or c.outputs p.output false) in_c).0 inside)
-            (ap (λ i. agrees (get_or d.symbols i Dash) (get_or p.point k false)) plain ∙ agrees_at-matches d.symbols p.point k (and_parts (matches d.symbols p.point) (get_or d.outputs p.output false) in_d).0 (omega (arith, inside, size)))
-        | inr past ↦ get_or_past c.symbols (32 * 0 + k) Dash (omega (arith, past)) ∙ sym (get_or_past d.symbols (32 * 0 + k) Dash (omega (arith, past, size)))
-      ]
-
-  same_bit : (i : ℕ) → i < 64 → bit_at mine.word i ≡ bit_at theirs.word i
-  same_bit i lt =
-      let half : i / 2 < 32 = omega arith in
-      elim (cases_eq (i % 2) 1) [
-        | inl odd ↦
-            let at : i ≡ 2 * (i / 2) + 1 = omega arith in
-            ap (λ x. bit_at mine.word x) at ∙ mine.zeros (i / 2) half
-            ∙ ap (λ s. if not (agrees s true) then 1 else 0) (same_symbol (i / 2) half)
-            ∙ sym (theirs.zeros (i / 2) half) ∙ ap (λ x. bit_at theirs.word x) (sym at)
-        | inr even ↦
-            let at : i ≡ 2 * (i / 2) = omega (arith, even) in
-            ap (λ x. bit_at mine.word x) at ∙ mine.ones (i / 2) half
-            ∙ ap (λ s. if not (agrees s false) then 1 else 0) (same_symbol (i / 2) half)
-            ∙ sym (theirs.ones (i / 2) half) ∙ ap (λ x. bit_at theirs.word x) (sym at)
+            one_symbol (get_or c.symbols k Dash) (get_or d.symbols k Dash) (get_or p.point k false)
+            (ap (λ i. has_literal c i) (sym plain)
+            ∙ same_test (has_literal c (32 * 0 + k)) (has_literal d (32 * 0 + k)) (bit_at inputs (2 * k)) (mine.literals.inputs k lt) (theirs.literals.inputs k lt)
+            ∙ ap (λ i. has_literal d i) plain)
+            (agrees_at-matches c.symbols p.point k (and_parts (matches c.symbols p.point) (get_or c.outputs p.output false) in_c).0 inside)
+            (agrees_at-matches d.symbols p.point k (and_parts (matches d.symbols p.point) (get_or d.outputs p.output false) in_d).0 (omega (arith, inside, size)))
+        | inr past ↦ get_or_past c.symbols k Dash past ∙ sym (get_or_past d.symbols k Dash (omega (arith, past, size)))
       ]
 
   same_key : n ≡ m
-  same_key = mine.key ∙ ap (λ x. reversal x) (same_from_bits_below 64 mine.word theirs.word mine.fits theirs.fits same_bit) ∙ sym theirs.key
+  same_key = order_key-same c d n m mine.fits theirs.fits mine.key theirs.key same_symbol
 
--- ---- the numbers of one more row
+-- ---- the keys of one more row
 
 pub HasKeys-none : (inputs : ℕ) (rows : List Cube) (keys : List ℕ) → keys ≡ [] → HasKeys inputs (take 0 rows) keys
 HasKeys-none inputs rows keys e = record {
@@ -150,10 +118,10 @@ module _ (inputs : ℕ) (rows : List Cube) (i : ℕ) (row : Cube) (keys : List �
     subst (λ l. (j : ℕ) → j < length l → get_or l j 0 ≤ key) (sym e) new_upto,
   )
 
--- ---- a row and those of its number
+-- ---- a row and those of its key
 
 module _ (size : Size) (inputs : ℕ) (row : Cube) (key : ℕ) (cube : IsCube size row) (own : IsKey inputs row key) where
-  -- cubes of other numbers have no place of the row
+  -- cubes of other keys have no place of the row
   apart : (list : List Cube) → ((d : Cube) → Contains list d → (m : ℕ) × IsKey inputs d m × (key ≡ m → ⊥) × IsCube size d) → IsMeets size (row ∷ []) list []
   apart list other = record {
     are_cubes = All-nil (IsCube size);

@@ -14,10 +14,10 @@ use Rattle.cover.specs.Cubes.{AreCubes}
 use Rattle.cover.specs.Places.{places}
 use Rattle.cover.specs.Complete.{literal, cofactor_at, consensus_at}
 use Rattle.cover.specs.Marks.{is_symbol}
-use Rattle.cover.specs.Parts.{part, has_symbol, merged, without_absorbed_by, combination}
+use Rattle.cover.specs.Parts.{part, has_symbol, merged, without_equal_rows, combination}
 use Rattle.cover.specs.Sides.{IsSide}
 use Rattle.cover.proofs.SumParts.{places-cofactor_at}
-use Rattle.cover.proofs.SumOrder.{without_absorbed_by-cases}
+use Rattle.cover.proofs.SumOrder.{without_equal_rows-cases}
 use Rattle.cover.proofs.SumStep.{complete_sum-three, AreCubes-complete_sum}
 
 part-none : (i : ℕ) (t : Symbol) (cs : List Cube) → has_symbol i t cs ≡ false → part i t cs ≡ []
@@ -87,10 +87,10 @@ module _ (size : Size) (i : ℕ) (lt : i < size.inputs) (minuend subtrahend : Li
     pub IsSide-none : (rows : List Cube) → rows ≡ [] → IsSide size i b (difference (places minuend) (places subtrahend)) rows
     IsSide-none rows none' = subst (IsSide size i b (difference (places minuend) (places subtrahend))) (sym none') (record {
       are_cubes = All-nil (IsCube size);
-      adds = sym (ap (λ l. without_absorbed_by i (literal b) l (complete_sum size (consensus_at i (difference (places minuend) (places subtrahend))))) (sym same_sum)
-          ∙ no_members (without_absorbed_by i (literal b) (complete_sum size (consensus_at i (difference (places minuend) (places subtrahend)))) (complete_sum size (consensus_at i (difference (places minuend) (places subtrahend)))))
+      adds = sym (ap (λ l. without_equal_rows i (literal b) l (complete_sum size (consensus_at i (difference (places minuend) (places subtrahend))))) (sym same_sum)
+          ∙ no_members (without_equal_rows i (literal b) (complete_sum size (consensus_at i (difference (places minuend) (places subtrahend)))) (complete_sum size (consensus_at i (difference (places minuend) (places subtrahend)))))
           (λ c h.
-          let r = without_absorbed_by-cases i (literal b) (complete_sum size (consensus_at i (difference (places minuend) (places subtrahend)))) (complete_sum size (consensus_at i (difference (places minuend) (places subtrahend)))) c
+          let r = without_equal_rows-cases i (literal b) (complete_sum size (consensus_at i (difference (places minuend) (places subtrahend)))) (complete_sum size (consensus_at i (difference (places minuend) (places subtrahend)))) c
           (sorted-complete_sum size (consensus_at i (difference (places minuend) (places subtrahend)))) (sorted-complete_sum size (consensus_at i (difference (places minuend) (places subtrahend)))) h in
           r.2 r.1));
     })
@@ -99,13 +99,13 @@ module _ (size : Size) (i : ℕ) (s : Place → Bool) where
   pub IsSide-sum : (b : Bool) (rows : List Cube) → rows ≡ complete_sum size (cofactor_at i b s) → IsSide size i b s rows
   IsSide-sum b rows e = record {
     are_cubes = AreCubes-complete_sum size (cofactor_at i b s) rows e;
-    adds = ap (λ l. without_absorbed_by i (literal b) l (complete_sum size (consensus_at i s))) e;
+    adds = ap (λ l. without_equal_rows i (literal b) l (complete_sum size (consensus_at i s))) e;
   }
 
   pub complete_sum-sides : i < size.inputs → (ds ps qs all : List Cube) → ds ≡ complete_sum size (consensus_at i s) → IsSide size i false s ps → IsSide size i true s qs
       → all ≡ combination i ds ps qs → all ≡ complete_sum size s
   complete_sum-sides lt ds ps qs all d low high is =
       is ∙ ap (λ l. combination i l ps qs) d
-      ∙ ap (λ l. merged (merged l (without_absorbed_by i One qs (complete_sum size (consensus_at i s)))) (complete_sum size (consensus_at i s))) low.adds
-      ∙ ap (λ l. merged (merged (without_absorbed_by i Zero (complete_sum size (cofactor_at i false s)) (complete_sum size (consensus_at i s))) l) (complete_sum size (consensus_at i s))) high.adds
+      ∙ ap (λ l. merged (merged l (without_equal_rows i One qs (complete_sum size (consensus_at i s)))) (complete_sum size (consensus_at i s))) low.adds
+      ∙ ap (λ l. merged (merged (without_equal_rows i Zero (complete_sum size (cofactor_at i false s)) (complete_sum size (consensus_at i s))) l) (complete_sum size (consensus_at i s))) high.adds
       ∙ complete_sum-three size i lt s

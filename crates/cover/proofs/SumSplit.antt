@@ -212,19 +212,19 @@ module _ (size : Size) (i : ℕ) (lt : i < size.inputs) where
             is_cube = IsCube-with_symbol size c i Dash cube;
             within = freed_within s c b cube e h.within;
             largest = λ d cube_d within above.
-                let without_absorbed_by = with_symbol d i (literal b) in
+                let without_equal_rows = with_symbol d i (literal b) in
                 let cube_p = IsCube-with_symbol size d i (literal b) cube_d in
                 let wide : IsSubset (holds (free d i)) (cofactor_at i b s) = λ p k.
                 let x = agreeing_bit (get_or d.symbols i Dash) in
                 sym (put-put s b x.0 p) ∙ within (put i x.0 p) (moved d x.0 p cube_d x.1 k) in
-                let over : IsSubset (holds c) (holds without_absorbed_by) = λ p k.
+                let over : IsSubset (holds c) (holds without_equal_rows) = λ p k.
                 let own = and_parts (agrees (get_or c.symbols i Dash) (get_or p.point i false)) (holds (free c i) p) (sym (holds-own c i p (inside c cube)) ∙ k) in
                 holds-with_symbol d i (literal b) p (inside d cube_d)
                 ∙ and_from (agrees (literal b) (get_or p.point i false)) (holds (free d i) p)
                 (ap (λ x. agrees x (get_or p.point i false)) (sym e) ∙ own.0) (IsSubset-free d cube_d p (above p own.1)) in
-                let below = h.largest without_absorbed_by cube_p (placed_within s d b cube_d wide) over in
+                let below = h.largest without_equal_rows cube_p (placed_within s d b cube_d wide) over in
                 λ p k.
-                subst (λ x. IsSubset (holds x) (holds (free c i))) (with_symbol-twice d i (literal b) Dash) (IsSubset-frees without_absorbed_by c cube_p cube below)
+                subst (λ x. IsSubset (holds x) (holds (free c i))) (with_symbol-twice d i (literal b) Dash) (IsSubset-frees without_equal_rows c cube_p cube below)
                 p (IsSubset-free d cube_d p k);
           }
 

@@ -14,7 +14,7 @@ use Rattle.cube.proofs.SumLemmas.{Contains-complete_sum, sorted-complete_sum, co
 use Rattle.cover.specs.Cubes.{Cubes, AreCubes}
 use Rattle.cover.specs.Places.{places, universal}
 use Rattle.cover.specs.Complete.{literal, cofactor_at, consensus_at, smoothing_at}
-use Rattle.cover.specs.Parts.{merged, without_absorbed_by, combination, has_literal, live}
+use Rattle.cover.specs.Parts.{merged, without_equal_rows, combination, has_literal, live}
 use Rattle.cover.specs.Reduced.{IsBranch, IsMeets, IsAbsorbed, HasSameCubes}
 use Rattle.cover.proofs.Lists.{members_all}
 use Rattle.cover.proofs.SumParts.{live-less}
@@ -22,7 +22,7 @@ use Rattle.cover.proofs.SumRows.{nothing_left}
 use Rattle.cover.proofs.SumEnds.{complete_sum-none, complete_sum-agree, universal-holds}
 use Rattle.cover.proofs.SumBranches.{places-kept, IsPartlyAbsorbed-same}
 use Rattle.cover.proofs.SumSplit.{with_symbol-twice, with_symbol-own, IsCube-with_symbol, symbol-with_symbol, put-put, maximal_dash, maximal_at_both, maximal_from_both, maximal_freed, maximal_not_both, maximal_from_freed}
-use Rattle.cover.proofs.SumOrder.{merged-cases, merged-left, merged-right, merged-rising, without_absorbed_by-cases, without_absorbed_by-from, without_absorbed_by-rising}
+use Rattle.cover.proofs.SumOrder.{merged-cases, merged-left, merged-right, merged-rising, without_equal_rows-cases, without_equal_rows-from, without_equal_rows-rising}
 
 symbol_cases : (t : Symbol) → (t ≡ Dash) ⊎ ((b : Bool) × (t ≡ literal b))
 symbol_cases Dash = inl refl
@@ -41,17 +41,17 @@ module _ (size : Size) (i : ℕ) (lt : i < size.inputs) (s : Place → Bool) whe
     both : List Cube
     both = complete_sum size (consensus_at i s)
 
-    pub part_rising : IsStrictlySortedBy row_cmp (without_absorbed_by i (literal b) (complete_sum size (cofactor_at i b s)) (complete_sum size (consensus_at i s)))
+    pub part_rising : IsStrictlySortedBy row_cmp (without_equal_rows i (literal b) (complete_sum size (cofactor_at i b s)) (complete_sum size (consensus_at i s)))
     part_rising =
-        without_absorbed_by-rising i (literal b) Dash (complete_sum size (cofactor_at i b s)) (complete_sum size (consensus_at i s))
+        without_equal_rows-rising i (literal b) Dash (complete_sum size (cofactor_at i b s)) (complete_sum size (consensus_at i s))
         (sorted-complete_sum size (cofactor_at i b s)) (sorted-complete_sum size (consensus_at i s))
         (λ c h.
         let m = (Contains-complete_sum size (cofactor_at i b s) c).0 h in
         (omega (arith, m.is_cube.has_size.0), dash_at b c m))
 
-    pub part_maximal : (c : Cube) → Contains (without_absorbed_by i (literal b) (complete_sum size (cofactor_at i b s)) (complete_sum size (consensus_at i s))) c → IsMaximal size s c
+    pub part_maximal : (c : Cube) → Contains (without_equal_rows i (literal b) (complete_sum size (cofactor_at i b s)) (complete_sum size (consensus_at i s))) c → IsMaximal size s c
     part_maximal c h =
-        let r = without_absorbed_by-cases i (literal b) (complete_sum size (cofactor_at i b s)) (complete_sum size (consensus_at i s)) c
+        let r = without_equal_rows-cases i (literal b) (complete_sum size (cofactor_at i b s)) (complete_sum size (consensus_at i s)) c
         (sorted-complete_sum size (cofactor_at i b s)) (sorted-complete_sum size (consensus_at i s)) h in
         let m = (Contains-complete_sum size (cofactor_at i b s) r.0).0 r.1 in
         let cube = m.is_cube in
@@ -63,20 +63,20 @@ module _ (size : Size) (i : ℕ) (lt : i < size.inputs) (s : Place → Bool) whe
         (λ k. r.2 ((Contains-complete_sum size (consensus_at i s) r.0).1 (subst (IsMaximal size (consensus_at i s)) freed k))))
 
     pub part_from_maximal : (c : Cube) → get_or c.symbols i Dash ≡ literal b → IsMaximal size s c
-        → Contains (without_absorbed_by i (literal b) (complete_sum size (cofactor_at i b s)) (complete_sum size (consensus_at i s))) c
+        → Contains (without_equal_rows i (literal b) (complete_sum size (cofactor_at i b s)) (complete_sum size (consensus_at i s))) c
     part_from_maximal c e h =
         let freed = with_symbol c i Dash in
         let back : with_symbol freed i (literal b) ≡ c = with_symbol-twice c i Dash (literal b) ∙ with_symbol-own c i (literal b) e in
-        subst (Contains (without_absorbed_by i (literal b) (complete_sum size (cofactor_at i b s)) (complete_sum size (consensus_at i s)))) back
-        (without_absorbed_by-from i (literal b) (complete_sum size (cofactor_at i b s)) (complete_sum size (consensus_at i s)) freed
+        subst (Contains (without_equal_rows i (literal b) (complete_sum size (cofactor_at i b s)) (complete_sum size (consensus_at i s)))) back
+        (without_equal_rows-from i (literal b) (complete_sum size (cofactor_at i b s)) (complete_sum size (consensus_at i s)) freed
         ((Contains-complete_sum size (cofactor_at i b s) freed).1 (maximal_freed size i lt s c b e h))
         (λ k. maximal_not_both size i lt s c b e h ((Contains-complete_sum size (consensus_at i s) freed).0 k)))
 
   pub complete_sum-three : combination i (complete_sum size (consensus_at i s)) (complete_sum size (cofactor_at i false s)) (complete_sum size (cofactor_at i true s)) ≡ complete_sum size s
   complete_sum-three =
       let ds = complete_sum size (consensus_at i s) in
-      let zeros = without_absorbed_by i Zero (complete_sum size (cofactor_at i false s)) ds in
-      let ones = without_absorbed_by i One (complete_sum size (cofactor_at i true s)) ds in
+      let zeros = without_equal_rows i Zero (complete_sum size (cofactor_at i false s)) ds in
+      let ones = without_equal_rows i One (complete_sum size (cofactor_at i true s)) ds in
       complete_sum-from_members size s (merged (merged zeros ones) ds)
       (merged-rising (merged zeros ones) ds (merged-rising zeros ones (part_rising false) (part_rising true)) (sorted-complete_sum size (consensus_at i s)))
       (λ c h. elim (merged-cases (merged zeros ones) ds c h) [
@@ -92,12 +92,12 @@ module _ (size : Size) (i : ℕ) (lt : i < size.inputs) (s : Place → Bool) whe
       ])
     where
       side : (b : Bool) (c : Cube) → get_or c.symbols i Dash ≡ literal b → IsMaximal size s c
-          → Contains (merged (without_absorbed_by i Zero (complete_sum size (cofactor_at i false s)) (complete_sum size (consensus_at i s)))
-          (without_absorbed_by i One (complete_sum size (cofactor_at i true s)) (complete_sum size (consensus_at i s)))) c
-      side false c e h = merged-left (without_absorbed_by i Zero (complete_sum size (cofactor_at i false s)) (complete_sum size (consensus_at i s)))
-          (without_absorbed_by i One (complete_sum size (cofactor_at i true s)) (complete_sum size (consensus_at i s))) c (part_from_maximal false c e h)
-      side true c e h = merged-right (without_absorbed_by i Zero (complete_sum size (cofactor_at i false s)) (complete_sum size (consensus_at i s)))
-          (without_absorbed_by i One (complete_sum size (cofactor_at i true s)) (complete_sum size (consensus_at i s))) c (part_from_maximal true c e h)
+          → Contains (merged (without_equal_rows i Zero (complete_sum size (cofactor_at i false s)) (complete_sum size (consensus_at i s)))
+          (without_equal_rows i One (complete_sum size (cofactor_at i true s)) (complete_sum size (consensus_at i s)))) c
+      side false c e h = merged-left (without_equal_rows i Zero (complete_sum size (cofactor_at i false s)) (complete_sum size (consensus_at i s)))
+          (without_equal_rows i One (complete_sum size (cofactor_at i true s)) (complete_sum size (consensus_at i s))) c (part_from_maximal false c e h)
+      side true c e h = merged-right (without_equal_rows i Zero (complete_sum size (cofactor_at i false s)) (complete_sum size (consensus_at i s)))
+          (without_equal_rows i One (complete_sum size (cofactor_at i true s)) (complete_sum size (consensus_at i s))) c (part_from_maximal true c e h)
 
 -- ---- the recursion over two lists
 

@@ -18,10 +18,10 @@ use Rattle.cover.specs.Cubes.{AreCubes}
 use Rattle.cover.specs.Places.{places}
 use Rattle.cover.specs.Complete.{cofactor_at, consensus_at}
 use Rattle.cover.specs.Marks.{is_symbol}
-use Rattle.cover.specs.Parts.{part, combination, merged, drop_below, drop_equal, begins_with, without_absorbed_by}
+use Rattle.cover.specs.Parts.{part, combination, merged, drop_below, drop_equal, begins_with, without_equal_rows}
 use Rattle.cover.specs.Reduced.{IsMeets}
 use Rattle.cover.proofs.SumBranches.{IsBranch-both_list, IsBranch-side}
-use Rattle.cover.proofs.SumRows.{merged-nothing, All-merged, AreCubes-without_absorbed_by}
+use Rattle.cover.proofs.SumRows.{merged-nothing, All-merged, AreCubes-without_equal_rows}
 use Rattle.cover.proofs.SumStep.{complete_sum-three, complete_sum-empty, complete_sum-single, sum_of_list}
 
 -- a list of one cube or none is its own sum
@@ -149,18 +149,18 @@ two_rows (x ∷ y ∷ z ∷ rest) c d len first second = absurd (omega arith)
 -- ---- the rows as the code adds them
 
 pub AreCubes-side : (size : Size) (i : ℕ) (t : Symbol) (side : Cube) (both rows all : List Cube) → AreCubes size rows → IsCube size side
-    → all ≡ merged rows (without_absorbed_by i t (side ∷ []) both) → AreCubes size all
+    → all ≡ merged rows (without_equal_rows i t (side ∷ []) both) → AreCubes size all
 AreCubes-side size i t side both rows all cubes cube is =
-    All-same (IsCube size) all (merged rows (without_absorbed_by i t (side ∷ []) both)) is
-    (All-merged (IsCube size) rows (without_absorbed_by i t (side ∷ []) both) cubes
-    (AreCubes-without_absorbed_by size i t (side ∷ []) both (All-cons (IsCube size) side [] cube (All-nil (IsCube size)))))
+    All-same (IsCube size) all (merged rows (without_equal_rows i t (side ∷ []) both)) is
+    (All-merged (IsCube size) rows (without_equal_rows i t (side ∷ []) both) cubes
+    (AreCubes-without_equal_rows size i t (side ∷ []) both (All-cons (IsCube size) side [] cube (All-nil (IsCube size)))))
 
 pub both_sides : (i : ℕ) (low high low' high' : Cube) (both one other none' front all : List Cube) → none' ≡ [] → one ≡ both → other ≡ both → low ≡ low' → high ≡ high'
-    → front ≡ merged none' (without_absorbed_by i Zero (low ∷ []) one) → all ≡ merged front (without_absorbed_by i One (high ∷ []) other)
-    → all ≡ merged (without_absorbed_by i Zero (low' ∷ []) both) (without_absorbed_by i One (high' ∷ []) both)
+    → front ≡ merged none' (without_equal_rows i Zero (low ∷ []) one) → all ≡ merged front (without_equal_rows i One (high ∷ []) other)
+    → all ≡ merged (without_equal_rows i Zero (low' ∷ []) both) (without_equal_rows i One (high' ∷ []) both)
 both_sides i low high low' high' both one other none' front all n a b c d first second =
-    second ∙ ap (λ l. merged l (without_absorbed_by i One (high ∷ []) other)) (first ∙ ap (λ l. merged l (without_absorbed_by i Zero (low ∷ []) one)) n)
-    ∙ ap (λ l. merged (without_absorbed_by i Zero (low ∷ []) l) (without_absorbed_by i One (high ∷ []) other)) a
-    ∙ ap (λ l. merged (without_absorbed_by i Zero (low ∷ []) both) (without_absorbed_by i One (high ∷ []) l)) b
-    ∙ ap (λ x. merged (without_absorbed_by i Zero (x ∷ []) both) (without_absorbed_by i One (high ∷ []) both)) c
-    ∙ ap (λ x. merged (without_absorbed_by i Zero (low' ∷ []) both) (without_absorbed_by i One (x ∷ []) both)) d
+    second ∙ ap (λ l. merged l (without_equal_rows i One (high ∷ []) other)) (first ∙ ap (λ l. merged l (without_equal_rows i Zero (low ∷ []) one)) n)
+    ∙ ap (λ l. merged (without_equal_rows i Zero (low ∷ []) l) (without_equal_rows i One (high ∷ []) other)) a
+    ∙ ap (λ l. merged (without_equal_rows i Zero (low ∷ []) both) (without_equal_rows i One (high ∷ []) l)) b
+    ∙ ap (λ x. merged (without_equal_rows i Zero (x ∷ []) both) (without_equal_rows i One (high ∷ []) both)) c
+    ∙ ap (λ x. merged (without_equal_rows i Zero (low' ∷ []) both) (without_equal_rows i One (x ∷ []) both)) d

@@ -1,4 +1,5 @@
 pub mod Cubes
+pub mod Sizes
 pub mod Places
 pub mod Contained
 pub mod Splits

@@ -9,8 +9,8 @@ use Rattle.std.specs.List.{Contains}
 use Rattle.std.specs.Borrow.{Bor}
 use Rattle.cover.specs.Places.{places, behind}
 use Rattle.cover.specs.Splits.{dashes}
-use Rattle.cover.specs.declared.cube_in_cover.Step.{Step}
-use Rattle.cover.specs.declared.cube_in_cover.Step.TheVariants.{Row, Split}
+use Rattle.cover.specs.declared.region.Step.{Step}
+use Rattle.cover.specs.declared.region.Step.TheVariants.{Row, Split}
 
 -- a cube that holds the region, and whose places are all in the list
 pub record IsReason (region : Cube) (rows : List Cube) (c : Cube) : Type 0 where

@@ -2,8 +2,8 @@
 use Rattle.std.specs.Prelude.{Bool, List, IsTrue}
 use Rattle.cube.specs.Cube.{Cube, Place}
 use Rattle.cover.specs.Places.{places}
-use Rattle.cover.specs.declared.pairwise.Relation.{Relation}
-use Rattle.cover.specs.declared.pairwise.Relation.TheVariants.{Contained, Disjoint}
+use Rattle.cover.specs.declared.compare.pairwise.Relation.{Relation}
+use Rattle.cover.specs.declared.compare.pairwise.Relation.TheVariants.{Contained, Disjoint}
 
 -- a place of the one list is in the other, or it is not
 abbrev pub Relates : Relation → Bool → Type 0

@@ -5,12 +5,12 @@ use Rattle.cube.specs.Cube.{Cube, Place}
 use Rattle.cube.specs.Sum.{complete_sum}
 use Rattle.cover.specs.Cubes.{AreCubes}
 use Rattle.cover.specs.Complete.{literal, cofactor_at, consensus_at}
-use Rattle.cover.specs.Parts.{without_absorbed_by}
+use Rattle.cover.specs.Parts.{without_equal_rows}
 
 -- cubes that add with a literal at input i what the complete sum at that value adds to that at both
 pub record IsSide (size : Size) (i : ℕ) (b : Bool) (s : Place → Bool)
     (cubes : List Cube) : Type 0 where
   pub are_cubes : AreCubes size cubes
-  pub adds : without_absorbed_by i (literal b) cubes (complete_sum size (consensus_at i s))
-      ≡ without_absorbed_by i (literal b) (complete_sum size (cofactor_at i b s))
+  pub adds : without_equal_rows i (literal b) cubes (complete_sum size (consensus_at i s))
+      ≡ without_equal_rows i (literal b) (complete_sum size (cofactor_at i b s))
       (complete_sum size (consensus_at i s))

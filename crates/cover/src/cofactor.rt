@@ -23,7 +23,6 @@ impl Cover {
         ensures places { IfOk result (λ left. IsTrue (holds_all left.size (places left.cubes))
             ↔ IsSubset (holds cube.now) (places self.now.cubes)) }
     {
-        let _shape = cube.shape();
         let mut left = Vec::new(self.allocator());
         for row in self.as_slice() {
             match row.cofactor(cube)? {
@@ -31,6 +30,6 @@ impl Cover {
                 None => {}
             }
         }
-        Ok(Cover::from_cubes(self.shape(), left))
+        Ok(Cover::from_cubes(cube.shape(), left))
     }
 }

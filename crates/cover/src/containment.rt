@@ -8,6 +8,7 @@
 ghost use Rattle.std.specs.Prelude.{◌≡◌, ℕ, ◌<◌, true, false, IfOk, OnOk, length, slice_index_or, All, filter};
 ghost use Rattle.std.specs.List.{list_any, range_with_len};
 ghost use Rattle.cover.specs.Contained.{contained, is_within as is_within_of};
+ghost use Rattle.cover.specs.Cubes.{AreCubes};
 ghost use Rattle.cover.specs.Marks.{cube_at, is_contained_at, is_absorbed_by, symbol_at, is_symbol, is_over, Marks, MarksPart};
 
 use crate::list::Cover;
@@ -133,6 +134,7 @@ fn mark(
     outer: &[usize],
     marks: &mut [bool],
 ) -> Result<(), AllocError>
+    requires cubes { AreCubes list.now.size list.now.cubes }
     requires order { All (λ i. i < list.now.size.inputs) order.now }
     requires inner { All (λ k. k < length list.now.cubes) inner.now }
     requires outer { All (λ j. j < length list.now.cubes) outer.now }
@@ -189,6 +191,7 @@ fn mark_part(
     outer: &[usize],
     marks: &mut [bool],
 ) -> Result<(), AllocError>
+    requires cubes { AreCubes list.now.size list.now.cubes }
     requires order { All (λ i. i < list.now.size.inputs) order.now }
     requires input { at.0 < list.now.size.inputs }
     requires inner { All (λ k. k < length list.now.cubes) inner.now }
@@ -197,7 +200,6 @@ fn mark_part(
     ensures { OnOk result
         (MarksPart list.now.size list.now.cubes at.0 at.1 inner.now outer.now marks.old marks.new) }
 {
-    let _shape = list.shape();
     let near = having(alloc, list, inner, at.0, at.1)?;
     let far = having_over(alloc, list, outer, at.0, at.1)?;
     mark(alloc, list, order, &near, &far, marks)
@@ -280,8 +282,9 @@ pub fn contain(list: &Cover) -> Result<Cover, AllocError>
 {
     let alloc = list.allocator();
     let order = inputs_in_order(alloc, list)?;
-    let all = indices(alloc, list.len())?;
-    let mut marks = vec![in alloc; false; list.len()]?;
+    let cubes = list.as_slice();
+    let all = indices(alloc, cubes.len())?;
+    let mut marks = vec![in alloc; false; cubes.len()]?;
     mark(alloc, list, &order, &all, &all, &mut marks)?;
     unmarked_cubes(alloc, list, &marks)
 }

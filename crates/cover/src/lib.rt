@@ -32,43 +32,22 @@
 //! their answer.
 #![tactic(auto)]
 
-mod agree;
-mod apart;
 mod cofactor;
-mod computed_table;
-mod containing;
+mod compare;
 mod containment;
-mod cube_in_cover;
-mod equal_rows;
-mod learned;
 mod list;
 mod literal_counts;
-mod meets_within;
-mod nearest_rows;
 mod off_set;
-mod pairwise;
-mod splitting_input;
-mod sum;
-mod sum_absorb;
-mod sum_apart;
-mod sum_branch;
-mod sum_free;
-mod sum_keys;
-mod sum_leaf;
-mod sum_meets;
-mod sum_parts;
-mod sum_rows;
-mod sum_sides;
-mod sum_splitting_input;
-mod sum_two;
+mod region;
+mod sums;
 mod symbols;
 mod tautology;
 
-pub use agree::{agree_outside, is_within_either};
-pub use containing::{cubes_containing, sum_containing};
+pub use compare::meets_within::are_meets_within_either;
+pub use compare::{agree_outside, is_within_either};
 pub use containment::contain;
 pub use list::Cover;
-pub use meets_within::are_meets_within_either;
 pub use off_set::{Budget, outside, subtract};
-pub use sum::{complete_sum, difference, intersect};
-pub use sum_rows::in_row_order;
+pub use sums::containing::{cubes_containing, sum_containing};
+pub use sums::rows::in_row_order;
+pub use sums::{complete_sum, difference, intersect};

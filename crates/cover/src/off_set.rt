@@ -1,24 +1,26 @@
-//! The places of a list, or all places, that are outside another list.
+//! Some cubes for the complement (`outside`) or the difference (`subtract`) of lists, within a
+//! `Budget`; `sums` has the complete ones. Also the cube of one output.
 //!
 //! A region is split at inputs while more than one row meets it. On the way back each cube loses
 //! the literal that its half gave it, if it then still meets no row. So no cube lies in another of
 //! the same region, and there are about as many as a good cover of these places has: far fewer than
 //! all of the largest cubes. There may be far too many of both, cubes and regions, so each call has
 //! a budget.
-ghost use Rattle.std.specs.Prelude.{◌≡◌, ◌<◌, ◌&&◌, ◌++◌, IfOk, IfSome, Some, slice_get, slice_set, replicate, not, false, true};
-ghost use Rattle.cube.specs.Cube.{HasSize, IsCube, IsSubset, Place, IsPlace, holds, difference as difference_of};
+ghost use Rattle.std.specs.Prelude.{◌≡◌, ◌<◌, ◌&&◌, ◌++◌, IfOk, IfSome, All, length, Some, slice_get, slice_set, replicate, not, false, true};
+ghost use Rattle.cube.specs.Size.{Size};
+ghost use Rattle.cube.specs.Cube.{HasSize, SameSize, IsCube, IsSubset, Place, IsPlace, holds, difference as difference_of};
 ghost use Rattle.cover.specs.Cubes.{AreCubes};
 ghost use Rattle.cover.specs.Places.{places};
 ghost use Rattle.cover.specs.Outside.{AreNear, IsRest, Extends};
 
-use crate::containing::any_meets;
-use crate::equal_rows::rows_not_among;
+use crate::compare::equal_rows::rows_not_among;
+use crate::compare::meets_within::{FEW, are_apart, copies};
 use crate::list::{Cover, copy_of};
-use crate::meets_within::{FEW, are_apart, copies};
-use crate::splitting_input::{count_bits, open_bits};
-use crate::sum::difference;
-use crate::sum_rows::sort_rows;
-use crate::tautology::lent;
+use crate::region::splitting_input::{count_bits, open_bits};
+use crate::sums::containing::any_meets;
+use crate::sums::difference;
+use crate::sums::rows::sort_rows;
+use crate::tautology::references_to;
 use cube::{Cube, Shape, Symbol};
 use std::alloc::{AllocError, Global};
 
@@ -63,10 +65,10 @@ pub(crate) fn one_output(alloc: Global, shape: Shape, j: usize) -> Result<Cube, 
 }
 
 // The rows that meet the region.
-fn near(alloc: Global, shape: Shape, region: &Cube, rows: &[Cube]) -> Result<Vec<Cube>, AllocError>
-    requires region { HasSize region.now shape }
-    requires rows { AreCubes shape rows.now }
-    ensures { IfOk result (λ v. AreNear shape (holds region.now) rows.now v.items) }
+fn near(alloc: Global, region: &Cube, rows: &[Cube]) -> Result<Vec<Cube>, AllocError>
+    requires { All (λ c. SameSize c region.now) rows.now }
+    ensures { IfOk result (λ v. (size : Size) → AreCubes size rows.now
+        → AreNear size (holds region.now) rows.now v.items) }
 {
     let mut near = Vec::new(alloc);
     for row in rows {
@@ -84,11 +86,10 @@ fn rest(
     region: &Cube,
     rows: Vec<Cube>,
 ) -> Result<Vec<Cube>, AllocError>
-    requires region { HasSize region.now shape }
+    requires region { IsCube shape region.now }
     requires rows { AreCubes shape rows.items }
     ensures { IfOk result (λ v. IsRest shape (holds region.now) rows.items v.items) }
 {
-    let _shape = region.shape();
     let mut own = Vec::new(alloc);
     own.push(region.try_clone()?)?;
     if rows.is_empty() {
@@ -135,7 +136,7 @@ fn best_of_word(counts: &[u32; 64], w: usize, rows: usize) -> (usize, usize) {
 }
 
 // The best input to split the region at, if a row has a literal where the region has none.
-fn wished_input(shape: Shape, region: &Cube, rows: &[Cube]) -> Option<usize> {
+fn input_hint(shape: Shape, region: &Cube, rows: &[Cube]) -> Option<usize> {
     let mut best = None;
     let mut most = 0;
     for w in 0..shape.inputs().div_ceil(32) {
@@ -150,9 +151,8 @@ fn wished_input(shape: Shape, region: &Cube, rows: &[Cube]) -> Option<usize> {
 }
 
 // Whether some row contains the region.
-fn any_contains(shape: Shape, region: &Cube, rows: &[Cube]) -> bool
-    requires region { HasSize region.now shape }
-    requires rows { AreCubes shape rows.now }
+fn any_contains(region: &Cube, rows: &[Cube]) -> bool
+    requires { All (λ c. SameSize c region.now) rows.now }
 {
     for row in rows {
         if row.contains(region) {
@@ -169,20 +169,19 @@ fn split_input(shape: Shape, region: &Cube, rows: &[Cube]) -> Option<usize>
     requires rows { AreCubes shape rows.now }
     ensures { IfSome result (λ i. slice_get region.now.symbols i ≡ Some Symbol.Dash) }
 {
-    if rows.len() <= 1 || any_contains(shape, region, rows) {
+    if rows.len() <= 1 || any_contains(region, rows) {
         return None;
     }
-    match wished_input(shape, region, rows) {
+    match input_hint(shape, region, rows) {
         Some(i) if i < shape.inputs() && region.symbol(i) == Symbol::Dash => Some(i),
         _ => None,
     }
 }
 
 // Whether the cube lies in the region and meets no row.
-fn is_outside(shape: Shape, region: &Cube, rows: &[Cube], cube: &Cube) -> bool
-    requires region { HasSize region.now shape }
-    requires rows { AreCubes shape rows.now }
-    requires cube { HasSize cube.now shape }
+fn is_outside(region: &Cube, rows: &[Cube], cube: &Cube) -> bool
+    requires region { SameSize region.now cube.now }
+    requires rows { All (λ c. SameSize c cube.now) rows.now }
     ensures { result ≡ true → IsSubset (holds cube.now)
         (difference_of (holds region.now) (places rows.now)) }
 {
@@ -190,51 +189,40 @@ fn is_outside(shape: Shape, region: &Cube, rows: &[Cube], cube: &Cube) -> bool
 }
 
 // The cube without its literal at the input, if that leaves it in the region and outside the rows.
-fn without_literal(
-    shape: Shape,
-    region: &Cube,
-    rows: &[Cube],
-    i: usize,
-    cube: &Cube,
-) -> Result<Cube, AllocError>
-    requires region { HasSize region.now shape }
-    requires rows { AreCubes shape rows.now }
-    requires input { i < shape.inputs }
-    requires cube { HasSize cube.now shape }
-    ensures cube { IfOk result (IsCube shape) }
+fn without_literal(region: &Cube, rows: &[Cube], i: usize, cube: &Cube) -> Result<Cube, AllocError>
+    requires region { SameSize region.now cube.now }
+    requires rows { All (λ c. SameSize c cube.now) rows.now }
+    requires input { i < length cube.now.symbols }
+    ensures cube { IfOk result (λ c. (size : Size) → IsCube size cube.now → IsCube size c) }
     ensures extends { IfOk result (λ c. Extends
         (difference_of (holds region.now) (places rows.now)) (holds cube.now) (holds c)) }
 {
     let free = cube.with_symbol(i, Symbol::Dash)?;
-    if is_outside(shape, region, rows, &free) {
-        let _shape = free.shape();
+    if is_outside(region, rows, &free) {
         return Ok(free);
     }
-    let _shape = cube.shape();
     cube.try_clone()
 }
 
 // The cubes without those literals at the input that are not needed.
 fn without_literals(
     alloc: Global,
-    shape: Shape,
     region: &Cube,
     rows: &[Cube],
     i: usize,
     cubes: &[Cube],
 ) -> Result<Vec<Cube>, AllocError>
-    requires region { HasSize region.now shape }
-    requires rows { AreCubes shape rows.now }
-    requires input { i < shape.inputs }
-    requires cubes { AreCubes shape cubes.now }
-    ensures cubes { IfOk result (λ v. AreCubes shape v.items) }
+    requires { (size : Size) × (i < size.inputs) × HasSize region.now size
+        × AreCubes size rows.now × AreCubes size cubes.now }
+    ensures cubes { IfOk result (λ v. (size : Size) → AreCubes size cubes.now
+        → AreCubes size v.items) }
     ensures extends { IfOk result (λ v. Extends
         (difference_of (holds region.now) (places rows.now)) (places cubes.now)
         (places v.items)) }
 {
     let mut larger = Vec::new(alloc);
     for cube in cubes {
-        larger.push(without_literal(shape, region, rows, i, cube)?)?;
+        larger.push(without_literal(region, rows, i, cube)?)?;
     }
     Ok(larger)
 }
@@ -242,25 +230,23 @@ fn without_literals(
 // The halves of a region as one, or `None` where the budget is spent.
 fn join_halves(
     alloc: Global,
-    shape: Shape,
     region: &Cube,
     rows: &[Cube],
     i: usize,
     halves: Vec<Cube>,
     left: &mut Budget,
 ) -> Result<Option<Vec<Cube>>, AllocError>
-    requires region { HasSize region.now shape }
-    requires rows { AreCubes shape rows.now }
-    requires input { i < shape.inputs }
-    requires halves { IsRest shape (holds region.now) rows.now halves.items }
-    ensures { IfOk result (λ o. IfSome o
-        (λ v. IsRest shape (holds region.now) rows.now v.items)) }
+    requires { (size : Size) × (i < size.inputs) × HasSize region.now size
+        × AreCubes size rows.now × AreCubes size halves.items }
+    ensures { IfOk result (λ o. IfSome o (λ v. (size : Size)
+        → IsRest size (holds region.now) rows.now halves.items
+        → IsRest size (holds region.now) rows.now v.items)) }
 {
     if !left.spend(rows.len().saturating_mul(halves.len()) / 8) {
         return Ok(None);
     }
-    let larger = without_literals(alloc, shape, region, rows, i, &halves)?;
-    let larger = sort_rows(alloc, shape, larger)?;
+    let larger = without_literals(alloc, region, rows, i, &halves)?;
+    let larger = sort_rows(alloc, larger)?;
     if larger.len() > left.cubes {
         return Ok(None);
     }
@@ -275,7 +261,7 @@ fn outside_rows(
     rows: &[Cube],
     left: &mut Budget,
 ) -> Result<Option<Vec<Cube>>, AllocError>
-    requires region { HasSize region.now shape }
+    requires region { IsCube shape region.now }
     requires rows { AreCubes shape rows.now }
     ensures { IfOk result (λ o. IfSome o
         (λ v. IsRest shape (holds region.now) rows.now v.items)) }
@@ -283,7 +269,7 @@ fn outside_rows(
     if !left.spend(rows.len()) {
         return Ok(None);
     }
-    let rows = near(alloc, shape, region, rows)?;
+    let rows = near(alloc, region, rows)?;
     let Some(i) = split_input(shape, region, &rows) else {
         return Ok(Some(rest(alloc, shape, region, rows)?));
     };
@@ -296,7 +282,7 @@ fn outside_rows(
         return Ok(None);
     };
     cubes.append(&mut more)?;
-    join_halves(alloc, shape, region, &rows, i, cubes, left)
+    join_halves(alloc, region, &rows, i, cubes, left)
 }
 
 /// Cubes of one output each that together have the places outside the list, and no others; `None`
@@ -394,8 +380,8 @@ fn rows_not_in(list: &Cover, other: &Cover) -> Result<Vec<Cube>, AllocError>
 {
     let alloc = list.allocator();
     let shape = list.shape();
-    let rows = lent(list)?;
-    let others = lent(other)?;
+    let rows = references_to(list)?;
+    let others = references_to(other)?;
     let rest = rows_not_among(alloc, shape, &rows, &others)?;
     copies(alloc, &rest)
 }
@@ -423,7 +409,6 @@ pub fn subtract(list: &Cover, other: &Cover, budget: Budget) -> Result<Option<Co
     }
     let alloc = list.allocator();
     let shape = list.shape();
-    let _shape = other.shape();
     let rows = rows_not_in(list, other)?;
     let mut left = budget;
     let Some(cubes) = left_of(alloc, shape, &rows, other.as_slice(), &mut left)? else {

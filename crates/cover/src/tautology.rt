@@ -1,12 +1,13 @@
-//! Whether cubes hold every place, and whether they hold a cube.
+//! The questions to a list: whether its cubes hold every place, or a given cube. `region` answers
+//! them; here are also the universal cube, and lists of references to cubes.
 ghost use Rattle.std.specs.Prelude.{◌≡◌, ◌++◌, true, IfOk, All, map};
-ghost use Rattle.cube.specs.Cube.{HasSize, holds};
+ghost use Rattle.cube.specs.Cube.{HasSize, IsCube, holds};
 ghost use Rattle.cube.specs.Sum.{is_subset};
 ghost use Rattle.cover.specs.Places.{places, holds_all, behind, universal as universal_of};
 
-use crate::cube_in_cover::covers_cube;
+use crate::compare::pairwise::each_held;
 use crate::list::Cover;
-use crate::pairwise::each_held;
+use crate::region::covers_cube;
 use cube::{Cube, Shape, Symbol};
 use std::alloc::{AllocError, Global};
 
@@ -22,7 +23,7 @@ pub(crate) fn references(alloc: Global, cubes: &[Cube]) -> Result<Vec<&Cube>, Al
 }
 
 // References to the cubes of a cover.
-pub(crate) fn lent(list: &Cover) -> Result<Vec<&Cube>, AllocError>
+pub(crate) fn references_to(list: &Cover) -> Result<Vec<&Cube>, AllocError>
     ensures cubes { IfOk result (λ refs. behind refs.items ≡ list.now.cubes) }
     ensures sizes { IfOk result (λ refs. All (λ d. HasSize d.now list.now.size) refs.items) }
 {
@@ -30,20 +31,24 @@ pub(crate) fn lent(list: &Cover) -> Result<Vec<&Cube>, AllocError>
 }
 
 // References to the cubes of two covers.
-pub(crate) fn lent_both<'a>(list: &'a Cover, other: &'a Cover) -> Result<Vec<&'a Cube>, AllocError>
+pub(crate) fn references_to_both<'a>(
+    list: &'a Cover,
+    other: &'a Cover,
+) -> Result<Vec<&'a Cube>, AllocError>
     requires { other.now.size ≡ list.now.size }
     ensures cubes { IfOk result (λ refs. behind refs.items ≡ list.now.cubes ++ other.now.cubes) }
     ensures sizes { IfOk result (λ refs. All (λ d. HasSize d.now list.now.size) refs.items) }
 {
-    let mut refs = lent(list)?;
-    let mut others = lent(other)?;
+    let mut refs = references_to(list)?;
+    let mut others = references_to(other)?;
     refs.append(&mut others)?;
     Ok(refs)
 }
 
 // The cube of every place.
 pub(crate) fn universal(alloc: Global, shape: Shape) -> Result<Cube, AllocError>
-    ensures { IfOk result (λ c. c ≡ universal_of shape) }
+    ensures value { IfOk result (λ c. c ≡ universal_of shape) }
+    ensures is_cube { IfOk result (λ c. IsCube shape c) }
 {
     let symbols = vec![in alloc; Symbol::Dash; shape.inputs()]?;
     let outputs = vec![in alloc; true; shape.outputs()]?;
@@ -93,7 +98,7 @@ impl Cover {
     {
         let alloc = self.allocator();
         let shape = self.shape();
-        let rows = lent(self)?;
+        let rows = references_to(self)?;
         each_held(alloc, shape, &rows, cubes)
     }
 }

@@ -1,6 +1,5 @@
-use Rattle.std.proofs.Common.{◌∙◌, subst, arith}
+use Rattle.std.proofs.Common.{◌∙◌, arith}
 use Rattle.std.proofs.lemmas.Result.{on_ok_weaker}
-use Rattle.cover.specs.Cubes.{AreCubes}
 use Rattle.cover.specs.Marks.{is_symbol, is_over, symbol_at}
 use Rattle.cover.proofs.ContainmentLemmas.{All-having, MarksPart-from_Marks}
 use Rattle.cover.proofs.containment.+mark.Goals as goal
@@ -10,14 +9,17 @@ mark_part-mark-requires t c =
     let cubes = c.args.list.now.cubes in (
       omega arith,
       (
-        c.requires.order,
+        c.requires.cubes,
         (
-          All-having (λ k. is_symbol (symbol_at cubes c.args.at.0 k) c.args.at.1) cubes c.args.inner.now c.deref.result.now
-              (c.deref.ensures.value ∙ c.in_ok-near.ensures) c.requires.inner,
+          c.requires.order,
           (
-            All-having (λ k. is_over (symbol_at cubes c.args.at.0 k) c.args.at.1) cubes c.args.outer.now c.deref-2.result.now
-                (c.deref-2.ensures.value ∙ c.in_ok-far.ensures) c.requires.outer,
-            c.requires.marks,
+            All-having (λ k. is_symbol (symbol_at cubes c.args.at.0 k) c.args.at.1) cubes c.args.inner.now c.deref.result.now
+                (c.deref.ensures.value ∙ c.in_ok-near.ensures) c.requires.inner,
+            (
+              All-having (λ k. is_over (symbol_at cubes c.args.at.0 k) c.args.at.1) cubes c.args.outer.now c.deref-2.result.now
+                  (c.deref-2.ensures.value ∙ c.in_ok-far.ensures) c.requires.outer,
+              c.requires.marks,
+            ),
           ),
         ),
       ),
@@ -27,7 +29,7 @@ pub mark_part-returns : goal.mark_part-returns
 mark_part-returns t c =
     on_ok_weaker c.mark.result
     (MarksPart-from_Marks c.args.list.now.size c.args.list.now.cubes
-    (subst (λ z. AreCubes z c.args.list.now.cubes) c.shape-shape.ensures.size c.shape-shape.ensures.cubes) c.args.at.0 c.args.at.1 c.args.inner.now c.args.outer.now c.deref.result.now c.deref-2.result.now
+    c.requires.cubes c.args.at.0 c.args.at.1 c.args.inner.now c.args.outer.now c.deref.result.now c.deref-2.result.now
     c.args.marks.now c.mark.new.marks c.requires.marks c.requires.outer (c.deref.ensures.value ∙ c.in_ok-near.ensures)
     (c.deref-2.ensures.value ∙ c.in_ok-far.ensures))
     c.mark.ensures

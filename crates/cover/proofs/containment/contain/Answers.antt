@@ -1,26 +1,30 @@
 use Rattle.std.proofs.Common.{◌≡◌, ◌∙◌, length, ap, sym, subst, replicate, false, get_or, rules, arith}
 use Rattle.std.specs.List.{range_with_len}
+use Rattle.cover.specs.Cubes.{AreCubes}
 use Rattle.cover.specs.Marks.{Marks}
 use Rattle.cover.proofs.ContainmentLemmas.{All-range, marks_contained, take_front}
 use Rattle.cover.proofs.containment.contain.Goals as goal
 
+pub mark-requires-clause-cubes : goal.mark-requires-clause-cubes
+mark-requires-clause-cubes c = subst (AreCubes c.args.list.now.size) c.as_slice-cubes.ensures.value c.as_slice-cubes.ensures.cubes
+
 pub mark-requires-clause-inner : goal.mark-requires-clause-inner
 mark-requires-clause-inner c =
     All-range (length c.args.list.now.cubes) c.deref-2.result.now
-    (c.deref-2.ensures.value ∙ c.in_ok-all.ensures ∙ ap (range_with_len 0) c.len.ensures)
+    (c.deref-2.ensures.value ∙ c.in_ok-all.ensures ∙ ap (range_with_len 0) (ap length c.as_slice-cubes.ensures.value))
 
 pub mark-requires-clause-outer : goal.mark-requires-clause-outer
 mark-requires-clause-outer c =
     All-range (length c.args.list.now.cubes) c.deref-3.result.now
-    (c.deref-3.ensures.value ∙ c.in_ok-all.ensures ∙ ap (range_with_len 0) c.len.ensures)
+    (c.deref-3.ensures.value ∙ c.in_ok-all.ensures ∙ ap (range_with_len 0) (ap length c.as_slice-cubes.ensures.value))
 
 pub unmarked_cubes-requires-clause-marks : goal.unmarked_cubes-requires-clause-marks
 unmarked_cubes-requires-clause-marks c =
     let cubes = c.args.list.now.cubes in
     let all = c.deref-2.result.now in
-    let all_is : all ≡ range_with_len 0 (length cubes) = c.deref-2.ensures.value ∙ c.in_ok-all.ensures ∙ ap (range_with_len 0) c.len.ensures in
+    let all_is : all ≡ range_with_len 0 (length cubes) = c.deref-2.ensures.value ∙ c.in_ok-all.ensures ∙ ap (range_with_len 0) (ap length c.as_slice-cubes.ensures.value) in
     let both : c.deref-3.result.now ≡ all = c.deref-3.ensures.value ∙ sym c.deref-2.ensures.value in
-    let old : c.deref_mut.result.now ≡ replicate (length cubes) false = c.deref_mut.ensures.value ∙ search rules in
+    let old : c.deref_mut.result.now ≡ replicate (length cubes) false = c.deref_mut.ensures.value ∙ c.in_ok-marks.ensures.items_if_clones_equal (λ y e. e) ∙ ap (λ l. replicate (length l) false) c.as_slice-cubes.ensures.value in
     let new : c.deref-4.result.now ≡ c.mark.new.marks = take_front _ _ _ _ c.deref-4.ensures.value (omega arith) in
     let marked = subst (λ l. Marks c.args.list.now.size cubes all l c.deref_mut.result.now c.mark.new.marks) both c.in_ok-mark.ensures in
     λ k lt. ap (λ l. get_or l k false) new ∙ marks_contained c.args.list.now.size cubes all c.deref_mut.result.now c.mark.new.marks all_is old marked k lt

@@ -7,11 +7,10 @@ use Rattle.cover.proofs.off_set.near.Goals as goal
 use Rattle.cover.proofs.off_set.near.Goals.{then-not-disjoint+in_ok-try_clone+in_ok-push, else-not-disjoint}
 
 pub loop-row-init : goal.loop-row-init
-loop-row-init c = subst (AreNear c.args.shape (holds c.args.region.now) []) (sym c.new-near.ensures.items) (near-none c.args.shape (holds c.args.region.now))
+loop-row-init c = λ size cubes. subst (AreNear size (holds c.args.region.now) []) (sym c.new-near.ensures.items) (near-none size (holds c.args.region.now))
 
 pub loop-row-preserved : goal.loop-row-preserved
-loop-row-preserved c =
-    let size = c.args.shape in
+loop-row-preserved c = λ size cubes.
     let region = holds c.args.region.now in
     let rows = c.args.rows.now in
     let at = c.loop-row.row-index in
@@ -20,12 +19,13 @@ loop-row-preserved c =
     elim c.if-not-disjoint.branch [
       | then-not-disjoint+in_ok-try_clone+in_ok-push w ↦
           subst (λ v. AreNear size region (take (at + 1) rows) v.items) (sym w.near-is)
-          (near-kept size region rows at row near c.requires.rows c.loop-row-test.true c.row-item.is c.loop-row.invariant w.push.new.self.items
+          (near-kept size region rows at row near cubes c.loop-row-test.true c.row-item.is (c.loop-row.invariant size cubes) w.push.new.self.items
           (w.in_ok-push.ensures.items ∙ ap (λ d. near ++ d ∷ []) w.in_ok-try_clone.ensures.value))
       | else-not-disjoint w ↦
           subst (λ v. AreNear size region (take (at + 1) rows) v.items) (sym w.near-is)
-          (near-left size region rows at row near c.requires.rows c.loop-row-test.true c.row-item.is c.loop-row.invariant (c.disjoint.ensures.0 w.if-not-disjoint.false))
+          (near-left size region rows at row near cubes c.loop-row-test.true c.row-item.is (c.loop-row.invariant size cubes) (c.disjoint.ensures.0 w.if-not-disjoint.false))
     ]
 
 pub returns : goal.returns
-returns c = subst (λ l. AreNear c.args.shape (holds c.args.region.now) l c.loop-row.near.items) (take_all c.loop-row.row-index c.args.rows.now c.loop-row-test.false) c.loop-row.invariant
+returns c = λ size cubes.
+    subst (λ l. AreNear size (holds c.args.region.now) l c.loop-row.near.items) (take_all c.loop-row.row-index c.args.rows.now c.loop-row-test.false) (c.loop-row.invariant size cubes)

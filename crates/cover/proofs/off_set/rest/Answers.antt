@@ -11,7 +11,7 @@ pub returns-then-is_empty : goal.returns-then-is_empty
 returns-then-is_empty c =
     let region = c.args.region.now in
     let own : c.push.new.self.items ≡ region ∷ [] = c.in_ok-push.ensures.items ∙ ap (λ l. l ++ c.in_ok-try_clone.field-0 ∷ []) c.new-own.ensures.items ∙ ap (λ d. d ∷ []) c.in_ok-try_clone.ensures.value in
-    IsRest-whole c.args.shape region c.args.rows.items c.push.new.self.items (record { has_size = c.requires.region; some_output = c.shape-shape.ensures.is_cube.some_output })
+    IsRest-whole c.args.shape region c.args.rows.items c.push.new.self.items c.requires.region
     (none_left c.args.rows.items (vec_len c.args.rows) c.is_empty.result c.args.rows.ok.0 c.is_empty.ensures c.if-is_empty.true) own
 
 pub returns : goal.returns

@@ -1,10 +1,14 @@
 use Rattle.std.proofs.Common.{◌∙◌, ap, sym, subst}
 use Rattle.std.proofs.lemmas.Option.{MatchOption-at_some}
 use Rattle.cube.specs.Cube.{IsPlace, difference}
-use Rattle.cover.specs.Cubes.{Cubes}
+use Rattle.cover.specs.Cubes.{Cubes, AreCubes}
 use Rattle.cover.specs.Places.{places}
 use Rattle.cover.proofs.OffSets.{rest-apart}
 use Rattle.cover.proofs.off_set.subtract.Goals as goal
+
+pub left_of-requires-clause-others : goal.left_of-requires-clause-others
+left_of-requires-clause-others c =
+    subst (λ z. AreCubes z c.as_slice.result.now) (c.requires ∙ sym c.shape-shape.ensures.size) c.as_slice.ensures.cubes
 
 pub returns-then-not-meet-clause-places : goal.returns-then-not-meet-clause-places
 returns-then-not-meet-clause-places c = λ p place.

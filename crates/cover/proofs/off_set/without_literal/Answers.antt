@@ -1,15 +1,17 @@
-use Rattle.std.proofs.Common.{◌<◌, length, arith, sym, subst}
+use Rattle.std.proofs.Common.{sym, subst}
 use Rattle.std.proofs.lemmas.Result.{IfOk-weaker}
-use Rattle.cube.specs.Cube.{Cube, holds, difference, IsSubset}
+use Rattle.cube.specs.declared.symbol.Symbol.TheVariants.{Dash}
+use Rattle.cube.specs.Cube.{Cube, holds, difference, IsCube, IsSubset}
 use Rattle.cover.specs.Places.{places}
 use Rattle.cover.specs.Outside.{Extends}
+use Rattle.cover.proofs.SumSplit.{IsCube-with_symbol}
 use Rattle.cover.proofs.OffSets.{Extends-self, holds-without_literal}
 use Rattle.cover.proofs.off_set.without_literal.Goals as goal
 
 pub returns-then-is_outside-clause-extends : goal.returns-then-is_outside-clause-extends
 returns-then-is_outside-clause-extends c =
-    let lt : c.args.i < length c.args.cube.now.symbols = omega (arith, c.requires.cube.0, c.requires.input) in record {
-      over = subst (λ (d : Cube). IsSubset (holds c.args.cube.now) (holds d)) (sym c.in_ok-free.ensures.value) (holds-without_literal c.args.cube.now c.args.i lt);
+    record {
+      over = subst (λ (d : Cube). IsSubset (holds c.args.cube.now) (holds d)) (sym c.in_ok-free.ensures.value) (holds-without_literal c.args.cube.now c.args.i c.requires.input);
       within = λ h. c.is_outside.ensures c.if-is_outside.true;
     }
 
@@ -17,3 +19,10 @@ pub returns-clause-extends : goal.returns-clause-extends
 returns-clause-extends c =
     let s = difference (holds c.args.region.now) (places c.args.rows.now) in
     IfOk-weaker c.try_clone.result _ _ (λ d e. subst (λ (x : Cube). Extends s (holds c.args.cube.now) (holds x)) (sym e) (Extends-self s (holds c.args.cube.now))) c.try_clone.ensures.value
+
+pub returns-then-is_outside-clause-cube : goal.returns-then-is_outside-clause-cube
+returns-then-is_outside-clause-cube c = λ size cube.
+    subst (IsCube size) (sym c.in_ok-free.ensures.value) (IsCube-with_symbol size c.args.cube.now c.args.i Dash cube)
+
+pub returns-clause-cube : goal.returns-clause-cube
+returns-clause-cube c = IfOk-weaker c.try_clone.result _ _ (λ d e size cube. subst (IsCube size) (sym e) cube) c.try_clone.ensures.value

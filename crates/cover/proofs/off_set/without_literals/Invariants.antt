@@ -1,4 +1,5 @@
 use Rattle.std.proofs.Common.{take}
+use Rattle.cube.specs.Size.{Size}
 use Rattle.cube.specs.Cube.{holds, difference}
 use Rattle.cover.specs.Cubes.{AreCubes}
 use Rattle.cover.specs.Places.{places}
@@ -7,6 +8,6 @@ use Rattle.cover.proofs.off_set.without_literals.Given as goal
 
 abbrev pub invariant-loop-cube : goal.invariant-loop-cube
 invariant-loop-cube l = record {
-  are_cubes : AreCubes l.fn.shape l.larger.items;
+  are_cubes : (size : Size) → AreCubes size l.cubes → AreCubes size l.larger.items;
   extends : Extends (difference (holds l.region) (places l.rows)) (places (take l.cube-index l.cubes)) (places l.larger.items);
 }

@@ -1,11 +1,13 @@
-use Rattle.std.proofs.Common.{◌≡◌, ◌∙◌, ◌↔◌, ◌++◌, ◌∷◌, [], IsTrue, ap, sym, subst, take, IfSome, Some, is_some}
+use Rattle.std.proofs.Common.{◌≡◌, List, ◌∙◌, ◌↔◌, ◌++◌, ◌∷◌, [], IsTrue, ap, sym, subst, take, IfSome, Some, is_some}
 use Rattle.std.proofs.lemmas.Bool.{false≢true}
 use Rattle.cube.specs.Cofactor.{cofactor}
 use Rattle.std.proofs.lemmas.List.{take_all}
-use Rattle.cube.specs.Cube.{holds, IsSubset, HasSize, IsCube}
-use Rattle.cover.specs.Cubes.{AreCubes}
+use Rattle.cube.specs.Size.{Size}
+use Rattle.cube.specs.Cube.{Cube, holds, IsSubset, HasSize, IsCube}
+use Rattle.cover.specs.Cubes.{AreCubes, Cubes}
 use Rattle.cover.specs.Cofactor.{cofactors}
 use Rattle.cover.specs.Places.{places, holds_all}
+use Rattle.cover.proofs.OverRegion.{size_of-is}
 use Rattle.cover.proofs.Cofactors.{AreCubes-cofactors, cofactors-keep, cofactors-skip, holds_all-cofactors}
 use Rattle.cover.proofs.list.Cover.cofactor.Goals as goal
 use Rattle.cover.proofs.list.Cover.cofactor.Goals.{in-Some+in_ok-push-in-Some, in-None}
@@ -35,21 +37,28 @@ loop-row-preserved c =
 
 pub from_cubes-requires : goal.from_cubes-requires
 from_cubes-requires c =
+    let size = c.args.self.now.size in
     let rows = c.as_slice-row-items.result.now in
-    let are : AreCubes c.args.self.now.size rows = c.as_slice-row-items.ensures.cubes in
-    subst (λ z. AreCubes z c.loop-row.left.items) (sym c.shape.ensures.size)
-    (AreCubes-cofactors c.args.self.now.size c.args.cube.now rows c.loop-row.left.items c.requires are
-    (c.loop-row.invariant ∙ ap (cofactors c.args.self.now.size c.args.cube.now) (take_all c.loop-row.row-index rows c.loop-row-test.false)))
+    let are : AreCubes size rows = c.as_slice-row-items.ensures.cubes in
+    let same : size ≡ c.shape.result = sym (size_of-is c.args.cube.now size c.requires) ∙ size_of-is c.args.cube.now c.shape.result c.shape.ensures.size in
+    subst (λ z. AreCubes z c.loop-row.left.items) same
+    (AreCubes-cofactors size c.args.cube.now rows c.loop-row.left.items c.requires are
+    (c.loop-row.invariant ∙ ap (cofactors size c.args.cube.now) (take_all c.loop-row.row-index rows c.loop-row-test.false)))
 
-pub returns-clause-places : goal.returns-clause-places
-returns-clause-places c =
+pub returns : goal.returns
+returns c =
     let size = c.args.self.now.size in
     let rows = c.as_slice-row-items.result.now in
     let v : rows ≡ c.args.self.now.cubes = c.as_slice-row-items.ensures.value in
+    let same : size ≡ c.shape.result = sym (size_of-is c.args.cube.now size c.requires) ∙ size_of-is c.args.cube.now c.shape.result c.shape.ensures.size in
     let left : c.loop-row.left.items ≡ cofactors size c.args.cube.now c.args.self.now.cubes =
     c.loop-row.invariant ∙ ap (cofactors size c.args.cube.now) (take_all c.loop-row.row-index rows c.loop-row-test.false ∙ v) in
+    let made : Size → List Cube → Cubes = λ z l. record { size = z; cubes = l } in
     let e : c.from_cubes.result ≡ record { size = size; cubes = cofactors size c.args.cube.now c.args.self.now.cubes } =
-    c.from_cubes.ensures ∙ cc in
-    let cube : IsCube size c.args.cube.now = record { has_size = c.requires; some_output = c.shape-shape.ensures.is_cube.some_output } in
-    subst (λ x. IsTrue (holds_all x.size (places x.cubes)) ↔ IsSubset (holds c.args.cube.now) (places c.args.self.now.cubes)) (sym e)
-    (holds_all-cofactors size c.args.cube.now c.args.self.now.cubes cube (subst (AreCubes size) v c.as_slice-row-items.ensures.cubes))
+    c.from_cubes.ensures ∙ ap (λ z. made z c.loop-row.left.items) (sym same) ∙ ap (made size) left in
+    let cube : IsCube size c.args.cube.now = record { has_size = c.requires; some_output = c.shape.ensures.is_cube.some_output } in
+    record {
+      value = e;
+      places = subst (λ x. IsTrue (holds_all x.size (places x.cubes)) ↔ IsSubset (holds c.args.cube.now) (places c.args.self.now.cubes)) (sym e)
+          (holds_all-cofactors size c.args.cube.now c.args.self.now.cubes cube (subst (AreCubes size) v c.as_slice-row-items.ensures.cubes));
+    }

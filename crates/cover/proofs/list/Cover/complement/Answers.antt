@@ -14,5 +14,5 @@ returns c =
     ∙ Cubes-sum c.args.self.now.size c.shape-shape.result c.in_ok-sum.sum.items (difference (places c.push.new.self.items) (places c.into_cubes-subtrahend.result.items))
     (λ p. not (places c.args.self.now.cubes p)) c.shape-shape.ensures.size c.in_ok-sum.ensures
     (sum_of_outside c.args.self.now.size c.new-minuend.result.items c.push.new.self.items c.into_cubes-subtrahend.result.items c.args.self.now.cubes c.in_ok-everything.everything
-    c.new-minuend.ensures.items c.in_ok-push.ensures.items (c.in_ok-everything.ensures ∙ ap universal c.shape-shape.ensures.size)
+    c.new-minuend.ensures.items c.in_ok-push.ensures.items (c.in_ok-everything.ensures.value ∙ ap universal c.shape-shape.ensures.size)
     (c.into_cubes-subtrahend.ensures.value ∙ ap (λ v. v.cubes) c.in_ok-try_clone.ensures))

@@ -11,7 +11,7 @@ pub covers_cube-requires : goal.covers_cube-requires
 covers_cube-requires c =
     sizes_of_cubes c.args.self.now.size c.args.self.now.cubes (subst (λ l. AreCubes c.args.self.now.size l) c.as_slice.ensures.value c.as_slice.ensures.cubes) c.deref.result.now
     (ap behind c.deref.ensures.value ∙ c.in_ok-rows.ensures ∙ c.as_slice.ensures.value) c.in_ok-region.region
-    (subst (λ r. HasSize r c.args.self.now.size) (ap universal (sym c.shape.ensures.size) ∙ sym c.in_ok-region.ensures) (HasSize-universal c.args.self.now.size))
+    (subst (λ r. HasSize r c.args.self.now.size) (ap universal (sym c.shape.ensures.size) ∙ sym c.in_ok-region.ensures.value) (HasSize-universal c.args.self.now.size))
 
 pub returns : goal.returns
 returns c =
@@ -20,5 +20,5 @@ returns c =
     (λ all h. same_test all (holds_all c.args.self.now.size (places c.args.self.now.cubes))
     (subst (λ l. IsTrue all ↔ IsSubset (holds c.in_ok-region.region) (places l)) same h)
     (subst (λ r. IsTrue (holds_all c.args.self.now.size (places c.args.self.now.cubes)) ↔ IsSubset (holds r) (places c.args.self.now.cubes))
-    (ap universal (sym c.shape.ensures.size) ∙ sym c.in_ok-region.ensures) (holds_all-universal c.args.self.now.size (places c.args.self.now.cubes))))
+    (ap universal (sym c.shape.ensures.size) ∙ sym c.in_ok-region.ensures.value) (holds_all-universal c.args.self.now.size (places c.args.self.now.cubes))))
     c.covers_cube.ensures

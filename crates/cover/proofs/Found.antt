@@ -1,0 +1,48 @@
+-- A cube that a call found has an output, since it has a place.
+use Rattle.std.proofs.Common.{◌≡◌, ◌∙◌, Bool, true, false, ◌&&◌, ◌||◌, IsTrue, IsNone, ◌↔◌, get_or, length, sym, subst, refl, inl, inr}
+use Rattle.std.specs.Prelude.{Option, Some, None, Result, Ok, Err, IsSome, IfSome, IfOk, List}
+use Rattle.std.specs.List.{Contains, list_any}
+use Rattle.std.proofs.lemmas.Bool.{cases_Bool, false≢true, and_parts, and_from, or_right}
+use Rattle.cube.specs.declared.symbol.Symbol.{Symbol}
+use Rattle.cube.specs.Size.{Size}
+use Rattle.cube.specs.Pattern.{matches}
+use Rattle.cube.specs.Cube.{Cube, Place, IsCube, IsDisjoint, SameSize, holds}
+use Rattle.cube.proofs.SharpLemmas.{true_some}
+use Rattle.cover.proofs.Lists.{list_any_from}
+
+-- a cube with a place has its output
+pub output_of_place : (c : Cube) (p : Place) → holds c p ≡ true → list_any (λ b. b) c.outputs ≡ true
+output_of_place c p h = true_some c.outputs p.output (and_parts (matches c.symbols p.point) (get_or c.outputs p.output false) h).1
+
+-- a meet that was found has an output
+pub meet_output : (a b m : Cube) (found : Option Cube) → found ≡ Some m → (IsNone found ↔ IsDisjoint (holds a) (holds b))
+    → ((p : Place) → holds m p ≡ (holds a p && holds b p)) → list_any (λ b. b) m.outputs ≡ true
+meet_output a b m found is none' both = elim (cases_Bool (list_any (λ x. x) m.outputs)) [
+  | inl on ↦ on
+  | inr off ↦
+      let apart : IsDisjoint (holds a) (holds b) =
+      λ p mine theirs. false≢true (sym off ∙ output_of_place m p (both p ∙ and_from (holds a p) (holds b p) mine theirs)) in
+      absurd (false≢true (sym (subst IsNone is (none'.1 apart))))
+]
+
+-- so it is a cube of each size that the first has
+pub meet_IsCube : (size : Size) (a b m : Cube) (found : Option Cube) → (length a.symbols ≡ size.inputs) × (length a.outputs ≡ size.outputs) → SameSize m a → found ≡ Some m
+    → (IsNone found ↔ IsDisjoint (holds a) (holds b)) → ((p : Place) → holds m p ≡ (holds a p && holds b p)) → IsCube size m
+meet_IsCube size a b m found has same is none' both = record {
+  has_size = (same.0 ∙ has.0, same.1 ∙ has.1);
+  some_output = meet_output a b m found is none' both;
+}
+
+-- a cube that was made of symbols and outputs has an output
+pub made_output : (symbols : List Symbol) (outputs : List Bool) (c : Cube) (found : Option Cube) → found ≡ Some c → (IsSome found ↔ Contains outputs true)
+    → c ≡ record { symbols = symbols; outputs = outputs } → list_any (λ b. b) c.outputs ≡ true
+made_output symbols outputs c found is some value =
+    let P : Cube → Type 0 = λ d. list_any (λ b. b) d.outputs ≡ true in
+    subst P (sym value) (list_any_from (λ b. b) outputs true (some.0 (subst IsSome (sym is) refl)) refl)
+
+pub made_outputs : {E : Type 0} (symbols : List Symbol) (outputs : List Bool) (r : Result (Option Cube) E) → IfOk r (λ found. IsSome found ↔ Contains outputs true)
+    → IfOk r (λ found. IfSome found (λ c. c ≡ record { symbols = symbols; outputs = outputs }))
+    → IfOk r (λ found. IfSome found (λ c. IsTrue (list_any (λ b. b) c.outputs)))
+made_outputs symbols outputs (Ok None) some value = tt
+made_outputs symbols outputs (Ok (Some c)) some value = made_output symbols outputs c (Some c) refl some value
+made_outputs symbols outputs (Err e) some value = tt

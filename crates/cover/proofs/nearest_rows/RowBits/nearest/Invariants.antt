@@ -1,5 +1,0 @@
-use Rattle.cover.specs.Reason.{AreAmong}
-use Rattle.cover.proofs.nearest_rows.RowBits.nearest.Given as goal
-
-abbrev pub invariant-loop-w : goal.invariant-loop-w
-invariant-loop-w l = AreAmong l.nearest.rows.items l.rows

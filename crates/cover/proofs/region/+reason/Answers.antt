@@ -1,0 +1,256 @@
+use Rattle.std.proofs.Common.{◌≡◌, ◌≤◌, ◌∙◌, All, IfNone, IfSome, length, ap, sym, subst, refl, arith}
+use Rattle.std.specs.Prelude.{vec_len}
+use Rattle.std.proofs.lemmas.Result.{IfOk-weaker, MatchResult-at_ok}
+use Rattle.std.proofs.lemmas.Option.{slice_get_within}
+use Rattle.cube.specs.declared.symbol.Symbol.TheVariants.{Dash}
+use Rattle.cube.specs.Cube.{SameSize, IsDisjoint, holds, with_symbol, size_of}
+use Rattle.cover.specs.Places.{behind, meeting}
+use Rattle.cover.specs.Reason.{IsReason, Explains, Leads, AreAmong}
+use Rattle.cover.specs.declared.region.Step.TheVariants.{Row}
+use Rattle.cover.proofs.Reasons.{freed_half, share_sides, opposite_literal, sizes_part, SameSize-part, reason_of_more, reason_joined, within_rows, reason_of_row, unexplained_half, extent_half, row_inputs, row_above, size_rest, extent_rest, unexplained_rest, joined_stack, other_inputs, either_output, explains_lent, unexplained_none, row_leads, reason_of_some, sizes_among, meets_among, among_lent, none_left, some_left}
+use Rattle.cover.proofs.region.+reason.Goals as goal
+
+pub by_input-reason-requires : goal.by_input-reason-requires
+by_input-reason-requires t c =
+    let less = extent_half c.args.region.now c.in_ok-first.first c.args.at.0 c.args.at.1 c.requires.dash c.requires.literal c.in_ok-first.ensures.value in
+    (omega (arith, less), (sizes_part c.args.rows.now c.args.region.now c.in_ok-first.first c.requires.sizes c.in_ok-first.ensures.size, c.requires.near))
+
+pub by_input-returns-in_default : goal.by_input-returns-in_default
+by_input-returns-in_default t c =
+    record {
+      found = unexplained_half (behind c.args.rows.now) c.args.region.now c.in_ok-first.first c.args.at.0 c.args.at.1 c.requires.dash c.in_ok-first.ensures.value
+          (subst (λ o. Explains c.in_ok-first.first (behind c.args.rows.now) o) c.in_default.is c.in_ok-found.ensures.found);
+      spent = tt;
+    }
+
+pub by_input-by_other_half-requires : goal.by_input-by_other_half-requires
+by_input-by_other_half-requires t c =
+    let r : IsReason c.in_ok-first.first (behind c.args.rows.now) c.in-Some.one =
+    subst (λ o. Explains c.in_ok-first.first (behind c.args.rows.now) o) c.in-Some.is c.in_ok-found.ensures.found in
+    let size = SameSize-part c.in-Some.one c.in_ok-first.first c.args.region.now r.size c.in_ok-first.ensures.size in
+    let half = subst (λ h. IsReason h (behind c.args.rows.now) c.in-Some.one) c.in_ok-first.ensures.value r in
+    (omega arith, (c.requires.output, (c.requires.sizes, (c.requires.near, (c.requires.dash, (c.requires.literal, (size, half)))))))
+
+pub by_other_half-reason-requires : goal.by_other_half-reason-requires
+by_other_half-reason-requires t c =
+    let less = extent_half c.args.region.now c.in_ok-second.second c.args.at.0 c.opposite.result c.requires.dash
+    (subst (λ s. s ≡ Dash → ⊥) (sym c.opposite.ensures) (opposite_literal c.args.at.1 c.requires.literal)) c.in_ok-second.ensures.value in
+    (omega (arith, less), (sizes_part c.args.rows.now c.args.region.now c.in_ok-second.second c.requires.sizes c.in_ok-second.ensures.size, c.requires.near))
+
+pub by_other_half-returns-in_default : goal.by_other_half-returns-in_default
+by_other_half-returns-in_default t c =
+    record {
+      found = unexplained_half (behind c.args.rows.now) c.args.region.now c.in_ok-second.second c.args.at.0 c.opposite.result c.requires.dash c.in_ok-second.ensures.value
+          (subst (λ o. Explains c.in_ok-second.second (behind c.args.rows.now) o) c.in_default.is c.in_ok-found.ensures.found);
+      spent = tt;
+    }
+
+pub by_other_half-consensus-requires-clause-input : goal.by_other_half-consensus-requires-clause-input
+by_other_half-consensus-requires-clause-input t c =
+    let lt = slice_get_within c.args.region.now.symbols c.args.at.0 Dash c.requires.dash in
+    omega (arith, lt, c.requires.one_size.0)
+
+pub by_other_half-consensus-requires-clause-size : goal.by_other_half-consensus-requires-clause-size
+by_other_half-consensus-requires-clause-size t c =
+    let r : IsReason c.in_ok-second.second (behind c.args.rows.now) c.in-Some.other =
+    subst (λ o. Explains c.in_ok-second.second (behind c.args.rows.now) o) c.in-Some.is c.in_ok-found.ensures.found in
+    let size = SameSize-part c.in-Some.other c.in_ok-second.second c.args.region.now r.size c.in_ok-second.ensures.size in
+    (size.0 ∙ sym c.requires.one_size.0, size.1 ∙ sym c.requires.one_size.1)
+
+pub by_other_half-consensus-requires-clause-sides : goal.by_other_half-consensus-requires-clause-sides
+by_other_half-consensus-requires-clause-sides t c =
+    let q : IsReason c.in_ok-second.second (behind c.args.rows.now) c.in-Some.other =
+    subst (λ o. Explains c.in_ok-second.second (behind c.args.rows.now) o) c.in-Some.is c.in_ok-found.ensures.found in
+    share_sides c.args.region.now (with_symbol c.args.region.now c.args.at.0 c.args.at.1) c.in_ok-second.second c.args.one.now c.in-Some.other c.args.at.0 c.args.at.1
+    c.requires.output c.requires.dash refl
+    (c.in_ok-second.ensures.value ∙ ap (λ s. with_symbol c.args.region.now c.args.at.0 s) c.opposite.ensures) c.requires.one.size q.size c.requires.one.above q.above
+
+pub by_other_half-returns : goal.by_other_half-returns
+by_other_half-returns t c =
+    let rows = behind c.args.rows.now in
+    let region = c.args.region.now in
+    let one = c.args.one.now in
+    let other = c.in-Some.other in
+    let second = c.in_ok-second.second in
+    let at = c.args.at.0 in
+    let r : IsReason second rows other = subst (λ o. Explains second rows o) c.in-Some.is c.in_ok-found.ensures.found in
+    let size = SameSize-part other second region r.size c.in_ok-second.ensures.size in
+    let mine = freed_half region (with_symbol region at c.args.at.1) one at c.args.at.1 c.requires.dash c.requires.literal c.requires.one_size refl c.requires.one.above in
+    let theirs = freed_half region second other at c.opposite.result c.requires.dash
+    (subst (λ s. s ≡ Dash → ⊥) (sym c.opposite.ensures) (opposite_literal c.args.at.1 c.requires.literal)) size c.in_ok-second.ensures.value r.above in
+    record {
+      found = reason_joined rows region one other c.requires.one.within r.within
+          c.in_ok-consensus.field-0 (c.in_ok-consensus.ensures region c.requires.output c.requires.one_size mine theirs);
+      spent = tt;
+    }
+
+pub by_outputs-returns-then-not-has_more_outputs : goal.by_outputs-returns-then-not-has_more_outputs
+by_outputs-returns-then-not-has_more_outputs t c =
+    record {
+      found = reason_of_row (behind c.args.rows.now) c.args.region.now c.args.row.now c.in_ok-try_clone.field-0 c.requires.member c.requires.size c.in_ok-try_clone.ensures.value
+          (row_above (behind c.args.rows.now) c.args.region.now c.args.row.now c.args.row.now c.requires.size c.requires.meets c.requires.closed
+          c.has_more_outputs.result c.has_more_outputs.ensures c.if-not-has_more_outputs.true);
+      spent = tt;
+    }
+
+pub by_outputs-reason-requires : goal.by_outputs-reason-requires
+by_outputs-reason-requires t c =
+    let less = extent_rest (behind c.args.rows.now) c.args.region.now c.args.row.now c.in_ok-rest.rest c.requires.size c.requires.meets c.requires.closed c.in_ok-rest.ensures.value in (
+      omega (arith, less),
+      (
+        sizes_part c.args.rows.now c.args.region.now c.in_ok-rest.rest c.requires.sizes
+            (size_rest (behind c.args.rows.now) c.args.region.now c.args.row.now c.in_ok-rest.rest c.requires.size c.requires.meets c.requires.closed c.in_ok-rest.ensures.value),
+        c.requires.near,
+      ),
+    )
+
+pub by_outputs-returns-in_default : goal.by_outputs-returns-in_default
+by_outputs-returns-in_default t c =
+    record {
+      found = unexplained_rest (behind c.args.rows.now) c.args.region.now c.args.row.now c.in_ok-rest.rest c.requires.size c.requires.meets c.requires.closed c.in_ok-rest.ensures.value
+          (subst (λ o. Explains c.in_ok-rest.rest (behind c.args.rows.now) o) c.in_default.is c.in_ok-found.ensures.found);
+      spent = tt;
+    }
+
+pub by_outputs-contains-requires : goal.by_outputs-contains-requires
+by_outputs-contains-requires t c =
+    let r : IsReason c.in_ok-rest.rest (behind c.args.rows.now) c.in-Some.other =
+    subst (λ o. Explains c.in_ok-rest.rest (behind c.args.rows.now) o) c.in-Some.is c.in_ok-found.ensures.found in
+    SameSize-part c.in-Some.other c.in_ok-rest.rest c.args.region.now r.size
+    (size_rest (behind c.args.rows.now) c.args.region.now c.args.row.now c.in_ok-rest.rest c.requires.size c.requires.meets c.requires.closed c.in_ok-rest.ensures.value)
+
+pub by_outputs-returns-then-contains : goal.by_outputs-returns-then-contains
+by_outputs-returns-then-contains t c =
+    let r : IsReason c.in_ok-rest.rest (behind c.args.rows.now) c.in-Some.other =
+    subst (λ o. Explains c.in_ok-rest.rest (behind c.args.rows.now) o) c.in-Some.is c.in_ok-found.ensures.found in
+    record {
+      found = reason_of_more (behind c.args.rows.now) c.in_ok-rest.rest c.args.region.now c.in-Some.other
+          (size_rest (behind c.args.rows.now) c.args.region.now c.args.row.now c.in_ok-rest.rest c.requires.size c.requires.meets c.requires.closed c.in_ok-rest.ensures.value)
+          r (c.contains.ensures.0 c.if-contains.true);
+      spent = tt;
+    }
+
+pub by_outputs-stack-requires : goal.by_outputs-stack-requires
+by_outputs-stack-requires t c =
+    let r : IsReason c.in_ok-rest.rest (behind c.args.rows.now) c.in-Some.other =
+    subst (λ o. Explains c.in_ok-rest.rest (behind c.args.rows.now) o) c.in-Some.is c.in_ok-found.ensures.found in
+    let size = SameSize-part c.in-Some.other c.in_ok-rest.rest c.args.region.now r.size
+    (size_rest (behind c.args.rows.now) c.args.region.now c.args.row.now c.in_ok-rest.rest c.requires.size c.requires.meets c.requires.closed c.in_ok-rest.ensures.value) in
+    (c.requires.size.0 ∙ sym size.0, c.requires.size.1 ∙ sym size.1)
+
+pub by_outputs-returns : goal.by_outputs-returns
+by_outputs-returns t c =
+    let rows = behind c.args.rows.now in
+    let region = c.args.region.now in
+    let row = c.args.row.now in
+    let rest = c.in_ok-rest.rest in
+    let other = c.in-Some.other in
+    let r : IsReason rest rows other = subst (λ o. Explains rest rows o) c.in-Some.is c.in_ok-found.ensures.found in
+    let joins = joined_stack region row other c.requires.size (row_inputs rows region row rest c.requires.size c.requires.meets c.requires.closed)
+    (other_inputs rows region row rest c.requires.size c.requires.meets c.requires.closed c.in_ok-rest.ensures.value other r.above (c.has_more_outputs.ensures.0 c.if-not-has_more_outputs.false))
+    (either_output rows region row rest c.requires.size c.requires.meets c.requires.closed c.in_ok-rest.ensures.value other r.above)
+    c.stack.result c.stack.ensures.none c.stack.ensures.size c.stack.ensures.places in
+    record {
+      found = reason_joined rows region row other (within_rows rows row c.requires.member) r.within
+          c.in_ok-stack.field-0 (MatchResult-at_ok _ _ c.in_ok-stack.field-0 c.in_ok-stack.was joins);
+      spent = tt;
+    }
+
+pub by_step-next_step-requires-clause-sizes : goal.by_step-next_step-requires-clause-sizes
+by_step-next_step-requires-clause-sizes t c = sizes_among c.args.near.now c.args.rows.now c.args.region.now c.requires.sizes c.requires.near
+
+pub by_step-by_outputs-requires : goal.by_step-by_outputs-requires
+by_step-by_outputs-requires t c =
+    let h : Leads c.args.region.now (behind c.args.near.now) (Row c.in-Row.k) =
+    subst (Leads c.args.region.now (behind c.args.near.now)) c.in-Row.is c.next_step.ensures in
+    let r = row_leads c.args.rows.now c.args.near.now c.args.region.now c.requires.sizes c.requires.near c.requires.meets c.in-Row.k c.index-near-k.result h c.index-near-k.is in
+    (omega arith, (c.requires.sizes, (c.requires.near, r)))
+
+pub reason-survey_rows-requires : goal.reason-survey_rows-requires
+reason-survey_rows-requires t c = sizes_among c.args.near.now c.args.rows.now c.args.region.now c.requires.sizes c.requires.near
+
+pub reason-returns-in-Some : goal.reason-returns-in-Some
+reason-returns-in-Some t c =
+    record {
+      found = reason_of_some c.args.near.now c.args.rows.now c.args.region.now c.in-Some.cube c.requires.near
+          (subst (λ o. IfSome o (λ d. IsReason c.args.region.now (behind c.args.near.now) d)) c.in-Some.is c.in_ok-found.ensures.found);
+      spent = tt;
+    }
+
+pub reason-by_step-requires : goal.reason-by_step-requires
+reason-by_step-requires t c =
+    let region = c.args.region.now in
+    let near = c.args.near.now in
+    let met = c.in_ok-found.field-0.meeting.items in
+    let nearest = c.in_ok-found.field-0.nearest.items in
+    let inside : behind met ≡ meeting (size_of region) region (behind near) =
+    subst (λ o. IfNone o (behind met ≡ meeting (size_of region) region (behind near))) c.in_default.is c.in_ok-found.ensures.meeting in
+    let sizes = sizes_among near c.args.rows.now region c.requires.sizes c.requires.near in
+    let inner : AreAmong nearest met = c.in_ok-found.ensures.nearest in
+    let among : AreAmong nearest c.args.rows.now = λ d k. c.requires.near d (among_lent near met region inside d (inner d k)) in
+    let there = c.in_ok-found.ensures.some (some_left met (vec_len c.in_ok-found.field-0.meeting) c.is_empty.result c.in_ok-found.field-0.meeting.ok.0 c.is_empty.ensures c.if-not-is_empty.true) in
+    let known : AreAmong nearest c.args.rows.now × (All (λ d. IsDisjoint (holds d.now) (holds region) → ⊥) nearest × (1 ≤ length nearest)) =
+    (among, (meets_among nearest near met region sizes inside inner, there)) in (
+      omega arith,
+      (
+        c.in_ok-found.ensures.output,
+        (
+          c.requires.sizes,
+          subst (λ l. AreAmong l c.args.rows.now × (All (λ d. IsDisjoint (holds d.now) (holds region) → ⊥) l × (1 ≤ length l))) (sym c.deref.ensures.value) known,
+        ),
+      ),
+    )
+
+pub by_all_rows-returns-then-is_empty : goal.by_all_rows-returns-then-is_empty
+by_all_rows-returns-then-is_empty t c =
+    let region = c.args.region.now in
+    let rows = c.args.rows.now in
+    let met = c.in_ok-found.field-0.meeting.items in
+    let inside : behind met ≡ meeting (size_of region) region (behind rows) =
+    subst (λ o. IfNone o (behind met ≡ meeting (size_of region) region (behind rows))) c.in_default.is
+    c.in_ok-found.ensures.meeting in
+    record {
+      found = unexplained_none rows met region c.requires inside c.in_ok-found.ensures.output
+          (ap behind (none_left met (vec_len c.in_ok-found.field-0.meeting) c.is_empty.result c.in_ok-found.field-0.meeting.ok.0 c.is_empty.ensures c.if-is_empty.true));
+      spent = tt;
+    }
+
+pub by_all_rows-by_step-requires : goal.by_all_rows-by_step-requires
+by_all_rows-by_step-requires t c =
+    let region = c.args.region.now in
+    let rows = c.args.rows.now in
+    let met = c.in_ok-found.field-0.meeting.items in
+    let near = c.in_ok-found.field-0.nearest.items in
+    let inside : behind met ≡ meeting (size_of region) region (behind rows) =
+    subst (λ o. IfNone o (behind met ≡ meeting (size_of region) region (behind rows))) c.in_default.is
+    c.in_ok-found.ensures.meeting in
+    let among : AreAmong near met = c.in_ok-found.ensures.nearest in
+    let there = c.in_ok-found.ensures.some (some_left met (vec_len c.in_ok-found.field-0.meeting) c.is_empty.result c.in_ok-found.field-0.meeting.ok.0 c.is_empty.ensures c.if-is_empty.false) in
+    let sizes = sizes_among met rows region c.requires (among_lent rows met region inside) in
+    let known : AreAmong near met × (All (λ d. IsDisjoint (holds d.now) (holds region) → ⊥) near × (1 ≤ length near)) =
+    (among, (meets_among near rows met region c.requires inside among, there)) in (
+      omega arith,
+      (
+        c.in_ok-found.ensures.output,
+        (
+          subst (λ l. All (λ d. SameSize d.now region) l) (sym c.deref.ensures.value) sizes,
+          subst (λ l. AreAmong l c.deref.result.now × (All (λ d. IsDisjoint (holds d.now) (holds region) → ⊥) l × (1 ≤ length l))) (sym c.deref-2.ensures.value)
+              (subst (λ l. AreAmong near l × (All (λ d. IsDisjoint (holds d.now) (holds region) → ⊥) near × (1 ≤ length near))) (sym c.deref.ensures.value) known),
+        ),
+      ),
+    )
+
+pub by_all_rows-returns : goal.by_all_rows-returns
+by_all_rows-returns t c =
+    let region = c.args.region.now in
+    let rows = c.args.rows.now in
+    let met = c.in_ok-found.field-0.meeting.items in
+    let inside : behind met ≡ meeting (size_of region) region (behind rows) =
+    subst (λ o. IfNone o (behind met ≡ meeting (size_of region) region (behind rows))) c.in_default.is
+    c.in_ok-found.ensures.meeting in
+    record {
+      found = IfOk-weaker c.by_step.result _ _
+          (explains_lent rows c.deref.result.now region c.requires (ap behind c.deref.ensures.value ∙ inside))
+          c.by_step.ensures.found;
+      spent = c.by_step.ensures.spent;
+    }

@@ -1,0 +1,18 @@
+use Rattle.std.proofs.Common.{true}
+use Rattle.std.proofs.lemmas.Result.{IfOk-weaker}
+use Rattle.cover.specs.Places.{places}
+use Rattle.cover.specs.Complete.{smoothing_at}
+use Rattle.cover.proofs.SumBranches.{IsBranch-absorbed}
+use Rattle.cover.proofs.SumFreed.{IsBranch-either, freed-done}
+use Rattle.cover.proofs.sums.branch.smoothing_at.Goals as goal
+
+pub absorb_if_short-requires : goal.absorb_if_short-requires
+absorb_if_short-requires c =
+    (IsBranch-either c.args.shape c.args.i c.requires.input c.args.rows.now c.loop-row.all.items c.requires.rows
+    (freed-done c.args.i (λ s. true) c.args.rows.now c.loop-row.all.items c.loop-row.row-index c.loop-row-test.false c.loop-row.invariant)).are_cubes
+
+pub returns : goal.returns
+returns c =
+    let branch = IsBranch-either c.args.shape c.args.i c.requires.input c.args.rows.now c.loop-row.all.items c.requires.rows
+    (freed-done c.args.i (λ s. true) c.args.rows.now c.loop-row.all.items c.loop-row.row-index c.loop-row-test.false c.loop-row.invariant) in
+    IfOk-weaker c.absorb_if_short.result _ _ (λ kept h. IsBranch-absorbed c.args.shape c.args.i c.args.rows.now (smoothing_at c.args.i (places c.args.rows.now)) c.loop-row.all.items kept.items branch h) c.absorb_if_short.ensures

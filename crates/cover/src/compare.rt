@@ -1,0 +1,62 @@
+//! Whether two lists agree.
+pub(crate) mod equal_rows;
+pub(crate) mod intersects;
+pub(crate) mod meets_within;
+pub(crate) mod pairwise;
+
+ghost use Rattle.std.specs.Prelude.{◌≡◌, ◌↔◌, ◌||◌, IsTrue, IfOk};
+ghost use Rattle.cube.specs.Cube.{IsSubset};
+ghost use Rattle.cover.specs.Places.{places, agree_outside as agree_outside_of};
+
+use crate::compare::equal_rows::rows_not_among;
+use crate::compare::pairwise::{Relation, are_related};
+use crate::list::Cover;
+use crate::tautology::{references_to, references_to_both};
+use std::alloc::AllocError;
+
+/// Whether each place of `list` is in `other` or in `free`. Rows that also stand in one of these, in
+/// any order, take time in the lengths of the lists.
+///
+/// # Errors
+///
+/// [`AllocError`] if memory is refused.
+pub fn is_within_either(list: &Cover, other: &Cover, free: &Cover) -> Result<bool, AllocError>
+    requires other { other.now.size ≡ list.now.size }
+    requires free { free.now.size ≡ list.now.size }
+    ensures { IfOk result
+        (λ held. IsTrue held
+        ↔ IsSubset (places list.now.cubes) (λ p. places free.now.cubes p
+        || places other.now.cubes p)) }
+{
+    let alloc = list.allocator();
+    let shape = list.shape();
+    let rows = references_to(list)?;
+    let all = references_to_both(free, other)?;
+    let rest = rows_not_among(alloc, shape, &rows, &all)?;
+    are_related(
+        alloc,
+        shape,
+        Relation::Contained,
+        shape.inputs(),
+        &rest,
+        &all,
+    )
+}
+
+/// Whether the lists agree outside `free`: each place that is in no cube of `free` is in both
+/// lists or in neither (equivalence modulo don't-cares). Rows that both lists have, in any order,
+/// take time in the lengths of the lists.
+pub fn agree_outside(list: &Cover, other: &Cover, free: &Cover) -> Result<bool, AllocError>
+    requires other { other.now.size ≡ list.now.size }
+    requires free { free.now.size ≡ list.now.size }
+    ensures { IfOk result
+        (λ agree. agree
+        ≡ agree_outside_of list.now.size (places list.now.cubes) (places other.now.cubes)
+        (places free.now.cubes)) }
+{
+    let (_list, _other) = (list.shape(), other.shape());
+    if !is_within_either(list, other, free)? {
+        return Ok(false);
+    }
+    is_within_either(other, list, free)
+}

@@ -1,0 +1,28 @@
+//! `Cover::intersects`: whether two lists have a place in common. (`sums/apart` parts one list by
+//! its inputs.)
+ghost use Rattle.std.specs.Prelude.{◌≡◌, IfOk};
+ghost use Rattle.cover.specs.Places.{places, share_place};
+
+use crate::compare::pairwise::{Relation, are_related};
+use crate::list::Cover;
+use crate::tautology::references_to;
+use std::alloc::AllocError;
+
+impl Cover {
+    /// Whether some place is in both lists. Lists whose rows part at the inputs take time in their
+    /// lengths, and at worst each pair of rows is looked at.
+    pub fn intersects(&self, other: &Cover) -> Result<bool, AllocError>
+        requires { other.now.size ≡ self.now.size }
+        ensures { IfOk result
+            (λ some. some
+            ≡ share_place self.now.size (places self.now.cubes) (places other.now.cubes)) }
+    {
+        let alloc = self.allocator();
+        let shape = self.shape();
+        let rows = references_to(self)?;
+        let others = references_to(other)?;
+        let depth = shape.inputs();
+        let apart = are_related(alloc, shape, Relation::Disjoint, depth, &rows, &others)?;
+        Ok(!apart)
+    }
+}

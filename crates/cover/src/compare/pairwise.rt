@@ -1,0 +1,361 @@
+//! Two lists beside one another: whether all places of the one are in the other, or none is.
+//!
+//! The rows of the first list are split three ways by their symbol at an input. To those with `0`
+//! or `1` there the rows of the second list with the other literal don't count. So each pair of
+//! rows comes together once at most, and both lists get shorter. The input is taken at which most
+//! pairs have opposite literals. If few rows are left, each is asked by itself.
+ghost use Rattle.std.specs.Prelude.{◌≡◌, ◌↔◌, ◌<◌, ◌≤◌, ◌∷◌, [], IsTrue, IfOk, IfSome, OnOk, All, filter, length, map, slice_index_or};
+ghost use Rattle.cube.specs.Size.{Size};
+ghost use Rattle.cube.specs.Cube.{HasSize, SameSize, IsSubset, IsDisjoint, holds, size_of};
+ghost use Rattle.cube.specs.Sum.{is_subset};
+ghost use Rattle.cover.specs.Places.{places, behind};
+ghost use Rattle.cover.specs.Marks.{is_symbol};
+ghost use Rattle.cover.specs.Relation.{AreRelated};
+ghost use Rattle.cover.specs.Reason.{AreAmong, AreKnown};
+
+use crate::literal_counts::LiteralCounts;
+use crate::region::learned::Learned;
+use crate::region::nearest_rows::RowBits;
+use crate::region::splitting_input::{literal_words, shares_literal};
+use crate::region::{covers_cube_near, is_seen_to_cover};
+use crate::symbols::{having, open_at};
+use cube::{Cube, Shape, Symbol};
+use std::alloc::{AllocError, Global};
+
+// Lists of so many rows are not split.
+const SMALL: usize = 8;
+
+/// How the places of a list stand to those of another: all are in it, or none is.
+#[derive(Clone, Copy)]
+pub(crate) enum Relation {
+    Contained,
+    Disjoint,
+}
+
+// Whether the row has no place of the others.
+pub(crate) fn misses(row: &Cube, others: &[&Cube]) -> bool
+    requires { All (λ d. SameSize row.now d.now) others.now }
+    ensures { IsTrue result ↔ IsDisjoint (holds row.now) (places (behind others.now)) }
+{
+    for other in others {
+        if !row.disjoint(other) {
+            return false;
+        }
+    }
+    true
+}
+
+// Whether no row has a place of the others, by pairs.
+fn are_disjoint(rows: &[&Cube], others: &[&Cube]) -> bool
+    requires { (size : Size) × All (λ d. HasSize d.now size) rows.now
+        × All (λ d. HasSize d.now size) others.now }
+    ensures { IsTrue result ↔ IsDisjoint (places (behind rows.now)) (places (behind others.now)) }
+{
+    for row in rows {
+        if !misses(row, others) {
+            return false;
+        }
+    }
+    true
+}
+
+// Of so few rows all are looked at.
+const FEW: usize = 64;
+
+// Whether both lists are so long that it pays to keep which rows have a literal.
+fn are_many(rows: usize, others: usize) -> bool {
+    rows.min(others) > FEW
+}
+
+// The rows that have a literal of the region, as it is meant: of each other row all literals are
+// open.
+fn rows_sharing_literal<'a>(
+    alloc: Global,
+    shape: Shape,
+    rows: &[&'a Cube],
+    region: &Cube,
+) -> Result<Vec<&'a Cube>, AllocError>
+    ensures { IfOk result (λ some. AreAmong some.items rows.now) }
+{
+    let mut some = Vec::new(alloc);
+    let words = literal_words(alloc, shape, region)?;
+    for row in rows {
+        if shares_literal(row, &words) {
+            some.push(*row)?;
+        }
+    }
+    Ok(some)
+}
+
+// The bits of the rows, if these and the regions that are asked for are many.
+fn bits_of(
+    alloc: Global,
+    shape: Shape,
+    regions: usize,
+    rows: &[&Cube],
+) -> Result<Option<RowBits>, AllocError> {
+    if are_many(regions, rows.len()) {
+        return Ok(Some(RowBits::of(alloc, shape, rows)?));
+    }
+    Ok(None)
+}
+
+// Whether the rows hold the region. If they are many, those nearest to it often do so alone, which
+// takes few looks; else those that have a literal of it come first.
+fn holds_region(
+    alloc: Global,
+    shape: Shape,
+    rows: &[&Cube],
+    bits: &Option<RowBits>,
+    region: &Cube,
+    learned: &mut Learned,
+) -> Result<bool, AllocError>
+    requires sizes { All (λ d. SameSize d.now region.now) rows.now }
+    requires known { AreKnown (size_of region.now) learned.old.known.items (behind rows.now) }
+    ensures known { OnOk result
+        (AreKnown (size_of region.now) learned.new.known.items (behind rows.now)) }
+    ensures held { IfOk result
+        (λ held. IsTrue held ↔ IsSubset (holds region.now) (places (behind rows.now))) }
+{
+    let Some(bits) = bits else {
+        return covers_cube_near(alloc, rows, &[], 0, region, learned);
+    };
+    let nearest = bits.nearest(alloc, rows, region)?;
+    if is_seen_to_cover(alloc, &nearest, region, rows.len())? {
+        return Ok(true);
+    }
+    let near = rows_sharing_literal(alloc, shape, rows, region)?;
+    covers_cube_near(alloc, rows, &near, bits.fewest_literals(), region, learned)
+}
+
+// Whether the others hold each row, one by one.
+fn are_contained(
+    alloc: Global,
+    shape: Shape,
+    rows: &[&Cube],
+    others: &[&Cube],
+) -> Result<bool, AllocError>
+    requires rows { All (λ d. HasSize d.now shape) rows.now }
+    requires others { All (λ d. HasSize d.now shape) others.now }
+    ensures { IfOk result
+        (λ held. IsTrue held ↔ IsSubset (places (behind rows.now)) (places (behind others.now))) }
+{
+    let bits = bits_of(alloc, shape, rows.len(), others)?;
+    let mut learned = Learned::new(alloc);
+    for row in rows {
+        if !holds_region(alloc, shape, others, &bits, row, &mut learned)? {
+            return Ok(false);
+        }
+    }
+    Ok(true)
+}
+
+/// Of each region, whether the rows hold it. What a search learns of the rows for one region serves
+/// those that follow.
+pub(crate) fn each_held(
+    alloc: Global,
+    shape: Shape,
+    rows: &[&Cube],
+    regions: &[Cube],
+) -> Result<Vec<bool>, AllocError>
+    requires rows { All (λ d. HasSize d.now shape) rows.now }
+    requires regions { All (λ d. HasSize d shape) regions.now }
+    ensures { IfOk result (λ held. held.items
+        ≡ map (λ d. is_subset shape (holds d) (places (behind rows.now))) regions.now) }
+{
+    let bits = bits_of(alloc, shape, regions.len(), rows)?;
+    let mut learned = Learned::new(alloc);
+    let mut held = Vec::with_capacity(alloc, regions.len())?;
+    for region in regions {
+        let answer = holds_region(alloc, shape, rows, &bits, region, &mut learned)?;
+        held.push(answer)?;
+    }
+    Ok(held)
+}
+
+// Whether the lists are related, row by row.
+fn row_by_row(
+    alloc: Global,
+    shape: Shape,
+    relation: Relation,
+    rows: &[&Cube],
+    others: &[&Cube],
+) -> Result<bool, AllocError>
+    requires rows { All (λ d. HasSize d.now shape) rows.now }
+    requires others { All (λ d. HasSize d.now shape) others.now }
+    ensures { IfOk result
+        (λ held. IsTrue held ↔ AreRelated relation (behind rows.now) (behind others.now)) }
+{
+    match relation {
+        Relation::Contained => are_contained(alloc, shape, rows, others),
+        Relation::Disjoint => Ok(are_disjoint(rows, others)),
+    }
+}
+
+// At most so many rows are looked at to choose an input.
+const SAMPLE: usize = 64;
+
+// Rows from all over the list, at most [`SAMPLE`].
+fn sample<'a>(alloc: Global, rows: &[&'a Cube]) -> Result<Vec<&'a Cube>, AllocError>
+    ensures { IfOk result (λ some. (size : Size) → All (λ d. HasSize d.now size) rows.now
+        → All (λ d. HasSize d.now size) some.items) }
+{
+    let step = rows.len() / SAMPLE + 1;
+    let mut some = Vec::new(alloc);
+    for k in 0..SAMPLE {
+        if let Some(row) = rows.get(k.saturating_mul(step)) {
+            some.push(*row)?;
+        }
+    }
+    Ok(some)
+}
+
+// How many pairs of a row of each list have opposite literals at input `i`.
+fn opposites(rows: &LiteralCounts, others: &LiteralCounts, i: usize) -> u64
+    requires { All (λ n. i < n)
+        (length rows.now.zeros.items ∷ length rows.now.ones.items ∷ length others.now.zeros.items ∷
+        length others.now.ones.items ∷ []) }
+{
+    let low = (rows.zeros[i] as u64).saturating_mul(others.ones[i] as u64);
+    let high = (rows.ones[i] as u64).saturating_mul(others.zeros[i] as u64);
+    low.saturating_add(high)
+}
+
+// Where both lists are long, a split pays if it parts so much of their pairs.
+const PART: u64 = 32;
+
+// How many of some pairs have to be parted, so that it pays to go through all rows once more. A row
+// may ask for all of the others, so there have to be as many as two rows' pairs, and more where a
+// row asks for 64 of the others at once.
+fn least_weight(relation: Relation, pairs: u64, rows: usize, others: usize) -> u64 {
+    match relation {
+        Relation::Disjoint => 0,
+        Relation::Contained => {
+            if are_many(rows, others) {
+                pairs / PART
+            } else {
+                pairs.saturating_mul(2) / (rows as u64).max(1)
+            }
+        }
+    }
+}
+
+// The input at which most pairs of counted rows have opposite literals, if these are more than so
+// many.
+fn most_opposite(
+    mine: &LiteralCounts,
+    theirs: &LiteralCounts,
+    inputs: usize,
+    least: u64,
+) -> Option<usize>
+    requires { All (λ n. inputs ≤ n)
+        (length mine.now.zeros.items ∷ length mine.now.ones.items ∷ length theirs.now.zeros.items ∷
+        length theirs.now.ones.items ∷ []) }
+    ensures { IfSome result (λ i. i < inputs) }
+{
+    let mut best = None;
+    let mut most = least;
+    for i in 0..inputs {
+        let weight = opposites(mine, theirs, i);
+        if weight > most {
+            best = Some(i);
+            most = weight;
+        }
+    }
+    best
+}
+
+// The input at which most pairs of a row of each list have opposite literals, as far as some of the
+// rows show, if enough have.
+fn parting_input(
+    alloc: Global,
+    shape: Shape,
+    relation: Relation,
+    rows: &[&Cube],
+    others: &[&Cube],
+) -> Result<Option<usize>, AllocError>
+    requires rows { All (λ d. HasSize d.now shape) rows.now }
+    requires others { All (λ d. HasSize d.now shape) others.now }
+    ensures { IfOk result (λ found. IfSome found (λ i. i < shape.inputs)) }
+{
+    let (some, more) = (sample(alloc, rows)?, sample(alloc, others)?);
+    let inputs = shape.inputs();
+    let (mine, theirs) = (
+        LiteralCounts::of(alloc, &some, inputs)?,
+        LiteralCounts::of(alloc, &more, inputs)?,
+    );
+    let pairs = (some.len() as u64).saturating_mul(more.len() as u64);
+    let least = least_weight(relation, pairs, rows.len(), others.len());
+    Ok(most_opposite(&mine, &theirs, inputs, least))
+}
+
+/// Whether the lists are related. On the way down at most `depth` inputs are split at.
+#[cycle(are_related)]
+pub(crate) fn are_related(
+    alloc: Global,
+    shape: Shape,
+    relation: Relation,
+    depth: usize,
+    rows: &[&Cube],
+    others: &[&Cube],
+) -> Result<bool, AllocError>
+    requires rows { All (λ d. HasSize d.now shape) rows.now }
+    requires others { All (λ d. HasSize d.now shape) others.now }
+    ensures { IfOk result
+        (λ held. IsTrue held ↔ AreRelated relation (behind rows.now) (behind others.now)) }
+{
+    if depth == 0 || rows.len() <= SMALL || others.len() <= SMALL {
+        return row_by_row(alloc, shape, relation, rows, others);
+    }
+    let Some(i) = parting_input(alloc, shape, relation, rows, others)? else {
+        return row_by_row(alloc, shape, relation, rows, others);
+    };
+    let rest = depth - 1;
+    if !are_related_at(
+        alloc,
+        shape,
+        relation,
+        rest,
+        (i, Symbol::Zero),
+        rows,
+        others,
+    )? {
+        return Ok(false);
+    }
+    if !are_related_at(alloc, shape, relation, rest, (i, Symbol::One), rows, others)? {
+        return Ok(false);
+    }
+    are_related_at(
+        alloc,
+        shape,
+        relation,
+        rest,
+        (i, Symbol::Dash),
+        rows,
+        others,
+    )
+}
+
+// Whether those rows that have the symbol at the input are related to the others.
+#[cycle(are_related)]
+fn are_related_at(
+    alloc: Global,
+    shape: Shape,
+    relation: Relation,
+    depth: usize,
+    at: (usize, Symbol),
+    rows: &[&Cube],
+    others: &[&Cube],
+) -> Result<bool, AllocError>
+    requires input { at.0 < shape.inputs }
+    requires rows { All (λ d. HasSize d.now shape) rows.now }
+    requires others { All (λ d. HasSize d.now shape) others.now }
+    ensures { IfOk result (λ held. IsTrue held
+        ↔ AreRelated relation
+        (behind (filter (λ d. is_symbol at.1 (slice_index_or d.now.symbols at.0 Symbol.Dash))
+        rows.now)) (behind others.now)) }
+{
+    let near = having(alloc, rows, at.0, at.1)?;
+    let far = open_at(alloc, others, at.0, at.1)?;
+    are_related(alloc, shape, relation, depth, &near, &far)
+}

@@ -1,0 +1,539 @@
+//! Why cubes hold every place of a region: a cube that holds the region, and of which they hold
+//! each place (an implicant of the list).
+//!
+//! A region is a cube. A row that holds it is such a cube. Else the region is split at an input,
+//! and each half is asked by itself. If the cube for one half has no literal at that input, it
+//! holds the whole region, and the other half is never asked: so a split that had no part in an
+//! answer is undone at once, wherever it was made (Marques-Silva and Sakallah 1996). Else the
+//! consensus of both cubes is the answer, which has `-` at the input and elsewhere what either asks
+//! (Brayton et al. 1984). A row with one open literal holds one of the halves, so that the other
+//! decides (Davis, Logemann and Loveland 1962). If a row has no open literal, the rest of the
+//! outputs is asked.
+//!
+//! Each question looks at the rows once. While some rows of a region have few open literals, its
+//! parts look at those rows alone, and at all rows that meet the region only once these have more.
+pub(crate) mod learned;
+pub(crate) mod nearest_rows;
+pub(crate) mod splitting_input;
+
+ghost use Rattle.std.specs.Prelude.{◌≡◌, ◌≢◌, ◌↔◌, ℕ, ◌≤◌, ◌<◌, false, IsTrue, IfOk, IfErr, IfSome, IfNone, OnOk, ◌++◌, ◌∷◌, [], length, slice_get, slice_index_or, Some, Contains, All};
+ghost use Rattle.std.specs.List.{list_any};
+ghost use Rattle.cube.specs.Cube.{Cube as Row, SameSize, IsSubset, IsDisjoint, holds, with_symbol, size_of};
+ghost use Rattle.cube.specs.Sharp.{opposite as opposite_of};
+ghost use Rattle.cover.specs.Places.{places, meeting as meeting_of, behind};
+ghost use Rattle.cover.specs.Reason.{IsReason, Explains, Joins, IsClosed, Leads, Share, AreAmong, AreKnown};
+
+use crate::region::learned::{Learned, ask};
+use crate::region::splitting_input::{Hint, next_hint, open_literals};
+use cube::{Cube, Symbol};
+use std::alloc::{AllocError, Global};
+
+// What a look at each row finds.
+#[derive(Drop)]
+struct Survey<'a> {
+    // A copy of a row that holds the region, and then nothing else counts.
+    found: Option<Cube>,
+    // The rows that meet the region.
+    meeting: Vec<&'a Cube>,
+    // Those of them with fewest open literals, and how many these are.
+    nearest: Vec<&'a Cube>,
+    fewest: u32,
+}
+
+impl<'a> Survey<'a> {
+    // Adds a row that meets the region, with so many open literals.
+    fn add(&mut self, row: &'a Cube, open: u32) -> Result<(), AllocError>
+        requires { AreAmong self.old.nearest.items self.old.meeting.items }
+        ensures found { self.new.found ≡ self.old.found }
+        ensures meeting { OnOk result (self.new.meeting.items ≡ self.old.meeting.items
+            ++ row.entry ∷ []) }
+        ensures nearest { OnOk result (AreAmong self.new.nearest.items self.new.meeting.items) }
+        ensures some { OnOk result (1 ≤ length self.new.nearest.items) }
+    {
+        self.meeting.push(row)?;
+        if open > self.fewest && !self.nearest.is_empty() {
+            return Ok(());
+        }
+        if open < self.fewest {
+            self.nearest.clear();
+        }
+        self.fewest = open;
+        self.nearest.push(row)?;
+        Ok(())
+    }
+}
+
+// Looks at each row once.
+fn survey_rows<'a>(
+    alloc: Global,
+    rows: &[&'a Cube],
+    region: &Cube,
+) -> Result<Survey<'a>, AllocError>
+    requires { All (λ d. SameSize d.now region.now) rows.now }
+    ensures found { IfOk result
+        (λ s. IfSome s.found (λ c. IsReason region.now (behind rows.now) c)) }
+    ensures meeting { IfOk result
+        (λ s. IfNone s.found
+        (behind s.meeting.items ≡ meeting_of (size_of region.now) region.now (behind rows.now))) }
+    ensures nearest { IfOk result (λ s. AreAmong s.nearest.items s.meeting.items) }
+    ensures some { IfOk result (λ s. 1 ≤ length s.meeting.items → 1 ≤ length s.nearest.items) }
+    ensures output { IfOk result (λ _. IsTrue (list_any (λ b. b) region.now.outputs)) }
+{
+    let shape = region.shape();
+    let mut survey = Survey {
+        found: None,
+        meeting: Vec::new(alloc),
+        nearest: Vec::new(alloc),
+        fewest: u32::MAX,
+    };
+    for row in rows {
+        if !row.disjoint(region) {
+            let open = open_literals(shape, row, region, survey.fewest);
+            if open == 0 && row.contains(region) {
+                survey.found = Some(row.try_clone()?);
+                return Ok(survey);
+            }
+            survey.add(*row, open)?;
+        }
+    }
+    Ok(survey)
+}
+
+// The first input at which the row has a literal and the region has none.
+fn open_literal(row: &Cube, region: &Cube) -> Option<usize>
+    requires { SameSize row.now region.now }
+    ensures dash { IfSome result (λ i. slice_get region.now.symbols i ≡ Some Symbol.Dash) }
+    ensures literal { IfSome result
+        (λ i. slice_index_or row.now.symbols i Symbol.Dash ≢ Symbol.Dash) }
+    ensures none { IfNone result ((i : ℕ) → i < length region.now.symbols
+        → slice_index_or region.now.symbols i Symbol.Dash ≡ Symbol.Dash
+        → slice_index_or row.now.symbols i Symbol.Dash ≡ Symbol.Dash) }
+{
+    let inputs = region.shape().inputs();
+    let mut at = 0;
+    while at < inputs {
+        let Some(i) = row.next_literal(at) else {
+            return None;
+        };
+        if region.symbol(i) == Symbol::Dash {
+            return Some(i);
+        }
+        at = i + 1;
+    }
+    None
+}
+
+// What is next for a region.
+#[derive(Clone, Copy)]
+pub(crate) enum Step {
+    // The row at this index has no open literal.
+    Row(usize),
+    // The input splits the region, and the half with this literal is asked first.
+    Split(usize, Symbol),
+}
+
+// What is next for a region that all of the nearest rows meet.
+fn next_step(rows: &[&Cube], near: &[&Cube], fewest: u32, region: &Cube) -> Step
+    requires sizes { All (λ d. SameSize d.now region.now) near.now }
+    requires some { 1 ≤ length near.now }
+    ensures { Leads region.now (behind near.now) result }
+{
+    match next_hint(region.shape(), near, rows, fewest, region) {
+        Hint::Row(k) => {
+            if k < near.len() && open_literal(near[k], region).is_none() {
+                return Step::Row(k);
+            }
+        }
+        Hint::Split(i, literal) => {
+            if i < region.shape().inputs()
+                && region.symbol(i) == Symbol::Dash
+                && literal != Symbol::Dash
+            {
+                return Step::Split(i, literal);
+            }
+        }
+    }
+    match open_literal(near[0], region) {
+        None => Step::Row(0),
+        Some(i) => Step::Split(i, Symbol::Zero),
+    }
+}
+
+// The other literal.
+pub(crate) fn opposite(symbol: Symbol) -> Symbol
+    ensures { result ≡ opposite_of symbol }
+{
+    match symbol {
+        Symbol::Dash => Symbol::Dash,
+        Symbol::Zero => Symbol::One,
+        Symbol::One => Symbol::Zero,
+    }
+}
+
+// The cube that has `-` at the input and elsewhere what either of the two asks.
+fn consensus(i: usize, one: &Cube, other: &Cube) -> Result<Option<Cube>, AllocError>
+    requires input { i < length one.now.symbols }
+    requires size { SameSize other.now one.now }
+    requires sides { Share (slice_index_or one.now.symbols i Symbol.Dash)
+        (slice_index_or other.now.symbols i Symbol.Dash) }
+    ensures { IfOk result (λ found. (region : Row) → IsTrue (list_any (λ b. b) region.outputs)
+        → SameSize one.now region → IsSubset (holds region) (holds (with_symbol one.now i Symbol.Dash))
+        → IsSubset (holds region) (holds (with_symbol other.now i Symbol.Dash))
+        → Joins region one.now other.now found) }
+{
+    let low = one.with_symbol(i, Symbol::Dash)?;
+    let high = other.with_symbol(i, Symbol::Dash)?;
+    low.meet(&high)
+}
+
+/// Why splits came to no answer.
+#[derive(Drop)]
+pub(crate) enum Stop {
+    /// A growth of memory was refused.
+    Memory,
+    /// They would look at more rows than they may.
+    Spent,
+}
+
+impl From<AllocError> for Stop {
+    ghost use Rattle.cover.specs.declared.region.Stop.TheVariants.{Memory};
+
+    ghost from_gives = { λ _ e. e ≡ Memory };
+
+    fn from(_: AllocError) -> Stop {
+        Stop::Memory
+    }
+}
+
+/// What splits may take.
+#[derive(Clone, Copy)]
+pub(crate) struct Means {
+    pub(crate) alloc: Global,
+    // Whether they may look at so many rows only.
+    pub(crate) limited: bool,
+}
+
+// So many rows are looked at.
+fn spend(means: Means, looks: &mut u64, rows: usize) -> Result<(), Stop>
+    ensures { IfErr result (λ _. IsTrue means.limited) }
+{
+    match looks.checked_sub(rows as u64) {
+        Some(left) => {
+            *looks = left;
+            Ok(())
+        }
+        None => {
+            if means.limited {
+                Err(Stop::Spent)
+            } else {
+                Ok(())
+            }
+        }
+    }
+}
+
+// A cube that holds the region and of which the rows hold each place, or `None` if they lack a
+// place of the region. Some of the rows are near; they alone are looked at while one of them has at
+// most so many open literals.
+#[cycle(reason)]
+pub(crate) fn reason(
+    means: Means,
+    rows: &[&Cube],
+    near: &[&Cube],
+    bound: u32,
+    region: &Cube,
+    looks: &mut u64,
+) -> Result<Option<Cube>, Stop>
+    requires sizes { All (λ d. SameSize d.now region.now) rows.now }
+    requires near { AreAmong near.now rows.now }
+    ensures found { IfOk result (λ found. Explains region.now (behind rows.now) found) }
+    ensures spent { IfErr result (λ stop. stop ≡ Stop.Spent → IsTrue means.limited) }
+{
+    spend(means, looks, near.len())?;
+    let Survey {
+        found,
+        meeting,
+        nearest,
+        fewest,
+    } = survey_rows(means.alloc, near, region)?;
+    if let Some(cube) = found {
+        return Ok(Some(cube));
+    }
+    if fewest <= bound && !meeting.is_empty() {
+        let rest = fewest.min(bound.saturating_sub(1));
+        return by_step(means, rows, &nearest, fewest, rest, region, looks);
+    }
+    by_all_rows(means, rows, region, looks)
+}
+
+// The reason by a look at each row.
+#[cycle(reason)]
+fn by_all_rows(
+    means: Means,
+    rows: &[&Cube],
+    region: &Cube,
+    looks: &mut u64,
+) -> Result<Option<Cube>, Stop>
+    requires { All (λ d. SameSize d.now region.now) rows.now }
+    ensures found { IfOk result (λ found. Explains region.now (behind rows.now) found) }
+    ensures spent { IfErr result (λ stop. stop ≡ Stop.Spent → IsTrue means.limited) }
+{
+    spend(means, looks, rows.len())?;
+    let Survey {
+        found,
+        meeting,
+        nearest,
+        fewest,
+    } = survey_rows(means.alloc, rows, region)?;
+    if let Some(cube) = found {
+        return Ok(Some(cube));
+    }
+    if meeting.is_empty() {
+        return Ok(None);
+    }
+    by_step(means, &meeting, &nearest, fewest, fewest, region, looks)
+}
+
+// The reason by the next step, if all of the near rows meet the region.
+#[cycle(reason)]
+fn by_step(
+    means: Means,
+    rows: &[&Cube],
+    near: &[&Cube],
+    fewest: u32,
+    bound: u32,
+    region: &Cube,
+    looks: &mut u64,
+) -> Result<Option<Cube>, Stop>
+    requires output { IsTrue (list_any (λ b. b) region.now.outputs) }
+    requires sizes { All (λ d. SameSize d.now region.now) rows.now }
+    requires near { AreAmong near.now rows.now }
+    requires meets { All (λ d. IsDisjoint (holds d.now) (holds region.now) → ⊥) near.now }
+    requires some { 1 ≤ length near.now }
+    ensures found { IfOk result (λ found. Explains region.now (behind rows.now) found) }
+    ensures spent { IfErr result (λ stop. stop ≡ Stop.Spent → IsTrue means.limited) }
+{
+    match next_step(rows, near, fewest, region) {
+        Step::Row(k) => by_outputs(means, rows, near, bound, region, looks, near[k]),
+        Step::Split(i, literal) => by_input(means, rows, near, bound, region, looks, (i, literal)),
+    }
+}
+
+// The reason if a row has no open literal: the row has some of the outputs.
+#[cycle(reason)]
+fn by_outputs(
+    means: Means,
+    rows: &[&Cube],
+    near: &[&Cube],
+    bound: u32,
+    region: &Cube,
+    looks: &mut u64,
+    row: &Cube,
+) -> Result<Option<Cube>, Stop>
+    requires sizes { All (λ d. SameSize d.now region.now) rows.now }
+    requires near { AreAmong near.now rows.now }
+    requires size { SameSize row.now region.now }
+    requires member { Contains (behind rows.now) row.now }
+    requires meets { IsDisjoint (holds row.now) (holds region.now) → ⊥ }
+    requires closed { IsClosed region.now row.now }
+    ensures found { IfOk result (λ found. Explains region.now (behind rows.now) found) }
+    ensures spent { IfErr result (λ stop. stop ≡ Stop.Spent → IsTrue means.limited) }
+{
+    if !region.has_more_outputs(row) {
+        return Ok(Some(row.try_clone()?));
+    }
+    let found = {
+        let rest = region.without_outputs(row)?;
+        reason(means, rows, near, bound, &rest, looks)?
+    };
+    let Some(other) = found else {
+        return Ok(None);
+    };
+    if other.contains(region) {
+        return Ok(Some(other));
+    }
+    Ok(row.stack(&other)?)
+}
+
+// The reason by halves, that with the literal first.
+#[cycle(reason)]
+fn by_input(
+    means: Means,
+    rows: &[&Cube],
+    near: &[&Cube],
+    bound: u32,
+    region: &Cube,
+    looks: &mut u64,
+    at: (usize, Symbol),
+) -> Result<Option<Cube>, Stop>
+    requires output { IsTrue (list_any (λ b. b) region.now.outputs) }
+    requires sizes { All (λ d. SameSize d.now region.now) rows.now }
+    requires near { AreAmong near.now rows.now }
+    requires dash { slice_get region.now.symbols at.0 ≡ Some Symbol.Dash }
+    requires literal { at.1 ≢ Symbol.Dash }
+    ensures found { IfOk result (λ found. Explains region.now (behind rows.now) found) }
+    ensures spent { IfErr result (λ stop. stop ≡ Stop.Spent → IsTrue means.limited) }
+{
+    let (i, literal) = at;
+    let found = {
+        let first = region.with_symbol(i, literal)?;
+        reason(means, rows, near, bound, &first, looks)?
+    };
+    let Some(one) = found else {
+        return Ok(None);
+    };
+    if one.contains(region) {
+        return Ok(Some(one));
+    }
+    by_other_half(means, rows, near, bound, region, looks, at, &one)
+}
+
+// The reason by the half with the other literal, and by the reason of the half with the literal.
+#[cycle(reason)]
+fn by_other_half(
+    means: Means,
+    rows: &[&Cube],
+    near: &[&Cube],
+    bound: u32,
+    region: &Cube,
+    looks: &mut u64,
+    at: (usize, Symbol),
+    one: &Cube,
+) -> Result<Option<Cube>, Stop>
+    requires output { IsTrue (list_any (λ b. b) region.now.outputs) }
+    requires sizes { All (λ d. SameSize d.now region.now) rows.now }
+    requires near { AreAmong near.now rows.now }
+    requires dash { slice_get region.now.symbols at.0 ≡ Some Symbol.Dash }
+    requires literal { at.1 ≢ Symbol.Dash }
+    requires one_size { SameSize one.now region.now }
+    requires one { IsReason (with_symbol region.now at.0 at.1) (behind rows.now) one.now }
+    ensures found { IfOk result (λ found. Explains region.now (behind rows.now) found) }
+    ensures spent { IfErr result (λ stop. stop ≡ Stop.Spent → IsTrue means.limited) }
+{
+    let (i, literal) = at;
+    let found = {
+        let second = region.with_symbol(i, opposite(literal))?;
+        reason(means, rows, near, bound, &second, looks)?
+    };
+    let Some(other) = found else {
+        return Ok(None);
+    };
+    if other.contains(region) {
+        return Ok(Some(other));
+    }
+    Ok(consensus(i, one, &other)?)
+}
+
+/// Whether the rows hold each place of the region.
+pub(crate) fn covers_cube(alloc: Global, rows: &[&Cube], region: &Cube) -> Result<bool, AllocError>
+    requires { All (λ d. SameSize d.now region.now) rows.now }
+    ensures { IfOk result
+        (λ held. IsTrue held ↔ IsSubset (holds region.now) (places (behind rows.now))) }
+{
+    let mut learned = Learned::new(alloc);
+    covers_cube_near(alloc, rows, &[], 0, region, &mut learned)
+}
+
+// Whether the rows hold each place of the region, by splits alone.
+fn covers_by_splits(
+    means: Means,
+    rows: &[&Cube],
+    near: &[&Cube],
+    bound: u32,
+    region: &Cube,
+    looks: &mut u64,
+) -> Result<bool, Stop>
+    requires sizes { All (λ d. SameSize d.now region.now) rows.now }
+    requires near { AreAmong near.now rows.now }
+    ensures held { IfOk result
+        (λ held. IsTrue held ↔ IsSubset (holds region.now) (places (behind rows.now))) }
+    ensures spent { IfErr result (λ stop. stop ≡ Stop.Spent → IsTrue means.limited) }
+{
+    Ok(reason(means, rows, near, bound, region, looks)?.is_some())
+}
+
+/// Whether splits that look at so many rows show that the rows hold each place of the region.
+pub(crate) fn is_seen_to_cover(
+    alloc: Global,
+    rows: &[&Cube],
+    region: &Cube,
+    looks: usize,
+) -> Result<bool, AllocError>
+    requires { All (λ d. SameSize d.now region.now) rows.now }
+    ensures { IfOk result
+        (λ held. IsTrue held → IsSubset (holds region.now) (places (behind rows.now))) }
+{
+    let means = Means {
+        alloc,
+        limited: true,
+    };
+    let mut left = looks as u64;
+    match covers_by_splits(means, rows, &[], 0, region, &mut left) {
+        Ok(held) => Ok(held),
+        Err(Stop::Memory) => Err(AllocError),
+        Err(Stop::Spent) => Ok(false),
+    }
+}
+
+// Whether the rows hold each place of the region, by however many splits.
+fn covers_by_all_splits(
+    alloc: Global,
+    rows: &[&Cube],
+    near: &[&Cube],
+    bound: u32,
+    region: &Cube,
+) -> Result<bool, AllocError>
+    requires sizes { All (λ d. SameSize d.now region.now) rows.now }
+    requires near { AreAmong near.now rows.now }
+    ensures { IfOk result
+        (λ held. IsTrue held ↔ IsSubset (holds region.now) (places (behind rows.now))) }
+{
+    let means = Means {
+        alloc,
+        limited: false,
+    };
+    let mut looks = 0;
+    match covers_by_splits(means, rows, near, bound, region, &mut looks) {
+        Ok(held) => Ok(held),
+        Err(Stop::Memory) => Err(AllocError),
+        Err(Stop::Spent) => unreachable!(),
+    }
+}
+
+/// Whether the rows hold each place of the region. Near rows are looked at first, and they alone
+/// while one of them has at most so many open literals.
+///
+/// Most questions are answered by splits. Once the splits of all questions about the rows have
+/// looked at many of them, a search is asked, and what it learns of the rows is kept; if it finds
+/// no answer within its memory, or one that does not hold, splits go on for as long as they take.
+pub(crate) fn covers_cube_near(
+    alloc: Global,
+    rows: &[&Cube],
+    near: &[&Cube],
+    bound: u32,
+    region: &Cube,
+    learned: &mut Learned,
+) -> Result<bool, AllocError>
+    requires sizes { All (λ d. SameSize d.now region.now) rows.now }
+    requires near { AreAmong near.now rows.now }
+    requires known { AreKnown (size_of region.now) learned.old.known.items (behind rows.now) }
+    ensures known { OnOk result
+        (AreKnown (size_of region.now) learned.new.known.items (behind rows.now)) }
+    ensures held { IfOk result
+        (λ held. IsTrue held ↔ IsSubset (holds region.now) (places (behind rows.now))) }
+{
+    learned.allow(rows.len());
+    let means = Means {
+        alloc,
+        limited: true,
+    };
+    match covers_by_splits(means, rows, near, bound, region, &mut learned.looks) {
+        Ok(held) => return Ok(held),
+        Err(Stop::Memory) => return Err(AllocError),
+        Err(Stop::Spent) => (),
+    }
+    if let Some(held) = ask(alloc, rows, learned, region)? {
+        return Ok(held);
+    }
+    covers_by_all_splits(alloc, rows, near, bound, region)
+}

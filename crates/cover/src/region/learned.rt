@@ -1,0 +1,446 @@
+//! Implicants that a search found, with hints that show them.
+//!
+//! To a search the rows of one output are nogoods, and a region is a list of assumptions. It learns
+//! implicants of the rows, and says of each by which rows and earlier implicants it is seen:
+//! beginning with the implicant as a region, each of them but the last has one open literal, and so
+//! holds a half of the region that is left, and the last holds the rest (reverse unit propagation
+//! by hints, as in Cruz-Filipe, Heule, Hunt, Kaufmann and Schneider-Kamp, Efficient certified RAT
+//! verification, 2017). The search owes nothing: what it says counts once it is looked at here.
+ghost use Rattle.std.specs.Prelude.{◌≡◌, ◌↔◌, ◌<◌, ◌||◌, [], IsTrue, IfOk, IfSome, IfNone, OnOk, All, length};
+ghost use Rattle.std.specs.List.{list_any};
+ghost use Rattle.cube.specs.Cube.{HasSize, Place, SameSize, IsSubset, holds, size_of};
+ghost use Rattle.cover.specs.Places.{places, behind};
+ghost use Rattle.cover.specs.Reason.{AreKnown};
+
+use crate::compare::pairwise::misses;
+use crate::off_set::one_output;
+use crate::region::opposite;
+use crate::region::splitting_input::first_open;
+use cube::{Cube, Shape, Symbol};
+use sat_search::{Answer, Limits, Refutation, Search};
+use std::alloc::{AllocError, Global};
+
+// Takes from the region the half that the row holds, if the row is seen to hold one.
+fn take_half(region: &mut Cube, row: &Cube) -> bool
+    requires { SameSize row.now region.old }
+    ensures size { SameSize region.new region.old }
+    ensures held { IsTrue result
+        → IsSubset (holds region.old) (λ p. holds row.now p || holds region.new p) }
+{
+    let shape = region.shape();
+    let (i, literal) = first_open(row, region);
+    if i >= shape.inputs() || literal == Symbol::Dash {
+        return false;
+    }
+    region.set_symbol(i, literal);
+    let held = row.contains(region);
+    region.set_symbol(i, opposite(literal));
+    held
+}
+
+// Whether the hints show that the known cubes hold each place of the cube.
+fn follows(known: &[Cube], hints: &[u32], cube: &Cube) -> Result<bool, AllocError>
+    requires { All (λ d. SameSize d cube.now) known.now }
+    ensures { IfOk result
+        (λ held. IsTrue held → IsSubset (holds cube.now) (places known.now)) }
+{
+    let mut region = cube.try_clone()?;
+    for hint in hints {
+        let Some(row) = known.get(*hint as usize) else {
+            return Ok(false);
+        };
+        if row.contains(&region) {
+            return Ok(true);
+        }
+        if !take_half(&mut region, row) {
+            return Ok(false);
+        }
+    }
+    Ok(false)
+}
+
+// The cube of one output with these literals: twice an input for `1`, and one more for `0`.
+fn cube_of(
+    alloc: Global,
+    shape: Shape,
+    output: usize,
+    literals: &[u32],
+) -> Result<Option<Cube>, AllocError>
+    ensures size { IfOk result (λ found. IfSome found (λ c. HasSize c shape)) }
+    ensures output { IfOk result
+        (λ found. IfSome found (λ c. IsTrue (list_any (λ b. b) c.outputs))) }
+{
+    let mut symbols = vec![in alloc; Symbol::Dash; shape.inputs()]?;
+    let mut outputs = vec![in alloc; false; shape.outputs()]?;
+    for literal in literals {
+        let i = *literal as usize / 2;
+        if i < symbols.len() {
+            symbols[i] = if *literal % 2 == 0 {
+                Symbol::One
+            } else {
+                Symbol::Zero
+            };
+        }
+    }
+    if output < outputs.len() {
+        outputs[output] = true;
+    }
+    Cube::from_symbols(alloc, shape, &symbols, &outputs)
+}
+
+// Adds the cube with these literals to those that are known, if the hints show it.
+fn accept(
+    alloc: Global,
+    shape: Shape,
+    output: usize,
+    known: &mut Vec<Cube>,
+    literals: &[u32],
+    hints: &[u32],
+) -> Result<bool, AllocError>
+    requires { All (λ d. HasSize d shape) known.old.items }
+    ensures sizes { OnOk result (All (λ d. HasSize d shape) known.new.items) }
+    ensures within { OnOk result
+        (IsSubset (places known.new.items) (places known.old.items)) }
+{
+    let Some(cube) = cube_of(alloc, shape, output, literals)? else {
+        return Ok(false);
+    };
+    if !follows(known, hints, &cube)? {
+        return Ok(false);
+    }
+    known.push(cube)?;
+    Ok(true)
+}
+
+// Adds the nogoods of a refutation, if their hints show all of them.
+fn accept_all(
+    alloc: Global,
+    shape: Shape,
+    output: usize,
+    known: &mut Vec<Cube>,
+    refutation: &Refutation,
+) -> Result<bool, AllocError>
+    requires { All (λ d. HasSize d shape) known.old.items }
+    ensures sizes { OnOk result (All (λ d. HasSize d shape) known.new.items) }
+    ensures within { OnOk result
+        (IsSubset (places known.new.items) (places known.old.items)) }
+{
+    for k in 0..refutation.len() {
+        let (literals, hints) = (refutation.nogood(k), refutation.hints(k));
+        if !accept(alloc, shape, output, known, literals, hints)? {
+            return Ok(false);
+        }
+    }
+    Ok(true)
+}
+
+// Whether the known cube at a place is seen to hold the region.
+fn is_held_by(known: &[Cube], place: usize, region: &Cube) -> bool
+    requires { All (λ d. SameSize d region.now) known.now }
+    ensures { IsTrue result → IsSubset (holds region.now) (places known.now) }
+{
+    match known.get(place) {
+        Some(cube) => cube.contains(region),
+        None => false,
+    }
+}
+
+// Whether a point is seen to lie in the region and in no row.
+fn is_outside(
+    alloc: Global,
+    rows: &[&Cube],
+    region: &Cube,
+    output: usize,
+    literals: &[u32],
+) -> Result<bool, AllocError>
+    requires { All (λ d. SameSize d.now region.now) rows.now }
+    ensures { IfOk result (λ out. IsTrue out
+        → IsSubset (holds region.now) (places (behind rows.now)) → ⊥) }
+{
+    let Some(point) = cube_of(alloc, region.shape(), output, literals)? else {
+        return Ok(false);
+    };
+    Ok(region.contains(&point) && misses(&point, rows))
+}
+
+/// What was learned of some rows.
+///
+/// It takes no memory before a search is asked. Then it has the rows once more, a search for each
+/// output that was asked, and the implicants that answers needed. All of it together comes to 2^27
+/// numbers of four bytes at most, half a gigabyte, and with room to grow to a gigabyte and a half. A
+/// question that would take more has no answer here.
+#[derive(Drop)]
+pub(crate) struct Learned {
+    // Copies of the rows, once a search is asked, and then cubes that they hold.
+    pub(crate) known: Vec<Cube>,
+    // By output: the search among the rows that have it.
+    searches: Vec<Option<Search>>,
+    // How many rows splits may still look at before a search is asked.
+    pub(crate) looks: u64,
+    // Whether a question was asked.
+    is_asked: bool,
+}
+
+// Before a search is asked, splits look at the rows as often as some four times the root of their
+// number, and once more for each question after the first. Easy questions of many rows, such as
+// decision trees and symmetric functions, look at them twice that root at most, and a search has to
+// read all rows before it begins.
+fn passes(rows: usize) -> u64 {
+    let bits = usize::BITS.saturating_sub(rows.leading_zeros());
+    4 << (bits / 2)
+}
+
+// So many watches are looked at for one question.
+const STEPS: u64 = 1 << 36;
+
+// So many numbers are kept by all searches and implicants.
+const SIZE: usize = 1 << 27;
+
+impl Learned {
+    /// Nothing, yet.
+    pub(crate) fn new(alloc: Global) -> Learned
+        ensures { result.known.items ≡ [] }
+    {
+        Learned {
+            known: Vec::new(alloc),
+            searches: Vec::new(alloc),
+            looks: 0,
+            is_asked: false,
+        }
+    }
+
+    /// There is one question more about so many rows.
+    pub(crate) fn allow(&mut self, rows: usize)
+        ensures { self.new.known ≡ self.old.known }
+    {
+        let passes = if self.is_asked { 1 } else { passes(rows) };
+        let more = passes.saturating_mul(rows as u64);
+        self.looks = self.looks.saturating_add(more);
+        self.is_asked = true;
+    }
+
+    // Has a search among the rows of an output.
+    fn begin(
+        &mut self,
+        alloc: Global,
+        rows: &[&Cube],
+        output: usize,
+        shape: Shape,
+    ) -> Result<(), AllocError>
+        requires sizes { All (λ d. HasSize d.now shape) rows.now }
+        requires known { AreKnown shape self.old.known.items (behind rows.now) }
+        ensures { OnOk result (AreKnown shape self.new.known.items (behind rows.now)) }
+    {
+        if self.known.is_empty() {
+            self.known = copies(alloc, rows)?;
+        }
+        begin_search(alloc, &mut self.searches, rows, output, shape.inputs())?;
+        Ok(())
+    }
+
+    // How many numbers all searches and implicants keep.
+    fn size(&self) -> usize {
+        let each = match self.known.first() {
+            Some(cube) => numbers_of(cube.shape()),
+            None => 0,
+        };
+        let mut size = self.known.len().saturating_mul(each);
+        for search in &self.searches {
+            if let Some(search) = search {
+                size = size.saturating_add(search.size());
+            }
+        }
+        size
+    }
+
+    // What the search of an output finds of the region.
+    fn look(&mut self, alloc: Global, output: usize, region: &Cube) -> Result<Answer, AllocError>
+        ensures { OnOk result (self.new.known ≡ self.old.known) }
+    {
+        let name = u32::try_from(self.known.len()).unwrap_or(u32::MAX);
+        let room = SIZE.saturating_sub(self.size());
+        let literals = literals_of(alloc, region)?;
+        match self.searches.get_mut(output) {
+            Some(Some(search)) => {
+                let limits = Limits {
+                    steps: STEPS,
+                    size: search.size().saturating_add(room),
+                };
+                search.ask(&literals, limits, name)
+            }
+            _ => Ok(Answer::Unknown),
+        }
+    }
+}
+
+// How many numbers of four bytes a cube of the shape takes.
+fn numbers_of(shape: Shape) -> usize {
+    16usize
+        .saturating_add(shape.inputs() / 16)
+        .saturating_add(shape.outputs() / 32)
+}
+
+// The literals of a cube.
+fn literals_of(alloc: Global, cube: &Cube) -> Result<Vec<u32>, AllocError> {
+    let mut literals = Vec::new(alloc);
+    for i in 0..cube.shape().inputs() {
+        let first = u32::try_from(i).unwrap_or(0).saturating_mul(2);
+        match cube.symbol(i) {
+            Symbol::Dash => (),
+            Symbol::One => literals.push(first)?,
+            Symbol::Zero => literals.push(first.saturating_add(1))?,
+        }
+    }
+    Ok(literals)
+}
+
+// A search among the rows that have an output, under their places in the list.
+fn search_of(
+    alloc: Global,
+    rows: &[&Cube],
+    output: usize,
+    inputs: usize,
+) -> Result<Search, AllocError> {
+    let mut search = Search::new(alloc, inputs)?;
+    for (k, row) in rows.iter().enumerate() {
+        if output < row.shape().outputs() && row.output(output) {
+            let literals = literals_of(alloc, row)?;
+            search.add_nogood(&literals, u32::try_from(k).unwrap_or(u32::MAX))?;
+        }
+    }
+    search.begin()?;
+    Ok(search)
+}
+
+// Has a search among the rows of an output.
+fn begin_search(
+    alloc: Global,
+    searches: &mut Vec<Option<Search>>,
+    rows: &[&Cube],
+    output: usize,
+    inputs: usize,
+) -> Result<(), AllocError> {
+    for _ in searches.len()..=output {
+        searches.push(None)?;
+    }
+    if let Some(place) = searches.get_mut(output) {
+        if place.is_none() {
+            *place = Some(search_of(alloc, rows, output, inputs)?);
+        }
+    }
+    Ok(())
+}
+
+// Copies of the rows.
+fn copies(alloc: Global, rows: &[&Cube]) -> Result<Vec<Cube>, AllocError>
+    ensures { IfOk result (λ copy. copy.items ≡ behind rows.now) }
+{
+    let mut copy = Vec::with_capacity(alloc, rows.len())?;
+    for row in rows {
+        copy.push(row.try_clone()?)?;
+    }
+    Ok(copy)
+}
+
+// What an answer of a search says of the region, once it is looked at.
+fn check(
+    alloc: Global,
+    rows: &[&Cube],
+    known: &mut Vec<Cube>,
+    output: usize,
+    region: &Cube,
+    answer: &Answer,
+) -> Result<Option<bool>, AllocError>
+    requires sizes { All (λ d. SameSize d.now region.now) rows.now }
+    requires known { AreKnown (size_of region.now) known.old.items (behind rows.now) }
+    ensures known { OnOk result (AreKnown (size_of region.now) known.new.items (behind rows.now)) }
+    ensures held { IfOk result (λ found. IfSome found (λ held. IsTrue held
+        ↔ IsSubset (holds region.now) (places (behind rows.now)))) }
+{
+    match answer {
+        Answer::Unknown => Ok(None),
+        Answer::Point(point) => {
+            if is_outside(alloc, rows, region, output, point)? {
+                Ok(Some(false))
+            } else {
+                Ok(None)
+            }
+        }
+        Answer::Refutation(refutation) => {
+            if accept_all(alloc, region.shape(), output, known, refutation)?
+                && is_held_by(known, refutation.last() as usize, region)
+            {
+                Ok(Some(true))
+            } else {
+                Ok(None)
+            }
+        }
+    }
+}
+
+// Whether the rows hold each place of the region, which has this output, if a search answers that.
+fn ask_at(
+    alloc: Global,
+    rows: &[&Cube],
+    learned: &mut Learned,
+    output: usize,
+    region: &Cube,
+) -> Result<Option<bool>, AllocError>
+    requires sizes { All (λ d. SameSize d.now region.now) rows.now }
+    requires known { AreKnown (size_of region.now) learned.old.known.items (behind rows.now) }
+    ensures known { OnOk result
+        (AreKnown (size_of region.now) learned.new.known.items (behind rows.now)) }
+    ensures held { IfOk result (λ found. IfSome found (λ held. IsTrue held
+        ↔ IsSubset (holds region.now) (places (behind rows.now)))) }
+{
+    learned.begin(alloc, rows, output, region.shape())?;
+    let answer = learned.look(alloc, output, region)?;
+    check(alloc, rows, &mut learned.known, output, region, &answer)
+}
+
+// The part of a region at one output, if it has the output.
+fn part_at(alloc: Global, region: &Cube, output: usize) -> Result<Option<Cube>, AllocError>
+    requires { output < length region.now.outputs }
+    ensures size { IfOk result (λ found. IfSome found (λ part. SameSize part region.now)) }
+    ensures within { IfOk result
+        (λ found. IfSome found (λ part. IsSubset (holds part) (holds region.now))) }
+    ensures whole { IfOk result (λ found. IfSome found (λ part. (p : Place) → p.output ≡ output
+        → IsTrue (holds region.now p) → IsTrue (holds part p))) }
+    ensures none { IfOk result (λ found. IfNone found ((p : Place) → p.output ≡ output
+        → IsTrue (holds region.now p) → ⊥)) }
+{
+    let shape = region.shape();
+    if !region.output(output) {
+        return Ok(None);
+    }
+    let all = one_output(alloc, shape, output)?;
+    region.meet(&all)
+}
+
+/// Whether the rows hold each place of the region, if searches answer that, output by output.
+pub(crate) fn ask(
+    alloc: Global,
+    rows: &[&Cube],
+    learned: &mut Learned,
+    region: &Cube,
+) -> Result<Option<bool>, AllocError>
+    requires sizes { All (λ d. SameSize d.now region.now) rows.now }
+    requires known { AreKnown (size_of region.now) learned.old.known.items (behind rows.now) }
+    ensures known { OnOk result
+        (AreKnown (size_of region.now) learned.new.known.items (behind rows.now)) }
+    ensures held { IfOk result (λ found. IfSome found (λ held. IsTrue held
+        ↔ IsSubset (holds region.now) (places (behind rows.now)))) }
+{
+    for output in 0..region.shape().outputs() {
+        let Some(part) = part_at(alloc, region, output)? else {
+            continue;
+        };
+        let Some(held) = ask_at(alloc, rows, learned, output, &part)? else {
+            return Ok(None);
+        };
+        if !held {
+            return Ok(Some(false));
+        }
+    }
+    Ok(Some(true))
+}

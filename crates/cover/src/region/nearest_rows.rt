@@ -1,0 +1,303 @@
+//! The rows with fewest open literals in a region, found 64 at a time.
+//!
+//! A literal of a row is open where the region has none at its input. For each literal and for each
+//! output it is kept which rows have it, and for each row its number of literals in binary digits:
+//! a bit a row, 64 rows a word. The literals of a region are taken from these numbers one after the
+//! other, with borrows from digit to digit, for 64 rows at once. So a question costs a few steps a
+//! literal of the region for each 64 rows, where a look at each row costs as many for each row. The
+//! bits take no more memory than the rows.
+//!
+//! The rows that are found are a hint: they are some of the rows, and no contract says more.
+ghost use Rattle.std.specs.Prelude.{IfOk, OnOk};
+ghost use Rattle.cover.specs.Reason.{AreAmong};
+
+use crate::region::splitting_input::fewest_literals;
+use cube::{Cube, Shape, Symbol};
+use std::alloc::{AllocError, Global};
+
+// So many binary digits have the numbers of literals, 1024 at most.
+const DIGITS: usize = 11;
+
+/// Which rows of a list have each literal and each output, and how many literals each row has.
+#[derive(Drop)]
+pub(crate) struct RowBits {
+    // Of each input those with `1`, and then those with `0`.
+    literals: Vec<Vec<u64>>,
+    outputs: Vec<Vec<u64>>,
+    // The digits of the numbers of literals, the lowest first.
+    digits: Vec<Vec<u64>>,
+    // How many words there are for the rows.
+    words: usize,
+    // The fewest literals of a row.
+    fewest: u32,
+}
+
+// So many columns without a row.
+fn empty_columns(alloc: Global, count: usize, words: usize) -> Result<Vec<Vec<u64>>, AllocError> {
+    let mut columns = Vec::new(alloc);
+    for _ in 0..count {
+        columns.push(vec![in alloc; 0u64; words]?)?;
+    }
+    Ok(columns)
+}
+
+// Puts row `k` into a column.
+fn put_row(columns: &mut Vec<Vec<u64>>, at: usize, k: usize) {
+    if let Some(column) = columns.get_mut(at) {
+        if let Some(word) = column.get_mut(k / 64) {
+            *word |= 1 << (k % 64);
+        }
+    }
+}
+
+// Puts row `k` into the columns that the bits stand for, counted from `first` on.
+fn put_row_at_bits(columns: &mut Vec<Vec<u64>>, first: usize, bits: u64, k: usize) {
+    let mut left = bits;
+    for _ in 0..64 {
+        if left == 0 {
+            return;
+        }
+        let at = first.saturating_add(left.trailing_zeros() as usize);
+        put_row(columns, at, k);
+        left &= left - 1;
+    }
+}
+
+// The word at a place, without a bit past the end.
+fn word_at(column: &[u64], w: usize) -> u64 {
+    match column.get(w) {
+        Some(word) => *word,
+        None => 0,
+    }
+}
+
+// The rows of word `w` that all columns have.
+fn rows_in_all(columns: &[&[u64]], w: usize) -> u64 {
+    let mut rows = u64::MAX;
+    for column in columns {
+        rows &= word_at(column, w);
+    }
+    rows
+}
+
+// Takes one from the numbers of the rows, unless they are 0.
+fn take_one(numbers: &mut [u64; DIGITS], rows: u64) {
+    let mut borrow = rows;
+    for digit in 0..DIGITS {
+        if borrow == 0 {
+            return;
+        }
+        let before = numbers[digit];
+        numbers[digit] = before ^ borrow;
+        borrow &= !before;
+    }
+}
+
+// Those of the rows whose number is least, and the number, which has so many digits.
+fn least(numbers: &[u64; DIGITS], digits: usize, rows: u64) -> (u64, u32) {
+    let mut rows = rows;
+    let mut number = 0u32;
+    for digit in (0..digits.min(DIGITS)).rev() {
+        let fewer = rows & !numbers[digit];
+        if fewer == 0 {
+            number |= 1 << digit;
+        } else {
+            rows = fewer;
+        }
+    }
+    (rows, number)
+}
+
+// Adds the rows of word `w` that the bits stand for.
+fn push_rows<'a>(
+    rows: &[&'a Cube],
+    w: usize,
+    bits: u64,
+    some: &mut Vec<&'a Cube>,
+) -> Result<(), AllocError>
+    requires { AreAmong some.old.items rows.now }
+    ensures { OnOk result (AreAmong some.new.items rows.now) }
+{
+    let mut left = bits;
+    for _ in 0..64 {
+        if left == 0 {
+            return Ok(());
+        }
+        let k = w
+            .saturating_mul(64)
+            .saturating_add(left.trailing_zeros() as usize);
+        if let Some(row) = rows.get(k) {
+            some.push(*row)?;
+        }
+        left &= left - 1;
+    }
+    Ok(())
+}
+
+// The rows with fewest open literals so far, and how many these are.
+#[derive(Drop)]
+struct Nearest<'a> {
+    rows: Vec<&'a Cube>,
+    fewest: u32,
+}
+
+impl<'a> Nearest<'a> {
+    // Adds the rows of word `w` that the bits stand for, which have so many open literals, unless
+    // others have fewer.
+    fn add(&mut self, rows: &[&'a Cube], w: usize, bits: u64, open: u32) -> Result<(), AllocError>
+        requires { AreAmong self.old.rows.items rows.now }
+        ensures { OnOk result (AreAmong self.new.rows.items rows.now) }
+    {
+        if bits == 0 || open > self.fewest {
+            return Ok(());
+        }
+        if open < self.fewest {
+            self.rows.clear();
+        }
+        self.fewest = open;
+        push_rows(rows, w, bits, &mut self.rows)
+    }
+}
+
+// The columns that a question looks at.
+#[derive(Drop)]
+struct Columns<'a> {
+    // The rows that have a literal of the region, and those that have the opposite one.
+    literals: Vec<(&'a [u64], &'a [u64])>,
+    // The rows that have an output of the region.
+    outputs: Vec<&'a [u64]>,
+}
+
+impl RowBits {
+    /// The bits of these rows.
+    pub(crate) fn of(alloc: Global, shape: Shape, rows: &[&Cube]) -> Result<RowBits, AllocError> {
+        let words = rows.len() / 64 + 1;
+        let inputs = shape.inputs();
+        let digits = usize::BITS.saturating_sub(inputs.leading_zeros()) as usize;
+        let mut bits = RowBits {
+            literals: empty_columns(alloc, inputs.saturating_mul(2), words)?,
+            outputs: empty_columns(alloc, shape.outputs(), words)?,
+            digits: empty_columns(alloc, digits, words)?,
+            words,
+            fewest: fewest_literals(rows),
+        };
+        for (k, row) in rows.iter().enumerate() {
+            bits.add_inputs(shape, row, k);
+            bits.add_outputs(shape, row, k);
+        }
+        Ok(bits)
+    }
+
+    /// The fewest literals of a row.
+    pub(crate) fn fewest_literals(&self) -> u32 {
+        self.fewest
+    }
+
+    // Adds row `k` with its literals, and their number.
+    fn add_inputs(&mut self, shape: Shape, row: &Cube, k: usize) {
+        for w in 0..shape.inputs() / 32 + 1 {
+            put_row_at_bits(
+                &mut self.literals,
+                w.saturating_mul(64),
+                row.literal_bits(w),
+                k,
+            );
+        }
+        put_row_at_bits(&mut self.digits, 0, row.literals() as u64, k);
+    }
+
+    // Adds row `k` with its outputs.
+    fn add_outputs(&mut self, shape: Shape, row: &Cube, k: usize) {
+        for w in 0..shape.outputs() / 64 + 1 {
+            put_row_at_bits(
+                &mut self.outputs,
+                w.saturating_mul(64),
+                row.output_bits(w),
+                k,
+            );
+        }
+    }
+
+    // The columns of a region's literals.
+    fn literal_columns(
+        &self,
+        alloc: Global,
+        region: &Cube,
+    ) -> Result<Vec<(&[u64], &[u64])>, AllocError> {
+        let inputs = region.shape().inputs();
+        let mut columns = Vec::new(alloc);
+        let mut from = 0;
+        while from < inputs {
+            let Some(i) = region.next_literal(from) else {
+                break;
+            };
+            let one = i.saturating_mul(2);
+            let zero = one.saturating_add(1);
+            if let (Some(ones), Some(zeros)) = (self.literals.get(one), self.literals.get(zero)) {
+                if region.symbol(i) == Symbol::One {
+                    columns.push((ones.as_slice(), zeros.as_slice()))?;
+                } else {
+                    columns.push((zeros.as_slice(), ones.as_slice()))?;
+                }
+            }
+            from = i + 1;
+        }
+        Ok(columns)
+    }
+
+    // The columns of a region's outputs.
+    fn output_columns(&self, alloc: Global, region: &Cube) -> Result<Vec<&[u64]>, AllocError> {
+        let mut columns = Vec::new(alloc);
+        for (j, column) in self.outputs.iter().enumerate() {
+            if j < region.shape().outputs() && region.output(j) {
+                columns.push(column.as_slice())?;
+            }
+        }
+        Ok(columns)
+    }
+
+    // Of the rows of word `w` that meet the region and have its outputs, those with fewest open
+    // literals, and how many these are.
+    fn nearest_in_word(&self, columns: &Columns, w: usize) -> (u64, u32) {
+        let mut numbers = [0u64; DIGITS];
+        for (digit, column) in self.digits.iter().enumerate() {
+            if let Some(word) = numbers.get_mut(digit) {
+                *word = word_at(column, w);
+            }
+        }
+        let mut rows = rows_in_all(&columns.outputs, w);
+        for (own, opposite) in &columns.literals {
+            rows &= !word_at(opposite, w);
+            take_one(&mut numbers, word_at(own, w));
+        }
+        least(&numbers, self.digits.len(), rows)
+    }
+
+    /// Of the rows that the bits are of, those with fewest open literals, as far as they meet the
+    /// region and have all of its outputs. Once a row contains the region, the search ends.
+    pub(crate) fn nearest<'a>(
+        &self,
+        alloc: Global,
+        rows: &[&'a Cube],
+        region: &Cube,
+    ) -> Result<Vec<&'a Cube>, AllocError>
+        ensures { IfOk result (λ some. AreAmong some.items rows.now) }
+    {
+        let columns = Columns {
+            literals: self.literal_columns(alloc, region)?,
+            outputs: self.output_columns(alloc, region)?,
+        };
+        let mut nearest = Nearest {
+            rows: Vec::new(alloc),
+            fewest: u32::MAX,
+        };
+        for w in 0..self.words {
+            let (some, open) = self.nearest_in_word(&columns, w);
+            nearest.add(rows, w, some, open)?;
+            if nearest.fewest == 0 {
+                return Ok(nearest.rows);
+            }
+        }
+        Ok(nearest.rows)
+    }
+}

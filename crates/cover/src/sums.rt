@@ -1,0 +1,385 @@
+//! Complete sums.
+//!
+//! The complete sum of the places of one list without those of another is found from three smaller
+//! ones. At an input, the cubes of the sum without a literal there are the complete sum of the
+//! places that are inside at both values; those with `0` are the cubes of the sum at `0` that are
+//! not among the first, and those with `1` likewise. The lists at both values are the cubes without
+//! a literal at the input with the meets of those with `0` and those with `1`, and of the list that
+//! is taken away the cubes with either. If one value has all places of the other, the places at
+//! both are the other's, and two sums are enough. The recursion over both cofactors and their
+//! product is that of Coudert and Madre (Implicit and Incremental Computation of Primes and
+//! Essential Primes of Boolean Functions, 1992); they keep the sets as decision diagrams, and here
+//! they are lists of cubes, whose sums are kept in a table to be found again. So no products of
+//! primes are formed, and no prime is compared with the others: each merge takes time in the
+//! lengths of its lists, which are in row order. The input with most literals is split at, and
+//! lists with one literal at each input are their own sum but for the cubes that lie in others
+//! (Brayton et al. 1984). The sum of rows in two parts that have no input in common is the sums of
+//! the parts side by side, so that they do not multiply each other's steps.
+pub(crate) mod absorb;
+pub(crate) mod apart;
+pub(crate) mod branch;
+pub(crate) mod computed_table;
+pub(crate) mod containing;
+pub(crate) mod free;
+pub(crate) mod keys;
+pub(crate) mod leaf;
+pub(crate) mod meets;
+pub(crate) mod parts;
+pub(crate) mod rows;
+pub(crate) mod sides;
+pub(crate) mod splitting_input;
+pub(crate) mod two;
+
+ghost use Rattle.std.specs.Prelude.{◌≡◌, ◌<◌, ◌||◌, ◌++◌, IfOk, not, true};
+ghost use Rattle.cube.specs.Cube.{intersection, difference as difference_of};
+ghost use Rattle.cube.specs.Sum.{complete_sum as complete_sum_of};
+ghost use Rattle.cover.specs.Apart.{IsInParts};
+ghost use Rattle.cover.specs.Cubes.{AreCubes};
+ghost use Rattle.cover.specs.Complete.{cofactor_at};
+ghost use Rattle.cover.specs.Parts.{has_literal};
+ghost use Rattle.cover.specs.Places.{places};
+ghost use Rattle.cover.specs.Reduced.{IsBranch};
+ghost use Rattle.cover.specs.Sides.{IsSide};
+
+use crate::list::Cover;
+use crate::sums::absorb::{absorb, absorb_if_short, without_absorbed};
+use crate::sums::apart::{Parts, has_free_row, parts_apart};
+use crate::sums::branch::{Branches, absorbed_cofactor_at, branches_at, literal, smoothing_at};
+use crate::sums::computed_table::{ComputedTable, hash_of};
+use crate::sums::free::{free_part, with_free, without_free};
+use crate::sums::leaf::free_sum;
+use crate::sums::meets::meets;
+use crate::sums::parts::has_symbol;
+use crate::sums::rows::{combine, merge, sort_rows};
+use crate::sums::splitting_input::{
+    has_literal_in_each, hold_everything, is_unate, order_hint, splitting_input,
+};
+use crate::sums::two::sum_of_two;
+use crate::tautology::universal;
+use cube::{Cube, Shape};
+use std::alloc::{AllocError, Global};
+
+// The complete sum of the places of the first list that are not in the second. Rows of the first
+// that lie in one of the second count for nothing.
+#[cycle(sum)]
+fn sum_between(
+    alloc: Global,
+    shape: Shape,
+    found: &mut ComputedTable,
+    minuend: Vec<Cube>,
+    subtrahend: Vec<Cube>,
+) -> Result<Vec<Cube>, AllocError>
+    requires minuend { AreCubes shape minuend.items }
+    requires subtrahend { AreCubes shape subtrahend.items }
+    ensures { IfOk result
+        (λ rows. rows.items
+        ≡ complete_sum_of shape (difference_of (places minuend.items) (places subtrahend.items))) }
+{
+    let left = without_absorbed(alloc, minuend, &subtrahend)?;
+    left_sum(alloc, shape, found, left, subtrahend)
+}
+
+// The complete sum of the places of the first list that are not in the second, if no row of the
+// first needs to be left out.
+#[cycle(sum)]
+fn left_sum(
+    alloc: Global,
+    shape: Shape,
+    found: &mut ComputedTable,
+    minuend: Vec<Cube>,
+    subtrahend: Vec<Cube>,
+) -> Result<Vec<Cube>, AllocError>
+    requires minuend { AreCubes shape minuend.items }
+    requires subtrahend { AreCubes shape subtrahend.items }
+    ensures { IfOk result
+        (λ rows. rows.items
+        ≡ complete_sum_of shape (difference_of (places minuend.items) (places subtrahend.items))) }
+{
+    if minuend.is_empty() {
+        return Ok(minuend);
+    }
+    if subtrahend.is_empty() {
+        if minuend.len() == 1 {
+            return Ok(minuend);
+        }
+        if is_unate(shape, &minuend)? {
+            return absorb(alloc, minuend);
+        }
+        if let Some(sum) = sum_of_two(alloc, &minuend)? {
+            return Ok(sum);
+        }
+        if let Some(free) = free_part(&minuend)? {
+            let rest = without_free(alloc, &minuend, &free)?;
+            let sum = found_sum(alloc, shape, found, rest, subtrahend)?;
+            return with_free(alloc, sum, free);
+        }
+    }
+    if minuend.len() == 1 && subtrahend.len() == 1 {
+        return minuend[0].sharp(&subtrahend[0]);
+    }
+    if hold_everything(&subtrahend) {
+        return Ok(Vec::new(alloc));
+    }
+    found_sum(alloc, shape, found, minuend, subtrahend)
+}
+
+// That sum, kept from before or found now.
+#[cycle(sum)]
+fn found_sum(
+    alloc: Global,
+    shape: Shape,
+    found: &mut ComputedTable,
+    minuend: Vec<Cube>,
+    subtrahend: Vec<Cube>,
+) -> Result<Vec<Cube>, AllocError>
+    requires minuend { AreCubes shape minuend.items }
+    requires subtrahend { AreCubes shape subtrahend.items }
+    ensures { IfOk result
+        (λ rows. rows.items
+        ≡ complete_sum_of shape (difference_of (places minuend.items) (places subtrahend.items))) }
+{
+    let hash = hash_of(shape, &minuend, &subtrahend);
+    if let Some(sum) = found.find(alloc, shape, hash, &minuend, &subtrahend)? {
+        return Ok(sum);
+    }
+    let sum = split_sum(alloc, shape, found, &minuend, &subtrahend)?;
+    found.keep(alloc, shape, hash, minuend, subtrahend, &sum)?;
+    Ok(sum)
+}
+
+// That sum by way of the lists at the values of an input, if one has a literal.
+#[cycle(sum)]
+fn split_sum(
+    alloc: Global,
+    shape: Shape,
+    found: &mut ComputedTable,
+    minuend: &[Cube],
+    subtrahend: &[Cube],
+) -> Result<Vec<Cube>, AllocError>
+    requires minuend { AreCubes shape minuend.now }
+    requires subtrahend { AreCubes shape subtrahend.now }
+    ensures { IfOk result
+        (λ rows. rows.items
+        ≡ complete_sum_of shape (difference_of (places minuend.now) (places subtrahend.now))) }
+{
+    let Some(i) = splitting_input(shape, minuend, subtrahend, found.order()) else {
+        return free_sum(alloc, shape, minuend, subtrahend);
+    };
+    if subtrahend.is_empty() && !has_literal_in_each(minuend, i) {
+        if let Some(parts) = parts_apart(alloc, shape, minuend)? {
+            return apart_sum(alloc, shape, found, parts);
+        }
+    }
+    let Branches {
+        both: both_minuend,
+        low: low_minuend,
+        high: high_minuend,
+    } = branches_at(alloc, shape, minuend, i)?;
+    let both_subtrahend = smoothing_at(alloc, shape, subtrahend, i)?;
+    let both = sum_between(alloc, shape, found, both_minuend, both_subtrahend)?;
+    let low = side_sum(
+        alloc,
+        shape,
+        found,
+        i,
+        false,
+        minuend,
+        subtrahend,
+        low_minuend,
+    )?;
+    let high = side_sum(
+        alloc,
+        shape,
+        found,
+        i,
+        true,
+        minuend,
+        subtrahend,
+        high_minuend,
+    )?;
+    combine(alloc, i, both, low, high)
+}
+
+// The complete sum of the places of two parts that have no input in common: the sums of both, or
+// that of one, if it holds everything.
+#[cycle(sum)]
+fn apart_sum(
+    alloc: Global,
+    shape: Shape,
+    found: &mut ComputedTable,
+    parts: Parts,
+) -> Result<Vec<Cube>, AllocError>
+    requires { IsInParts shape
+        (parts.one.items ++ parts.other.items) parts.one.items parts.other.items }
+    ensures { IfOk result
+        (λ rows. rows.items
+        ≡ complete_sum_of shape (places (parts.one.items ++ parts.other.items))) }
+{
+    let Parts { one, other } = parts;
+    let sum = left_sum(alloc, shape, found, one, Vec::new(alloc))?;
+    if has_free_row(&sum) {
+        return Ok(sum);
+    }
+    let other_sum = left_sum(alloc, shape, found, other, Vec::new(alloc))?;
+    if has_free_row(&other_sum) {
+        return Ok(other_sum);
+    }
+    merge(alloc, sum, other_sum)
+}
+
+// What the places at one value of input `i` add to those at both: their complete sum, or nothing
+// if the other value has them too. `side` has the first list's places there.
+#[cycle(sum)]
+fn side_sum(
+    alloc: Global,
+    shape: Shape,
+    found: &mut ComputedTable,
+    i: usize,
+    value: bool,
+    minuend: &[Cube],
+    subtrahend: &[Cube],
+    side: Vec<Cube>,
+) -> Result<Vec<Cube>, AllocError>
+    requires input { i < shape.inputs }
+    requires side { IsBranch shape i minuend.now
+        (cofactor_at i value (places minuend.now)) side.items }
+    requires literal { (has_literal i minuend.now || has_literal i subtrahend.now) ≡ true }
+    requires minuend { AreCubes shape minuend.now }
+    requires subtrahend { AreCubes shape subtrahend.now }
+    ensures { IfOk result
+        (λ rows. IsSide shape i value (difference_of (places minuend.now) (places subtrahend.now))
+        rows.items) }
+{
+    if !has_symbol(minuend, i, literal(value)) && !has_symbol(subtrahend, i, literal(!value)) {
+        return Ok(Vec::new(alloc));
+    }
+    let side_minuend = absorb_if_short(alloc, shape, side)?;
+    let side_subtrahend = absorbed_cofactor_at(alloc, shape, subtrahend, i, value)?;
+    sum_between(alloc, shape, found, side_minuend, side_subtrahend)
+}
+
+// The complete sum of the places of the first list that are not in the second. Sorts both lists
+// into row order first.
+fn sum_of_unsorted(
+    alloc: Global,
+    shape: Shape,
+    minuend: Vec<Cube>,
+    subtrahend: Vec<Cube>,
+) -> Result<Vec<Cube>, AllocError>
+    requires minuend { AreCubes shape minuend.items }
+    requires subtrahend { AreCubes shape subtrahend.items }
+    ensures { IfOk result
+        (λ rows. rows.items
+        ≡ complete_sum_of shape (difference_of (places minuend.items) (places subtrahend.items))) }
+{
+    let minuend = sort_rows(alloc, minuend)?;
+    let subtrahend = sort_rows(alloc, subtrahend)?;
+    let order = order_hint(alloc, shape, &minuend, &subtrahend)?;
+    sum_between(
+        alloc,
+        shape,
+        &mut ComputedTable::new(alloc, order),
+        minuend,
+        subtrahend,
+    )
+}
+
+/// The complete sum of the places of the list: all cubes that hold only such places and lie in no
+/// larger such cube, in row order. These are the primes of a function of several outputs.
+///
+/// There may be exponentially many in the inputs, and time goes at least with their number. Lists
+/// on the way whose sum was found before cost a copy of it; the sums and lists that are kept for
+/// this are forgotten if they become many. Lists are joined for their meets, and looked at pair by
+/// pair for cubes that lie in others if they are short or have one literal at each input.
+///
+/// # Errors
+///
+/// [`AllocError`] if memory is refused.
+pub fn complete_sum(list: &Cover) -> Result<Cover, AllocError>
+    ensures { IfOk result
+        (λ sum. sum
+        ≡ record {
+          size = list.now.size;
+          cubes = complete_sum_of list.now.size (places list.now.cubes);
+        }) }
+{
+    let alloc = list.allocator();
+    let shape = list.shape();
+    let rows = list.try_clone()?.into_cubes();
+    let sum = sum_of_unsorted(alloc, shape, rows, Vec::new(alloc))?;
+    Ok(Cover::from_cubes(shape, sum))
+}
+
+/// The complete sum of the places that are in both lists, of one shape.
+///
+/// The meets of all pairs of cubes of the two are formed first; the cost of their sum is that of
+/// [`complete_sum`].
+///
+/// # Errors
+///
+/// [`AllocError`] if memory is refused.
+pub fn intersect(list: &Cover, other: &Cover) -> Result<Cover, AllocError>
+    requires { other.now.size ≡ list.now.size }
+    ensures { IfOk result (λ sum. sum ≡ record {
+      size = list.now.size;
+      cubes = complete_sum_of list.now.size
+          (intersection (places list.now.cubes) (places other.now.cubes));
+    }) }
+{
+    let alloc = list.allocator();
+    let shape = list.shape();
+    let mine = sort_rows(alloc, list.try_clone()?.into_cubes())?;
+    let theirs = sort_rows(alloc, other.try_clone()?.into_cubes())?;
+    let rows = meets(alloc, shape, &mine, &theirs)?;
+    let rows = absorb(alloc, rows)?;
+    let sum = sum_of_unsorted(alloc, shape, rows, Vec::new(alloc))?;
+    Ok(Cover::from_cubes(shape, sum))
+}
+
+/// The complete sum of the places that are in the first list and not in the second, of one shape.
+///
+/// Both lists are split together, so no complement is formed. The cost is that of [`complete_sum`],
+/// with the cubes of both lists.
+///
+/// # Errors
+///
+/// [`AllocError`] if memory is refused.
+pub fn difference(list: &Cover, other: &Cover) -> Result<Cover, AllocError>
+    requires { other.now.size ≡ list.now.size }
+    ensures { IfOk result (λ sum. sum ≡ record {
+      size = list.now.size;
+      cubes = complete_sum_of list.now.size
+          (difference_of (places list.now.cubes) (places other.now.cubes));
+    }) }
+{
+    let alloc = list.allocator();
+    let shape = list.shape();
+    let minuend = list.try_clone()?.into_cubes();
+    let subtrahend = other.try_clone()?.into_cubes();
+    let sum = sum_of_unsorted(alloc, shape, minuend, subtrahend)?;
+    Ok(Cover::from_cubes(shape, sum))
+}
+
+impl Cover {
+    /// The complete sum of the places that are in no cube of the list: the [`difference`] between
+    /// all places and the list, at its cost.
+    ///
+    /// # Errors
+    ///
+    /// [`AllocError`] if memory is refused.
+    pub fn complement(&self) -> Result<Cover, AllocError>
+        ensures { IfOk result (λ sum. sum ≡ record {
+          size = self.now.size;
+          cubes = complete_sum_of self.now.size (λ p. not (places self.now.cubes p));
+        }) }
+    {
+        let alloc = self.allocator();
+        let shape = self.shape();
+        let mut minuend = Vec::new(alloc);
+        let everything = universal(alloc, shape)?;
+        minuend.push(everything)?;
+        let subtrahend = self.try_clone()?.into_cubes();
+        let sum = sum_of_unsorted(alloc, shape, minuend, subtrahend)?;
+        Ok(Cover::from_cubes(shape, sum))
+    }
+}

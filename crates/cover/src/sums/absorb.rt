@@ -1,0 +1,185 @@
+//! Rows that lie in other rows, left out.
+ghost use Rattle.std.specs.Prelude.{◌≡◌, IfOk, IsTrue, All, Contains, false};
+ghost use Rattle.std.specs.List.Sorted.{IsStrictlySortedBy};
+ghost use Rattle.cube.specs.Cube.{SameSize, IsSubset, holds, Cube as Row};
+ghost use Rattle.cube.specs.Order.{row_cmp as row_order};
+ghost use Rattle.cover.specs.Cubes.{AreCubes};
+ghost use Rattle.cover.specs.Sizes.{HaveOneSize, ShareOneSize};
+ghost use Rattle.cover.specs.Reduced.{IsAbsorbed, IsPartlyAbsorbed, IsWithoutAbsorbed};
+
+use crate::sums::rows::sort_rows;
+use cube::{Cube, Shape};
+use std::alloc::{AllocError, Global};
+
+// So many rows are not looked at pair by pair for a smaller list alone.
+const MANY: usize = 32;
+
+// Nor are rows of two lists of so many pairs.
+const PAIRS: usize = 1024;
+
+// Whether the row lies in one of the kept rows.
+fn is_absorbed(kept: &[Cube], row: &Cube) -> bool
+    requires { All (λ d. SameSize d row.now) kept.now }
+    ensures absorbed { IsTrue result → (d : Row) × Contains kept.now d
+        × IsSubset (holds row.now) (holds d) }
+    ensures open { result ≡ false → All (λ d. IsSubset (holds row.now) (holds d) → ⊥) kept.now }
+{
+    for old in kept {
+        if old.contains(row) {
+            return true;
+        }
+    }
+    false
+}
+
+// The rows that lie in no row before them. In row order the larger rows come first, so that among
+// rows of equal outputs none is left that lies in another.
+fn absorb_sorted(alloc: Global, rows: &[Cube]) -> Result<Vec<Cube>, AllocError>
+    requires cubes { HaveOneSize rows.now }
+    requires rising { IsStrictlySortedBy row_order rows.now }
+    ensures { IfOk result (λ kept. IsAbsorbed rows.now kept.items) }
+{
+    let mut kept = Vec::new(alloc);
+    for row in rows {
+        if !is_absorbed(&kept, row) {
+            kept.push(row.try_clone()?)?;
+        }
+    }
+    Ok(kept)
+}
+
+// Whether all rows have as many literals. Of such rows in row order none lies in one before it: it
+// would have the same symbols, and then the one with more outputs comes later.
+fn have_one_size(rows: &[Cube]) -> bool {
+    let Some(first) = rows.first() else {
+        return true;
+    };
+    let literals = first.literals();
+    for row in rows {
+        if row.literals() != literals {
+            return false;
+        }
+    }
+    true
+}
+
+// Whether the rows are seen to rise and to have literals at the same inputs, as points do that a
+// longer list was split into. So none lies in another.
+fn rise_alike(shape: Shape, rows: &[Cube]) -> bool {
+    if shape.inputs() > 32 {
+        return false;
+    }
+    let inputs = match rows.first() {
+        Some(first) => first.literal_inputs(0),
+        None => 0,
+    };
+    let mut last = 0u64;
+    for row in rows {
+        if row.literal_inputs(0) != inputs {
+            return false;
+        }
+        let key = row.order_key();
+        if key <= last {
+            return false;
+        }
+        last = key;
+    }
+    true
+}
+
+// Whether some row lies in one before it, in row order.
+fn has_absorbed(rows: &[Cube]) -> bool
+    requires { HaveOneSize rows.now }
+{
+    if have_one_size(rows) {
+        return false;
+    }
+    for at in 0..rows.len() {
+        let (before, _) = rows.split_at(at);
+        if is_absorbed(before, &rows[at]) {
+            return true;
+        }
+    }
+    false
+}
+
+// Whether some row lies in one of the others.
+fn has_absorbed_by(rows: &[Cube], others: &[Cube]) -> bool
+    requires { ShareOneSize rows.now others.now }
+{
+    for row in rows {
+        if is_absorbed(others, row) {
+            return true;
+        }
+    }
+    false
+}
+
+// The rows that lie in none of the others.
+pub(crate) fn drop_absorbed(
+    alloc: Global,
+    rows: &[Cube],
+    others: &[Cube],
+) -> Result<Vec<Cube>, AllocError>
+    requires { ShareOneSize rows.now others.now }
+    ensures { IfOk result (λ kept. IsWithoutAbsorbed rows.now others.now kept.items) }
+{
+    let mut kept = Vec::new(alloc);
+    for row in rows {
+        if !is_absorbed(others, row) {
+            kept.push(row.try_clone()?)?;
+        }
+    }
+    Ok(kept)
+}
+
+/// The rows without those that lie in one of the others, or all of them, if the pairs are many.
+pub(crate) fn without_absorbed(
+    alloc: Global,
+    rows: Vec<Cube>,
+    others: &[Cube],
+) -> Result<Vec<Cube>, AllocError>
+    requires { ShareOneSize rows.items others.now }
+    ensures { IfOk result (λ kept. IsWithoutAbsorbed rows.items others.now kept.items) }
+{
+    let pairs = rows.len().saturating_mul(others.len());
+    if pairs == 0 || pairs > PAIRS {
+        return Ok(rows);
+    }
+    if !has_absorbed_by(&rows, others) {
+        return Ok(rows);
+    }
+    drop_absorbed(alloc, &rows, others)
+}
+
+/// The rows without some of those that lie in others: of few rows none is left that lies in one
+/// before it in row order, of many only the repeated ones leave, since each pair is looked at.
+pub(crate) fn absorb_if_short(
+    alloc: Global,
+    shape: Shape,
+    rows: Vec<Cube>,
+) -> Result<Vec<Cube>, AllocError>
+    requires { AreCubes shape rows.items }
+    ensures { IfOk result (λ kept. IsPartlyAbsorbed rows.items kept.items) }
+{
+    if rows.len() < 2 || rise_alike(shape, &rows) {
+        return Ok(rows);
+    }
+    let rows = sort_rows(alloc, rows)?;
+    if rows.len() > MANY {
+        return Ok(rows);
+    }
+    if !has_absorbed(&rows) {
+        return Ok(rows);
+    }
+    absorb_sorted(alloc, &rows)
+}
+
+/// The rows in row order, without those that lie in one before them.
+pub(crate) fn absorb(alloc: Global, rows: Vec<Cube>) -> Result<Vec<Cube>, AllocError>
+    requires { HaveOneSize rows.items }
+    ensures { IfOk result (λ kept. IsAbsorbed rows.items kept.items) }
+{
+    let rows = sort_rows(alloc, rows)?;
+    absorb_sorted(alloc, &rows)
+}

@@ -1,0 +1,322 @@
+//! The cubes of a complete sum that contain a region.
+//!
+//! They are found without the others: the one cube that holds everything is cut by each row of the
+//! places outside, and of what is left of a cube only what contains the region stays. So a place
+//! that few primes hold costs little, however many primes there are (the recursion of sharps is
+//! that of Brayton et al. 1984).
+//!
+//! A row that one literal alone parts from the region gives this literal to every cube. Such rows
+//! come first: then one cube is left, which most other rows do not meet, and these are done with.
+ghost use Rattle.std.specs.Prelude.{◌≡◌, ◌⊎◌, false, All, IfOk, IfSome, not, filter};
+ghost use Rattle.std.specs.List.{Contains};
+ghost use Rattle.cube.specs.Size.{Size};
+ghost use Rattle.cube.specs.Cube.{HasSize, SameSize, IsDisjoint, IsSubset, Cube as Row, holds, difference, size_of};
+ghost use Rattle.cube.specs.Sum.{complete_sum};
+ghost use Rattle.cover.specs.Cubes.{AreCubes};
+ghost use Rattle.cover.specs.Sizes.{HaveOneSize, ShareOneSize};
+ghost use Rattle.cover.specs.Places.{places};
+ghost use Rattle.cover.specs.Contained.{is_within};
+ghost use Rattle.cover.specs.Outside.{AreNear};
+ghost use Rattle.cover.specs.Reduced.{HasSameCubes, IsPartlyAbsorbed, IsWithoutAbsorbed};
+ghost use Rattle.cover.specs.Containing.{Cuts, lies_in_larger as is_in_larger, largest as largest_of, sum_containing as sum_containing_of};
+
+use crate::list::Cover;
+use crate::sums::absorb::{absorb, drop_absorbed};
+use crate::tautology::universal;
+use cube::{Cube, Shape};
+use std::alloc::{AllocError, Global};
+
+// Rows that fewer than this many literals and outputs part from the region come first.
+const MANY: u32 = 6;
+
+// Whether the cube contains the region.
+fn contains(cube: &Cube, region: &Cube) -> bool
+    requires { SameSize cube.now region.now }
+    ensures { result ≡ is_within (size_of region.now) region.now cube.now }
+{
+    cube.contains(region)
+}
+
+// Those of the cubes that contain the region.
+fn containing(alloc: Global, region: &Cube, cubes: &[Cube]) -> Result<Vec<Cube>, AllocError>
+    requires { All (λ c. SameSize c region.now) cubes.now }
+    ensures { IfOk result (λ kept. kept.items
+        ≡ filter (is_within (size_of region.now) region.now) cubes.now) }
+{
+    let mut kept = Vec::new(alloc);
+    for cube in cubes {
+        if contains(cube, region) {
+            kept.push(cube.try_clone()?)?;
+        }
+    }
+    Ok(kept)
+}
+
+// What is left of the cube outside the row and contains the region.
+fn pieces(alloc: Global, region: &Cube, row: &Cube, cube: &Cube) -> Result<Vec<Cube>, AllocError>
+    requires region { SameSize cube.now region.now }
+    requires row { SameSize cube.now row.now }
+    ensures { IfOk result (λ v. v.items ≡ filter (is_within (size_of region.now) region.now)
+        (complete_sum (size_of region.now) (difference (holds cube.now) (holds row.now)))) }
+{
+    let rest = cube.sharp(row)?;
+    containing(alloc, region, &rest)
+}
+
+/// Whether some cube has a place of the row.
+pub(crate) fn any_meets(cubes: &[Cube], row: &Cube) -> bool
+    requires { All (λ d. SameSize d row.now) cubes.now }
+    ensures { result ≡ false → All (λ d. IsDisjoint (holds d) (holds row.now)) cubes.now }
+{
+    for cube in cubes {
+        if !cube.disjoint(row) {
+            return true;
+        }
+    }
+    false
+}
+
+// Whether the row has one output, as far as the first 64 show.
+fn has_one_output(shape: Shape, row: &Cube) -> bool {
+    shape.outputs() <= 64 && row.output_bits(0).count_ones() == 1
+}
+
+// The pieces that a cut by the row made, without some that lie in others. Where the row has one
+// output none does, if no cube of the list lies in another.
+fn absorb_pieces(
+    alloc: Global,
+    shape: Shape,
+    row: &Cube,
+    pieces: Vec<Cube>,
+) -> Result<Vec<Cube>, AllocError>
+    requires { AreCubes shape pieces.items }
+    ensures { IfOk result (λ fewer. IsPartlyAbsorbed pieces.items fewer.items) }
+{
+    if has_one_output(shape, row) {
+        return Ok(pieces);
+    }
+    absorb(alloc, pieces)
+}
+
+// The list cut by a row.
+fn cut(
+    alloc: Global,
+    shape: Shape,
+    region: &Cube,
+    row: &Cube,
+    cubes: Vec<Cube>,
+) -> Result<Vec<Cube>, AllocError>
+    requires region { HasSize region.now shape }
+    requires row { HasSize row.now shape }
+    requires cubes { AreCubes shape cubes.items }
+    ensures cubes { IfOk result (λ v. AreCubes shape v.items) }
+    ensures cuts { IfOk result (λ v. Cuts shape region.now (holds row.now) cubes.items v.items) }
+{
+    if !any_meets(&cubes, row) {
+        return Ok(cubes);
+    }
+    let mut kept = Vec::new(alloc);
+    let mut rest = Vec::new(alloc);
+    for cube in &cubes {
+        if cube.disjoint(row) {
+            kept.push(cube.try_clone()?)?;
+        } else {
+            let mut more = pieces(alloc, region, row, cube)?;
+            rest.append(&mut more)?;
+        }
+    }
+    let rest = absorb_pieces(alloc, shape, row, rest)?;
+    let mut rest = drop_absorbed(alloc, &rest, &kept)?;
+    kept.append(&mut rest)?;
+    Ok(kept)
+}
+
+// The list cut by all rows, or `None` once it is longer than `most`.
+fn cut_by_all(
+    alloc: Global,
+    shape: Shape,
+    region: &Cube,
+    rows: &[Cube],
+    cubes: Vec<Cube>,
+    most: usize,
+) -> Result<Option<Vec<Cube>>, AllocError>
+    requires region { HasSize region.now shape }
+    requires rows { AreCubes shape rows.now }
+    requires cubes { AreCubes shape cubes.items }
+    ensures cubes { IfOk result (λ o. IfSome o (λ v. AreCubes shape v.items)) }
+    ensures cuts { IfOk result (λ o. IfSome o (λ v.
+        Cuts shape region.now (places rows.now) cubes.items v.items)) }
+{
+    let mut left = cubes;
+    for row in rows {
+        left = cut(alloc, shape, region, row, left)?;
+        if left.len() > most {
+            return Ok(None);
+        }
+    }
+    Ok(Some(left))
+}
+
+// Whether the cubes have an output in common.
+fn share_output(cube: &Cube, other: &Cube) -> bool {
+    for w in 0..cube.shape().outputs().div_ceil(64) {
+        if cube.output_bits(w) & other.output_bits(w) != 0 {
+            return true;
+        }
+    }
+    false
+}
+
+// At how many inputs the two have opposite literals, and one more if they share no output. A cut by
+// the row makes at most so many pieces that contain the region.
+fn count_partings(region: &Cube, row: &Cube) -> u32 {
+    let outputs = if share_output(region, row) { 0 } else { 1 };
+    region.opposites(row).saturating_add(outputs)
+}
+
+// The rows that so many literals and outputs part from the region.
+fn parted_by(
+    alloc: Global,
+    region: &Cube,
+    rows: &[Cube],
+    count: u32,
+) -> Result<Vec<Cube>, AllocError>
+    ensures { IfOk result (λ kept. (c : Row) → Contains kept.items c → Contains rows.now c) }
+{
+    let mut kept = Vec::new(alloc);
+    for row in rows {
+        if count_partings(region, row) == count {
+            kept.push(row.try_clone()?)?;
+        }
+    }
+    Ok(kept)
+}
+
+// The rows, some of them twice: those that few literals part from the region come first, since a
+// cut by them makes few pieces, and after it many others are done with.
+fn few_first(alloc: Global, region: &Cube, rows: Vec<Cube>) -> Result<Vec<Cube>, AllocError>
+    ensures { IfOk result (λ all. HasSameCubes rows.items all.items) }
+{
+    let mut all = Vec::new(alloc);
+    for count in 2..MANY {
+        let mut some = parted_by(alloc, region, &rows, count)?;
+        all.append(&mut some)?;
+    }
+    let mut rows = rows;
+    all.append(&mut rows)?;
+    Ok(all)
+}
+
+// The rows that meet some cube of the list.
+fn rows_meeting(alloc: Global, cubes: &[Cube], rows: &[Cube]) -> Result<Vec<Cube>, AllocError>
+    requires { ShareOneSize cubes.now rows.now }
+    ensures { IfOk result (λ v. (size : Size) → AreCubes size rows.now
+        → AreNear size (places cubes.now) rows.now v.items) }
+{
+    let mut near = Vec::new(alloc);
+    for row in rows {
+        if any_meets(cubes, row) {
+            near.push(row.try_clone()?)?;
+        }
+    }
+    Ok(near)
+}
+
+// The list cut by all rows in a good order, or `None` once it is longer than `most`.
+fn cut_in_order(
+    alloc: Global,
+    shape: Shape,
+    region: &Cube,
+    rows: &[Cube],
+    cubes: Vec<Cube>,
+    most: usize,
+) -> Result<Option<Vec<Cube>>, AllocError>
+    requires region { HasSize region.now shape }
+    requires rows { AreCubes shape rows.now }
+    requires cubes { AreCubes shape cubes.items }
+    ensures { IfOk result (λ o. IfSome o (λ v.
+        Cuts shape region.now (places rows.now) cubes.items v.items)) }
+{
+    let forcing = parted_by(alloc, region, rows, 1)?;
+    let Some(core) = cut_by_all(alloc, shape, region, &forcing, cubes, most)? else {
+        return Ok(None);
+    };
+    let near = rows_meeting(alloc, &core, rows)?;
+    let near = few_first(alloc, region, near)?;
+    cut_by_all(alloc, shape, region, &near, core, most)
+}
+
+// Whether the cube lies in one of the cubes that does not lie in it.
+fn lies_in_larger(cubes: &[Cube], cube: &Cube) -> bool
+    requires { All (λ c. SameSize c cube.now) cubes.now }
+    ensures { result ≡ is_in_larger (size_of cube.now) cubes.now cube.now }
+{
+    for other in cubes {
+        if contains(other, cube) && !contains(cube, other) {
+            return true;
+        }
+    }
+    false
+}
+
+// The cubes that lie in no larger one.
+fn largest(alloc: Global, cubes: &[Cube]) -> Result<Vec<Cube>, AllocError>
+    requires { HaveOneSize cubes.now }
+    ensures { IfOk result (λ v. (size : Size) → AreCubes size cubes.now
+        → v.items ≡ largest_of size cubes.now) }
+{
+    let mut kept = Vec::new(alloc);
+    for cube in cubes {
+        if !lies_in_larger(cubes, cube) {
+            kept.push(cube.try_clone()?)?;
+        }
+    }
+    Ok(kept)
+}
+
+/// The cubes of the list that contain the region, in their order.
+///
+/// # Errors
+///
+/// [`AllocError`] if memory is refused.
+pub fn cubes_containing(region: &Cube, list: &Cover) -> Result<Cover, AllocError>
+    requires { HasSize region.now list.now.size }
+    ensures { IfOk result (λ kept. kept ≡ record {
+      size = list.now.size;
+      cubes = filter (is_within list.now.size region.now) list.now.cubes;
+    }) }
+{
+    let shape = list.shape();
+    let kept = containing(list.allocator(), region, list.as_slice())?;
+    Ok(Cover::from_cubes(shape, kept))
+}
+
+/// The cubes of the complete sum of the places outside `off` that contain the region, in row order:
+/// the largest cubes that contain it and have no place of `off`. `None` once the list of cubes so
+/// far is longer than `most`.
+///
+/// Each row of `off` that meets a cube of the list cuts it. The list is never longer than the
+/// number of cubes that are largest beside some of the rows.
+///
+/// # Errors
+///
+/// [`AllocError`] if memory is refused.
+pub fn sum_containing(region: &Cube, off: &Cover, most: usize) -> Result<Option<Cover>, AllocError>
+    requires { HasSize region.now off.now.size }
+    ensures { IfOk result (λ o. IfSome o (λ sum. sum ≡ record {
+      size = off.now.size;
+      cubes = sum_containing_of off.now.size (λ p. not (places off.now.cubes p)) region.now;
+    })) }
+{
+    let alloc = off.allocator();
+    let shape = off.shape();
+    let mut cubes = Vec::new(alloc);
+    let everything = universal(alloc, shape)?;
+    cubes.push(everything)?;
+    let Some(cubes) = cut_in_order(alloc, shape, region, off.as_slice(), cubes, most)? else {
+        return Ok(None);
+    };
+    let cubes = absorb(alloc, cubes)?;
+    let cubes = largest(alloc, &cubes)?;
+    Ok(Some(Cover::from_cubes(shape, cubes)))
+}

@@ -1,0 +1,97 @@
+//! The meets of two lists whose rows have literals at the same inputs, as lists of points have.
+//!
+//! Of such rows two that share a place have the same symbols. So each row has a key of its symbols at
+//! the first 32 inputs, and is met only with the others of its key. In row order the keys rise, and
+//! both lists are gone through once.
+ghost use Rattle.std.specs.Prelude.{◌≡◌, ℕ, ◌<◌, ◌≤◌, IfOk, IfSome, length, slice_index_or};
+ghost use Rattle.cube.specs.Size.{Size};
+ghost use Rattle.cover.specs.Cubes.{AreCubes};
+ghost use Rattle.cover.specs.Keys.{HasKeys};
+ghost use Rattle.cover.specs.Reduced.{IsMeets};
+ghost use Rattle.cover.specs.Sizes.{ShareOneSize};
+
+use crate::sums::parts::push_meets;
+use cube::Cube;
+use std::alloc::{AllocError, Global};
+
+/// The keys of the rows, if they do not fall and each row has literals at these inputs of the first
+/// 32.
+pub(crate) fn keys_of(
+    alloc: Global,
+    rows: &[Cube],
+    inputs: u64,
+) -> Result<Option<Vec<u64>>, AllocError>
+    ensures { IfOk result (λ found. IfSome found (λ keys. HasKeys inputs rows.now keys.items)) }
+{
+    let mut keys = Vec::with_capacity(alloc, rows.len())?;
+    let mut last = 0u64;
+    for row in rows {
+        if row.literal_inputs(0) != inputs {
+            return Ok(None);
+        }
+        let key = row.order_key();
+        if key < last {
+            return Ok(None);
+        }
+        last = key;
+        keys.push(key)?;
+    }
+    Ok(Some(keys))
+}
+
+// The first index from `from` on whose key is not below this one.
+fn skip_below(keys: &[u64], from: usize, key: u64) -> usize
+    requires { from ≤ length keys.now }
+    ensures from_on { from ≤ result }
+    ensures bound { result ≤ length keys.now }
+    ensures below { (j : ℕ) → from ≤ j → j < result → slice_index_or keys.now j 0 < key }
+{
+    for at in from..keys.len() {
+        if keys[at] >= key {
+            return at;
+        }
+    }
+    keys.len()
+}
+
+// The first index from `from` on whose key is above this one.
+fn skip_equal(keys: &[u64], from: usize, key: u64) -> usize
+    requires { from ≤ length keys.now }
+    ensures from_on { from ≤ result }
+    ensures bound { result ≤ length keys.now }
+    ensures above { result < length keys.now → key < slice_index_or keys.now result 0 }
+{
+    for at in from..keys.len() {
+        if keys[at] > key {
+            return at;
+        }
+    }
+    keys.len()
+}
+
+/// The meets of a row of each list, by their keys.
+pub(crate) fn meets_by_keys(
+    alloc: Global,
+    rows: &[Cube],
+    keys: &[u64],
+    others: &[Cube],
+    other_keys: &[u64],
+) -> Result<Vec<Cube>, AllocError>
+    requires size { ShareOneSize rows.now others.now }
+    requires keys { (inputs : ℕ) × HasKeys inputs rows.now keys.now
+        × HasKeys inputs others.now other_keys.now }
+    ensures { IfOk result (λ all. (size : Size) → AreCubes size rows.now → AreCubes size others.now
+        → IsMeets size rows.now others.now all.items) }
+{
+    let mut all = Vec::new(alloc);
+    let mut from = 0;
+    for k in 0..rows.len() {
+        let start = skip_below(other_keys, from, keys[k]);
+        let end = skip_equal(other_keys, start, keys[k]);
+        let (front, _) = others.split_at(end);
+        let (_, equal) = front.split_at(start);
+        push_meets(&rows[k], equal, &mut all)?;
+        from = start;
+    }
+    Ok(all)
+}
