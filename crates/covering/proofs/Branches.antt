@@ -9,7 +9,7 @@ use Rattle.covering.specs.declared.choice.Choice.{Choice}
 use Rattle.covering.specs.Table.{Table, has, RisesFrom, IsWithin, IsTable}
 use Rattle.covering.specs.Cover.{meets, IsCover, counted, sum_over, Precedes, IsLeast}
 use Rattle.covering.specs.Steps.{without, take_column, drop_column, with_rows, Step, row_leaves, only_column, column_leaves, Steps, done, more}
-use Rattle.covering.specs.Search.{IsBeyond, NoneWithin, NoneBelow, IsAnswer, Answers, Leads, IsOutside, IsForced, IsNarrowed, keep_columns, is_blank, marked}
+use Rattle.covering.specs.Search.{IsBeyond, NoneWithin, NoneBelow, IsAnswer, Answers, Leads, IsOutside, IsForced, IsPruned, keep_columns, is_blank, marked}
 use Rattle.covering.proofs.Sets.{has_here, has_later, has_cases, without_keeps, without_length, filter_parts, filter_keeps, filter_rises, filter_length, meets_at, meets_from, first_by_sets}
 use Rattle.covering.proofs.Covers.{rows_at, rows_mapped, rows_unmapped, rows_weaker2, take_cover, take_back, drop_cover, drop_back}
 use Rattle.covering.proofs.Subsets.{same_list, minus, minus_keeps, minus_length, minus_sum, rows_within}
@@ -264,7 +264,7 @@ none_forced choice t c k w f p x h = p x (take_cover t c x h (f x h))
 pub unforced_table : (t : Table) (c : ℕ) → IsTable t → list_any is_blank (map (without c) t.rows) ≡ false → IsTable (drop_column c t)
 unforced_table t c w e = kept_table (λ x. not (eqb c x)) t w e
 
--- ---- answers over narrowed tables
+-- ---- answers over pruned tables
 
 pub over_sum : (choice : Choice) (t : Table) (k w n : ℕ) → IsTable t → length t.taken ≤ k → n ≡ sum_over (counted choice t.weights) t.taken → MatchBool (nat_lt w n) (NoneWithin choice t k w) ((length t.taken ≤ k) × (sum_over (counted choice t.weights) t.taken ≤ w))
 over_sum choice t k w n wt l e = go (nat_lt w n) refl
@@ -273,13 +273,13 @@ over_sum choice t k w n wt l e = go (nat_lt w n) refl
     go true f = over_taken choice t k w wt (inr (let a = ltb-true w n f in omega arith))
     go false f = (l, (let a = ltb-false w n f in omega arith))
 
-pub narrowed_kept : (choice : Choice) (test : ℕ → Bool) (t : Table) (k w : ℕ) → IsTable t → ((c : ℕ) → has c t.live ≡ true → test c ≡ false → IsOutside choice t k w c) → IsNarrowed choice k w t (keep_columns test t)
-narrowed_kept choice test t k w wt out = record { leads = lead_kept choice test t k w wt out; live = filter_length test t.live }
+pub pruned_kept : (choice : Choice) (test : ℕ → Bool) (t : Table) (k w : ℕ) → IsTable t → ((c : ℕ) → has c t.live ≡ true → test c ≡ false → IsOutside choice t k w c) → IsPruned choice k w t (keep_columns test t)
+pruned_kept choice test t k w wt out = record { leads = lead_kept choice test t k w wt out; live = filter_length test t.live }
 
-pub narrowed_from : (choice : Choice) (test : ℕ → Bool) (t : Table) (k w : ℕ) → IsTable t → ((c : ℕ) → has c t.live ≡ true → test c ≡ false → IsOutside choice t k w c)
-    → (o : Option Table) → MatchOption o (list_any is_blank (map (filter test) t.rows) ≡ true) (λ u. u ≡ keep_columns test t) → MatchOption o (NoneWithin choice t k w) (IsNarrowed choice k w t)
-narrowed_from choice test t k w wt out None h = none_blank choice test t k w wt out h
-narrowed_from choice test t k w wt out (Some u) h = subst (IsNarrowed choice k w t) (sym h) (narrowed_kept choice test t k w wt out)
+pub pruned_from : (choice : Choice) (test : ℕ → Bool) (t : Table) (k w : ℕ) → IsTable t → ((c : ℕ) → has c t.live ≡ true → test c ≡ false → IsOutside choice t k w c)
+    → (o : Option Table) → MatchOption o (list_any is_blank (map (filter test) t.rows) ≡ true) (λ u. u ≡ keep_columns test t) → MatchOption o (NoneWithin choice t k w) (IsPruned choice k w t)
+pruned_from choice test t k w wt out None h = none_blank choice test t k w wt out h
+pruned_from choice test t k w wt out (Some u) h = subst (IsPruned choice k w t) (sym h) (pruned_kept choice test t k w wt out)
 
 pub all_marked_at : (n c : ℕ) → c < n → marked (replicate n true) c ≡ true
 all_marked_at zero c h = absurd (omega arith)

@@ -117,12 +117,12 @@ covers_from rows ys scaled_costs loads n over e l = record {
     | inr s ↦ omega arith
   ];
   having = λ x h c i. elim l.exceeds [
-    | inl s ↦ (let k = (lagrangian_holds (at scaled_costs) (length scaled_costs) rows ys x e h).1 c i in let t = l.weighs in let b = l.bears c (h.below c i) in omega arith)
+    | inl s ↦ (let k = (lagrangian_holds (at scaled_costs) (length scaled_costs) rows ys x e h).1 c i in let t = l.weighs in let b = l.loads_are c (h.below c i) in omega arith)
     | inr s ↦ (let k = scaled_cost_most (at scaled_costs) c x i in omega arith)
   ];
   lacking = λ x h c s0 i. elim l.exceeds [
-    | inl s ↦ (let k = (lagrangian_holds (at scaled_costs) (length scaled_costs) rows ys x e h).2 c s0 i in let t = l.weighs in let b = l.bears c s0 in omega arith)
-    | inr s ↦ (let k = load_total c rows ys in let t = l.weighs in let b = l.bears c s0 in omega arith)
+    | inl s ↦ (let k = (lagrangian_holds (at scaled_costs) (length scaled_costs) rows ys x e h).2 c s0 i in let t = l.weighs in let b = l.loads_are c s0 in omega arith)
+    | inr s ↦ (let k = load_total c rows ys in let t = l.weighs in let b = l.loads_are c s0 in omega arith)
   ];
 }
 

@@ -1,18 +1,19 @@
 -- What the passes of a reduction leave.
 use Rattle.std.proofs.Common.{◌≡◌, ◌≢◌, ℕ, zero, suc, ◌+◌, ◌<◌, ◌≤◌, ◌⊎◌, inl, inr, Bool, true, false, ◌||◌, ◌&&◌, not, eqb, ltb, List, [], ◌∷◌, length, take, slice_index_or, refl, sym, ap, subst, ◌∙◌, arith}
 use Rattle.std.specs.List.{list_any}
-use Rattle.std.proofs.lemmas.Bool.{cases_eq, cases_lt, cases_Bool, or_cases, or_left, or_right, and_parts, and_from, eq-eqb, ne_eqb, eqb-true, ltb-true, lt-ltb, both_ways, true≢false, cond-true, cond-false}
+use Rattle.std.proofs.lemmas.Bool.{cases_eq, cases_lt, cases_Bool, or_cases, or_left, or_right, and_parts, and_from, eq-eqb, ne_eqb, eqb-true, ltb-true, lt-ltb, leb-true, le-leb, both_ways, true≢false, cond-true, cond-false}
 use Rattle.std.proofs.lemmas.List.{take_more}
+use Rattle.covering.specs.declared.column_dominance.Preference.{Preference}
+use Rattle.covering.specs.declared.column_dominance.Preference.TheVariants.{Earlier, NoDearer}
 use Rattle.covering.specs.Table.{has, RisesFrom, IsWithin}
 use Rattle.covering.specs.Search.{marked}
-use Rattle.covering.specs.Reduce.{row_at, IsTranspose, Unmarks, UnmarksDominatingRows, RowDominanceSoFar, LeavesNoDominatingRow, is_dominating_row, holds_all, prefers, dominates, ColumnDominanceSoFar, LeavesNoDominatedColumn}
+use Rattle.covering.specs.Reduce.{row_at, IsTranspose, Unmarks, UnmarksDominatingRows, RowDominanceSoFar, LeavesNoDominatingRow, is_dominating_row, holds_all, prefers, is_preferred, dominates, ColumnDominanceSoFar, LeavesNoDominatedColumn}
 use Rattle.std.specs.Prelude.{Result, Ok, Err, is_ok, MatchResult}
 use Rattle.std.specs.List.Sorted.{IsBinarySearchResult}
 use Rattle.std.specs.Ordering.{nat_cmp}
 use Rattle.std.specs.Cmp.{both_ways as same_bool}
 use Rattle.std.proofs.lemmas.List.Sorted.{searched}
 use Rattle.covering.specs.Steps.{IsPreferred}
-use Rattle.covering.proofs.Keeps.{preferred_apart}
 use Rattle.covering.proofs.Sets.{has_here, has_later, has_cases, rises_above}
 use Rattle.covering.proofs.TransposeSteps.{has_append}
 
@@ -154,20 +155,34 @@ preferred_trans count c b a (inl h) (inr k) = inl (omega (arith, k.0))
 preferred_trans count c b a (inr h) (inl k) = inl (omega (arith, h.0))
 preferred_trans count c b a (inr h) (inr k) = inr (h.0 ∙ k.0, omega (arith, h.1, k.1))
 
+not_true : (b : Bool) → not b ≡ true → b ≡ false
+not_true true e = sym e
+not_true false e = refl
+
+-- what may stay in place of one that may stay in place of a third may stay in place of that
+pub preferred_on : (preference : Preference) (count : ℕ → ℕ) (c b a : ℕ) → is_preferred preference count c b ≡ true → is_preferred preference count b a ≡ true → is_preferred preference count c a ≡ true
+preferred_on Earlier count c b a h k = prefers_from count c a (preferred_trans count c b a (preferred_from count c b h) (preferred_from count b a k))
+preferred_on NoDearer count c b a h k =
+    let one = leb-true (count c) (count b) h in
+    let two = leb-true (count b) (count a) k in
+    le-leb (count c) (count a) (omega arith)
+
 -- what a column over another is
-pub record Dominates (count : ℕ → ℕ) (transpose : List (List ℕ)) (keep : List Bool) (a b : ℕ) : Type 0 where
+pub record Dominates (preferred : ℕ → ℕ → Bool) (transpose : List (List ℕ)) (keep : List Bool) (a b : ℕ) : Type 0 where
+  pub apart : b ≢ a
   pub kept : marked keep b ≡ true
-  pub preferred : IsPreferred count b a
+  pub first : preferred b a ≡ true
   pub stands : IsWithin (row_at transpose a) (row_at transpose b)
 
-pub dominates_parts : (count : ℕ → ℕ) (transpose : List (List ℕ)) (keep : List Bool) (a b : ℕ) → dominates count transpose keep a b ≡ true → Dominates count transpose keep a b
-dominates_parts count transpose keep a b h =
-    let p = and_parts (marked keep b) (prefers count b a && holds_all (row_at transpose b) (row_at transpose a)) h in
-    let q = and_parts (prefers count b a) (holds_all (row_at transpose b) (row_at transpose a)) p.1 in
-    record { kept = p.0; preferred = preferred_from count b a q.0; stands = within_from (row_at transpose b) (row_at transpose a) q.1 }
+pub dominates_parts : (preferred : ℕ → ℕ → Bool) (transpose : List (List ℕ)) (keep : List Bool) (a b : ℕ) → dominates preferred transpose keep a b ≡ true → Dominates preferred transpose keep a b
+dominates_parts preferred transpose keep a b h =
+    let d = and_parts (not (eqb a b)) (marked keep b && (preferred b a && holds_all (row_at transpose b) (row_at transpose a))) h in
+    let p = and_parts (marked keep b) (preferred b a && holds_all (row_at transpose b) (row_at transpose a)) d.1 in
+    let q = and_parts (preferred b a) (holds_all (row_at transpose b) (row_at transpose a)) p.1 in
+    record { apart = λ e. both_ways (eqb a b) (not_true (eqb a b) d.0) (eq-eqb a b (sym e)); kept = p.0; first = q.0; stands = within_from (row_at transpose b) (row_at transpose a) q.1 }
 
-pub dominates_from : (count : ℕ → ℕ) (transpose : List (List ℕ)) (keep : List Bool) (a b : ℕ) → Dominates count transpose keep a b → dominates count transpose keep a b ≡ true
-dominates_from count transpose keep a b o = and_from (marked keep b) _ o.kept (and_from (prefers count b a) _ (prefers_from count b a o.preferred) (holds_from (row_at transpose b) (row_at transpose a) o.stands))
+pub dominates_from : (preferred : ℕ → ℕ → Bool) (transpose : List (List ℕ)) (keep : List Bool) (a b : ℕ) → Dominates preferred transpose keep a b → dominates preferred transpose keep a b ≡ true
+dominates_from preferred transpose keep a b o = and_from (not (eqb a b)) _ (ap not (ne_eqb a b (λ e. o.apart (sym e)))) (and_from (marked keep b) _ o.kept (and_from (preferred b a) _ o.first (holds_from (row_at transpose b) (row_at transpose a) o.stands)))
 
 pub any_at : (test : ℕ → Bool) (xs : List ℕ) → list_any test xs ≡ true → (n : ℕ) × (has n xs ≡ true) × (test n ≡ true)
 any_at test [] h = absurd (true≢false (sym h))
@@ -184,79 +199,77 @@ any_among test xs ys f g = same_bool (list_any test xs) (list_any test ys)
     (λ h. let k = any_at test ys h in any_from test xs k.0 (g k.0 k.1 k.2) k.2)
 
 -- the candidates in a row of a are as good as all live columns
-pub candidates : (count : ℕ → ℕ) (live : List ℕ) (rows transpose : List (List ℕ)) (keep : List Bool) (a i : ℕ) → IsTranspose (length transpose) rows transpose → ((i : ℕ) → IsWithin (row_at rows i) live) → ((c : ℕ) → has c live ≡ true → c < length transpose) → has i (row_at transpose a) ≡ true
-    → list_any (dominates count transpose keep a) (row_at rows i) ≡ list_any (dominates count transpose keep a) live
-candidates count live rows transpose keep a i x within below h = any_among (dominates count transpose keep a) (row_at rows i) live (within i)
-    (λ n k o. sym (x.same n i (below n k)) ∙ (dominates_parts count transpose keep a n o).stands i h)
+pub candidates : (preferred : ℕ → ℕ → Bool) (live : List ℕ) (rows transpose : List (List ℕ)) (keep : List Bool) (a i : ℕ) → IsTranspose (length transpose) rows transpose → ((i : ℕ) → IsWithin (row_at rows i) live) → ((c : ℕ) → has c live ≡ true → c < length transpose) → has i (row_at transpose a) ≡ true
+    → list_any (dominates preferred transpose keep a) (row_at rows i) ≡ list_any (dominates preferred transpose keep a) live
+candidates preferred live rows transpose keep a i x within below h = any_among (dominates preferred transpose keep a) (row_at rows i) live (within i)
+    (λ n k o. sym (x.same n i (below n k)) ∙ (dominates_parts preferred transpose keep a n o).stands i h)
 
-module _ (count : ℕ → ℕ) (live : List ℕ) (transpose : List (List ℕ)) (i : ℕ) (keep : List Bool) (l : i < length live) (h : ColumnDominanceSoFar count live transpose (take i live) keep) where
+module _ (preferred : ℕ → ℕ → Bool) (trans : (c b a : ℕ) → preferred c b ≡ true → preferred b a ≡ true → preferred c a ≡ true) (live : List ℕ) (transpose : List (List ℕ)) (i : ℕ) (keep : List Bool) (l : i < length live) (h : ColumnDominanceSoFar preferred live transpose (take i live) keep) where
   abbrev pub a : ℕ
   a = slice_index_or live i 0
 
   asked_more : (n : ℕ) → has n (take (i + 1) live) ≡ true → (has n (take i live) ≡ true) ⊎ (n ≡ a)
   asked_more n k = elim (or_cases (has n (take i live)) (eqb n a) (sym (ap (has n) (take_more live i 0 l) ∙ has_append n (take i live) a) ∙ k)) [ inl e ↦ inl e | inr e ↦ inr (eqb-true n a e) ]
 
-  pub keep_miss : list_any (dominates count transpose keep a) live ≡ false → ColumnDominanceSoFar count live transpose (take (i + 1) live) keep
+  pub keep_miss : list_any (dominates preferred transpose keep a) live ≡ false → ColumnDominanceSoFar preferred live transpose (take (i + 1) live) keep
   keep_miss none = record {
     witnessed = h.witnessed;
     free = λ n k m b p. elim (asked_more n k) [
       | inl e ↦ h.free n e m b p
-      | inr e ↦ elim (cases_Bool (dominates count transpose keep n b)) [
-        | inl f ↦ absurd (both_ways _ none (any_from (dominates count transpose keep a) live b p (subst (λ q. dominates count transpose keep q b ≡ true) e f)))
+      | inr e ↦ elim (cases_Bool (dominates preferred transpose keep n b)) [
+        | inl f ↦ absurd (both_ways _ none (any_from (dominates preferred transpose keep a) live b p (subst (λ q. dominates preferred transpose keep q b ≡ true) e f)))
         | inr f ↦ f
       ]
     ];
   }
 
-  pub keep_hit : (new : List Bool) → list_any (dominates count transpose keep a) live ≡ true → Unmarks keep a new → ColumnDominanceSoFar count live transpose (take (i + 1) live) new
+  pub keep_hit : (new : List Bool) → list_any (dominates preferred transpose keep a) live ≡ true → Unmarks keep a new → ColumnDominanceSoFar preferred live transpose (take (i + 1) live) new
   keep_hit new some u = record {
     witnessed = λ n k m. elim (cases_eq n a) [
-      | inl e ↦ (first.0, first.1, subst (λ q. dominates count transpose new q first.0 ≡ true) (sym e) (dominates_from count transpose new a first.0 (dominates_new a first.0 dominates_first (apart dominates_first))))
+      | inl e ↦ (first.0, first.1, subst (λ q. dominates preferred transpose new q first.0 ≡ true) (sym e) (dominates_from preferred transpose new a first.0 (dominates_new a first.0 dominates_first dominates_first.apart)))
       | inr e ↦ (
           let w = h.witnessed n k (sym (other n e) ∙ m) in
-          let o = dominates_parts count transpose keep n w.0 w.2 in
+          let o = dominates_parts preferred transpose keep n w.0 w.2 in
           elim (cases_eq w.0 a) [
             | inl f ↦ (
               first.0,
               first.1,
-              dominates_from count transpose new n first.0 (record {
-                kept = other first.0 (apart dominates_first) ∙ dominates_first.kept;
-                preferred = preferred_trans count first.0 a n dominates_first.preferred (subst (λ q. IsPreferred count q n) f o.preferred);
+              dominates_from preferred transpose new n first.0 (record {
+                apart = λ g. both_ways _ (sym (other n e) ∙ m) (ap (marked keep) (sym g) ∙ dominates_first.kept);
+                kept = other first.0 dominates_first.apart ∙ dominates_first.kept;
+                first = trans first.0 a n dominates_first.first (subst (λ q. preferred q n ≡ true) f o.first);
                 stands = λ d g. dominates_first.stands d (subst (λ q. has d (row_at transpose q) ≡ true) f (o.stands d g));
               }),
             )
-            | inr f ↦ (w.0, w.1, dominates_from count transpose new n w.0 (dominates_new n w.0 o f))
+            | inr f ↦ (w.0, w.1, dominates_from preferred transpose new n w.0 (dominates_new n w.0 o f))
           ])
     ];
     free = λ n k m b p. elim (asked_more n k) [
-      | inl e ↦ elim (cases_Bool (dominates count transpose new n b)) [
-        | inl f ↦ absurd (both_ways _ (h.free n e (falls n m) b p) (dominates_from count transpose keep n b (let o = dominates_parts count transpose new n b f in record { kept = falls b o.kept; preferred = o.preferred; stands = o.stands })))
+      | inl e ↦ elim (cases_Bool (dominates preferred transpose new n b)) [
+        | inl f ↦ absurd (both_ways _ (h.free n e (falls n m) b p) (dominates_from preferred transpose keep n b (let o = dominates_parts preferred transpose new n b f in record { apart = o.apart; kept = falls b o.kept; first = o.first; stands = o.stands })))
         | inr f ↦ f
       ]
       | inr e ↦ absurd (true≢false (sym m ∙ u.at n ∙ cond-true (eqb n a) _ _ (eq-eqb n a e)))
     ];
   }
     where
-      first : (b : ℕ) × (has b live ≡ true) × (dominates count transpose keep a b ≡ true)
-      first = any_at (dominates count transpose keep a) live some
+      first : (b : ℕ) × (has b live ≡ true) × (dominates preferred transpose keep a b ≡ true)
+      first = any_at (dominates preferred transpose keep a) live some
 
-      dominates_first : Dominates count transpose keep a first.0
-      dominates_first = dominates_parts count transpose keep a first.0 first.2
+      dominates_first : Dominates preferred transpose keep a first.0
+      dominates_first = dominates_parts preferred transpose keep a first.0 first.2
 
       other : (n : ℕ) → n ≢ a → marked new n ≡ marked keep n
       other n d = u.at n ∙ cond-false (eqb n a) _ _ (ne_eqb n a d)
 
-      apart : {b : ℕ} → Dominates count transpose keep a b → b ≢ a
-      apart {b} o = preferred_apart count b a o.preferred
-
-      dominates_new : (n b : ℕ) → Dominates count transpose keep n b → b ≢ a → Dominates count transpose new n b
-      dominates_new n b o d = record { kept = other b d ∙ o.kept; preferred = o.preferred; stands = o.stands }
+      dominates_new : (n b : ℕ) → Dominates preferred transpose keep n b → b ≢ a → Dominates preferred transpose new n b
+      dominates_new n b o d = record { apart = o.apart; kept = other b d ∙ o.kept; first = o.first; stands = o.stands }
 
       falls : (n : ℕ) → marked new n ≡ true → marked keep n ≡ true
       falls n m = elim (cases_eq n a) [ inl e ↦ absurd (true≢false (sym m ∙ u.at n ∙ cond-true (eqb n a) _ _ (eq-eqb n a e))) | inr e ↦ sym (other n e) ∙ m ]
 
-pub keep_start : (count : ℕ → ℕ) (live : List ℕ) (transpose : List (List ℕ)) (keep : List Bool) → ((a : ℕ) → has a live ≡ true → marked keep a ≡ true) → ColumnDominanceSoFar count live transpose [] keep
-keep_start count live transpose keep all = record { witnessed = λ a h m. absurd (both_ways _ m (all a h)); free = λ a h. absurd (true≢false (sym h)) }
+pub keep_start : (preferred : ℕ → ℕ → Bool) (live : List ℕ) (transpose : List (List ℕ)) (keep : List Bool) → ((a : ℕ) → has a live ≡ true → marked keep a ≡ true) → ColumnDominanceSoFar preferred live transpose [] keep
+keep_start preferred live transpose keep all = record { witnessed = λ a h m. absurd (both_ways _ m (all a h)); free = λ a h. absurd (true≢false (sym h)) }
 
-pub keep_done : (count : ℕ → ℕ) (live : List ℕ) (transpose : List (List ℕ)) (keep : List Bool) → ColumnDominanceSoFar count live transpose live keep → LeavesNoDominatedColumn count live transpose keep
-keep_done count live transpose keep h = record { witnessed = h.witnessed; complete = λ all a b p q. h.free a p (all a p) b q }
+pub keep_done : (preferred : ℕ → ℕ → Bool) (live : List ℕ) (transpose : List (List ℕ)) (keep : List Bool) → ColumnDominanceSoFar preferred live transpose live keep → LeavesNoDominatedColumn preferred live transpose keep
+keep_done preferred live transpose keep h = record { witnessed = h.witnessed; complete = λ all a b p q. h.free a p (all a p) b q }

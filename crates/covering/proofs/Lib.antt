@@ -22,4 +22,4 @@ pub mod Dominance
 pub mod Reduced
 pub mod WeakDominance
 pub mod Chosen
-pub mod Stages
+pub mod Partials

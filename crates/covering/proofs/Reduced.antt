@@ -8,15 +8,15 @@ use Rattle.covering.specs.Table.{Table, has, RisesFrom, IsWithin, IsTable, table
 use Rattle.covering.specs.Cover.{meets, counted}
 use Rattle.covering.specs.Steps.{without, take_column, drop_column, with_rows, HasRow, StandsWith, IsPreferred, Step, row_leaves, only_column, column_leaves, Steps, done, more, IsReduced}
 use Rattle.covering.specs.Choices.{join}
-use Rattle.covering.specs.Search.{IsLightened, marked, keep_columns, IsNarrowed}
-use Rattle.covering.specs.Reduce.{row_at, IsTranspose, MarksInessentialColumns, is_essential_column, rows_from, LeavesNoDominatingRow, HasNoDominatingRow, LeavesNoDominatedColumn, HasNoEssentialColumn, HasNoDominatedColumn, Shrinks, take_unmarked}
+use Rattle.covering.specs.Search.{IsWeaklyReduced, marked, keep_columns, IsPruned}
+use Rattle.covering.specs.Reduce.{row_at, IsTranspose, MarksInessentialColumns, is_essential_column, rows_from, LeavesNoDominatingRow, HasNoDominatingRow, LeavesNoDominatedColumn, prefers, HasNoEssentialColumn, HasNoDominatedColumn, Shrinks, take_unmarked}
 use Rattle.covering.proofs.Sets.{has_here, has_later, has_cases, lacks_below, filter_parts, filter_keeps, filter_rises, filter_length}
 use Rattle.covering.proofs.Subsets.{same_list, join_rises, join_left, join_right, join_only}
-use Rattle.covering.proofs.Keeps.{row_live, steps_keep}
+use Rattle.covering.proofs.Keeps.{row_live, steps_keep, preferred_apart}
 use Rattle.covering.proofs.Made.{table_same}
 use Rattle.covering.proofs.Rising.{range_rises, range_has, range_below}
 use Rattle.covering.proofs.TransposeSteps.{row_at_none}
-use Rattle.covering.proofs.Dominance.{dominates_parts, dominates_from}
+use Rattle.covering.proofs.Dominance.{dominates_parts, dominates_from, preferred_from, prefers_from}
 
 -- ---- filters
 
@@ -148,7 +148,7 @@ rows_within_all : (keep : List Bool) (live : List ℕ) (rows : List (List ℕ)) 
 rows_within_all keep live [] h = tt
 rows_within_all keep live (row ∷ rows) h = (filter_at (marked keep) (apart_of (filter (λ m. not (marked keep m)) live)) row (λ n k. refused keep live n (h.0.2 n k)), rows_within_all keep live rows h.1)
 
-module _ (choice : Choice) (t : Table) (transpose : List (List ℕ)) (keep : List Bool) (wt : IsTable t) (x : IsTranspose t.columns t.rows transpose) (h : LeavesNoDominatedColumn (counted choice t.weights) t.live transpose keep) where
+module _ (choice : Choice) (t : Table) (transpose : List (List ℕ)) (keep : List Bool) (wt : IsTable t) (x : IsTranspose t.columns t.rows transpose) (h : LeavesNoDominatedColumn (prefers (counted choice t.weights)) t.live transpose keep) where
   abbrev gone : List ℕ
   gone = filter (λ m. not (marked keep m)) t.live
 
@@ -166,9 +166,9 @@ module _ (choice : Choice) (t : Table) (transpose : List (List ℕ)) (keep : Lis
       each c k =
           let p = filter_parts (λ m. not (marked keep m)) c t.live k in
           let y = h.witnessed c p.0 (not_false (marked keep c) p.1) in
-          let o = dominates_parts (counted choice t.weights) transpose keep c y.0 y.2 in
+          let o = dominates_parts (prefers (counted choice t.weights)) transpose keep c y.0 y.2 in
           let stays : has y.0 gone ≡ false = elim (cases_Bool (has y.0 gone)) [ inl e ↦ absurd (true≢false (sym (filter_parts (λ m. not (marked keep m)) y.0 t.live e).1 ∙ ap not o.kept)) | inr e ↦ e ] in
-          (p.0, (y.0, y.1, stays, o.preferred, stands_from t.columns t.rows transpose c y.0 x (wt.within c p.0) (wt.within y.0 y.1) o.stands))
+          (p.0, (y.0, y.1, stays, preferred_from (counted choice t.weights) y.0 c o.first, stands_from t.columns t.rows transpose c y.0 x (wt.within c p.0) (wt.within y.0 y.1) o.stands))
 
   pub column_dominance_shrinks : length (filter (marked keep) t.live) ≢ length t.live → Shrinks choice t (keep_columns (marked keep) t)
   column_dominance_shrinks d = record { steps = column_dominance_steps; smaller = fewer (length (filter (marked keep) t.live)) (length t.live) d (filter_length (marked keep) t.live) (length_map t.rows) }
@@ -181,9 +181,10 @@ module _ (choice : Choice) (t : Table) (transpose : List (List ℕ)) (keep : Lis
       fewer a b d l e = elim (cases_lt a b) [ inl m ↦ omega arith | inr m ↦ absurd (d (omega arith)) ]
 
   pub none_dominated : length (filter (marked keep) t.live) ≡ length t.live → HasNoDominatedColumn choice t
-  none_dominated e a b la lb p s = both_ways _ (h.complete (λ n k. filter_full (marked keep) t.live n e k) a b la lb) (dominates_from (counted choice t.weights) transpose keep a b (record {
+  none_dominated e a b la lb p s = both_ways _ (h.complete (λ n k. filter_full (marked keep) t.live n e k) a b la lb) (dominates_from (prefers (counted choice t.weights)) transpose keep a b (record {
+    apart = preferred_apart (counted choice t.weights) b a p;
     kept = filter_full (marked keep) t.live b e lb;
-    preferred = p;
+    first = prefers_from (counted choice t.weights) b a p;
     stands = within_stands t.columns t.rows transpose a b x (wt.within a la) (wt.within b lb) s;
   }))
 
@@ -330,7 +331,7 @@ module _ (choice : Choice) (t : Table) (keep : List Bool) (wt : IsTable t) (h : 
 pub essentials_table : (choice : Choice) (t : Table) (keep : List Bool) → IsTable t → MarksInessentialColumns t.columns t.rows keep → IsTable (take_unmarked keep t)
 essentials_table choice t keep wt h = (steps_keep choice t (take_unmarked keep t) wt (essentials_steps choice t keep wt h)).0
 
-pub column_dominance_table : (choice : Choice) (t : Table) (transpose : List (List ℕ)) (keep : List Bool) → IsTable t → IsTranspose t.columns t.rows transpose → LeavesNoDominatedColumn (counted choice t.weights) t.live transpose keep → IsTable (keep_columns (marked keep) t)
+pub column_dominance_table : (choice : Choice) (t : Table) (transpose : List (List ℕ)) (keep : List Bool) → IsTable t → IsTranspose t.columns t.rows transpose → LeavesNoDominatedColumn (prefers (counted choice t.weights)) t.live transpose keep → IsTable (keep_columns (marked keep) t)
 column_dominance_table choice t transpose keep wt x h = (steps_keep choice t (keep_columns (marked keep) t) wt (column_dominance_steps choice t transpose keep wt x h)).0
 
 -- ---- rows leave
@@ -494,7 +495,7 @@ pub steps_join : (choice : Choice) (t u v : Table) → Steps choice t u → Step
 steps_join choice t u _ s (done _) = s
 steps_join choice t u _ s (more _ w v h k) = more t w v (steps_join choice t u w s h) k
 
--- ---- steps narrow a table
+-- ---- steps prune a table
 
 pub steps_live : (choice : Choice) (t u : Table) → IsTable t → Steps choice t u → length u.live ≤ length t.live
 steps_live choice t _ w (done _) = omega arith
@@ -508,11 +509,11 @@ steps_live choice t _ w (more _ u v h s) =
     step_live u _ (only_column _ c h) = filter_length (λ x. not (eqb c x)) u.live
     step_live u _ (column_leaves _ a b p la lb d) = filter_length (λ x. not (eqb a x)) u.live
 
-pub lightened_narrowed : (choice : Choice) (k w : ℕ) (t u : Table) → IsLightened choice t u → IsNarrowed choice k w t u
-lightened_narrowed choice k w t u h = record { leads = h.leads k w; live = h.live }
+pub weakly_reduced_pruned : (choice : Choice) (k w : ℕ) (t u : Table) → IsWeaklyReduced choice t u → IsPruned choice k w t u
+weakly_reduced_pruned choice k w t u h = record { leads = h.leads k w; live = h.live }
 
-pub narrowed_join : (choice : Choice) (k w : ℕ) (t u v : Table) → IsNarrowed choice k w t u → IsNarrowed choice k w u v → IsNarrowed choice k w t v
-narrowed_join choice k w t u v h g = record { leads = λ o a. h.leads o (g.leads o a); live = (let a = h.live in let b = g.live in omega arith) }
+pub pruned_join : (choice : Choice) (k w : ℕ) (t u v : Table) → IsPruned choice k w t u → IsPruned choice k w u v → IsPruned choice k w t v
+pruned_join choice k w t u v h g = record { leads = λ o a. h.leads o (g.leads o a); live = (let a = h.live in let b = g.live in omega arith) }
 
-pub narrowed_lightened : (choice : Choice) (k w : ℕ) (t u v x : Table) → IsNarrowed choice k w t u → IsNarrowed choice k w u v → IsLightened choice v x → IsNarrowed choice k w t x
-narrowed_lightened choice k w t u v x h g l = narrowed_join choice k w t v x (narrowed_join choice k w t u v h g) (lightened_narrowed choice k w v x l)
+pub pruned_weakly_reduced : (choice : Choice) (k w : ℕ) (t u v x : Table) → IsPruned choice k w t u → IsPruned choice k w u v → IsWeaklyReduced choice v x → IsPruned choice k w t x
+pruned_weakly_reduced choice k w t u v x h g l = pruned_join choice k w t v x (pruned_join choice k w t u v h g) (weakly_reduced_pruned choice k w v x l)

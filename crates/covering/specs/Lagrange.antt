@@ -1,19 +1,19 @@
--- Any weights of rows, also those of which a column bears more than its scaled cost.
+-- Loads of columns under any weights of rows, and how they bound covers.
 use Rattle.std.specs.Prelude.{◌≡◌, ℕ, ◌+◌, ◌-◌, ◌<◌, ◌≤◌, ◌⊎◌, true, false, List, length}
 use Rattle.std.specs.List.{AllByRecursion, range_with_len}
 use Rattle.covering.specs.Table.{has, RisesFrom}
 use Rattle.covering.specs.Cover.{meets, sum_over}
 use Rattle.covering.specs.Weights.{load, total, at}
 
--- what the column bears beyond its scaled cost
+-- the load of the column less its scaled cost
 abbrev pub overload : (ℕ → ℕ) → List (List ℕ) → List ℕ → ℕ → ℕ
 overload scaled_cost rows ys c = load c rows ys - scaled_cost c
 
--- what the column could still bear
+-- the scaled cost of the column less its load
 abbrev pub slack : (ℕ → ℕ) → List (List ℕ) → List ℕ → ℕ → ℕ
 slack scaled_cost rows ys c = scaled_cost c - load c rows ys
 
--- what the first n columns bear beyond their scaled costs, together
+-- the overloads of the first n columns together
 abbrev pub overloads : ℕ → (ℕ → ℕ) → List (List ℕ) → List ℕ → ℕ
 overloads n scaled_cost rows ys = sum_over (overload scaled_cost rows ys) (range_with_len 0 n)
 
@@ -23,9 +23,8 @@ pub record Hits (n : ℕ) (rows : List (List ℕ)) (x : List ℕ) : Type 0 where
   pub below : (c : ℕ) → has c x ≡ true → c < n
   pub each : AllByRecursion (λ row. meets x row ≡ true) rows
 
--- the weight of all rows is no more than the scaled costs of the list and what all columns bear
--- beyond
--- theirs; a column in the list has no slack beside that, and one that is not in it no overload
+-- the weight of all rows, with the slack of a column in the list or the overload of one outside, is at
+-- most the scaled costs of the list and all overloads
 abbrev pub LagrangianHolds : Type 0
 LagrangianHolds = (scaled_cost : ℕ → ℕ) (n : ℕ) (rows : List (List ℕ)) (ys x : List ℕ)
     → length ys ≡ length rows → Hits n rows x →
@@ -36,22 +35,20 @@ LagrangianHolds = (scaled_cost : ℕ → ℕ) (n : ℕ) (rows : List (List ℕ))
     → total ys + overload scaled_cost rows ys c ≤ sum_over scaled_cost x
     + overloads n scaled_cost rows ys)
 
--- what the column bears beyond its scaled cost, by lists of both
+-- the load of the column less its scaled cost, by lists of both
 abbrev pub beyond : List ℕ → List ℕ → ℕ → ℕ
 beyond loads scaled_costs c = at loads c - at scaled_costs c
 
--- what each column bears, the weight of all rows, and what columns bear beyond their scaled costs,
--- or so
--- large a number that it bounds nothing
+-- the load of each column, the weight of all rows, and all overloads together, or so large a number
+-- that it bounds nothing
 pub record IsLoaded (rows : List (List ℕ)) (ys scaled_costs loads : List ℕ)
     (n over : ℕ) : Type 0 where
-  pub bears : (c : ℕ) → c < length scaled_costs → at loads c ≡ load c rows ys
+  pub loads_are : (c : ℕ) → c < length scaled_costs → at loads c ≡ load c rows ys
   pub weighs : n ≡ total ys
   pub exceeds : (over ≡ overloads (length scaled_costs) (at scaled_costs) rows ys) ⊎ (n + n ≤ over)
 
--- the weight of all rows is no more than the scaled costs of a list with a column of each row and
--- the
--- overloads; a column of the list has no slack beside that, and one that is not in it no overload
+-- the weight of all rows, with the slack of a column in the list or the overload of one outside, is at
+-- most the scaled costs of a list with a column of each row and all overloads
 pub record BoundsCovers (rows : List (List ℕ)) (scaled_costs loads : List ℕ)
     (n over : ℕ) : Type 0 where
   pub all : (x : List ℕ) → Hits (length scaled_costs) rows x

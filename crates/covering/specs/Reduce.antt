@@ -2,6 +2,8 @@
 use Rattle.std.specs.Prelude.{◌≡◌, ◌≢◌, ℕ, ◌<◌, ◌+◌, Bool, true, false, cond, not, ◌==◌, ◌&&◌, ◌||◌, nat_le, nat_lt, eqb, List, [], ◌∷◌, ◌++◌, length, filter, slice_index_or}
 use Rattle.std.specs.List.{AllByRecursion, list_all, list_any, range_with_len}
 use Rattle.covering.specs.declared.choice.Choice.{Choice}
+use Rattle.covering.specs.declared.column_dominance.Preference.{Preference}
+use Rattle.covering.specs.declared.column_dominance.Preference.TheVariants.{Earlier, NoDearer}
 use Rattle.covering.specs.Table.{Table, has, RisesFrom, IsWithin, table_of}
 use Rattle.covering.specs.Cover.{counted}
 use Rattle.covering.specs.Steps.{StandsWith, IsPreferred, Steps, HasRow}
@@ -67,16 +69,15 @@ holds_all b a = list_all (λ n. has n b) a
 abbrev pub prefers : (ℕ → ℕ) → ℕ → ℕ → Bool
 prefers count b a = nat_lt (count b) (count a) || (eqb (count b) (count a) && nat_lt b a)
 
--- whether b is kept, preferred to a, and stands in all rows of a
-abbrev pub dominates : (ℕ → ℕ) → List (List ℕ) → List Bool → ℕ → ℕ → Bool
-dominates count transpose keep a b = marked keep b
-    && (prefers count b a && holds_all (row_at transpose b) (row_at transpose a))
+-- whether b may stay in place of a
+abbrev pub is_preferred : Preference → (ℕ → ℕ) → ℕ → ℕ → Bool
+is_preferred Earlier count b a = prefers count b a
+is_preferred NoDearer count b a = nat_le (count b) (count a)
 
--- whether another column b is kept, counts no more than a and stands in all its rows
-abbrev pub weakly_dominates : (ℕ → ℕ) → List (List ℕ) → List Bool → ℕ → ℕ → Bool
-weakly_dominates count transpose keep a b = not (a == b)
-    && (marked keep b && (nat_le (count b) (count a)
-    && holds_all (row_at transpose b) (row_at transpose a)))
+-- whether another column b is kept, preferred to a, and stands in all rows of a
+abbrev pub dominates : (ℕ → ℕ → Bool) → List (List ℕ) → List Bool → ℕ → ℕ → Bool
+dominates preferred transpose keep a b = not (a == b) && (marked keep b
+    && (preferred b a && holds_all (row_at transpose b) (row_at transpose a)))
 
 -- the rows whose numbers, from i on, pass the test
 abbrev pub rows_from : (ℕ → Bool) → ℕ → List (List ℕ) → List (List ℕ)
@@ -123,20 +124,20 @@ pub record RowDominanceSoFar (rows : List (List ℕ)) (n : ℕ) (stay : List Boo
   pub as_long : length stay ≡ length rows
 
 -- columns may leave as marked, and if none does, none can
-pub record LeavesNoDominatedColumn (count : ℕ → ℕ) (live : List ℕ) (transpose : List (List ℕ))
+pub record LeavesNoDominatedColumn (preferred : ℕ → ℕ → Bool) (live : List ℕ) (transpose : List (List ℕ))
     (keep : List Bool) : Type 0 where
   pub witnessed : (a : ℕ) → has a live ≡ true → marked keep a ≡ false → (b : ℕ)
-      × (has b live ≡ true) × (dominates count transpose keep a b ≡ true)
+      × (has b live ≡ true) × (dominates preferred transpose keep a b ≡ true)
   pub complete : ((a : ℕ) → has a live ≡ true → marked keep a ≡ true) → (a b : ℕ)
-      → has a live ≡ true → has b live ≡ true → dominates count transpose keep a b ≡ false
+      → has a live ≡ true → has b live ≡ true → dominates preferred transpose keep a b ≡ false
 
 -- such marks after the columns of a list have been asked
-pub record ColumnDominanceSoFar (count : ℕ → ℕ) (live : List ℕ) (transpose : List (List ℕ))
+pub record ColumnDominanceSoFar (preferred : ℕ → ℕ → Bool) (live : List ℕ) (transpose : List (List ℕ))
     (asked : List ℕ) (keep : List Bool) : Type 0 where
   pub witnessed : (a : ℕ) → has a live ≡ true → marked keep a ≡ false → (b : ℕ)
-      × (has b live ≡ true) × (dominates count transpose keep a b ≡ true)
+      × (has b live ≡ true) × (dominates preferred transpose keep a b ≡ true)
   pub free : (a : ℕ) → has a asked ≡ true → marked keep a ≡ true → (b : ℕ) → has b live ≡ true
-      → dominates count transpose keep a b ≡ false
+      → dominates preferred transpose keep a b ≡ false
 
 -- no live column is dominated by another
 abbrev pub HasNoDominatedColumn : Choice → Table → Type 0

@@ -57,7 +57,7 @@ abbrev pub marked : List Bool → ℕ → Bool
 marked marks c = slice_index_or marks c false
 
 -- a table in which to search instead, with no more live columns
-pub record IsNarrowed (choice : Choice) (k w : ℕ) (t u : Table) : Type 0 where
+pub record IsPruned (choice : Choice) (k w : ℕ) (t u : Table) : Type 0 where
   pub leads : Leads choice k w t u
   pub live : length u.live ≤ length t.live
 
@@ -98,17 +98,17 @@ IsServed choice t keep = (x : List ℕ) → IsCover t x → (y : List ℕ) × Is
     ≤ sum_over (counted choice t.weights) x)
 
 -- a table in which to search instead, whatever the budget, with no more live columns
-pub record IsLightened (choice : Choice) (t u : Table) : Type 0 where
+pub record IsWeaklyReduced (choice : Choice) (t u : Table) : Type 0 where
   pub leads : (k w : ℕ) → Leads choice k w t u
   pub live : length u.live ≤ length t.live
 
 -- such a table with fewer rows or live columns
-pub record IsLighter (choice : Choice) (t u : Table) : Type 0 where
-  pub is : IsLightened choice t u
+pub record IsWeakStep (choice : Choice) (t u : Table) : Type 0 where
+  pub is : IsWeaklyReduced choice t u
   pub smaller : length u.live + length u.rows < length t.live + length t.rows
 
 -- a cover within a budget below which there is none
-pub record IsStage (choice : Choice) (k w : ℕ) (t : Table) (s : List ℕ) : Type 0 where
+pub record IsPartial (choice : Choice) (k w : ℕ) (t : Table) (s : List ℕ) : Type 0 where
   pub none : NoneBelow choice t k w
   pub witness : IsAnswer choice t k w s
 

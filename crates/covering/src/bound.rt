@@ -9,7 +9,7 @@ use crate::choice::Choice;
 use crate::columns::count;
 use std::alloc::{AllocError, Global};
 
-/// What a search may spend: so many columns, which count so much.
+/// What a cover may have at most: so many columns, which together count so much.
 #[derive(Clone, Copy)]
 pub(crate) struct Budget {
     pub(crate) columns: usize,
@@ -49,8 +49,8 @@ pub(crate) fn scaled_costs(
         .collect(alloc)
 }
 
-/// The scaled costs of so many columns that count so much, with what columns bear beyond theirs;
-/// `None` if that is past all numbers.
+/// The scaled costs of so many columns that count so much, and the overloads; `None` if the sum is
+/// too large.
 pub(crate) fn limit_of(
     one: u32,
     columns: usize,

@@ -83,7 +83,6 @@ impl Table {
         ensures table { IsTable self.now }
         ensures long { length self.now.live < 2 ^ 64 }
     {
-        let _count = self.live.len();
         best_choice(alloc, choice, &self.weights, &self.live, &self.rows, size)
     }
 

@@ -1,10 +1,9 @@
-//! The Lagrangian bound: any weights of rows, also those of which a column bears more than its
-//! scaled cost.
+//! The Lagrangian bound, for any weights of rows.
 //!
-//! The columns of a list that has a column of each row bear all rows' weights, and none of them
-//! bears more than its scaled cost with what it bears beyond it. So the weights are no more than
-//! the list's scaled costs and all that columns bear beyond theirs; a column of the list has no
-//! slack beside that, and one that is not in it bears no more than its scaled cost beside that.
+//! The load of a column is the weight of its rows; its overload is the load less its scaled cost, its
+//! slack the scaled cost less the load. A list that has a column of each row carries the weight of
+//! all rows, so that weight is at most the list's scaled costs and all overloads. The slack of a
+//! column of the list, or the overload of one outside it, can be added to the weight.
 
 ghost use Rattle.std.specs.Prelude.{◌≡◌, ◌≤◌, ◌<◌, ◌+◌, ◌-◌, ◌*◌, ◌^◌, ◌⊎◌, ℕ, IfOk, cond, length};
 ghost use Rattle.std.specs.List.{AllByRecursion, range_with_len};
@@ -16,16 +15,18 @@ ghost use Rattle.covering.specs.Weights.{at, total};
 use crate::bound::at;
 use std::alloc::{AllocError, Global};
 
-/// What each column bears, the weight of all rows, and what the columns bear beyond their scaled
-/// costs.
+/// The loads of columns, and what they come to.
 #[derive(Drop)]
 pub(crate) struct Loads {
+    /// The load of each column.
     pub(crate) loads: Vec<u128>,
+    /// The weight of all rows.
     pub(crate) total: u128,
+    /// The overloads of all columns together.
     pub(crate) over: u128,
 }
 
-/// Charges the weight to each column of the row.
+/// Adds the weight to the load of each column of the row.
 fn charge(loads: &mut Vec<u128>, row: &[usize], weight: u64)
     requires rises { RisesFrom 0 row.now }
     requires fits { (c : ℕ) → at loads.old.items c + weight < 2 ^ 128 }
@@ -52,8 +53,7 @@ fn total(weights: &[u64]) -> u128
     total
 }
 
-/// What the columns bear beyond their scaled costs, or the largest number if that is none of this
-/// type.
+/// The overloads of all columns together, or the largest number if they are larger.
 fn over(loads: &[u128], scaled_costs: &[u64]) -> u128
     ensures { (result ≡ sum_over (beyond loads.now scaled_costs.now)
         (range_with_len 0 (length loads.now))) ⊎ (result ≡ 2 ^ 128 - 1) }
@@ -69,7 +69,7 @@ fn over(loads: &[u128], scaled_costs: &[u64]) -> u128
     over
 }
 
-/// What the weights of the rows say of each list with a column of each row.
+/// The loads of the weights, which bound each list with a column of each row.
 pub(crate) fn lagrangian(
     alloc: Global,
     rows: &[Vec<usize>],

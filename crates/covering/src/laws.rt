@@ -9,7 +9,7 @@ pub fn least_is_unique()
     ensures { LeastIsUnique }
 {}
 
-/// What weights of rows, also more than the columns can bear, say of each list with a column of
+/// What weights of rows, also overloading ones, say of each list with a column of
 /// each row.
 pub fn weights_bound_covers()
     ensures { LagrangianHolds }

@@ -9,7 +9,7 @@ ghost use Rattle.covering.specs.Reduce.{Unmarks, rows_from};
 use crate::columns::copy_of;
 use std::alloc::{AllocError, Global};
 
-/// Marks what the marks leave.
+/// The complement of the marks.
 pub(crate) fn others(alloc: Global, marks: &[bool], end: usize) -> Result<Vec<bool>, AllocError>
     ensures { IfOk result (λ v. v.items ≡ map (λ c. not (marked marks.now c))
         (range_with_len 0 end)) }
@@ -39,7 +39,7 @@ pub(crate) fn all_kept(row: &[usize], keep: &[bool]) -> bool
     row.iter().all(|column| is_marked(keep, *column))
 }
 
-/// The rows of which all columns are marked.
+/// The rows whose columns are all marked.
 pub(crate) fn untouched_rows(
     alloc: Global,
     rows: &[Vec<usize>],

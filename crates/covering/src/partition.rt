@@ -4,8 +4,8 @@
 //! part, and no part asks what another has. Lists compare by their length, then by what they count,
 //! and then by the least column in which they differ; so the least covers of the parts together are
 //! the least cover. Without this, the questions that find the least cover would be asked of all
-//! parts together. Which columns make a part is wished for, and it is looked at that each row lies
-//! on one side.
+//! parts together. Which columns make a part is a hint; it is checked that each row lies on one
+//! side.
 
 ghost use Rattle.std.specs.Prelude.{◌≡◌, ◌||◌, IfOk, IfSome};
 ghost use Rattle.std.specs.List.{list_all};
@@ -18,7 +18,7 @@ use crate::choice::Choice;
 use crate::columns::{copy_of, join};
 use crate::marks::{all_kept, marked_columns, others, untouched_rows};
 use crate::table::Table;
-use heuristics::{Effort, wished_side};
+use heuristics::{Effort, side_hint};
 use std::alloc::{AllocError, Global};
 
 /// Two tables of parts that share no column.
@@ -58,7 +58,7 @@ impl Table {
     fn parts(&self, alloc: Global) -> Result<Option<Parts>, AllocError>
         ensures { IfOk result (λ o. IfSome o (λ p. AreParts self.now p.one p.other)) }
     {
-        let Some(marks) = wished_side(alloc, self.row_lists(), self.columns())? else {
+        let Some(marks) = side_hint(alloc, self.row_lists(), self.columns())? else {
             return Ok(None);
         };
         let others = others(alloc, &marks, self.columns())?;
@@ -75,8 +75,7 @@ impl Table {
         Ok(Some(Parts { one, other }))
     }
 
-    /// The least cover: of a table in numbers of its own, which is cheaper if many columns are not
-    /// live.
+    /// The least cover, by a renumbered table, which is cheaper if many columns are not live.
     #[cycle(parts)]
     pub(crate) fn least_by_parts(
         &self,

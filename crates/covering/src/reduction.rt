@@ -1,17 +1,16 @@
 //! The reductions of a table, in passes over all rows or all columns until none changes it.
 //!
-//! A pass first lists for each column the rows in which it stands. A row that has all columns of
-//! another stands among the rows of that row's rarest column; a column that stands in all rows of
-//! another stands in that column's shortest row. So candidates are few, and each is tested by a
-//! binary search for each number. What leaves is marked, and leaves in one go: each of it has a
-//! witness that stays, so that it could leave step by step. If a pass marks nothing, no step of its
-//! kind applies.
+//! A pass first lists the rows of each column. A row that has all columns of another is among the
+//! rows of that row's rarest column; a column that is in all rows of another is in that column's
+//! shortest row. So candidates are few, and each is tested by a binary search for each number. Rows
+//! or columns to drop are marked, and dropped together: each is dominated by one that stays, so they
+//! could be dropped one by one. If a pass marks nothing, no step of its kind applies.
 
 ghost use Rattle.std.specs.Prelude.{◌≡◌, ◌<◌, ◌==◌, ◌||◌, IfOk, IfSome, MatchOption, not, filter};
 ghost use Rattle.std.specs.List.{range_with_len};
 ghost use Rattle.covering.specs.Table.{IsTable, RisesFrom, items_of, has};
 ghost use Rattle.covering.specs.Steps.{Steps, IsReduced, SameLeast};
-ghost use Rattle.covering.specs.Search.{IsLighter, IsLightened, marked};
+ghost use Rattle.covering.specs.Search.{IsWeakStep, IsWeaklyReduced, marked};
 ghost use Rattle.covering.specs.Reduce.{UnmarksEssentialColumn, MarksInessentialColumns, HasNoEssentialColumn, Shrinks};
 
 use crate::choice::Choice;
@@ -63,8 +62,9 @@ pub(crate) fn with_unmarked(
 impl Table {
     /// Takes each column that is the only one of a row; `None` if there is no such row.
     fn take_essential_columns(&self, alloc: Global) -> Result<Option<Table>, AllocError>
-        ensures { (choice : Choice) → IfOk result (λ o.
+        ensures taken { (choice : Choice) → IfOk result (λ o.
             MatchOption o (HasNoEssentialColumn self.now) (Shrinks choice self.now)) }
+        ensures table { IsTable self.now }
     {
         let keep = inessential_columns(alloc, self.row_lists(), self.columns())?;
         let live = marked_columns(alloc, self.live_columns(), &keep)?;
@@ -78,10 +78,9 @@ impl Table {
 
     /// The table after one pass that changes it, in a search for some cover within a budget; `None`
     /// if none does.
-    fn lighten_once(&self, alloc: Global, choice: Choice) -> Result<Option<Table>, AllocError>
-        ensures { IfOk result (λ o. IfSome o (IsLighter choice self.now)) }
+    fn reduce_weakly_once(&self, alloc: Global, choice: Choice) -> Result<Option<Table>, AllocError>
+        ensures { IfOk result (λ o. IfSome o (IsWeakStep choice self.now)) }
     {
-        let _live = self.live_columns();
         if let Some(table) = self.take_essential_columns(alloc)? {
             return Ok(Some(table));
         }
@@ -92,23 +91,27 @@ impl Table {
     }
 
     /// The table after all passes, in a search for some cover within a budget.
-    pub(crate) fn lighten(self, alloc: Global, choice: Choice) -> Result<Table, AllocError>
-        ensures { IfOk result (λ u. IsLightened choice self u) }
+    pub(crate) fn reduce_weakly(self, alloc: Global, choice: Choice) -> Result<Table, AllocError>
+        ensures { IfOk result (λ u. IsWeaklyReduced choice self u) }
     {
         let mut table = self;
-        while let Some(lighter) = table.lighten_once(alloc, choice)? {
+        while let Some(lighter) = table.reduce_weakly_once(alloc, choice)? {
             table = lighter;
         }
         Ok(table)
     }
 
-    /// The same of a table that stays.
-    pub(crate) fn lightened_copy(&self, alloc: Global, choice: Choice) -> Result<Table, AllocError>
-        ensures { IfOk result (λ u. IsLightened choice self.now u) }
+    /// The same, of a copy of the table.
+    pub(crate) fn weakly_reduced_copy(
+        &self,
+        alloc: Global,
+        choice: Choice,
+    ) -> Result<Table, AllocError>
+        ensures { IfOk result (λ u. IsWeaklyReduced choice self.now u) }
     {
-        match self.lighten_once(alloc, choice)? {
+        match self.reduce_weakly_once(alloc, choice)? {
             None => self.copy(alloc),
-            Some(table) => table.lighten(alloc, choice),
+            Some(table) => table.reduce_weakly(alloc, choice),
         }
     }
 
@@ -117,7 +120,6 @@ impl Table {
         ensures steps { IfOk result (Steps choice self.now) }
         ensures table { IsTable self.now }
     {
-        let _live = self.live_columns();
         let mut table = self.copy(alloc)?;
         while let Some(reduced) = table.reduce_once(alloc, choice)? {
             table = reduced;
@@ -140,10 +142,10 @@ impl Table {
     }
 }
 
-/// Reduces a table until no step applies: a row leaves that has all columns of another, the only
-/// column of a row is taken and its rows leave, and a live column leaves under a live one that
-/// stands in all its rows and comes first, which with `Choice::Literals` means fewer literals, or
-/// as many and a smaller number.
+/// Reduces a table until no step applies. A row is dropped if it has all columns of another. The only
+/// column of a row is chosen, and its rows are dropped. A live column is dropped if another is in all
+/// its rows and is preferred: it has the smaller number, or with `Choice::Literals` fewer literals, or
+/// as many and the smaller number.
 ///
 /// The least cover stays as it is. If memory is refused the table is gone.
 pub fn reduce(table: Table, choice: Choice) -> Result<Table, AllocError>
@@ -151,7 +153,6 @@ pub fn reduce(table: Table, choice: Choice) -> Result<Table, AllocError>
     ensures reduced { IfOk result (IsReduced choice) }
     ensures least { IfOk result (SameLeast choice table) }
 {
-    let _columns = table.columns;
     let alloc = *table.rows.allocator();
     let mut table = table;
     while let Some(reduced) = table.reduce_once(alloc, choice)? {

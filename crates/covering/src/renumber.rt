@@ -1,4 +1,4 @@
-//! A table in numbers of its own.
+//! A table with its live columns renumbered.
 //!
 //! What is done for each column of a table is done for each live one alone once these are numbered
 //! in their order: the least cover in the new numbers stands for the least cover, since the order
@@ -94,7 +94,7 @@ fn literals_of(alloc: Global, weights: &[u32], live: &[usize]) -> Result<Vec<u32
 }
 
 impl Table {
-    /// The table in numbers of its own, if it has columns that are not live.
+    /// The renumbered table, if the table has columns that are not live.
     pub(crate) fn renumber(&self, alloc: Global) -> Result<Option<Table>, AllocError>
         ensures { IfOk result (λ o. IfSome o (IsRenumbered self.now)) }
     {

@@ -1,6 +1,6 @@
-//! Row dominance: a row that has all columns of another one leaves.
+//! Row dominance: a row that has all columns of another one is dropped.
 //!
-//! Such a row stands among the rows of the other's rarest column, so that candidates are few.
+//! Such a row is among the rows of the other's rarest column, so candidates are few.
 
 ghost use Rattle.std.specs.Prelude.{◌≡◌, ◌≢◌, ◌<◌, ◌==◌, ◌&&◌, ℕ, [], IfOk, MatchOption, length, true};
 ghost use Rattle.covering.specs.Table.{items_of, has};
@@ -13,7 +13,7 @@ use crate::table::Table;
 use crate::transpose::entry;
 use std::alloc::{AllocError, Global};
 
-/// The column of the row that stands in the fewest rows.
+/// The column of the row that is in the fewest rows.
 fn rarest(transpose: &[Vec<usize>], row: &[usize]) -> usize
     ensures { row.now ≢ [] → has result row.now ≡ true }
 {
@@ -76,7 +76,7 @@ fn row_dominance(
 }
 
 impl Table {
-    /// Lets each row leave that has all columns of another; `None` if there is none.
+    /// Drops each row that has all columns of another; `None` if there is none.
     pub(crate) fn drop_dominating_rows(&self, alloc: Global) -> Result<Option<Table>, AllocError>
         ensures { (choice : Choice) → IfOk result (λ o.
             MatchOption o (HasNoDominatingRow self.now.rows) (Shrinks choice self.now)) }

@@ -1,11 +1,11 @@
 //! Whether there is a cover within a budget.
 //!
 //! A budget is a number of columns and of what they count. A search answers a cover within it, or
-//! that there is none: it narrows the table, branches on a column, taken and then dropped, and
-//! searches on. A table is narrowed by the steps of a reduction, by columns that stand under any
-//! other that counts no more, and by weights of its rows (the dual bound): if the weights are more
-//! than the budget can bear there is no cover within it, and a column with more slack than the gap
-//! that is left is in none. Which cover is answered is left open, so that any order of branches
+//! that there is none: it prunes the table, branches on a column, first chosen and then dropped, and
+//! searches on. A table is pruned by the steps of a reduction, by dropping columns that another one
+//! dominates which counts no more, and by weights of its rows (the dual bound): if the weights are
+//! more than the budget there is no cover within it, and a column with more slack than the gap that
+//! is left is in none. Any cover within the budget is a right answer, so any order of branches
 //! serves.
 
 ghost use Rattle.std.specs.Prelude.{◌≡◌, ◌≤◌, ◌<◌, ◌*◌, ◌-◌, ℕ, Vec, IfOk, IfSome, MatchOption, MatchBool, IsTrue, ◌↔◌, [], ◌==◌, ◌&&◌, ◌||◌, option_map, map, filter, not, length, true, false};
@@ -13,7 +13,7 @@ ghost use Rattle.std.specs.List.{list_all, list_any, range_with_len};
 ghost use Rattle.covering.specs.Table.{IsTable, items_of, has, RisesFrom};
 ghost use Rattle.covering.specs.Cover.{counted, meets, sum_over};
 ghost use Rattle.covering.specs.Steps.{without, take_column, drop_column};
-ghost use Rattle.covering.specs.Search.{NoneWithin, Answers, IsAnswer, IsNarrowed, IsForced, IsOutside, keep_columns, marked, is_blank};
+ghost use Rattle.covering.specs.Search.{NoneWithin, Answers, IsAnswer, IsPruned, IsForced, IsOutside, keep_columns, marked, is_blank};
 
 use crate::bound::{Budget, columns_within_gap, limit_of, scaled_costs};
 use crate::choice::Choice;
@@ -22,8 +22,8 @@ use crate::lagrangian::lagrangian;
 use crate::marks::{all_kept, all_marked, is_marked, marked_columns, rows_of_marked};
 use crate::table::Table;
 use heuristics::{
-    Compact, Goal, Multipliers, WarmStart, entanglement, is_worth_a_bound, likeliest, local_search,
-    marks_of,
+    Compact, Goal, Multipliers, WarmStart, is_worth_a_bound, likeliest, local_search, marks_of,
+    row_counts,
 };
 use std::alloc::{AllocError, Global};
 
@@ -33,7 +33,7 @@ pub(crate) enum Stop {
     /// A growth of memory was refused.
     Memory,
     /// The search would look at more tables than it may.
-    Cut,
+    Spent,
 }
 
 impl From<AllocError> for Stop {
@@ -126,7 +126,7 @@ fn all_held(columns: &[usize], rows: &[Vec<usize>]) -> bool
     rows.iter().all(|row| is_held(columns, row))
 }
 
-/// What each live column counts, for those who wish.
+/// What each live column counts, for hints.
 fn live_costs(
     alloc: Global,
     choice: Choice,
@@ -150,7 +150,8 @@ impl Table {
 
     pub(crate) fn take(&self, alloc: Global, column: usize) -> Result<Table, AllocError>
         requires { has column self.now.live ≡ true }
-        ensures { IfOk result (λ t. t ≡ take_column column self.now) }
+        ensures taken { IfOk result (λ t. t ≡ take_column column self.now) }
+        ensures table { IsTable self.now }
     {
         let taken = with_column(alloc, self.taken_columns(), column)?;
         let live = without_column(alloc, self.live_columns(), column)?;
@@ -204,7 +205,7 @@ impl Table {
         sum(choice, self.literals(), self.taken_columns()) > budget.counts
     }
 
-    /// What a cover within the budget may have beside the taken columns, for those who wish.
+    /// What a cover within the budget may have beside the chosen columns, for hints.
     fn goal(&self, choice: Choice, budget: Budget) -> Goal {
         let columns = budget.columns.saturating_sub(self.taken_columns().len());
         let counts = budget
@@ -216,19 +217,20 @@ impl Table {
         }
     }
 
-    /// The live columns and the rows, for those who wish.
-    fn compact(&self, alloc: Global, choice: Choice) -> Result<Compact, AllocError> {
+    /// The live columns and the rows, for hints.
+    fn compact(&self, alloc: Global, choice: Choice) -> Result<Compact, AllocError>
+        ensures { IsTable self.now }
+    {
         let live = self.live_columns();
         let costs = live_costs(alloc, choice, self.literals(), live)?;
         Compact::of(alloc, self.row_lists(), live, self.columns(), costs)
     }
 
-    /// All columns marked.
-    fn any_marked(&self, alloc: Global) -> Result<Vec<bool>, AllocError>
+    /// A mark for every column: what a bound says that excludes none.
+    fn all_columns_marked(&self, alloc: Global) -> Result<Vec<bool>, AllocError>
         ensures { IfOk result (λ v. (c : ℕ) → has c self.now.live ≡ true
             → marked v.items c ≡ true) }
     {
-        let _live = self.live_columns();
         all_marked(alloc, self.columns())
     }
 
@@ -247,7 +249,7 @@ impl Table {
     {
         let rows = self.row_lists();
         if multipliers.weights.len() != rows.len() || rows.len() >= 4611686018427387904 {
-            return Ok(Some(self.any_marked(alloc)?));
+            return Ok(Some(self.all_columns_marked(alloc)?));
         }
         let scaled_costs = scaled_costs(
             alloc,
@@ -268,7 +270,7 @@ impl Table {
             counts,
             loads.over,
         ) else {
-            return Ok(Some(self.any_marked(alloc)?));
+            return Ok(Some(self.all_columns_marked(alloc)?));
         };
         if loads.total > limit {
             return Ok(None);
@@ -276,7 +278,7 @@ impl Table {
         Ok(Some(columns_within_gap(alloc, &scaled_costs, &loads.loads, limit - loads.total)?))
     }
 
-    /// Marks them by multipliers that are wished for.
+    /// Marks them, by multipliers that are a hint.
     pub(crate) fn columns_within_budget(
         &self,
         alloc: Global,
@@ -284,9 +286,10 @@ impl Table {
         budget: Budget,
         warm_start: &mut WarmStart,
     ) -> Result<Option<Vec<bool>>, AllocError>
-        ensures { IfOk result (λ o. MatchOption o (NoneWithin choice self.now budget.columns
+        ensures marks { IfOk result (λ o. MatchOption o (NoneWithin choice self.now budget.columns
             budget.counts) (λ v. (c : ℕ) → has c self.now.live ≡ true → marked v.items c ≡ false
             → IsOutside choice self.now budget.columns budget.counts c)) }
+        ensures table { IsTable self.now }
     {
         let compact = self.compact(alloc, choice)?;
         let goal = self.goal(choice, budget);
@@ -311,7 +314,7 @@ impl Table {
         warm_start: &mut WarmStart,
     ) -> Result<Option<Table>, AllocError>
         ensures { IfOk result (λ o. MatchOption o (NoneWithin choice self budget.columns
-            budget.counts) (IsNarrowed choice budget.columns budget.counts self)) }
+            budget.counts) (IsPruned choice budget.columns budget.counts self)) }
     {
         let Some(keep) = self.columns_within_budget(alloc, choice, budget, warm_start)? else {
             return Ok(None);
@@ -324,7 +327,7 @@ impl Table {
 
     /// The table as far as a search within the budget has to look at it; `None` if there is no
     /// cover.
-    fn narrow(
+    fn prune(
         &self,
         alloc: Global,
         choice: Choice,
@@ -332,9 +335,9 @@ impl Table {
         warm_start: &mut WarmStart,
     ) -> Result<Option<Table>, AllocError>
         ensures { IfOk result (λ o. MatchOption o (NoneWithin choice self.now budget.columns
-            budget.counts) (IsNarrowed choice budget.columns budget.counts self.now)) }
+            budget.counts) (IsPruned choice budget.columns budget.counts self.now)) }
     {
-        let mut table = self.lightened_copy(alloc, choice)?;
+        let mut table = self.weakly_reduced_copy(alloc, choice)?;
         loop {
             let live = table.live_columns().len();
             let Some(next) = table.drop_by_bound(alloc, choice, budget, warm_start)? else {
@@ -343,7 +346,7 @@ impl Table {
             if live <= next.live_columns().len() {
                 return Ok(Some(next));
             }
-            table = next.lighten(alloc, choice)?;
+            table = next.reduce_weakly(alloc, choice)?;
             if !is_worth_a_bound(live, table.live_columns().len()) {
                 return Ok(Some(table));
             }
@@ -356,10 +359,10 @@ impl Table {
             (λ c. has c self.now.live ≡ true)) }
         ensures table { IsTable self.now }
     {
-        let numbers = entanglement(alloc, self.row_lists(), self.columns())?;
-        let wished = likeliest(self.row_lists(), warm_start.likely(), &numbers);
-        if contains(self.live_columns(), wished) {
-            return Ok(Some(wished));
+        let numbers = row_counts(alloc, self.row_lists(), self.columns())?;
+        let hint = likeliest(self.row_lists(), warm_start.likely(), &numbers);
+        if contains(self.live_columns(), hint) {
+            return Ok(Some(hint));
         }
         Ok(self.live.first().copied())
     }
@@ -379,7 +382,7 @@ impl Table {
             (option_map (λ v. v.items) o)) }
     {
         let Some(rest) = left.checked_sub(1) else {
-            return Err(Stop::Cut);
+            return Err(Stop::Spent);
         };
         *left = rest;
         let mut own = warm_start.copy(alloc)?;
@@ -402,7 +405,7 @@ impl Table {
         ensures { IfOk result (λ o. Answers choice self.now budget.columns budget.counts
             (option_map (λ v. v.items) o)) }
     {
-        match self.narrow(alloc, choice, budget, warm_start)? {
+        match self.prune(alloc, choice, budget, warm_start)? {
             None => Ok(None),
             Some(table) => table.branch(alloc, choice, budget, warm_start, left),
         }
@@ -486,8 +489,8 @@ impl Table {
         let compact = self.compact(alloc, choice)?;
         let steps = steps.saturating_mul(self.row_lists().len()).min(100000);
         let live = self.live_columns();
-        let wished = local_search(alloc, &compact, live, self.columns(), hint, goal, steps)?;
-        let marks = marks_of(alloc, self.live_columns(), &wished, self.columns())?;
+        let found = local_search(alloc, &compact, live, self.columns(), hint, goal, steps)?;
+        let marks = marks_of(alloc, self.live_columns(), &found, self.columns())?;
         self.cover_from_marks(alloc, choice, budget, &marks)
     }
 
@@ -510,7 +513,7 @@ impl Table {
         if let Some(cover) = self.witness(alloc, choice, budget, goal, warm_start.hint(), 3)? {
             return Ok(Some(cover));
         }
-        let Some(table) = self.narrow(alloc, choice, budget, warm_start)? else {
+        let Some(table) = self.prune(alloc, choice, budget, warm_start)? else {
             return Ok(None);
         };
         let goal = table.goal(choice, budget);

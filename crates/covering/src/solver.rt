@@ -1,18 +1,18 @@
 //! The least cover: its length, then what it counts, and then the first such cover in list order.
 //!
 //! A cover of the least length is found by asking for shorter ones until there is none; with
-//! literals, covers with fewer are asked for in the same way. Then the columns are settled one by
+//! literals, covers with fewer are asked for in the same way. Then the columns are decided one by
 //! one, in list order. If the witness, a cover within the budget, has the next column, so has the
 //! least cover; else it is asked whether some cover within the budget has it, which gives a new
 //! witness or drops the column. Many columns are asked for at once, by a further row of them: if no
 //! cover has one of them all are dropped. Such a question may look at a few tables only, and is else
 //! given up for the first column alone.
 
-ghost use Rattle.std.specs.Prelude.{◌≡◌, ◌≢◌, ◌≤◌, ◌<◌, ◌+◌, ◌++◌, ◌∷◌, [], ℕ, IfOk, IfSome, MatchOption, filter, length, option_map, ◌==◌, true, false};
-ghost use Rattle.std.specs.List.{list_all};
+ghost use Rattle.std.specs.Prelude.{◌≡◌, ◌≢◌, ◌≤◌, ◌<◌, ◌+◌, ◌++◌, ◌∷◌, [], ℕ, IfOk, IfSome, MatchOption, filter, length, map, option_map, ◌==◌, true, false};
+ghost use Rattle.std.specs.List.{list_all, list_any};
 ghost use Rattle.covering.specs.Table.{has, IsWithin, RisesFrom};
 ghost use Rattle.covering.specs.Cover.{IsCover, IsLeast, counted};
-ghost use Rattle.covering.specs.Search.{Answers, Continues, HasFewer, HasShorter, IsBest, IsFewest, IsOutside, IsShortest, IsStage, marked};
+ghost use Rattle.covering.specs.Search.{Answers, Continues, HasFewer, HasShorter, IsBest, IsFewest, IsOutside, IsShortest, IsPartial, is_blank, keep_columns, marked};
 ghost use Rattle.covering.specs.Steps.{with_rows};
 
 use crate::bound::Budget;
@@ -34,21 +34,23 @@ const BATCH_TABLES: u64 = 200;
 /// So many columns are asked for at once at first.
 const FIRST_BATCH: usize = 4;
 
-/// What is left to settle: a table, and a cover of it within the budget.
+/// A partial solution: what is left of the table, and a cover of it within the budget.
 #[derive(Drop)]
-struct Stage {
+struct Partial {
     table: Table,
     witness: Vec<usize>,
 }
 
-/// What helps with it: weights, and how many columns are asked for at once.
+/// How questions are asked: from which weights, and for how many columns at once.
 #[derive(Drop)]
-struct Help {
+struct Questions {
+    /// Row weights and the last cover, from which the next question starts.
     warm_start: WarmStart,
+    /// How many columns the next batch asks for.
     most: usize,
 }
 
-impl Help {
+impl Questions {
     /// After a yes a quarter as many columns are asked for at once, and the next cover is looked for
     /// near this one; after a no twice as many are asked for.
     fn adapt(&mut self, alloc: Global, witness: &Option<Vec<usize>>) -> Result<(), AllocError> {
@@ -64,7 +66,27 @@ impl Help {
         }
     }
 
-    /// A cover within the budget, or none if there is none.
+    /// A cover within the budget, or none if there is none; as many tables are looked at as given.
+    fn decide_within(
+        &mut self,
+        alloc: Global,
+        choice: Choice,
+        budget: Budget,
+        table: &Table,
+        most: u64,
+    ) -> Result<Option<Vec<usize>>, Stop>
+        ensures { IfOk result (λ o. Answers choice table.now budget.columns budget.counts
+            (option_map (λ v. v.items) o)) }
+    {
+        let mut warm_start = self.warm_start.copy(alloc)?;
+        let decided = table.decide_within(alloc, choice, budget, &mut warm_start, most);
+        self.warm_start.learn(&warm_start);
+        let witness = decided?;
+        self.adapt(alloc, &witness)?;
+        Ok(witness)
+    }
+
+    /// The same, however many tables that takes.
     fn decide(
         &mut self,
         alloc: Global,
@@ -75,11 +97,10 @@ impl Help {
         ensures { IfOk result (λ o. Answers choice table.now budget.columns budget.counts
             (option_map (λ v. v.items) o)) }
     {
-        let mut warm_start = self.warm_start.copy(alloc)?;
-        let witness = table.decide(alloc, choice, budget, &mut warm_start)?;
-        self.warm_start.learn(&warm_start);
-        self.adapt(alloc, &witness)?;
-        Ok(witness)
+        match self.decide_within(alloc, choice, budget, table, u64::MAX) {
+            Ok(witness) => Ok(witness),
+            Err(_) => Err(AllocError),
+        }
     }
 
     /// The same of a batch, or no answer where that takes too many tables: a cover that has one of
@@ -94,15 +115,9 @@ impl Help {
         ensures { IfOk result (λ r. IfSome r (λ o. Answers choice table.now budget.columns
             budget.counts (option_map (λ v. v.items) o))) }
     {
-        let mut warm_start = self.warm_start.copy(alloc)?;
-        let decided = table.decide_within(alloc, choice, budget, &mut warm_start, BATCH_TABLES);
-        self.warm_start.learn(&warm_start);
-        match decided {
-            Ok(witness) => {
-                self.adapt(alloc, &witness)?;
-                Ok(Some(witness))
-            }
-            Err(Stop::Cut) => {
+        match self.decide_within(alloc, choice, budget, table, BATCH_TABLES) {
+            Ok(witness) => Ok(Some(witness)),
+            Err(Stop::Spent) => {
                 self.most = 1;
                 Ok(None)
             }
@@ -120,68 +135,18 @@ fn all_count(choice: Choice, weights: &[u32], columns: &[usize], number: u32) ->
         .all(|column| count(choice, weights, *column) == number)
 }
 
-impl Stage {
-    /// The table without columns that no cover within the budget has.
-    fn without_columns(
-        self,
-        alloc: Global,
-        choice: Choice,
-        budget: Budget,
-        keep: &[bool],
-    ) -> Result<Stage, AllocError>
-        requires stage { IsStage choice budget.columns budget.counts self.table self.witness.items }
-        requires outside { (c : ℕ) → has c self.table.live ≡ true → marked keep.now c ≡ false
-            → IsOutside choice self.table budget.columns budget.counts c }
-        ensures stage { IfOk result (λ s. IsStage choice budget.columns budget.counts s.table
-            s.witness.items) }
-        ensures next { IfOk result (λ s. Continues choice self.table s.table) }
-        ensures live { IfOk result (λ s. s.table.live ≡ filter (marked keep.now) self.table.live) }
+impl Partial {
+    /// The table with no columns but the marked ones, of which each row has one.
+    fn without_columns(self, alloc: Global, keep: &[bool]) -> Result<Partial, AllocError>
+        requires { list_any is_blank (map (filter (marked keep.now)) self.table.rows) ≡ false }
+        ensures { IfOk result (λ s. (s.table ≡ keep_columns (marked keep.now) self.table)
+            × (s.witness ≡ self.witness)) }
     {
-        let Stage { table, witness } = self;
+        let Partial { table, witness } = self;
         match table.keep_marked(alloc, keep)? {
-            Some(table) => Ok(Stage { table, witness }),
+            Some(table) => Ok(Partial { table, witness }),
             None => unreachable!(),
         }
-    }
-
-    /// The table without the marked columns, which no cover within the budget has.
-    fn without_marked(
-        self,
-        alloc: Global,
-        choice: Choice,
-        budget: Budget,
-        marks: &[bool],
-    ) -> Result<Stage, AllocError>
-        requires stage { IsStage choice budget.columns budget.counts self.table self.witness.items }
-        requires outside { (c : ℕ) → has c self.table.live ≡ true → marked marks.now c ≡ true
-            → IsOutside choice self.table budget.columns budget.counts c }
-        ensures stage { IfOk result (λ s. IsStage choice budget.columns budget.counts s.table
-            s.witness.items) }
-        ensures next { IfOk result (λ s. Continues choice self.table s.table) }
-    {
-        let _live = self.table.live_columns();
-        let keep = others(alloc, marks, self.table.columns())?;
-        self.without_columns(alloc, choice, budget, &keep)
-    }
-
-    /// The table without the column, which no cover within the budget has.
-    fn without_column(
-        self,
-        alloc: Global,
-        choice: Choice,
-        budget: Budget,
-        column: usize,
-    ) -> Result<Stage, AllocError>
-        requires stage { IsStage choice budget.columns budget.counts self.table self.witness.items }
-        requires outside { IsOutside choice self.table budget.columns budget.counts column }
-        ensures stage { IfOk result (λ s. IsStage choice budget.columns budget.counts s.table
-            s.witness.items) }
-        ensures next { IfOk result (λ s. Continues choice self.table s.table) }
-        ensures gone { IfOk result (λ s. has column s.table.live ≡ false) }
-    {
-        let _live = self.table.live_columns();
-        let keep = all_but(alloc, column, self.table.columns())?;
-        self.without_columns(alloc, choice, budget, &keep)
     }
 
     /// Drops a batch of columns if no cover within the budget has one of them; else there is a new
@@ -192,10 +157,10 @@ impl Stage {
         choice: Choice,
         budget: Budget,
         column: usize,
-        help: &mut Help,
-    ) -> Result<Stage, AllocError>
-        requires { IsStage choice budget.columns budget.counts self.table self.witness.items }
-        ensures stage { IfOk result (λ s. IsStage choice budget.columns budget.counts s.table
+        questions: &mut Questions,
+    ) -> Result<Partial, AllocError>
+        requires { IsPartial choice budget.columns budget.counts self.table self.witness.items }
+        ensures partial { IfOk result (λ s. IsPartial choice budget.columns budget.counts s.table
             s.witness.items) }
         ensures next { IfOk result (λ s. Continues choice self.table s.table) }
     {
@@ -204,21 +169,24 @@ impl Stage {
             self.table.live_columns(),
             &self.witness,
             column,
-            help.most,
+            questions.most,
             self.table.columns(),
         )?;
         let Some(asked) = self.table.with_marked_row(alloc, &marks)? else {
             return Ok(self);
         };
-        let Some(answer) = help.decide_batch(alloc, choice, budget, &asked)? else {
+        let Some(answer) = questions.decide_batch(alloc, choice, budget, &asked)? else {
             return Ok(self);
         };
         match answer {
-            Some(witness) => Ok(Stage {
+            Some(witness) => Ok(Partial {
                 table: self.table,
                 witness,
             }),
-            None => self.without_marked(alloc, choice, budget, &marks),
+            None => {
+                let keep = others(alloc, &marks, self.table.columns())?;
+                self.without_columns(alloc, &keep)
+            }
         }
     }
 
@@ -229,30 +197,32 @@ impl Stage {
         choice: Choice,
         budget: Budget,
         column: usize,
-        help: &mut Help,
-    ) -> Result<Stage, AllocError>
-        requires stage { IsStage choice budget.columns budget.counts self.table self.witness.items }
+        questions: &mut Questions,
+    ) -> Result<Partial, AllocError>
+        requires partial { IsPartial choice budget.columns budget.counts self.table self.witness.items }
         requires live { has column self.table.live ≡ true }
         requires first { (c : ℕ) → has c self.table.live ≡ true → column ≤ c }
-        ensures stage { IfOk result (λ s. IsStage choice budget.columns budget.counts s.table
+        ensures partial { IfOk result (λ s. IsPartial choice budget.columns budget.counts s.table
             s.witness.items) }
         ensures next { IfOk result (λ s. Continues choice self.table s.table) }
         ensures gone { IfOk result (λ s. has column s.table.live ≡ false) }
     {
-        let _live = self.table.live_columns();
         let with = self.table.take(alloc, column)?;
         if contains(&self.witness, column) {
-            return Ok(Stage {
+            return Ok(Partial {
                 table: with,
                 witness: self.witness,
             });
         }
-        match help.decide(alloc, choice, budget, &with)? {
-            Some(witness) => Ok(Stage {
+        match questions.decide(alloc, choice, budget, &with)? {
+            Some(witness) => Ok(Partial {
                 table: with,
                 witness,
             }),
-            None => self.without_column(alloc, choice, budget, column),
+            None => {
+                let keep = all_but(alloc, column, self.table.columns())?;
+                self.without_columns(alloc, &keep)
+            }
         }
     }
 
@@ -262,58 +232,58 @@ impl Stage {
         alloc: Global,
         choice: Choice,
         budget: Budget,
-        help: &mut Help,
-    ) -> Result<Stage, AllocError>
-        requires { IsStage choice budget.columns budget.counts self.table self.witness.items }
-        ensures stage { IfOk result (λ s. IsStage choice budget.columns budget.counts s.table
+        questions: &mut Questions,
+    ) -> Result<Partial, AllocError>
+        requires { IsPartial choice budget.columns budget.counts self.table self.witness.items }
+        ensures partial { IfOk result (λ s. IsPartial choice budget.columns budget.counts s.table
             s.witness.items) }
         ensures next { IfOk result (λ s. Continues choice self.table s.table) }
     {
         match self
             .table
-            .columns_within_budget(alloc, choice, budget, &mut help.warm_start)?
+            .columns_within_budget(alloc, choice, budget, &mut questions.warm_start)?
         {
-            Some(keep) => self.without_columns(alloc, choice, budget, &keep),
+            Some(keep) => self.without_columns(alloc, &keep),
             None => unreachable!(),
         }
     }
 
     /// Drops such columns until weights show few more.
-    fn narrow(
+    fn prune(
         self,
         alloc: Global,
         choice: Choice,
         budget: Budget,
-        help: &mut Help,
-    ) -> Result<Stage, AllocError>
-        requires { IsStage choice budget.columns budget.counts self.table self.witness.items }
-        ensures stage { IfOk result (λ s. IsStage choice budget.columns budget.counts s.table
+        questions: &mut Questions,
+    ) -> Result<Partial, AllocError>
+        requires { IsPartial choice budget.columns budget.counts self.table self.witness.items }
+        ensures partial { IfOk result (λ s. IsPartial choice budget.columns budget.counts s.table
             s.witness.items) }
         ensures next { IfOk result (λ s. Continues choice self.table s.table) }
     {
-        let mut stage = self;
+        let mut partial = self;
         loop {
-            let live = stage.table.live_columns().len();
-            stage = stage.drop_by_bound(alloc, choice, budget, help)?;
-            let left = stage.table.live_columns().len();
+            let live = partial.table.live_columns().len();
+            partial = partial.drop_by_bound(alloc, choice, budget, questions)?;
+            let left = partial.table.live_columns().len();
             if live <= left || !is_worth_a_bound(live, left) {
-                return Ok(stage);
+                return Ok(partial);
             }
         }
     }
 
     /// Takes or drops the column, which is the first that may be live.
-    fn settle(
+    fn decide_column(
         self,
         alloc: Global,
         choice: Choice,
         budget: Budget,
         column: usize,
-        help: &mut Help,
-    ) -> Result<Stage, AllocError>
-        requires stage { IsStage choice budget.columns budget.counts self.table self.witness.items }
+        questions: &mut Questions,
+    ) -> Result<Partial, AllocError>
+        requires partial { IsPartial choice budget.columns budget.counts self.table self.witness.items }
         requires first { (c : ℕ) → has c self.table.live ≡ true → column ≤ c }
-        ensures stage { IfOk result (λ s. IsStage choice budget.columns budget.counts s.table
+        ensures partial { IfOk result (λ s. IsPartial choice budget.columns budget.counts s.table
             s.witness.items) }
         ensures next { IfOk result (λ s. Continues choice self.table s.table) }
         ensures gone { IfOk result (λ s. has column s.table.live ≡ false) }
@@ -321,15 +291,15 @@ impl Stage {
         if !contains(self.table.live_columns(), column) {
             return Ok(self);
         }
-        let stage = self.ask_for_many(alloc, choice, budget, column, help)?;
-        if !contains(stage.table.live_columns(), column) {
-            return stage.narrow(alloc, choice, budget, help);
+        let partial = self.ask_for_many(alloc, choice, budget, column, questions)?;
+        if !contains(partial.table.live_columns(), column) {
+            return partial.prune(alloc, choice, budget, questions);
         }
-        if contains(&stage.witness, column) {
-            return stage.ask_for_one(alloc, choice, budget, column, help);
+        if contains(&partial.witness, column) {
+            return partial.ask_for_one(alloc, choice, budget, column, questions);
         }
-        let stage = stage.ask_for_one(alloc, choice, budget, column, help)?;
-        stage.narrow(alloc, choice, budget, help)
+        let partial = partial.ask_for_one(alloc, choice, budget, column, questions)?;
+        partial.prune(alloc, choice, budget, questions)
     }
 }
 
@@ -366,7 +336,7 @@ impl Table {
         alloc: Global,
         choice: Choice,
         best: Vec<usize>,
-        help: &mut Help,
+        questions: &mut Questions,
     ) -> Result<Vec<usize>, AllocError>
         requires { IsBest choice self.now best.items }
         ensures { IfOk result (λ v. IsLeast choice self.now v.items) }
@@ -375,20 +345,20 @@ impl Table {
             columns: best.len(),
             counts: sum(choice, self.literals(), &best),
         };
-        help.warm_start.set_hint(alloc, &best)?;
-        let mut stage = Stage {
+        questions.warm_start.set_hint(alloc, &best)?;
+        let mut partial = Partial {
             table: self.copy(alloc)?,
             witness: best,
         };
-        stage = stage.narrow(alloc, choice, budget, help)?;
-        help.warm_start.hurry();
+        partial = partial.prune(alloc, choice, budget, questions)?;
+        questions.warm_start.hurry();
         for column in 0..self.columns() {
-            if stage.table.is_solved() {
-                return copy_of(alloc, stage.table.taken_columns());
+            if partial.table.is_solved() {
+                return copy_of(alloc, partial.table.taken_columns());
             }
-            stage = stage.settle(alloc, choice, budget, column, help)?;
+            partial = partial.decide_column(alloc, choice, budget, column, questions)?;
         }
-        copy_of(alloc, stage.table.taken_columns())
+        copy_of(alloc, partial.table.taken_columns())
     }
 
     /// A shorter cover; `None` if there is none.
@@ -443,7 +413,7 @@ impl Table {
     }
 
     /// How many columns each cover has at least, if one has so many, as far as row weights show: a
-    /// wish.
+    /// hint.
     fn least_length(
         &self,
         alloc: Global,
@@ -543,7 +513,7 @@ impl Table {
     }
 
     /// Fewer literals than which covers of so many columns hardly have, as far as row weights show:
-    /// a wish.
+    /// a hint.
     fn target_count(
         &self,
         alloc: Global,
@@ -552,7 +522,7 @@ impl Table {
         warm_start: &mut WarmStart,
     ) -> Result<u128, AllocError> {
         let budget = Budget { columns, counts };
-        let _keep = self.columns_within_budget(alloc, Choice::Literals, budget, warm_start)?;
+        self.columns_within_budget(alloc, Choice::Literals, budget, warm_start)?;
         Ok(counts.saturating_sub(u128::from(warm_start.shortfall())))
     }
 
@@ -608,12 +578,12 @@ impl Table {
     {
         let mut warm_start = WarmStart::new(alloc, *effort);
         let best = self.best(alloc, choice, &mut warm_start)?;
-        let mut help = Help {
+        let mut questions = Questions {
             warm_start,
             most: FIRST_BATCH,
         };
-        let first = self.first_of(alloc, choice, best, &mut help)?;
-        *effort = help.warm_start.effort();
+        let first = self.first_of(alloc, choice, best, &mut questions)?;
+        *effort = questions.warm_start.effort();
         Ok(first)
     }
 }

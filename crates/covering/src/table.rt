@@ -31,10 +31,15 @@ pub fn numbers(alloc: Global, end: usize) -> Result<Vec<usize>, AllocError>
 /// A covering table: each cover has the taken columns and, of each row, one of its live columns.
 #[derive(Drop)]
 pub struct Table {
+    /// How many columns it was made with.
     pub(crate) columns: usize,
+    /// The columns that every cover has, rising.
     pub(crate) taken: Vec<usize>,
+    /// The columns still open, rising.
     pub(crate) live: Vec<usize>,
+    /// The rows not covered yet, each a rising list of live columns.
     pub(crate) rows: Vec<Vec<usize>>,
+    /// By column: its number of literals (not the weights of rows that bounds use).
     pub(crate) weights: Vec<u32>,
 }
 
@@ -90,7 +95,8 @@ impl Table {
 
     /// How many columns the table was made with.
     pub fn columns(&self) -> usize
-        ensures { result ≡ self.now.columns }
+        ensures count { result ≡ self.now.columns }
+        ensures table { IsTable self.now }
     {
         self.columns
     }
@@ -171,7 +177,8 @@ impl Table {
 
     /// A copy of the table.
     pub(crate) fn copy(&self, alloc: Global) -> Result<Table, AllocError>
-        ensures { IfOk result (λ t. t ≡ self.now) }
+        ensures copy { IfOk result (λ t. t ≡ self.now) }
+        ensures table { IsTable self.now }
     {
         let taken = copy_of(alloc, self.taken_columns())?;
         let live = copy_of(alloc, self.live_columns())?;

@@ -1,11 +1,11 @@
-//! The transpose of a table: for each column the rows in which it stands.
+//! The transpose of a table: the rows of each column.
 
 ghost use Rattle.std.specs.Prelude.{◌≡◌, ◌<◌, [], IfOk, length};
 ghost use Rattle.covering.specs.Table.{RisesFrom, items_of};
 ghost use Rattle.covering.specs.Reduce.{row_at, AreRising, Appends, Enters, IsTranspose};
 
 use crate::table::Table;
-use heuristics::entanglement;
+use heuristics::row_counts;
 use std::alloc::{AllocError, Global};
 
 /// The list at the place, empty if there is none.
@@ -42,7 +42,7 @@ fn enter(columns: &mut Vec<Vec<usize>>, row: &[usize], number: usize) -> Result<
     Ok(())
 }
 
-/// An empty list with room for what is wished for at the place.
+/// An empty list with room for as many rows as the column is likely to have.
 fn list_with_room(alloc: Global, room: &[i64], place: usize) -> Result<Vec<usize>, AllocError>
     ensures { IfOk result (λ v. v.items ≡ []) }
 {
@@ -50,7 +50,7 @@ fn list_with_room(alloc: Global, room: &[i64], place: usize) -> Result<Vec<usize
     Vec::with_capacity(alloc, usize::try_from(room).unwrap_or(0))
 }
 
-/// The rows in which each column stands.
+/// The rows of each column.
 fn transpose(
     alloc: Global,
     rows: &[Vec<usize>],
@@ -61,7 +61,7 @@ fn transpose(
         (items_of v.items)) }
     ensures long { IfOk result (λ v. length v.items ≡ columns) }
 {
-    let row_counts = entanglement(alloc, rows, columns)?;
+    let row_counts = row_counts(alloc, rows, columns)?;
     let mut transpose: Vec<Vec<usize>> = Vec::with_capacity(alloc, columns)?;
     for column in 0..columns {
         let list = list_with_room(alloc, &row_counts, column)?;
@@ -74,7 +74,7 @@ fn transpose(
 }
 
 impl Table {
-    /// The rows in which each column stands.
+    /// The rows of each column.
     pub(crate) fn transpose(&self, alloc: Global) -> Result<Vec<Vec<usize>>, AllocError>
         ensures transpose { IfOk result (λ v. IsTranspose self.now.columns self.now.rows
             (items_of v.items)) }

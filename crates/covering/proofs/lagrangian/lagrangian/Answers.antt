@@ -36,15 +36,15 @@ pub returns-clause-loaded : goal.returns-clause-loaded
 returns-clause-loaded c =
     let same = c.requires.length in
     let past = c.loop-i-test.false in
-    let bears : (d : ℕ) → d < length c.args.scaled_costs.now → at c.loop-i.loads.items d ≡ load d (items_of c.args.rows.now) c.args.weights.now =
+    let loads_are : (d : ℕ) → d < length c.args.scaled_costs.now → at c.loop-i.loads.items d ≡ load d (items_of c.args.rows.now) c.args.weights.now =
     λ d h. c.loop-i.invariant.loads d h ∙ ap (λ rs. load d (items_of rs) (take c.loop-i.i c.args.weights.now)) (take_all c.loop-i.i c.args.rows.now past) ∙ ap (load d (items_of c.args.rows.now)) (take_all c.loop-i.i c.args.weights.now (omega arith)) in
     record {
-      bears = bears;
+      loads_are = loads_are;
       weighs = c.total-total.ensures.sum;
       exceeds = elim c.over-over.ensures [
         | inl e ↦ inl (e ∙ ap (λ ls. sum_over (beyond ls c.args.scaled_costs.now) (range_with_len 0 (length ls))) c.deref-2.ensures.value
             ∙ ap (λ n. sum_over (beyond c.loop-i.loads.items c.args.scaled_costs.now) (range_with_len 0 n)) c.loop-i.invariant.long
-            ∙ overs (items_of c.args.rows.now) c.args.weights.now c.args.scaled_costs.now c.loop-i.loads.items bears)
+            ∙ overs (items_of c.args.rows.now) c.args.weights.now c.args.scaled_costs.now c.loop-i.loads.items loads_are)
         | inr e ↦ inr (let few = c.requires.few in let bound = c.total-total.ensures.bound in omega arith)
       ];
     }

@@ -19,20 +19,20 @@ branch-returns-in_default t c = absurd (true≢false (sym (c.if-is_solved.ensure
 pub branch-search-requires : goal.branch-search-requires
 branch-search-requires t c =
     let falls = live_falls c.args.self.now c.in-Some.column c.in_ok-column.ensures.table (rw c.in-Some.is at c.in_ok-column.ensures.live) in
-    let same = ap (λ (g : Table). length g.live) c.in_ok-with.ensures in
+    let same = ap (λ (g : Table). length g.live) c.in_ok-with.ensures.taken in
     (omega (arith, falls, same, c.decreases), tt)
 
 pub branch-returns-in-Some-2 : goal.branch-returns-in-Some-2
 branch-returns-in-Some-2 t c =
     let found = subst (λ (o : Option (Vec ℕ Global)). Answers c.args.choice c.in_ok-with.with c.args.budget.columns c.args.budget.counts (option_map (λ v. v.items) o)) c.in-Some-2.is c.in_ok-cover.ensures in
     answer_taken c.args.choice c.args.self.now c.in-Some.column c.args.budget.columns c.args.budget.counts _ (rw c.in-Some.is at c.in_ok-column.ensures.live)
-    (subst (λ g. IsAnswer c.args.choice g c.args.budget.columns c.args.budget.counts c.in-Some-2.cover.items) c.in_ok-with.ensures found)
+    (subst (λ g. IsAnswer c.args.choice g c.args.budget.columns c.args.budget.counts c.in-Some-2.cover.items) c.in_ok-with.ensures.taken found)
 
 pub branch-returns-in-None : goal.branch-returns-in-None
 branch-returns-in-None t c =
     let none = subst (λ (o : Option (Vec ℕ Global)). Answers c.args.choice c.in_ok-with.with c.args.budget.columns c.args.budget.counts (option_map (λ v. v.items) o)) c.in_default-2.is c.in_ok-cover.ensures in
     let forced = subst (λ o. MatchOption o (IsForced c.args.self.now c.in-Some.column) (λ u. u ≡ drop_column c.in-Some.column c.args.self.now)) c.in-None.is c.in_ok-drop_live.ensures in
-    none_forced c.args.choice c.args.self.now c.in-Some.column c.args.budget.columns c.args.budget.counts forced (subst (λ g. NoneWithin c.args.choice g c.args.budget.columns c.args.budget.counts) c.in_ok-with.ensures none)
+    none_forced c.args.choice c.args.self.now c.in-Some.column c.args.budget.columns c.args.budget.counts forced (subst (λ g. NoneWithin c.args.choice g c.args.budget.columns c.args.budget.counts) c.in_ok-with.ensures.taken none)
 
 pub branch-search-requires-in-Some-3 : goal.branch-search-requires-in-Some-3
 branch-search-requires-in-Some-3 t c =
@@ -46,13 +46,13 @@ branch-returns t c =
     let none = subst (λ (o : Option (Vec ℕ Global)). Answers c.args.choice c.in_ok-with.with c.args.budget.columns c.args.budget.counts (option_map (λ v. v.items) o)) c.in_default-2.is c.in_ok-cover.ensures in
     let is = subst (λ o. MatchOption o (IsForced c.args.self.now c.in-Some.column) (λ u. u ≡ drop_column c.in-Some.column c.args.self.now)) c.in-Some-3.is c.in_ok-drop_live.ensures in
     IfOk-weaker c.search-in-Some-3.result _ _
-    (λ o a. answers_dropped c.args.choice c.args.self.now c.in-Some.column c.args.budget.columns c.args.budget.counts (option_map (λ v. v.items) o) c.in_ok-column.ensures.table (rw c.in-Some.is at c.in_ok-column.ensures.live) (subst (λ g. NoneWithin c.args.choice g c.args.budget.columns c.args.budget.counts) c.in_ok-with.ensures none) (subst (λ g. Answers c.args.choice g c.args.budget.columns c.args.budget.counts (option_map (λ v. v.items) o)) is a))
+    (λ o a. answers_dropped c.args.choice c.args.self.now c.in-Some.column c.args.budget.columns c.args.budget.counts (option_map (λ v. v.items) o) c.in_ok-column.ensures.table (rw c.in-Some.is at c.in_ok-column.ensures.live) (subst (λ g. NoneWithin c.args.choice g c.args.budget.columns c.args.budget.counts) c.in_ok-with.ensures.taken none) (subst (λ g. Answers c.args.choice g c.args.budget.columns c.args.budget.counts (option_map (λ v. v.items) o)) is a))
     c.search-in-Some-3.ensures
 
 pub search_on-branch-table-requires : goal.search_on-branch-table-requires
 search_on-branch-table-requires t c =
-    let n = rw c.in-Some.is at c.in_ok-narrow.ensures in
+    let n = rw c.in-Some.is at c.in_ok-prune.ensures in
     (omega (arith, n.live, c.decreases), tt)
 
 pub search_on-returns-in-None : goal.search_on-returns-in-None
-search_on-returns-in-None t c = rw c.in-None.is at c.in_ok-narrow.ensures
+search_on-returns-in-None t c = rw c.in-None.is at c.in_ok-prune.ensures

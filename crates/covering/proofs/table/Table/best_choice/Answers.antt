@@ -1,4 +1,4 @@
-use Rattle.std.proofs.Common.{◌≡◌, ◌∙◌, ◌<◌, ◌^◌, None, length, ap, subst, arith}
+use Rattle.std.proofs.Common.{◌∙◌, ◌<◌, ◌^◌, None, length, ap, subst, arith}
 use Rattle.std.specs.List.{list_all}
 use Rattle.std.proofs.lemmas.Result.{IfOk-weaker}
 use Rattle.covering.specs.Table.{Table, IsTable}
@@ -25,6 +25,5 @@ returns-clause-table c = subst IsTable c.self.view_is c.self.invariant
 
 pub returns-clause-long : goal.returns-clause-long
 returns-clause-long c =
-    let long : length c.self.inside.live.items ≡ c.len-count.result = omega (arith, c.len-count.ensures, c.self.inside.live.ok) in
-    let below : length c.self.inside.live.items < 2 ^ 64 = omega (arith, c.len-count.type_inv) in
+    let below : length c.self.inside.live.items < 2 ^ 64 = omega (arith, c.self.inside.live.ok) in
     subst (λ (t : Table). length t.live < 2 ^ 64) c.self.view_is below

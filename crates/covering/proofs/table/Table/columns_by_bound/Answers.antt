@@ -12,10 +12,10 @@ use Rattle.covering.proofs.table.Table.columns_by_bound.Goals as goal
 use Rattle.covering.proofs.table.Table.columns_by_bound.Goals.{In-Some}
 
 pub returns-then-len-rows : goal.returns-then-len-rows
-returns-then-len-rows c d l e = absurd (both_ways _ e (c.in_ok-any_marked.ensures d l))
+returns-then-len-rows c d l e = absurd (both_ways _ e (c.in_ok-all_columns_marked.ensures d l))
 
 pub returns-in_default : goal.returns-in_default
-returns-in_default c d l e = absurd (both_ways _ e (c.in_ok-any_marked-2.ensures d l))
+returns-in_default c d l e = absurd (both_ways _ e (c.in_ok-all_columns_marked-2.ensures d l))
 
 -- the share of a column
 abbrev fair : In-Some → ℕ → ℕ

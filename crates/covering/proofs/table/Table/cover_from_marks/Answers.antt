@@ -15,7 +15,7 @@ made c =
     c.in_ok-cover.ensures
     ∙ ap (λ ts. filter (λ n. has n ts || (marked c.args.marks.now n && has n c.live_columns.result.now)) (range_with_len 0 c.columns.result)) c.taken_columns.ensures.value
     ∙ ap (λ ls. filter (λ n. has n c.args.self.now.taken || (marked c.args.marks.now n && has n ls)) (range_with_len 0 c.columns.result)) c.live_columns.ensures.value
-    ∙ ap (λ m. filter (chosen c.args.self.now c.args.marks.now) (range_with_len 0 m)) c.columns.ensures
+    ∙ ap (λ m. filter (chosen c.args.self.now c.args.marks.now) (range_with_len 0 m)) c.columns.ensures.count
 
 pub all_held-requires : goal.all_held-requires
 all_held-requires c =

@@ -4,7 +4,7 @@ use Rattle.covering.proofs.Reduced.{steps_join}
 use Rattle.covering.proofs.table.Table.cyclic_core.Goals as goal
 
 pub loop-table-init : goal.loop-table-init
-loop-table-init c = subst (Steps c.args.choice c.args.self.now) (sym c.in_ok-table.ensures) (done c.args.self.now)
+loop-table-init c = subst (Steps c.args.choice c.args.self.now) (sym c.in_ok-table.ensures.copy) (done c.args.self.now)
 
 pub loop-table-preserved : goal.loop-table-preserved
 loop-table-preserved c =

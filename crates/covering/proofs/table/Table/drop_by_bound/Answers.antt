@@ -3,19 +3,19 @@ use Rattle.std.specs.Prelude.{MatchOption, filter}
 use Rattle.std.specs.List.{list_any}
 use Rattle.std.proofs.lemmas.Result.{IfOk-weaker}
 use Rattle.covering.specs.Search.{is_blank, marked, keep_columns}
-use Rattle.covering.proofs.Branches.{narrowed_from}
-use Rattle.covering.proofs.Reduced.{lightened_narrowed}
-use Rattle.covering.proofs.WeakDominance.{lightened_same}
+use Rattle.covering.proofs.Branches.{pruned_from}
+use Rattle.covering.proofs.Reduced.{weakly_reduced_pruned}
+use Rattle.covering.proofs.WeakDominance.{weakly_reduced_same}
 use Rattle.covering.proofs.table.Table.drop_by_bound.Goals as goal
 
 pub returns : goal.returns
 returns c =
-    let out = rw c.in-Some.is at c.in_ok-keep.ensures in
+    let out = rw c.in-Some.is at c.in_ok-keep.ensures.marks in
     IfOk-weaker c.keep_marked.result _ _
-    (λ o h. narrowed_from c.args.choice (marked c.in-Some.keep.items) c.args.self c.args.budget.columns c.args.budget.counts c.keep_marked.ensures.table out o
+    (λ o h. pruned_from c.args.choice (marked c.in-Some.keep.items) c.args.self c.args.budget.columns c.args.budget.counts c.keep_marked.ensures.table out o
     (subst (λ ks. MatchOption o (list_any is_blank (map (filter (marked ks)) c.args.self.rows) ≡ true) (λ u. u ≡ keep_columns (marked ks) c.args.self)) c.deref-2.ensures.value h))
     c.keep_marked.ensures.kept
 
 pub returns-then-all_kept : goal.returns-then-all_kept
 returns-then-all_kept c =
-    lightened_narrowed c.args.choice c.args.budget.columns c.args.budget.counts c.args.self c.args.self (lightened_same c.args.choice c.args.self)
+    weakly_reduced_pruned c.args.choice c.args.budget.columns c.args.budget.counts c.args.self c.args.self (weakly_reduced_same c.args.choice c.args.self)

@@ -3,17 +3,17 @@ use Rattle.std.specs.Prelude.{filter}
 use Rattle.covering.specs.Table.{IsTable, items_of}
 use Rattle.covering.specs.Cover.{counted}
 use Rattle.covering.specs.Search.{marked}
-use Rattle.covering.specs.Reduce.{LeavesNoDominatedColumn, Shrinks}
+use Rattle.covering.specs.Reduce.{LeavesNoDominatedColumn, prefers, Shrinks}
 use Rattle.covering.proofs.Made.{table_same}
 use Rattle.covering.proofs.Reduced.{none_dominated, column_dominance_shrinks, column_dominance_table}
 use Rattle.covering.proofs.table.Table.drop_dominated_columns.Goals as goal
 use Rattle.covering.proofs.table.Table.drop_dominated_columns.Goals.{In_ok-keep, In_ok-live}
 
-marks : (c : In_ok-keep) → LeavesNoDominatedColumn (counted c.args.choice c.args.self.now.weights) c.args.self.now.live (items_of c.in_ok-transpose.transpose.items) c.in_ok-keep.keep.items
+marks : (c : In_ok-keep) → LeavesNoDominatedColumn (prefers (counted c.args.choice c.args.self.now.weights)) c.args.self.now.live (items_of c.in_ok-transpose.transpose.items) c.in_ok-keep.keep.items
 marks c =
-    subst (λ xs. LeavesNoDominatedColumn (counted c.args.choice c.args.self.now.weights) c.args.self.now.live (items_of xs) c.in_ok-keep.keep.items) c.deref.ensures.value
-    (subst (λ ls. LeavesNoDominatedColumn (counted c.args.choice c.args.self.now.weights) ls (items_of c.deref.result.now) c.in_ok-keep.keep.items) c.live_columns.ensures.value
-    (subst (λ ws. LeavesNoDominatedColumn (counted c.args.choice ws) c.live_columns.result.now (items_of c.deref.result.now) c.in_ok-keep.keep.items) c.literals.ensures.value c.in_ok-keep.ensures))
+    subst (λ xs. LeavesNoDominatedColumn (prefers (counted c.args.choice c.args.self.now.weights)) c.args.self.now.live (items_of xs) c.in_ok-keep.keep.items) c.deref.ensures.value
+    (subst (λ ls. LeavesNoDominatedColumn (prefers (counted c.args.choice c.args.self.now.weights)) ls (items_of c.deref.result.now) c.in_ok-keep.keep.items) c.live_columns.ensures.value
+    (subst (λ ws. LeavesNoDominatedColumn (prefers (counted c.args.choice ws)) c.live_columns.result.now (items_of c.deref.result.now) c.in_ok-keep.keep.items) c.literals.ensures.value c.in_ok-keep.ensures))
 
 kept : (c : In_ok-live) → c.in_ok-live.live.items ≡ filter (marked c.in_ok-keep.keep.items) c.args.self.now.live
 kept c = c.in_ok-live.ensures ∙ ap (λ ks. filter (marked ks) c.live_columns-2.result.now) c.deref-2.ensures.value ∙ ap (filter (marked c.in_ok-keep.keep.items)) c.live_columns-2.ensures.value

@@ -1,25 +1,25 @@
 use Rattle.std.proofs.Common.{◌∙◌, refl, arith}
 use Rattle.std.proofs.lemmas.Result.{IfOk-weaker}
-use Rattle.covering.proofs.Stages.{next_join, stage_done, all_settled, first_next}
+use Rattle.covering.proofs.Partials.{next_join, stage_done, all_settled, first_next}
 use Rattle.covering.proofs.table.Table.first_of.Goals as goal
 
 pub returns-then-is_solved : goal.returns-then-is_solved
 returns-then-is_solved c = IfOk-weaker c.copy_of.result _ _
-    (λ v h. stage_done c.args.choice c.args.self.now c.loop-column.stage.table v.items c.taken_columns.ensures.table c.loop-column.invariant.next (c.if-is_solved.ensures.solved.0 refl) (h ∙ c.taken_columns.ensures.value))
+    (λ v h. stage_done c.args.choice c.args.self.now c.loop-column.partial.table v.items c.taken_columns.ensures.table c.loop-column.invariant.next (c.if-is_solved.ensures.solved.0 refl) (h ∙ c.taken_columns.ensures.value))
     c.copy_of.ensures
 
 pub loop-column-preserved : goal.loop-column-preserved
 loop-column-preserved c = record {
-  stage = c.in_ok-stage-2.ensures.stage;
-  next = next_join c.args.choice c.args.self.now c.loop-column.stage.table c.in_ok-stage-2.stage.table c.loop-column.invariant.next c.in_ok-stage-2.ensures.next;
-  first = first_next c.loop-column.stage.table c.in_ok-stage-2.stage.table c.loop-column.column c.in_ok-stage-2.ensures.next.live c.loop-column.invariant.first c.in_ok-stage-2.ensures.gone;
+  partial = c.in_ok-partial-2.ensures.partial;
+  next = next_join c.args.choice c.args.self.now c.loop-column.partial.table c.in_ok-partial-2.partial.table c.loop-column.invariant.next c.in_ok-partial-2.ensures.next;
+  first = first_next c.loop-column.partial.table c.in_ok-partial-2.partial.table c.loop-column.column c.in_ok-partial-2.ensures.next.live c.loop-column.invariant.first c.in_ok-partial-2.ensures.gone;
 }
 
 pub returns : goal.returns
 returns c =
     let past = c.loop-column-test.false in
-    let wide = c.columns-column-end.ensures in
-    let done = all_settled c.args.choice c.args.self.now c.loop-column.stage.table c.loop-column.column c.literals.ensures.table c.taken_columns-2.ensures.table c.loop-column.invariant.next c.loop-column.invariant.first (omega arith) in
+    let wide = c.columns-column-end.ensures.count in
+    let done = all_settled c.args.choice c.args.self.now c.loop-column.partial.table c.loop-column.column c.literals.ensures.table c.taken_columns-2.ensures.table c.loop-column.invariant.next c.loop-column.invariant.first (omega arith) in
     IfOk-weaker c.copy_of-2.result _ _
-    (λ v h. stage_done c.args.choice c.args.self.now c.loop-column.stage.table v.items c.taken_columns-2.ensures.table c.loop-column.invariant.next done (h ∙ c.taken_columns-2.ensures.value))
+    (λ v h. stage_done c.args.choice c.args.self.now c.loop-column.partial.table v.items c.taken_columns-2.ensures.table c.loop-column.invariant.next done (h ∙ c.taken_columns-2.ensures.value))
     c.copy_of-2.ensures

@@ -14,7 +14,7 @@ returns c =
     let t = c.args.self.now in
     let marks = c.in-Some.marks.items in
     let others = c.in_ok-others.others.items in
-    let made : others ≡ map (λ n. not (marked marks n)) (range_with_len 0 t.columns) = c.in_ok-others.ensures ∙ ap (λ ks. map (λ n. not (marked ks n)) (range_with_len 0 c.columns-2.result)) c.deref.ensures.value ∙ ap (λ k. map (λ n. not (marked marks n)) (range_with_len 0 k)) c.columns-2.ensures in
+    let made : others ≡ map (λ n. not (marked marks n)) (range_with_len 0 t.columns) = c.in_ok-others.ensures ∙ ap (λ ks. map (λ n. not (marked ks n)) (range_with_len 0 c.columns-2.result)) c.deref.ensures.value ∙ ap (λ k. map (λ n. not (marked marks n)) (range_with_len 0 k)) c.columns-2.ensures.count in
     let two : (n : ℕ) → has n t.live ≡ true → marked others n ≡ not (marked marks n) = λ n l. ap (λ ks. marked ks n) made ∙ marks_at (λ m. not (marked marks m)) t.columns n (c.row_lists.ensures.table.within n l) in
     let sides : list_all (λ row. is_on_one_side marks others row) t.rows ≡ true =
     ap (list_all (λ row. is_on_one_side marks others row)) (sym c.row_lists-2.ensures.value)

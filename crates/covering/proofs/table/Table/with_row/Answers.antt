@@ -4,7 +4,7 @@ use Rattle.std.proofs.lemmas.List.{map-append}
 use Rattle.covering.specs.Table.{IsTable, items_of, table_of}
 use Rattle.covering.specs.Steps.{with_rows}
 use Rattle.covering.proofs.Made.{table_same}
-use Rattle.covering.proofs.Stages.{row_table}
+use Rattle.covering.proofs.Partials.{row_table}
 use Rattle.covering.proofs.table.Table.with_row.Goals as goal
 use Rattle.covering.proofs.table.Table.with_row.Goals.{In_ok-live}
 

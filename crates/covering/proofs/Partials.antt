@@ -7,7 +7,7 @@ use Rattle.covering.specs.declared.choice.Choice.{Choice}
 use Rattle.covering.specs.Table.{Table, has, RisesFrom, IsWithin, IsTable}
 use Rattle.covering.specs.Cover.{meets, counted, sum_over, IsLeast}
 use Rattle.covering.specs.Steps.{take_column, with_rows}
-use Rattle.covering.specs.Search.{NoneWithin, NoneBelow, IsAnswer, IsOutside, IsStage, Continues, keep_columns, is_blank, marked}
+use Rattle.covering.specs.Search.{NoneWithin, NoneBelow, IsAnswer, IsOutside, IsPartial, Continues, keep_columns, is_blank, marked}
 use Rattle.covering.proofs.Sets.{has_here, without_only, filter_parts, meets_from}
 use Rattle.covering.proofs.Covers.{take_cover, take_back}
 use Rattle.covering.proofs.Branches.{later, taken_least, kept_back, kept_cover, split, none_blank, leaf, no_live}
@@ -34,7 +34,7 @@ least_within choice t k w s x a none h =
 -- ---- the first live column is taken
 
 module _ (choice : Choice) (t : Table) (c k w : ℕ) (s : List ℕ) (none : NoneBelow choice t k w) (live : has c t.live ≡ true) (a : IsAnswer choice (take_column c t) k w s) where
-  pub stage_taken : IsStage choice k w (take_column c t) s
+  pub stage_taken : IsPartial choice k w (take_column c t) s
   stage_taken = record { none = λ x h. none x (take_back t c x live h).0; witness = a }
 
   pub next_taken : ((m : ℕ) → has m t.live ≡ true → c ≤ m) → Continues choice t (take_column c t)
@@ -52,14 +52,14 @@ outside_taken choice t c k w none x h there = none x (take_cover t c x h there)
 
 -- ---- columns that no cover within the budget has
 
-module _ (choice : Choice) (test : ℕ → Bool) (t : Table) (k w : ℕ) (s : List ℕ) (wt : IsTable t) (stage : IsStage choice k w t s) (out : (c : ℕ) → has c t.live ≡ true → test c ≡ false → IsOutside choice t k w c) where
+module _ (choice : Choice) (test : ℕ → Bool) (t : Table) (k w : ℕ) (s : List ℕ) (wt : IsTable t) (partial : IsPartial choice k w t s) (out : (c : ℕ) → has c t.live ≡ true → test c ≡ false → IsOutside choice t k w c) where
   has_kept : (c : ℕ) → has c s ≡ true → has c t.live ≡ true → test c ≡ true
-  has_kept c h l = elim (cases_Bool (test c)) [ inl e ↦ e | inr e ↦ absurd (not_both choice t k w s stage.witness (out c l e s stage.witness.cover h)) ]
+  has_kept c h l = elim (cases_Bool (test c)) [ inl e ↦ e | inr e ↦ absurd (not_both choice t k w s partial.witness (out c l e s partial.witness.cover h)) ]
 
-  pub stage_kept : IsStage choice k w (keep_columns test t) s
+  pub stage_kept : IsPartial choice k w (keep_columns test t) s
   stage_kept = record {
-    none = λ x h. stage.none x (kept_back test t x h);
-    witness = record { cover = kept_cover test t wt s stage.witness.cover has_kept; fits = stage.witness.fits; counts = stage.witness.counts };
+    none = λ x h. partial.none x (kept_back test t x h);
+    witness = record { cover = kept_cover test t wt s partial.witness.cover has_kept; fits = partial.witness.fits; counts = partial.witness.counts };
   }
 
   pub next_kept : Continues choice t (keep_columns test t)
@@ -70,14 +70,23 @@ module _ (choice : Choice) (test : ℕ → Bool) (t : Table) (k w : ℕ) (s : Li
           cover = kept_back test t x h.cover;
           first = λ y g. elim (split test t y) [
             | inl f ↦ h.first y (kept_cover test t wt y g f)
-            | inr f ↦ inr (later choice t k w x fits.0 fits.1 stage.none y g (out f.0 f.2 f.3 y g f.1))
+            | inr f ↦ inr (later choice t k w x fits.0 fits.1 partial.none y g (out f.0 f.2 f.3 y g f.1))
           ];
         };
     live = λ n h. (filter_parts test n t.live h).0;
   }
 
-  pub some_left : list_any is_blank (map (filter test) t.rows) ≡ true → ⊥
-  some_left e = not_both choice t k w s stage.witness (none_blank choice test t k w wt out e s stage.witness.cover)
+  pub some_left : list_any is_blank (map (filter test) t.rows) ≡ false
+  some_left = elim (cases_Bool (list_any is_blank (map (filter test) t.rows))) [
+    | inl e ↦ absurd (not_both choice t k w s partial.witness (none_blank choice test t k w wt out e s partial.witness.cover))
+    | inr e ↦ e
+  ]
+
+  pub stage_left : (u : Table) → u ≡ keep_columns test t → IsPartial choice k w u s
+  stage_left u e = subst (λ g. IsPartial choice k w g s) (sym e) stage_kept
+
+  pub next_left : (u : Table) → u ≡ keep_columns test t → Continues choice t u
+  next_left u e = subst (Continues choice t) (sym e) next_kept
 
 -- ---- one row more
 
