@@ -1,4 +1,5 @@
-//! The essential primes.
+//! The essential primes, from a list of all primes. `essential_by_neighbours` finds them without
+//! that list.
 
 ghost use Rattle.std.specs.Prelude.{◌≡◌, ◌<◌, ◌++◌, ◌∷◌, ◌||◌, [], IfOk, OnOk, All, filter, length};
 ghost use Rattle.cube.specs.Cube.{HasSize, SameSize, IsCube, IsSubset, holds};

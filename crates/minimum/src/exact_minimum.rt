@@ -4,7 +4,7 @@
 //! list: points are picked, and only the primes that contain one of them are made
 //! ([`crate::signatures`]). With one output or fewer inputs all primes are listed: points are picked
 //! by them where the inputs are many, and else the rows of their table come from regions. Which way
-//! is taken is a wish; where one has spent its budget, the next one follows.
+//! is taken is a hint; where one has spent its budget, the next one follows.
 
 ghost use Rattle.std.specs.Prelude.{◌≡◌, ◌<◌, ◌||◌, IfOk, IfSome, not};
 ghost use Rattle.cube.specs.Cube.{IsPlace, Place};
@@ -46,6 +46,7 @@ fn cubes_at(alloc: Global, list: &Cover, numbers: &[usize]) -> Result<Cover, All
 // where many functions are joined in one output, there are far more, and the primes are few.
 const MOST_OF_AN_OUTPUT: usize = 250;
 
+// The same for all outputs together.
 const MOST_OUTSIDE: usize = 40000;
 
 // So many rows are looked at for each output on the way, beside each row of the lists once for each
@@ -63,30 +64,30 @@ fn budget_outside(all: &Cover) -> Budget {
     }
 }
 
-/// Whether points are wished for, in place of all primes: functions of few inputs have few primes.
-pub(crate) fn wishes_points(sets: &Sets) -> bool {
+/// Whether to pick points in place of listing all primes: functions of few inputs have few primes.
+pub(crate) fn uses_points(sets: &Sets) -> bool {
     sets.on().shape().inputs() > 12
 }
 
-/// Whether the places outside are wished for. Of one output the primes are mostly few, and where
+/// Whether to make the places outside. Of one output the primes are mostly few, and where
 /// many functions are joined in it the places outside take too many cubes to begin with.
-fn wishes_outside(sets: &Sets) -> bool {
-    wishes_points(sets) && sets.on().shape().outputs() > 1
+fn uses_outside(sets: &Sets) -> bool {
+    uses_points(sets) && sets.on().shape().outputs() > 1
 }
 
-/// Whether points are wished for where all primes are listed: with fewer inputs the rows from regions
+/// Whether to pick points where all primes are listed: with fewer inputs the rows from regions
 /// are made sooner, as points are picked by a look at all primes for each of them.
-fn wishes_points_of_primes(sets: &Sets) -> bool {
+fn uses_points_of_primes(sets: &Sets) -> bool {
     sets.on().shape().inputs() > 20
 }
 
-/// Some cubes with the places outside the ON-set and the DC-set, if they are wished for and few.
+/// Some cubes with the places outside the ON-set and the DC-set, if they are of use and few.
 fn off_of(sets: &Sets) -> Result<Option<Cover>, AllocError>
     ensures size { IfOk result (λ o. IfSome o (λ off. off.size ≡ sets.now.size)) }
     ensures places { IfOk result (λ o. IfSome o (λ off. (p : Place) → IsPlace sets.now.size p
         → places off.cubes p ≡ not (places sets.now.on p || places sets.now.dc p))) }
 {
-    if !wishes_outside(sets) {
+    if !uses_outside(sets) {
         return Ok(None);
     }
     let mut all = sets.on().try_clone()?;
@@ -139,7 +140,7 @@ fn exact_outside(
     exact_by_points(alloc, sets, &Source::Outside(off), &places, choice)
 }
 
-/// The least cover by the primes of points, from a list of all primes, if that is wished for.
+/// The least cover by the primes of points, from a list of all primes, if that is of use.
 fn exact_among(
     alloc: Global,
     sets: &Sets,
@@ -150,7 +151,7 @@ fn exact_among(
     ensures { IfOk result (λ o. IfSome o (λ list. list ≡ record
         { size = sets.now.size; cubes = exact_of choice sets.now })) }
 {
-    if !wishes_points_of_primes(sets) {
+    if !uses_points_of_primes(sets) {
         return Ok(None);
     }
     let _shape = sets.on().shape();

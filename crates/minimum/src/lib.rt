@@ -28,7 +28,7 @@
 //! a ring. Its table has the rows {0,3}, {0,4}, {1,2}, {1,5}, {2,3} and {4,5}; no step reduces it,
 //! and its least cover is 0, 2, 5.
 //!
-//! The points are wished for, by a search that takes some tens of questions for each; how many it
+//! The points are hints of a search that takes some tens of questions for each; how many it
 //! finds depends on the function and not on the number of its primes.
 #![tactic(auto)]
 

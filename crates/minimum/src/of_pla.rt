@@ -9,7 +9,7 @@ ghost use Rattle.minimum.specs.Primes.{essential_of, exact_of, primes_of};
 
 use crate::essential_by_neighbours::{find_essential, find_essential_outside};
 use crate::essential_primes::essential;
-use crate::exact_minimum::{exact, exact_by_points, wishes_points};
+use crate::exact_minimum::{exact, exact_by_points, uses_points};
 use crate::prime_implicants::primes;
 use crate::signatures::picks::{places_of_primes, places_outside};
 use crate::signatures::source::Source;
@@ -102,9 +102,9 @@ pub fn primes_of_pla(alloc: Global, pla: &Pla) -> Result<Cover, AllocError>
     }
 }
 
-// Whether essential primes are wished for without a list of all primes. These are few where there
+// Whether to find essential primes without a list of all primes. These are few where there
 // are few inputs or one output. Growing looks at all rows for each prime that it grows.
-fn wishes_growth(sets: &Sets) -> bool {
+fn uses_growth(sets: &Sets) -> bool {
     let (inputs, rows) = (sets.on().shape().inputs(), sets.on().len());
     if inputs <= 12 {
         return rows < 100;
@@ -120,7 +120,7 @@ fn essential_of_sets(alloc: Global, sets: &Sets) -> Result<Cover, AllocError>
       cubes = essential_of sets.now (primes_of sets.now);
     }) }
 {
-    if wishes_growth(sets) {
+    if uses_growth(sets) {
         return find_essential(alloc, sets);
     }
     let primes = primes(sets)?;
@@ -203,7 +203,7 @@ fn exact_outside_off(
 {
     let samples = samples_of(alloc, pla)?;
     let _shape = pla.on().shape();
-    if !wishes_points(&samples) {
+    if !uses_points(&samples) {
         return Ok(None);
     }
     let places = places_outside(alloc, &samples, off, true)?;

@@ -1,4 +1,4 @@
-//! Primes.
+//! All primes of a function: the complete sum of its ON-set and DC-set together.
 
 ghost use Rattle.std.specs.Prelude.{◌≡◌, IfOk};
 ghost use Rattle.minimum.specs.Primes.{primes_of};

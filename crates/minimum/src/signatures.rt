@@ -6,7 +6,7 @@
 //! picked until each wanted place is in a signature, and only the primes that hold one of the points
 //! are made. There may be few of them where the function has far too many primes to list.
 //!
-//! Which points are picked is a wish: the best are those whose signatures lie in no larger ones.
+//! Which points are picked is a hint: the best are those whose signatures lie in no larger ones.
 //! Each is looked at before it is taken, and whether the signatures hold each ON cube, beside the
 //! DC cubes, is asked at last; regions of a cube that they leave out are split.
 //!
@@ -69,7 +69,7 @@ fn point_of_place(alloc: Global, shape: Shape, place: &Place) -> Result<Option<C
     Cube::from_symbols(alloc, shape, &symbols, &outputs)
 }
 
-/// Adds the place that is wished for, if it is wanted and in no signature.
+/// Adds the proposed place, if it is wanted and in no signature.
 fn add_place(
     alloc: Global,
     sets: &Sets,
@@ -94,7 +94,7 @@ fn add_place(
     pick_point(alloc, sets, source, on, dc, &point, found)
 }
 
-/// Adds the places that are wished for, where they are wanted.
+/// Adds the proposed places, where they are wanted.
 fn add_places(
     alloc: Global,
     sets: &Sets,

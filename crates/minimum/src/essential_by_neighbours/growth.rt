@@ -22,7 +22,9 @@ use std::alloc::{AllocError, Global};
 /// Where implicants lie: inside a list of cubes, or outside it.
 #[derive(Clone, Copy)]
 pub(crate) enum Side {
+    /// The list is ON with DC: an implicant lies within it.
     Inside,
+    /// The list is OFF: an implicant meets no cube of it.
     Outside,
 }
 

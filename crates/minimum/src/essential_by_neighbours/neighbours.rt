@@ -20,7 +20,9 @@ use std::alloc::{AllocError, Global};
 /// What a row has at a literal of a prime, if a step there leads into the row.
 #[derive(Clone, Copy)]
 pub(crate) enum Way {
+    /// The row has `-` there.
     Free,
+    /// The row has the opposite literal there.
     Across,
 }
 

@@ -1,5 +1,5 @@
 //! Where a region of many ON cubes is halved: at an input at which nearly all of them have a
-//! literal, so that few lie in both halves. A wish, which is looked at before it is used.
+//! literal, so that few lie in both halves. A hint, which is checked before it is used.
 
 use cube::{Cube, Symbol};
 
@@ -16,8 +16,7 @@ fn dashes_at(cubes: &[Cube], numbers: &[usize], i: usize) -> usize {
     for k in 0..SAMPLE {
         if let Some(number) = numbers.get(k.saturating_mul(step)) {
             if let Some(cube) = cubes.get(*number) {
-                let symbol = cube.literal_bits(i / 32) >> (2 * (i % 32)) & 3;
-                dashes = dashes.saturating_add((symbol == 0) as usize);
+                dashes = dashes.saturating_add(!cube.has_literal(i) as usize);
             }
         }
     }

@@ -1,4 +1,5 @@
-//! Points with the primes that contain them, and what these hold together.
+//! The points that were picked so far, with the primes that contain them, and their signatures:
+//! what all primes of a point hold.
 
 ghost use Rattle.std.specs.Prelude.{◌≡◌, ◌∷◌, ◌++◌, [], true, IfOk, IfSome, OnOk, All};
 ghost use Rattle.std.specs.List.{Contains};

@@ -1,4 +1,4 @@
-//! Points that a search wishes for.
+//! Points that a search proposes.
 
 use cover::Cover;
 use cube::{Cube, Symbol};

@@ -2,7 +2,7 @@
 //!
 //! A region of one output is split while ON cubes, DC cubes or signatures have a literal inside; if
 //! none has, all of it is wanted and in no signature, and a point of it is picked. All of this but
-//! the test of the point is a wish.
+//! the test of the point is a hint.
 
 ghost use Rattle.std.specs.Prelude.{◌≡◌, true, false, IfOk, IfSome, OnOk, MatchOption, All};
 ghost use Rattle.std.specs.List.{Contains};
