@@ -1,11 +1,10 @@
 -- The faults of a line, by its kind.
-use Rattle.std.proofs.Common.{◌≡◌, ℕ, Bool, true, false, cond, List, [], ◌∷◌, ◌++◌, Option, Some, None, refl, ap, ◌∙◌, find, option_map}
+use Rattle.std.proofs.Common.{◌≡◌, ℕ, Bool, true, false, cond, not, List, [], ◌∷◌, ◌++◌, Option, Some, None, refl, ap, ◌∙◌, find, filter, option_map}
 use Rattle.std.specs.Option.{option_or}
 use Rattle.cube.specs.Limits.{Limits}
 use Rattle.pla.specs.declared.fault.ReadKind.{ReadKind}
 use Rattle.pla.specs.declared.fault.ReadKind.TheVariants.{TooManyLines, LineTooLong}
-use Rattle.pla.specs.declared.line.LineKind.TheVariants.{Empty, Keyword, Row}
-use Rattle.pla.specs.Lines.{kind, symbols, symbols_at, keyword_words, keyword_words_at}
+use Rattle.pla.specs.Lines.{is_keyword_line, is_row_blank, row_code, keyword_code, words, symbols, keyword_words}
 use Rattle.cube.specs.Size.{Size}
 use Rattle.pla.specs.Symbols.{any_bad}
 use Rattle.pla.specs.Header.{Header, size_in}
@@ -42,19 +41,13 @@ too_long limits h line e f = rw (e, f) refl
 short : (limits : Limits) (h : Header) (line : List ℕ) → is_past_limit limits h line ≡ false → is_too_long limits h line ≡ false → first_kind (length_tests limits h line) ≡ None
 short limits h line e f = rw (e, f) refl
 
--- ---- the kind
+-- ---- the line
 
-pub symbols_of_keyword : (line : List ℕ) → kind line ≡ Keyword → symbols line ≡ []
-symbols_of_keyword line e = ap (λ k. symbols_at k line) e
+pub symbols_of_keyword : (line : List ℕ) → is_keyword_line line ≡ true → symbols line ≡ []
+symbols_of_keyword line e = ap (λ t. cond t [] (filter (λ b. not (is_row_blank b)) (row_code line))) e
 
-pub symbols_of_empty : (line : List ℕ) → kind line ≡ Empty → symbols line ≡ []
-symbols_of_empty line e = ap (λ k. symbols_at k line) e
-
-pub words_of_row : (line : List ℕ) → kind line ≡ Row → keyword_words line ≡ []
-words_of_row line e = ap (λ k. keyword_words_at k line) e
-
-pub words_of_empty : (line : List ℕ) → kind line ≡ Empty → keyword_words line ≡ []
-words_of_empty line e = ap (λ k. keyword_words_at k line) e
+pub words_of_row : (line : List ℕ) → is_keyword_line line ≡ false → keyword_words line ≡ []
+words_of_row line e = ap (λ t. cond t (words (keyword_code line)) []) e
 
 none_bad : (size : Option Size) (unfinished : ℕ) → any_bad size unfinished [] ≡ false
 none_bad None unfinished = refl
@@ -69,7 +62,7 @@ unfolding keyword_fault is_refused is_inside_row is_repeated is_bad_number is_na
 no_words limits h line e = rw e refl
 
 -- a keyword line
-pub keyword_line : (limits : Limits) (h : Header) (line : List ℕ) → is_past_limit limits h line ≡ false → is_too_long limits h line ≡ false → kind line ≡ Keyword → fault_in limits h line ≡ keyword_fault limits h line
+pub keyword_line : (limits : Limits) (h : Header) (line : List ℕ) → is_past_limit limits h line ≡ false → is_too_long limits h line ≡ false → is_keyword_line line ≡ true → fault_in limits h line ≡ keyword_fault limits h line
 keyword_line limits h line e f k =
     by_kind limits h line ∙ ap (λ o. option_or (option_or o (keyword_fault limits h line)) (first_kind (row_tests h line))) (short limits h line e f)
     ∙ ap (option_or (keyword_fault limits h line)) (no_symbols h line (symbols_of_keyword line k)) ∙ or_none (keyword_fault limits h line)
@@ -79,13 +72,7 @@ keyword_line limits h line e f k =
     or_none (Some x) = refl
 
 -- a row line
-pub row_line : (limits : Limits) (h : Header) (line : List ℕ) → is_past_limit limits h line ≡ false → is_too_long limits h line ≡ false → kind line ≡ Row → fault_in limits h line ≡ first_kind (row_tests h line)
+pub row_line : (limits : Limits) (h : Header) (line : List ℕ) → is_past_limit limits h line ≡ false → is_too_long limits h line ≡ false → is_keyword_line line ≡ false → fault_in limits h line ≡ first_kind (row_tests h line)
 row_line limits h line e f k =
     by_kind limits h line ∙ ap (λ o. option_or (option_or o (keyword_fault limits h line)) (first_kind (row_tests h line))) (short limits h line e f)
     ∙ ap (λ o. option_or o (first_kind (row_tests h line))) (no_words limits h line (words_of_row line k))
-
--- an empty line
-pub empty_line : (limits : Limits) (h : Header) (line : List ℕ) → is_past_limit limits h line ≡ false → is_too_long limits h line ≡ false → kind line ≡ Empty → fault_in limits h line ≡ None
-empty_line limits h line e f k =
-    by_kind limits h line ∙ ap (λ o. option_or (option_or o (keyword_fault limits h line)) (first_kind (row_tests h line))) (short limits h line e f)
-    ∙ ap (λ o. option_or o (first_kind (row_tests h line))) (no_words limits h line (words_of_empty line k)) ∙ no_symbols h line (symbols_of_empty line k)

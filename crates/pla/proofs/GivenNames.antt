@@ -6,9 +6,7 @@ use Rattle.std.proofs.lemmas.Slice.Eq.{bytes_eq-Decides}
 use Rattle.std.proofs.lemmas.List.Splits.{slice_split-cons_yes, slice_split-cons_no}
 use Rattle.std.proofs.lemmas.List.Elements.{All-nil, All-cons, All-head, All-tail, All-drop, All-filter, filter_passes}
 use Rattle.cube.specs.Limits.{format_limits}
-use Rattle.pla.specs.declared.line.LineKind.{LineKind}
-use Rattle.pla.specs.declared.line.LineKind.TheVariants.{Empty, Keyword, Row}
-use Rattle.pla.specs.Lines.{is_blank, is_empty, words, kind, keyword_code, keyword_words, keyword_words_at, arguments}
+use Rattle.pla.specs.Lines.{is_blank, is_empty, words, is_keyword_line, keyword_code, keyword_words, arguments}
 use Rattle.pla.specs.Keywords.{has}
 use Rattle.pla.specs.Steps.{NoFeed}
 use Rattle.pla.specs.Text.{names_text}
@@ -138,10 +136,9 @@ names_in line none =
     let clean = words_clean parts (behind_clean line) in
     λ k d l. record { some = has_byte (slice_index_or (drop 1 found) k d) (some k d l); no_blank = plain k d l; no_feed = unfed k d l; no_comment = clean k d l }
 
-names_at : (which : LineKind) (line : List ℕ) → NoFeed line → All IsName (drop 1 (keyword_words_at which line))
-names_at Empty line none = All-nil IsName
-names_at Keyword line none = names_in line none
-names_at Row line none = All-nil IsName
+names_at : (t : Bool) (line : List ℕ) → NoFeed line → All IsName (drop 1 (cond t (words (keyword_code line)) []))
+names_at true line none = names_in line none
+names_at false line none = All-nil IsName
 
 -- ---- how long their line is
 
@@ -167,12 +164,11 @@ spread_fewer : (parts : List (List ℕ)) → spread (filter some_byte parts) ≤
 spread_fewer [] = omega arith
 spread_fewer (part ∷ parts) = fewer_step (some_byte part) part (filter some_byte parts) (spread parts) (spread_fewer parts)
 
-spread_at : (which : LineKind) (line : List ℕ) → spread (keyword_words_at which line) ≤ length line + 1
-spread_at Empty line = omega arith
-spread_at Keyword line =
+spread_at : (t : Bool) (line : List ℕ) → spread (cond t (words (keyword_code line)) []) ≤ length line + 1
+spread_at true line =
     let parts = slice_split is_blank (keyword_code line) in
     omega (arith, spread_fewer parts, spread_parts (keyword_code line), code_short line)
-spread_at Row line = omega arith
+spread_at false line = omega arith
 
 length-spaced : (names : List (List ℕ)) → length (flat_map (λ name. 32 ∷ name) names) ≡ spread names
 length-spaced [] = refl
@@ -193,7 +189,7 @@ fits word line some here short =
       length-append word spaced,
       length-spaced (arguments line),
       front_word word (keyword_words line) some first,
-      spread_at (kind line) line,
+      spread_at (is_keyword_line line) line,
     )
 
 -- the arguments of a line that is not too long, and of which there are as many as wanted
@@ -201,6 +197,6 @@ pub names_given : (keyword : List ℕ) (count : ℕ) (line : List ℕ) → 0 < l
     → length (arguments line) ≡ count → AreNames keyword count (arguments line)
 names_given keyword count line some here none short number = record {
   number = number;
-  each = names_at (kind line) line none;
+  each = names_at (is_keyword_line line) line none;
   fits = fits keyword line some here short;
 }

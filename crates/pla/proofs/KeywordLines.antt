@@ -8,8 +8,7 @@ use Rattle.std.proofs.Math.Nat.{zero-mod, mod-mod}
 use Rattle.cube.specs.Limits.{Limits}
 use Rattle.cube.specs.Size.{Size}
 use Rattle.pla.specs.declared.fault.ReadKind.{ReadKind}
-use Rattle.pla.specs.declared.line.LineKind.TheVariants.{Keyword}
-use Rattle.pla.specs.Lines.{is_empty, kind, keyword, arguments}
+use Rattle.pla.specs.Lines.{is_empty, is_keyword_line, keyword, arguments}
 use Rattle.pla.specs.Keywords.{is_one_of, endings, number_within, type_by, size_by, inputs_on, outputs_on}
 use Rattle.pla.specs.Symbols.{left_over, width}
 use Rattle.pla.specs.Header.{Header, size_in}
@@ -187,7 +186,7 @@ unfolding keyword_fault
 not_repeated limits h line e = (none_holds (keyword_tests limits h line) e).1.1.0
 
 -- the header after a keyword line
-pub after_keyword : (limits : Limits) (h : Header) (line : List ℕ) (count : ℕ) → kind line ≡ Keyword → keyword_fault limits h line ≡ None → h.ended ≡ false → h.unfinished ≡ left_over (size_in h) count
+pub after_keyword : (limits : Limits) (h : Header) (line : List ℕ) (count : ℕ) → is_keyword_line line ≡ true → keyword_fault limits h line ≡ None → h.ended ≡ false → h.unfinished ≡ left_over (size_in h) count
     → after_line limits h line ≡ record (with_keyword limits h line) { lines = h.lines + 1 }
 unfolding is_repeated is_inside_row
 after_keyword limits h line count k none going rest =

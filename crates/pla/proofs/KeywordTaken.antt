@@ -8,11 +8,10 @@ use Rattle.cube.specs.Limits.{Limits}
 use Rattle.cube.specs.Size.{Size}
 use Rattle.pla.specs.declared.fault.FileType.{FileType}
 use Rattle.pla.specs.declared.fault.FileType.TheVariants.{Fd}
-use Rattle.pla.specs.declared.line.LineKind.TheVariants.{Keyword}
 use Rattle.pla.specs.declared.rows.Part.{Part}
 use Rattle.pla.specs.declared.rows.Part.TheVariants.{On, DontCare, Off}
 use Rattle.pla.specs.declared.header.Head.{Head}
-use Rattle.pla.specs.Lines.{kind, all_symbols, arguments}
+use Rattle.pla.specs.Lines.{is_keyword_line, all_symbols, arguments}
 use Rattle.pla.specs.Keywords.{has, type_on, type_by}
 use Rattle.pla.specs.Symbols.{width}
 use Rattle.pla.specs.Lists.{given_list, given_cube, part_symbols}
@@ -86,7 +85,7 @@ rows_before limits before head rows b =
     rows_known (header_of limits before) (all_symbols before) rows (b.tied ∙ ap size_in hd) (sym (ap (λ h. parsed_by h rows) hd) ∙ b.stands.given)
 
 -- what stands after a keyword line without a fault
-pub keyword_taken : (limits : Limits) (before : List (List ℕ)) (line : List ℕ) (head : Head) (heads : ℕ → Header) (rows rows' : Option RowsRead) → Before limits before head rows → kind line ≡ Keyword
+pub keyword_taken : (limits : Limits) (before : List (List ℕ)) (line : List ℕ) (head : Head) (heads : ℕ → Header) (rows rows' : Option RowsRead) → Before limits before head rows → is_keyword_line line ≡ true
     → is_past_limit limits (seen head (unfinished_of rows)) line ≡ false → is_too_long limits (seen head (unfinished_of rows)) line ≡ false
     → keyword_fault limits (seen head (unfinished_of rows)) line ≡ None
     → ((unfinished : ℕ) → heads unfinished ≡ record (with_keyword limits (seen head (unfinished_of rows)) line) { lines = head.lines + 1; unfinished = unfinished })

@@ -9,8 +9,7 @@ use Rattle.std.proofs.lemmas.List.Elements.{All-append, All-cons, All-head, All-
 use Rattle.std.proofs.lemmas.List.Sums.{AllPass-from_list_all}
 use Rattle.std.proofs.lemmas.Str.Parse.{IsNumeralModel, FoldsDigits, numerals_by_fold, tells_all_ascii_digits}
 use Rattle.std.proofs.lemmas.Fmt.{digits_decimal, digits_value-decimal, decimal_nonempty, length-decimal-le}
-use Rattle.pla.specs.declared.line.LineKind.TheVariants.{Keyword}
-use Rattle.pla.specs.Lines.{is_blank, is_empty, words, kind, keyword_code, keyword_words}
+use Rattle.pla.specs.Lines.{is_blank, is_empty, words, is_keyword_line, keyword_code, keyword_words}
 use Rattle.pla.specs.Keywords.{number, number_within}
 use Rattle.pla.specs.Steps.{NoFeed}
 use Rattle.pla.specs.ReadBack.{IsName, begins_comment}
@@ -73,7 +72,7 @@ args_unfed (arg ∷ args) each =
 
 -- a line is a keyword line of these words
 pub record Says (line word : List ℕ) (args : List (List ℕ)) : Type 0 where
-  pub is_keyword : kind line ≡ Keyword
+  pub is_keyword : is_keyword_line line ≡ true
   pub has_words : keyword_words line ≡ word ∷ args
   pub no_feed : NoFeed line
 

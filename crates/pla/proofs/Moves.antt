@@ -4,7 +4,12 @@ use Rattle.std.specs.Io.KnownBytes.{Appends, Consumes}
 use Rattle.std.proofs.lemmas.List.{take-append-drop, length-drop}
 use Rattle.std.proofs.Math.Seq.{take-length}
 use Rattle.std.specs.Prelude.{Result, Ok, Err}
-use Rattle.pla.specs.Device.{AppendsFront, Writes}
+use Rattle.pla.specs.declared.calls.Counts.{Counts}
+use Rattle.pla.specs.Device.{AppendsFront, Writes, one_more}
+
+-- one more failed write
+abbrev pub one_failed : Counts → Counts
+one_failed counts = record counts { failures = one_more counts.failures }
 
 -- two texts were taken, one after the other
 pub appends_then : (old mid new : Option (List ℕ)) (a b : List ℕ) → Appends old mid a → Appends mid new b → Appends old new (a ++ b)

@@ -7,7 +7,7 @@ use Rattle.pla.specs.declared.fault.ReadKind.TheVariants.{WriteFailed, OutOfMemo
 use Rattle.pla.specs.declared.fault.ReadFault.{ReadFault}
 use Rattle.pla.specs.declared.calls.Counts.{Counts}
 use Rattle.pla.specs.declared.calls.WriteCalls.{WriteCalls}
-use Rattle.pla.specs.Device.{AllWritten, AppendsFront, LastUnwritten, one_failed}
+use Rattle.pla.specs.Device.{AllWritten, AppendsFront, LastUnwritten}
 use Rattle.pla.specs.Lines.{ended_lines, open_rest}
 use Rattle.pla.specs.Keywords.{looked_at}
 use Rattle.pla.specs.Fault.{sound, rest_kind, open_fault, has_ending}
@@ -15,7 +15,7 @@ use Rattle.pla.specs.Echoes.{due, echo_all}
 use Rattle.pla.specs.Scan.{Scan, parsed_of, StandsFor}
 use Rattle.pla.specs.Reads.{MatchCause, IsTold}
 use Rattle.pla.specs.Steps.{NoFeed, position_in}
-use Rattle.pla.proofs.Moves.{appends_then, front_then, front_before}
+use Rattle.pla.proofs.Moves.{appends_then, front_then, front_before, one_failed}
 use Rattle.pla.proofs.Settled.{fault_fixed, ended_fixed}
 use Rattle.pla.proofs.Causes.{cause_map}
 use Rattle.pla.proofs.StepLaws.{going_of, rest_taken, rest_due}

@@ -1,5 +1,5 @@
 -- Printed rows, and what reading takes them for.
-use Rattle.std.proofs.Common.{◌≡◌, ℕ, suc, ◌+◌, ◌%◌, ◌<◌, ◌≤◌, Bool, true, false, cond, not, List, [], ◌∷◌, ◌++◌, take, drop, length, map, filter, find, Some, None, refl, ap, sym, ◌∙◌, length-append, arith, eqb, All, mod-eq_of_lt, zero-add, codes, lt-ltb}
+use Rattle.std.proofs.Common.{◌≡◌, ℕ, suc, ◌+◌, ◌%◌, ◌<◌, ◌≤◌, Bool, true, false, cond, not, List, [], ◌∷◌, ◌++◌, take, drop, length, map, filter, find, Option, Some, None, refl, ap, sym, ◌∙◌, length-append, arith, eqb, All, mod-eq_of_lt, zero-add, codes, lt-ltb}
 use Rattle.std.specs.Prelude.{◌||◌}
 use Rattle.std.specs.List.{list_any, enumerate_from}
 use Rattle.std.proofs.lemmas.List.{length-map}
@@ -12,10 +12,10 @@ use Rattle.cube.specs.declared.symbol.Symbol.TheVariants.{Dash, Zero, One}
 use Rattle.cube.specs.Size.{Size}
 use Rattle.cube.specs.Cube.{Cube, HasSize, IsCube}
 use Rattle.pla.specs.declared.fault.FileType.TheVariants.{Fdr}
-use Rattle.pla.specs.declared.line.LineKind.TheVariants.{Keyword, Row}
 use Rattle.pla.specs.declared.rows.Part.{Part}
 use Rattle.pla.specs.declared.rows.Part.TheVariants.{On, DontCare, Off}
-use Rattle.pla.specs.Lines.{is_blank, is_row_blank, kind, kind_by, row_code, symbols, symbols_at}
+use Rattle.std.specs.Option.{option_map_or}
+use Rattle.pla.specs.Lines.{is_blank, is_row_blank, is_keyword_line, row_code, symbols}
 use Rattle.pla.specs.Symbols.{width, is_byte_of, is_symbol_at, any_bad}
 use Rattle.pla.specs.Lists.{part_symbols, input_symbol, cube_by, given_cube}
 use Rattle.pla.specs.Steps.{NoFeed}
@@ -79,12 +79,15 @@ each_byte P known space front back m n = All-append P front (32 ∷ back) (each_
 
 -- ---- the line
 
-kind_of_marks : (front back : List ℕ) → Marks front → Marks back → 0 < length back → kind (front ++ 32 ∷ back) ≡ Row
-kind_of_marks [] [] m n l = absurd (omega arith)
-kind_of_marks [] (b ∷ back) m n l =
-    ap (λ t. kind_by (cond (not t) (Some b) (find (λ b. not (is_blank b)) back))) n.0.no_blank ∙ ap (λ t. cond t Keyword Row) n.0.no_dot
-kind_of_marks (b ∷ front) back m n l =
-    ap (λ t. kind_by (cond (not t) (Some b) (find (λ b. not (is_blank b)) (front ++ 32 ∷ back)))) m.0.no_blank ∙ ap (λ t. cond t Keyword Row) m.0.no_dot
+abbrev by_first : Option ℕ → Bool
+by_first first = option_map_or (λ b. eqb b 46) first false
+
+marks_no_keyword : (front back : List ℕ) → Marks front → Marks back → 0 < length back → is_keyword_line (front ++ 32 ∷ back) ≡ false
+marks_no_keyword [] [] m n l = absurd (omega arith)
+marks_no_keyword [] (b ∷ back) m n l =
+    ap (λ t. by_first (cond (not t) (Some b) (find (λ b. not (is_blank b)) back))) n.0.no_blank ∙ n.0.no_dot
+marks_no_keyword (b ∷ front) back m n l =
+    ap (λ t. by_first (cond (not t) (Some b) (find (λ b. not (is_blank b)) (front ++ 32 ∷ back)))) m.0.no_blank ∙ m.0.no_dot
 
 code_of_marks : (line : List ℕ) → All (λ b. eqb b 35 ≡ false) line → row_code line ≡ line
 code_of_marks line none =
@@ -97,17 +100,17 @@ kept (b ∷ bytes) m =
 
 -- a line of symbols with a space between them
 pub record IsRow (line marks : List ℕ) : Type 0 where
-  pub is_row : kind line ≡ Row
+  pub is_row : is_keyword_line line ≡ false
   pub has_marks : symbols line ≡ marks
   pub no_feed : NoFeed line
 
 row_of_marks : (front back : List ℕ) → Marks front → Marks back → 0 < length back → IsRow (front ++ 32 ∷ back) (front ++ back)
 row_of_marks front back m n l =
     let line = front ++ 32 ∷ back in
-    let is : kind line ≡ Row = kind_of_marks front back m n l in
+    let is : is_keyword_line line ≡ false = marks_no_keyword front back m n l in
     let code : row_code line ≡ line = code_of_marks line (each_byte (λ b. eqb b 35 ≡ false) (λ b k. k.no_hash) refl front back m n) in record {
       is_row = is;
-      has_marks = ap (λ k. symbols_at k line) is ∙ ap (filter (λ b. not (is_row_blank b))) code
+      has_marks = ap (λ t. cond t [] (filter (λ b. not (is_row_blank b)) (row_code line))) is ∙ ap (filter (λ b. not (is_row_blank b))) code
           ∙ filter-append (λ b. not (is_row_blank b)) front (32 ∷ back) ∙ ap (λ bs. bs ++ filter (λ b. not (is_row_blank b)) back) (kept front m) ∙ ap (λ bs. front ++ bs) (kept back n);
       no_feed = each_byte (λ b. eqb b 10 ≡ false) (λ b k. k.no_feed) refl front back m n;
     }

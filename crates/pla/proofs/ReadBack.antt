@@ -113,7 +113,7 @@ end_line = keyword_text (codes ".e") []
 
 -- how many rows there are
 abbrev row_number : SetLists → ℕ
-row_number lists = sum_by (λ section. length section.cubes) (sections out_fdr lists)
+row_number lists = sum_by (λ section. length section.1) (sections out_fdr lists)
 
 abbrev all_lines : Description → SetLists → List (List ℕ)
 all_lines d lists = (front_lines d (row_number lists) ++ row_lines lists) ++ end_line ∷ []

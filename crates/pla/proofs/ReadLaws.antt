@@ -13,7 +13,7 @@ use Rattle.pla.specs.declared.fault.Echo.{Echo}
 use Rattle.pla.specs.declared.calls.Counts.{Counts}
 use Rattle.pla.specs.declared.calls.ReadCalls.{ReadCalls}
 use Rattle.pla.specs.declared.calls.WriteCalls.{WriteCalls}
-use Rattle.pla.specs.Device.{AllWritten, AppendsFront, LastFailed, LastUnwritten, NoneFailed, one_failed, one_more, read_broke}
+use Rattle.pla.specs.Device.{AllWritten, AppendsFront, LastFailed, LastUnwritten, NoneFailed, after_read, one_more}
 use Rattle.pla.specs.Lines.{ended_lines, lines_of}
 use Rattle.pla.specs.Keywords.{looked_at}
 use Rattle.pla.specs.Fault.{sound, fault_of, open_fault, has_ending}
@@ -22,7 +22,7 @@ use Rattle.pla.specs.Description.{Description, description_of}
 use Rattle.pla.specs.Scan.{Scan, StandsFor}
 use Rattle.pla.specs.Reads.{MatchCause, IsTold, WritesDue, WritesGrowth, CountsWrites, Answers, GoesOn, OnWhole, Meets, Reads}
 use Rattle.pla.specs.Steps.{position_in, room_in}
-use Rattle.pla.proofs.Moves.{appends_then, consumes_then, front_then}
+use Rattle.pla.proofs.Moves.{appends_then, consumes_then, front_then, one_failed}
 use Rattle.pla.proofs.Feeding.{appends_nothing}
 use Rattle.pla.proofs.Settled.{fault_fixed, ended_fixed}
 use Rattle.pla.proofs.Causes.{cause_map}
@@ -233,5 +233,5 @@ pub end_consumes : (left left_after : Option (List ℕ)) (n : ℕ) (xs : List �
 end_consumes left left_after n xs e h = subst (λ k. Consumes left left_after (take k xs)) e h
 
 -- a read that failed
-pub failed_count : (reads near after : ReadCalls) → NoneFailed reads near → after ≡ read_broke near → LastFailed reads after
+pub failed_count : (reads near after : ReadCalls) → NoneFailed reads near → after ≡ after_read true near → LastFailed reads after
 failed_count reads near after e h = (ap (λ calls. calls.failures) h ∙ ap one_more e, ap (λ calls. calls.broken) h)

@@ -275,21 +275,25 @@ given_cubes type part o size symbols e =
 outside_cubes : (size : Size) (cubes : List Cube) → All (IsCube size) (outside size cubes)
 outside_cubes size cubes = members_all (IsCube size) (outside size cubes) (λ c member. ((Contains-complete_sum size (λ p. not (places cubes p)) c).0 member).is_cube)
 
-asked_cubes : (size : Size) (asked : Bool) (cubes : List Cube) → All (IsCube size) (cond asked (outside size cubes) [])
-asked_cubes size true cubes = outside_cubes size cubes
-asked_cubes size false cubes = All-nil (IsCube size)
-
 dc_cubes : (type : FileType) (asked : Bool) (d : Description) → All (IsCube d.size) d.dc → All (IsCube d.size) (dc_list type asked d)
-dc_cubes F asked d given = All-nil (IsCube d.size)
-dc_cubes Fd asked d given = given
-dc_cubes Fr asked d given = asked_cubes d.size asked (d.on ++ d.off)
-dc_cubes Fdr asked d given = given
+dc_cubes F true d given = All-nil (IsCube d.size)
+dc_cubes F false d given = All-nil (IsCube d.size)
+dc_cubes Fd true d given = given
+dc_cubes Fd false d given = given
+dc_cubes Fr true d given = outside_cubes d.size (d.on ++ d.off)
+dc_cubes Fr false d given = All-nil (IsCube d.size)
+dc_cubes Fdr true d given = given
+dc_cubes Fdr false d given = given
 
 off_cubes : (type : FileType) (asked : Bool) (d : Description) → All (IsCube d.size) d.off → All (IsCube d.size) (off_list type asked d)
-off_cubes F asked d given = asked_cubes d.size asked d.on
-off_cubes Fd asked d given = asked_cubes d.size asked (d.on ++ d.dc)
-off_cubes Fr asked d given = given
-off_cubes Fdr asked d given = given
+off_cubes F true d given = outside_cubes d.size d.on
+off_cubes F false d given = All-nil (IsCube d.size)
+off_cubes Fd true d given = outside_cubes d.size (d.on ++ d.dc)
+off_cubes Fd false d given = All-nil (IsCube d.size)
+off_cubes Fr true d given = given
+off_cubes Fr false d given = given
+off_cubes Fdr true d given = given
+off_cubes Fdr false d given = given
 
 -- ---- the whole
 

@@ -4,9 +4,8 @@ use Rattle.cube.specs.Limits.{Limits}
 use Rattle.pla.specs.declared.fault.LineError.{LineError}
 use Rattle.pla.specs.declared.fault.LineError.TheVariants.{Memory, Fault}
 use Rattle.pla.specs.declared.fault.ReadKind.TheVariants.{TooManyLines, LineTooLong}
-use Rattle.pla.specs.declared.line.LineKind.TheVariants.{Keyword, Row}
 use Rattle.pla.specs.declared.header.Head.{Head}
-use Rattle.pla.specs.Lines.{kind, row_code}
+use Rattle.pla.specs.Lines.{is_keyword_line, row_code}
 use Rattle.pla.specs.Header.{type_in}
 use Rattle.pla.specs.Fault.{fault_in, fault_on, is_past_limit, is_too_long}
 use Rattle.pla.specs.Scan.{Refuses}
@@ -30,7 +29,7 @@ long_refused limits before line head rows b past long =
     sym (ap (λ h. fault_in limits h line) (header_known limits before head rows b)) ∙ too_long limits (seen head (unfinished_of rows)) line past long
 
 -- a keyword line
-pub keyword_refuses : (limits : Limits) (before : List (List ℕ)) (line : List ℕ) (head : Head) (rows : Option RowsRead) (e : LineError) → Before limits before head rows → kind line ≡ Keyword
+pub keyword_refuses : (limits : Limits) (before : List (List ℕ)) (line : List ℕ) (head : Head) (rows : Option RowsRead) (e : LineError) → Before limits before head rows → is_keyword_line line ≡ true
     → is_past_limit limits (seen head (unfinished_of rows)) line ≡ false → is_too_long limits (seen head (unfinished_of rows)) line ≡ false
     → IsKeywordFault limits (seen head (unfinished_of rows)) line e → Refuses limits before line e
 keyword_refuses limits before line head rows Memory b k past long h = h
@@ -38,7 +37,7 @@ keyword_refuses limits before line head rows (Fault which) b k past long h =
     sym (ap (λ x. fault_in limits x line) (header_known limits before head rows b)) ∙ keyword_line limits (seen head (unfinished_of rows)) line past long k ∙ h
 
 -- a row line
-pub row_refuses : (limits : Limits) (before : List (List ℕ)) (line : List ℕ) (head : Head) (rows : Option RowsRead) (e : LineError) → Before limits before head rows → kind line ≡ Row
+pub row_refuses : (limits : Limits) (before : List (List ℕ)) (line : List ℕ) (head : Head) (rows : Option RowsRead) (e : LineError) → Before limits before head rows → is_keyword_line line ≡ false
     → is_past_limit limits (seen head (unfinished_of rows)) line ≡ false → is_too_long limits (seen head (unfinished_of rows)) line ≡ false
     → IsBadRow (type_in (seen head 0)) rows (row_code line) e → Refuses limits before line e
 row_refuses limits before line head rows Memory b k past long h = h

@@ -1,4 +1,4 @@
--- What a reader stands for after a row line, or an empty line.
+-- What a reader stands for after a row line.
 use Rattle.std.proofs.Common.{◌≡◌, ℕ, ◌+◌, ◌%◌, ◌<◌, ◌≤◌, Bool, true, false, cond, not, List, [], ◌∷◌, ◌++◌, length, Option, Some, None, refl, ap, sym, ◌∙◌, append-nil, option_map, inl, arith}
 use Rattle.std.specs.Prelude.{◌&&◌, ◌||◌, ◌==◌, nat_lt, is_none}
 use Rattle.std.specs.Option.{option_or}
@@ -7,9 +7,8 @@ use Rattle.cube.specs.Size.{Size}
 use Rattle.pla.specs.declared.fault.FileType.{FileType}
 use Rattle.pla.specs.declared.fault.ReadKind.{ReadKind}
 use Rattle.pla.specs.declared.fault.ReadKind.TheVariants.{RowBeforeShape, BadSymbol}
-use Rattle.pla.specs.declared.line.LineKind.TheVariants.{Empty, Row}
 use Rattle.pla.specs.declared.header.Head.{Head}
-use Rattle.pla.specs.Lines.{kind, all_symbols, symbols, symbols_at, row_code, is_row_blank, keyword_words}
+use Rattle.pla.specs.Lines.{is_keyword_line, all_symbols, symbols, row_code, is_row_blank, keyword_words}
 use Rattle.pla.specs.Keywords.{size_by}
 use Rattle.pla.specs.Symbols.{width, left_over, any_bad}
 use Rattle.pla.specs.Header.{Header, header_of, size_in, type_in}
@@ -19,7 +18,7 @@ use Rattle.pla.specs.Reading.{RowsRead, rows_of}
 use Rattle.pla.specs.HeadView.{seen}
 use Rattle.pla.specs.Parsing.{unfinished_of, parsed_by, rows_for, read_row, row_kind, has_symbol, with_row_code}
 use Rattle.pla.proofs.After.{after_line, header_more, symbols_more, or_none, same_header}
-use Rattle.pla.proofs.ByKind.{row_line, empty_line, words_of_row, words_of_empty, symbols_of_empty}
+use Rattle.pla.proofs.ByKind.{row_line, words_of_row}
 use Rattle.pla.proofs.RowLines.{marks, code_of}
 use Rattle.pla.proofs.Standing.{no_symbols_early, given_by, stands_more}
 use Rattle.pla.proofs.KeywordTaken.{Before, header_known, rows_before, rows_kept}
@@ -37,8 +36,8 @@ some_marks (b ∷ code) = marks_step b (marks code) (is_row_blank b) (has_symbol
 not_none : (s : List ℕ) → not (length s == 0) ≡ nat_lt 0 (length s)
 not_none s = grind arith
 
-symbols_of_row : (line : List ℕ) → kind line ≡ Row → symbols line ≡ marks (row_code line)
-symbols_of_row line k = ap (λ z. symbols_at z line) k
+symbols_of_row : (line : List ℕ) → is_keyword_line line ≡ false → symbols line ≡ marks (row_code line)
+symbols_of_row line k = ap (λ t. cond t [] (marks (row_code line))) k
 
 -- ---- a line without a keyword
 
@@ -134,7 +133,7 @@ wide_by head unfinished size e =
 -- ---- after the line
 
 -- the fault of a row line that was refused
-pub row_refused : (limits : Limits) (before : List (List ℕ)) (line : List ℕ) (head : Head) (rows : Option RowsRead) → Before limits before head rows → kind line ≡ Row
+pub row_refused : (limits : Limits) (before : List (List ℕ)) (line : List ℕ) (head : Head) (rows : Option RowsRead) → Before limits before head rows → is_keyword_line line ≡ false
     → is_past_limit limits (seen head (unfinished_of rows)) line ≡ false → is_too_long limits (seen head (unfinished_of rows)) line ≡ false
     → read_row (type_in (seen head 0)) rows (row_code line) ≡ None → fault_in limits (header_of limits before) line ≡ Some (row_kind rows)
 row_refused limits before line head rows b k past long e =
@@ -150,7 +149,7 @@ row_refused limits before line head rows b k past long e =
     ∙ row_kinds h line code (symbols_of_row line k) ∙ row_bad (type_in h) s code (size_in h) wide read ∙ ap (λ r. Some (row_kind r)) (sym known)
 
 -- what stands after a row line without a fault
-pub row_taken : (limits : Limits) (before : List (List ℕ)) (line : List ℕ) (head : Head) (heads : ℕ → Header) (rows rows' : Option RowsRead) → Before limits before head rows → kind line ≡ Row
+pub row_taken : (limits : Limits) (before : List (List ℕ)) (line : List ℕ) (head : Head) (heads : ℕ → Header) (rows rows' : Option RowsRead) → Before limits before head rows → is_keyword_line line ≡ false
     → is_past_limit limits (seen head (unfinished_of rows)) line ≡ false → is_too_long limits (seen head (unfinished_of rows)) line ≡ false
     → read_row (type_in (seen head 0)) rows (row_code line) ≡ Some rows'
     → ((unfinished : ℕ) → heads unfinished ≡ record (with_row_code (seen head (unfinished_of rows)) (row_code line)) { lines = head.lines + 1; unfinished = unfinished })
@@ -179,28 +178,3 @@ row_taken limits before line head heads rows rows' b k past long e after =
     stands_more limits before line (parsed_by (seen head u) rows) _ b.stands b.going
     (sym (ap (λ x. fault_in limits x line) hd) ∙ row_line limits (seen head u) line past long k ∙ ap (λ x. first_kind (row_tests x line)) hd ∙ row_kinds h line code sy ∙ done.0)
     (given_by limits lines heads rows' are now)
-
--- what stands after an empty line
-pub empty_taken : (limits : Limits) (before : List (List ℕ)) (line : List ℕ) (head : Head) (heads : ℕ → Header) (rows : Option RowsRead) → Before limits before head rows → kind line ≡ Empty
-    → is_past_limit limits (seen head (unfinished_of rows)) line ≡ false → is_too_long limits (seen head (unfinished_of rows)) line ≡ false
-    → ((unfinished : ℕ) → heads unfinished ≡ record (seen head (unfinished_of rows)) { lines = head.lines + 1; unfinished = unfinished })
-    → StandsForLines limits (parsed_by (heads (unfinished_of rows)) rows) (before ++ line ∷ [])
-empty_taken limits before line head heads rows b k past long after =
-    let u = unfinished_of rows in
-    let h = header_of limits before in
-    let s = all_symbols before in
-    let lines = before ++ line ∷ [] in
-    let hd : seen head u ≡ h = header_known limits before head rows b in
-    let early = no_symbols_early limits before b.stands.faultless in
-    let sy = symbols_of_empty line k in
-    let there : header_of limits lines ≡ wordless limits h (symbols line) = header_more limits before line early ∙ after_wordless limits h line (words_of_empty line k) in
-    let some : h.has_symbols ≡ (h.has_symbols || nat_lt 0 (length (symbols line))) = sym (ap (λ z. h.has_symbols || nat_lt 0 (length z)) sy ∙ or_false h.has_symbols) in
-    let are : (unfinished : ℕ) → heads unfinished ≡ record (header_of limits lines) { unfinished = unfinished } = λ v.
-    after v ∙ ap (λ (x : Header). record x { lines = x.lines + 1; unfinished = v }) hd ∙ ap (λ (z : Bool). record h { lines = h.lines + 1; has_symbols = z; unfinished = v }) some
-    ∙ sym (ap (λ (x : Header). record x { unfinished = v }) there) in
-    let now : rows ≡ rows_for (header_of limits lines) (all_symbols lines) =
-    rows_before limits before head rows b ∙ rows_kept h (header_of limits lines) s (ap size_in there) (inl (ap type_in there))
-    ∙ ap (rows_for (header_of limits lines)) (sym (symbols_more before line ∙ ap (λ z. s ++ z) sy ∙ append-nil s)) in
-    stands_more limits before line (parsed_by (seen head u) rows) _ b.stands b.going
-    (sym (ap (λ x. fault_in limits x line) hd) ∙ empty_line limits (seen head u) line past long k)
-    (given_by limits lines heads rows are now)

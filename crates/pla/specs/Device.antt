@@ -1,8 +1,7 @@
 -- What a device reports: the bytes that it has left or has taken, and what came of the calls that
 -- were made to it.
-use Rattle.std.specs.Prelude.{◌≡◌, ℕ, ◌+◌, ◌-◌, ◌^◌, true, false, min, List, ◌++◌, Option, Result, MatchResult}
+use Rattle.std.specs.Prelude.{◌≡◌, ℕ, ◌+◌, ◌-◌, ◌^◌, Bool, true, false, if◌then◌else◌, min, List, ◌++◌, Option, Result, is_err, MatchResult}
 use Rattle.std.specs.Io.KnownBytes.{Appends}
-use Rattle.pla.specs.declared.calls.Counts.{Counts}
 use Rattle.pla.specs.declared.calls.ReadCalls.{ReadCalls}
 use Rattle.pla.specs.declared.calls.WriteCalls.{WriteCalls}
 
@@ -11,55 +10,43 @@ use Rattle.pla.specs.declared.calls.WriteCalls.{WriteCalls}
 abbrev pub one_more : ℕ → ℕ
 one_more count = min (count + 1) (2 ^ 64 - 1)
 
--- ---- one more call
+-- a count of failures after one more call
+abbrev pub failures_after : Bool → ℕ → ℕ
+failures_after failed count = if failed then one_more count else count
 
--- a read that went well, and one that was Broken
-abbrev pub read_went : ReadCalls → ReadCalls
-read_went calls = record calls { broken = false }
+-- ---- one more call, which failed or went well
 
-abbrev pub read_broke : ReadCalls → ReadCalls
-read_broke calls = record { failures = one_more calls.failures; broken = true }
-
--- one more failed write
-abbrev pub one_failed : Counts → Counts
-one_failed counts = record counts { failures = one_more counts.failures }
-
--- one more flush that went well, and one that was Broken
-abbrev pub one_flushed : Counts → Counts
-one_flushed counts = record counts { flushes = one_more counts.flushes }
-
-abbrev pub one_unflushed : Counts → Counts
-one_unflushed counts = record counts {
-  flushes = one_more counts.flushes;
-  failed_flushes = one_more counts.failed_flushes;
+abbrev pub after_read : Bool → ReadCalls → ReadCalls
+after_read failed calls = record {
+  failures = failures_after failed calls.failures;
+  broken = failed;
 }
 
--- a write that went well, and one that was Broken
-abbrev pub write_went : WriteCalls → WriteCalls
-write_went calls = record calls { broken = false; flushed = false }
+abbrev pub after_write : Bool → WriteCalls → WriteCalls
+after_write failed calls = record {
+  counts = record calls.counts { failures = failures_after failed calls.counts.failures };
+  broken = failed;
+  flushed = false;
+}
 
-abbrev pub write_broke : WriteCalls → WriteCalls
-write_broke calls = record { counts = one_failed calls.counts; broken = true; flushed = false }
-
--- a flush that went well, and one that was Broken
-abbrev pub flush_went : WriteCalls → WriteCalls
-flush_went calls = record calls { counts = one_flushed calls.counts; flushed = true }
-
-abbrev pub flush_broke : WriteCalls → WriteCalls
-flush_broke calls = record calls { counts = one_unflushed calls.counts; flushed = true }
+abbrev pub after_flush : Bool → WriteCalls → WriteCalls
+after_flush failed calls = record calls {
+  counts = record calls.counts {
+    flushes = one_more calls.counts.flushes;
+    failed_flushes = failures_after failed calls.counts.failed_flushes;
+  };
+  flushed = true;
+}
 
 -- what a device reports of a call, by its result
 abbrev pub TellsRead : {T E : Type 0} → ReadCalls → ReadCalls → Result T E → Type 0
-TellsRead before after r =
-    MatchResult r (λ _. after ≡ read_went before) (λ _. after ≡ read_broke before)
+TellsRead before after r = after ≡ after_read (is_err r) before
 
 abbrev pub TellsWrite : {T E : Type 0} → WriteCalls → WriteCalls → Result T E → Type 0
-TellsWrite before after r =
-    MatchResult r (λ _. after ≡ write_went before) (λ _. after ≡ write_broke before)
+TellsWrite before after r = after ≡ after_write (is_err r) before
 
 abbrev pub TellsFlush : {T E : Type 0} → WriteCalls → WriteCalls → Result T E → Type 0
-TellsFlush before after r =
-    MatchResult r (λ _. after ≡ flush_went before) (λ _. after ≡ flush_broke before)
+TellsFlush before after r = after ≡ after_flush (is_err r) before
 
 -- ---- calls in a row
 
@@ -77,7 +64,8 @@ AllWritten before after = after.counts ≡ before.counts
 
 -- one write failed, and none came after it; no flush was asked for
 abbrev pub LastUnwritten : WriteCalls → WriteCalls → Type 0
-LastUnwritten before after = (after.counts ≡ one_failed before.counts) × (after.broken ≡ true)
+LastUnwritten before after =
+    (after.counts ≡ (after_write true before).counts) × (after.broken ≡ true)
 
 -- known bytes grow by a prefix of the text
 abbrev pub AppendsFront : Option (List ℕ) → Option (List ℕ) → List ℕ → Type 0

@@ -21,10 +21,6 @@ kept_comment Eat line = []
 abbrev pub echo_of : Echo → List ℕ → List ℕ
 echo_of echo line = ended (if is_unknown line then line else kept_comment echo line)
 
--- the echoes of lines, in their order
-abbrev pub echo_all : Echo → List (List ℕ) → List ℕ
-echo_all echo lines = flat_map (echo_of echo) lines
-
 -- the lines of what was delivered: while the ending is open, those that a line feed ended
 abbrev pub delivered_lines : Option Ending → List ℕ → List (List ℕ)
 delivered_lines None bytes = ended_lines bytes
@@ -33,4 +29,8 @@ delivered_lines (Some ending) bytes = lines_of ending bytes
 -- the echoes of the lines looked at, up to the first with a fault
 abbrev pub due : Limits → Echo → Option Ending → List ℕ → List ℕ
 due limits echo ending bytes =
-    echo_all echo (sound limits (looked_at (delivered_lines ending bytes)))
+    flat_map (echo_of echo) (sound limits (looked_at (delivered_lines ending bytes)))
+
+-- the echoes of lines, in their order
+abbrev pub echo_all : Echo → List (List ℕ) → List ℕ
+echo_all echo lines = flat_map (echo_of echo) lines

@@ -9,7 +9,7 @@ use Rattle.pla.specs.declared.fault.ReadKind.{ReadKind}
 use Rattle.pla.specs.declared.fault.ReadKind.TheVariants.{TooManyLines, LineTooLong, RefusedKeyword, KeywordInsideRow, KeywordRepeated, BadNumber, NamesBeforeShape, WrongNumberOfNames, TypeAfterRow, BadType, RowBeforeShape, BadSymbol, ShapeMissing, UnfinishedRow, ReadFailed}
 use Rattle.pla.specs.declared.fault.ReadFault.{ReadFault}
 use Rattle.pla.specs.Lines.{is_empty, keyword, arguments, symbols, lines_of, ended_lines, open_rest}
-use Rattle.pla.specs.Keywords.{is_one_of, refused_keywords, is_ending, is_keyword_line, has, number_within, type_by, looked_at}
+use Rattle.pla.specs.Keywords.{is_one_of, refused_keywords, is_ending, has, number_within, type_by, looked_at}
 use Rattle.pla.specs.Symbols.{any_bad}
 use Rattle.pla.specs.Header.{Header, header_of, size_in}
 
@@ -30,7 +30,8 @@ is_refused h line = is_one_of refused_keywords (keyword line)
 
 -- a keyword that doesn't end the description, while a row is unfinished
 unfoldable pub is_inside_row : Header → List ℕ → Bool
-is_inside_row h line = is_keyword_line line && not (is_ending line) && nat_lt 0 h.unfinished
+is_inside_row h line =
+    not (is_empty (keyword line)) && not (is_ending line) && nat_lt 0 h.unfinished
 
 -- a setting that is given already
 unfoldable pub is_repeated : Header → List ℕ → Bool
@@ -78,17 +79,12 @@ is_row_too_early h line = not (is_empty (symbols line)) && is_none (size_in h)
 unfoldable pub is_bad_symbol : Header → List ℕ → Bool
 is_bad_symbol h line = any_bad (size_in h) h.unfinished (symbols line)
 
--- what is asked of every line
-abbrev pub length_tests : Limits → Header → List ℕ → List (Bool × ReadKind)
-length_tests limits h line =
+-- the kinds, in the order in which they are tested
+abbrev pub tests : Limits → Header → List ℕ → List (Bool × ReadKind)
+tests limits h line =
     (is_past_limit limits h line, TooManyLines)
     ∷ (is_too_long limits h line, LineTooLong)
-    ∷ []
-
--- what only a keyword line can have
-abbrev pub keyword_tests : Limits → Header → List ℕ → List (Bool × ReadKind)
-keyword_tests limits h line =
-    (is_refused h line, RefusedKeyword)
+    ∷ (is_refused h line, RefusedKeyword)
     ∷ (is_inside_row h line, KeywordInsideRow)
     ∷ (is_repeated h line, KeywordRepeated)
     ∷ (is_bad_number limits h line, BadNumber)
@@ -96,26 +92,13 @@ keyword_tests limits h line =
     ∷ (is_wrong_count h line, WrongNumberOfNames)
     ∷ (is_type_too_late h line, TypeAfterRow)
     ∷ (is_bad_type h line, BadType)
-    ∷ []
-
--- what only a row line can have
-abbrev pub row_tests : Header → List ℕ → List (Bool × ReadKind)
-row_tests h line =
-    (is_row_too_early h line, RowBeforeShape)
+    ∷ (is_row_too_early h line, RowBeforeShape)
     ∷ (is_bad_symbol h line, BadSymbol)
     ∷ []
 
--- the kinds, in the order in which they are tested
-abbrev pub tests : Limits → Header → List ℕ → List (Bool × ReadKind)
-tests limits h line = length_tests limits h line ++ keyword_tests limits h line ++ row_tests h line
-
--- the kind of the first test that holds
-abbrev pub first_kind : List (Bool × ReadKind) → Option ReadKind
-first_kind listed = option_map (λ t. t.1) (find (λ t. t.0) listed)
-
 -- the first kind that stands on a line
 unfoldable pub fault_in : Limits → Header → List ℕ → Option ReadKind
-fault_in limits h line = first_kind (tests limits h line)
+fault_in limits h line = option_map (λ t. t.1) (find (λ t. t.0) (tests limits h line))
 
 -- the first kind that stands on a line after these
 abbrev pub fault_on : Limits → List (List ℕ) → List ℕ → Option ReadKind
@@ -186,3 +169,36 @@ abbrev pub open_fault : Limits → List ℕ → Option ReadFault
 open_fault limits text = let lines = looked_at (ended_lines text) in
     option_or (line_fault limits lines) (if has_ending lines then None
     else rest_fault limits lines (open_rest text))
+
+-- ---- the tests of a line, by its kind
+
+-- the kind of the first test that holds
+abbrev pub first_kind : List (Bool × ReadKind) → Option ReadKind
+first_kind listed = option_map (λ t. t.1) (find (λ t. t.0) listed)
+
+-- what is asked of every line
+abbrev pub length_tests : Limits → Header → List ℕ → List (Bool × ReadKind)
+length_tests limits h line =
+    (is_past_limit limits h line, TooManyLines)
+    ∷ (is_too_long limits h line, LineTooLong)
+    ∷ []
+
+-- what only a keyword line can have
+abbrev pub keyword_tests : Limits → Header → List ℕ → List (Bool × ReadKind)
+keyword_tests limits h line =
+    (is_refused h line, RefusedKeyword)
+    ∷ (is_inside_row h line, KeywordInsideRow)
+    ∷ (is_repeated h line, KeywordRepeated)
+    ∷ (is_bad_number limits h line, BadNumber)
+    ∷ (is_name_too_early h line, NamesBeforeShape)
+    ∷ (is_wrong_count h line, WrongNumberOfNames)
+    ∷ (is_type_too_late h line, TypeAfterRow)
+    ∷ (is_bad_type h line, BadType)
+    ∷ []
+
+-- what only a row line can have
+abbrev pub row_tests : Header → List ℕ → List (Bool × ReadKind)
+row_tests h line =
+    (is_row_too_early h line, RowBeforeShape)
+    ∷ (is_bad_symbol h line, BadSymbol)
+    ∷ []

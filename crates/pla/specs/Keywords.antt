@@ -34,10 +34,6 @@ abbrev pub refused_keywords : List (List ℕ)
 refused_keywords = codes ".mv" ∷ codes ".label" ∷ codes ".phase" ∷ codes ".pair"
     ∷ codes ".symbolic" ∷ codes ".symbolic-output" ∷ codes ".kiss" ∷ []
 
--- whether the line has a keyword
-abbrev pub is_keyword_line : List ℕ → Bool
-is_keyword_line line = not (is_empty (keyword line))
-
 -- whether this is the line's keyword
 abbrev pub has : List ℕ → List ℕ → Bool
 has text line = bytes_eq (keyword line) text
@@ -48,7 +44,7 @@ is_ending line = is_one_of endings (keyword line)
 
 -- whether the line's keyword means nothing here: the line is passed on
 abbrev pub is_unknown : List ℕ → Bool
-is_unknown line = is_keyword_line line
+is_unknown line = not (is_empty (keyword line))
     && not (is_one_of (settings ++ endings ++ refused_keywords ++ codes ".p" ∷ []) (keyword line))
 
 -- the lines up to and with the first that ends the description
@@ -68,16 +64,12 @@ number_within low high (word ∷ []) = if list_all is_ascii_digit word
     && nat_le low (number word) && nat_le (number word) high then Some (number word) else None
 number_within low high _ = None
 
--- the type of this name
-abbrev pub type_named : List ℕ → Option FileType
-type_named word = if bytes_eq word (codes "f") then Some F
+-- one word that names a type
+abbrev pub type_by : List (List ℕ) → Option FileType
+type_by (word ∷ []) = if bytes_eq word (codes "f") then Some F
     else if bytes_eq word (codes "fd") then Some Fd
     else if bytes_eq word (codes "fr") then Some Fr
     else if bytes_eq word (codes "fdr") then Some Fdr else None
-
--- one word that names a type
-abbrev pub type_by : List (List ℕ) → Option FileType
-type_by (word ∷ []) = type_named word
 type_by _ = None
 
 -- the number of inputs that the line gives

@@ -1,8 +1,7 @@
--- A file as read: its lines, what each is, and what each holds.
-use Rattle.std.specs.Prelude.{ℕ, ◌-◌, Bool, not, ◌&&◌, ◌||◌, List, [], ◌∷◌, ◌++◌, length, take, drop, filter, find, flat_map, ◌==◌, if◌then◌else◌, slice_index_or, Option, Some, None}
+-- A file as read: its lines, and what each holds.
+use Rattle.std.specs.Prelude.{ℕ, ◌-◌, Bool, false, not, ◌&&◌, ◌||◌, List, [], ◌∷◌, ◌++◌, length, take, drop, filter, find, flat_map, ◌==◌, if◌then◌else◌, slice_index_or}
 use Rattle.std.specs.List.{slice_split, list_any, before_first}
-use Rattle.pla.specs.declared.line.LineKind.{LineKind}
-use Rattle.pla.specs.declared.line.LineKind.TheVariants.{Empty, Keyword, Row}
+use Rattle.std.specs.Option.{option_map_or}
 use Rattle.pla.specs.declared.ending.Ending.{Ending}
 use Rattle.pla.specs.declared.ending.Ending.TheVariants.{End, Failed}
 
@@ -43,18 +42,11 @@ is_row_blank b = is_blank b || b == 124
 abbrev pub words : List ℕ → List (List ℕ)
 words bytes = filter (λ word. not (is_empty word)) (slice_split is_blank bytes)
 
--- ---- the kind of a line
-
--- the kind by the first byte that is no blank: a dot begins a keyword
-abbrev pub kind_by : Option ℕ → LineKind
-kind_by None = Empty
-kind_by (Some b) = if b == 46 then Keyword else Row
-
--- what a line is
-abbrev pub kind : List ℕ → LineKind
-kind line = kind_by (find (λ b. not (is_blank b)) line)
-
 -- ---- code and comment
+
+-- a keyword line's first byte that is no blank is a dot; any other line is a row line
+abbrev pub is_keyword_line : List ℕ → Bool
+is_keyword_line line = option_map_or (λ b. b == 46) (find (λ b. not (is_blank b)) line) false
 
 -- a row line's code ends before the first #
 abbrev pub row_code : List ℕ → List ℕ
@@ -67,15 +59,9 @@ keyword_code (b ∷ []) = b ∷ []
 keyword_code (b ∷ c ∷ bytes) = if is_blank b && c == 35 then b ∷ []
     else b ∷ keyword_code (c ∷ bytes)
 
--- a line's code by its kind
-abbrev pub code_at : LineKind → List ℕ → List ℕ
-code_at Empty line = line
-code_at Keyword line = keyword_code line
-code_at Row line = row_code line
-
 -- what stands before the comment
 abbrev pub code : List ℕ → List ℕ
-code line = code_at (kind line) line
+code line = if is_keyword_line line then keyword_code line else row_code line
 
 -- from the # to the line's end, or nothing
 abbrev pub comment : List ℕ → List ℕ
@@ -83,27 +69,18 @@ comment line = drop (length (code line)) line
 
 -- ---- what a line holds
 
--- a line's symbols by its kind
-abbrev pub symbols_at : LineKind → List ℕ → List ℕ
-symbols_at Row line = filter (λ b. not (is_row_blank b)) (row_code line)
-symbols_at _ line = []
-
--- the bytes of a row line's code that aren't blanks, and none of another line
+-- the bytes of a row line's code that aren't blanks, and none of a keyword line
 abbrev pub symbols : List ℕ → List ℕ
-symbols line = symbols_at (kind line) line
+symbols line = if is_keyword_line line then []
+    else filter (λ b. not (is_row_blank b)) (row_code line)
 
 -- the symbols of all lines, joined
 abbrev pub all_symbols : List (List ℕ) → List ℕ
 all_symbols lines = flat_map symbols lines
 
--- a line's words by its kind
-abbrev pub keyword_words_at : LineKind → List ℕ → List (List ℕ)
-keyword_words_at Keyword line = words (keyword_code line)
-keyword_words_at _ line = []
-
--- the keyword and the words after it, and nothing of another line
+-- the keyword and the words after it, and nothing of a row line
 abbrev pub keyword_words : List ℕ → List (List ℕ)
-keyword_words line = keyword_words_at (kind line) line
+keyword_words line = if is_keyword_line line then words (keyword_code line) else []
 
 -- the keyword with its dot: empty if the line is no keyword line
 abbrev pub keyword : List ℕ → List ℕ

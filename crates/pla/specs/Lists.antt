@@ -24,21 +24,20 @@ part_symbols _ _ = []
 abbrev pub input_symbol : ℕ → Symbol
 input_symbol b = if b == 48 then Zero else if b == 49 then One else Dash
 
--- the cube of these inputs and outputs, if it has an output
-abbrev pub cube_by : List Symbol → List Bool → Option Cube
-cube_by symbols outputs = if list_any (λ out. out) outputs
-    then Some (record { symbols = symbols; outputs = outputs }) else None
-
--- a row's cube in a list: its inputs, and the outputs that have one of the list's symbols
+-- a row's cube in a list: its inputs, and the outputs that have one of the list's symbols, if there
+-- is one
 abbrev pub given_cube : ℕ → List ℕ → List ℕ → Option Cube
-given_cube n letters row =
-    cube_by (map input_symbol (take n row)) (map (is_byte_of letters) (drop n row))
-
--- the cubes of whole rows in a list
-abbrev pub cubes_of_rows : FileType → Part → ℕ → List (List ℕ) → List Cube
-cubes_of_rows type part n whole = filter_map (given_cube n (part_symbols type part)) whole
+given_cube n letters row = let outputs = map (is_byte_of letters) (drop n row) in
+    if list_any (λ out. out) outputs
+    then Some (record { symbols = map input_symbol (take n row); outputs = outputs }) else None
 
 -- a list, as the symbols give it: nothing while the size isn't given
 abbrev pub given_list : FileType → Part → Option Size → List ℕ → List Cube
 given_list type part None symbols = []
-given_list type part (Some size) symbols = cubes_of_rows type part size.inputs (rows size symbols)
+given_list type part (Some size) symbols =
+    filter_map (given_cube size.inputs (part_symbols type part)) (rows size symbols)
+
+-- the cube of these inputs and outputs, if it has an output
+abbrev pub cube_by : List Symbol → List Bool → Option Cube
+cube_by symbols outputs = if list_any (λ out. out) outputs
+    then Some (record { symbols = symbols; outputs = outputs }) else None

@@ -29,13 +29,13 @@ any_bad (Some size) unfinished symbols =
     list_any (λ e. not (is_symbol_at size.inputs ((unfinished + e.0) % width size) e.1))
     (enumerate_from 0 symbols)
 
--- how many whole rows the symbols make
-abbrev pub row_count : Size → List ℕ → ℕ
-row_count size symbols = length symbols / width size
-
 -- the whole rows
 abbrev pub rows : Size → List ℕ → List (List ℕ)
-rows size symbols = first_chunks (width size) (row_count size symbols) symbols
+rows size symbols = first_chunks (width size) (length symbols / width size) symbols
+
+-- how many there are
+abbrev pub row_count : Size → List ℕ → ℕ
+row_count size symbols = length symbols / width size
 
 -- the symbols after the last whole row: none counts while the size isn't given
 abbrev pub unfinished_row : Option Size → List ℕ → List ℕ

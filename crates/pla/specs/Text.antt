@@ -21,33 +21,18 @@ type_text Fd = codes ".type fd\n"
 type_text Fr = codes ".type fr\n"
 type_text Fdr = codes ".type fdr\n"
 
--- a list that is printed, with the byte of an output in the cube: `1`, `-` or `0`
-pub record Section : Type 0 where
-  pub mark : ℕ
-  pub cubes : List Cube
-
-abbrev on_section : SetLists → Section
-on_section lists = record { mark = 49; cubes = lists.on }
-
-abbrev dc_section : SetLists → Section
-dc_section lists = record { mark = 45; cubes = lists.dc }
-
-abbrev off_section : SetLists → Section
-off_section lists = record { mark = 48; cubes = lists.off }
-
--- the lists that a type prints, in their order
-abbrev pub sections : OutType → SetLists → List Section
-sections F lists = on_section lists ∷ []
-sections Fd lists = on_section lists ∷ dc_section lists ∷ []
-sections Fr lists = on_section lists ∷ off_section lists ∷ []
-sections Fdr lists = on_section lists ∷ dc_section lists ∷ off_section lists ∷ []
+-- the lists that a type prints, in their order, each behind the byte of an output in the cube: `1`,
+-- `-` or `0`
+abbrev pub sections : OutType → SetLists → List (ℕ × List Cube)
+sections F lists = (49, lists.on) ∷ []
+sections Fd lists = (49, lists.on) ∷ (45, lists.dc) ∷ []
+sections Fr lists = (49, lists.on) ∷ (48, lists.off) ∷ []
+sections Fdr lists = (49, lists.on) ∷ (45, lists.dc) ∷ (48, lists.off) ∷ []
 
 -- the byte of an output that is not in the cube: `0` or `~`
 abbrev pub elsewhere : OutType → ℕ
 elsewhere F = 48
-elsewhere Fd = 126
-elsewhere Fr = 126
-elsewhere Fdr = 126
+elsewhere _ = 126
 
 -- the byte of an input: `-`, `0` or `1`
 abbrev pub symbol_byte : Symbol → ℕ
@@ -61,8 +46,8 @@ row_text mark other c =
     map symbol_byte c.symbols ++ 32 ∷ map (λ b. if b then mark else other) c.outputs ++ codes "\n"
 
 -- the rows of a list
-abbrev pub rows_text : ℕ → Section → List ℕ
-rows_text other section = flat_map (row_text section.mark other) section.cubes
+abbrev pub rows_text : ℕ → ℕ × List Cube → List ℕ
+rows_text other section = flat_map (row_text section.0 other) section.1
 
 -- the whole text
 abbrev pub text_of : Description → OutType → SetLists → List ℕ
@@ -70,6 +55,6 @@ text_of d out_type lists =
     codes ".i " ++ decimal d.size.inputs ++ codes "\n.o " ++ decimal d.size.outputs ++ codes "\n"
     ++ names_text (codes ".ilb") d.input_names ++ names_text (codes ".ob") d.output_names
     ++ type_text out_type
-    ++ codes ".p " ++ decimal (sum_by (λ section. length section.cubes) (sections out_type lists))
+    ++ codes ".p " ++ decimal (sum_by (λ section. length section.1) (sections out_type lists))
     ++ codes "\n"
     ++ flat_map (rows_text (elsewhere out_type)) (sections out_type lists) ++ codes ".e\n"

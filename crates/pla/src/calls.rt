@@ -1,6 +1,6 @@
 //! What a device reports of the calls that were made to it.
-ghost use Rattle.std.specs.Prelude.{◌≡◌, false};
-ghost use Rattle.pla.specs.Device.{flush_broke, flush_went, read_broke, read_went, write_broke, write_went};
+ghost use Rattle.std.specs.Prelude.{◌≡◌, true, false};
+ghost use Rattle.pla.specs.Device.{after_flush, after_read, after_write};
 
 /// The reads from an input.
 #[derive(Clone, Copy, Debug, PartialEq, Eq)]
@@ -47,7 +47,7 @@ impl ReadCalls {
 
     /// One more read, which went well.
     pub fn after_read(self) -> ReadCalls
-        ensures { result ≡ read_went self }
+        ensures { result ≡ after_read false self }
     {
         ReadCalls {
             failures: self.failures,
@@ -57,7 +57,7 @@ impl ReadCalls {
 
     /// One more read, which failed.
     pub fn after_broken_read(self) -> ReadCalls
-        ensures { result ≡ read_broke self }
+        ensures { result ≡ after_read true self }
     {
         ReadCalls {
             failures: self.failures.saturating_add(1),
@@ -86,7 +86,7 @@ impl WriteCalls {
 
     /// One more write, which went well.
     pub fn after_write(self) -> WriteCalls
-        ensures { result ≡ write_went self }
+        ensures { result ≡ after_write false self }
     {
         WriteCalls {
             counts: self.counts,
@@ -97,7 +97,7 @@ impl WriteCalls {
 
     /// One more write, which failed.
     pub fn after_broken_write(self) -> WriteCalls
-        ensures { result ≡ write_broke self }
+        ensures { result ≡ after_write true self }
     {
         WriteCalls {
             counts: Counts {
@@ -112,7 +112,7 @@ impl WriteCalls {
 
     /// One more flush, which went well.
     pub fn after_flush(self) -> WriteCalls
-        ensures { result ≡ flush_went self }
+        ensures { result ≡ after_flush false self }
     {
         WriteCalls {
             counts: Counts {
@@ -127,7 +127,7 @@ impl WriteCalls {
 
     /// One more flush, which failed.
     pub fn after_broken_flush(self) -> WriteCalls
-        ensures { result ≡ flush_broke self }
+        ensures { result ≡ after_flush true self }
     {
         WriteCalls {
             counts: Counts {

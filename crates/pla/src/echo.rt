@@ -8,7 +8,7 @@ ghost use Rattle.pla.specs.Echoes.{echo_of, kept_comment};
 use crate::device::Output;
 use crate::fault::Echo;
 use crate::header::{is, is_end, is_outside_profile};
-use crate::line::{LineKind, keyword_code_of, keyword_of, kind_of};
+use crate::line::{begins_keyword, keyword_code_of, keyword_of};
 use crate::writing::{WriteFault, write_bytes, write_next};
 
 /// What stands before the comment: the code, if it is a row line.
@@ -16,10 +16,10 @@ fn code_of<'a>(line: &'a [u8], code: &'a [u8]) -> &'a [u8]
     requires { code.now ≡ row_code line.now }
     ensures { result.now ≡ code_on line.now }
 {
-    match kind_of(line) {
-        LineKind::Empty => line,
-        LineKind::Keyword => keyword_code_of(line),
-        LineKind::Row => code,
+    if begins_keyword(line) {
+        keyword_code_of(line)
+    } else {
+        code
     }
 }
 

@@ -1,4 +1,5 @@
-//! What can be wrong with a file, and how a file is taken.
+//! The faults of a file; also `FileType`, the type of its rows, and `Echo`, whether comments are
+//! passed on.
 ghost use Rattle.std.specs.Prelude.{◌≡◌};
 
 use std::alloc::AllocError;

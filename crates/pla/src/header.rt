@@ -1,8 +1,9 @@
-//! What the lines so far have given, and the tests of a line under it.
-ghost use Rattle.std.specs.Prelude.{◌≡◌, ℕ, ◌<◌, ◌≤◌, [], IfOk, OnOk, OnErr, Some, None, List, slice_index_or, drop, false, bytes_eq};
+//! What the keyword lines so far have set (`.i`, `.o`, `.ilb`, `.ob`, `.type`), and the tests of
+//! the next line against it, in the order of their faults.
+ghost use Rattle.std.specs.Prelude.{◌≡◌, ℕ, ◌<◌, ◌≤◌, [], ◌∷◌, IfOk, OnOk, OnErr, Some, None, List, slice_index_or, drop, false, bytes_eq};
 ghost use Rattle.std.specs.Option.{ForSome};
 ghost use Rattle.cube.specs.Limits.{format_limits};
-ghost use Rattle.pla.specs.Keywords.{texts, is_one_of, endings, refused_keywords, type_named, type_by};
+ghost use Rattle.pla.specs.Keywords.{texts, is_one_of, endings, refused_keywords, type_by};
 ghost use Rattle.pla.specs.Lines.{keyword as keyword_on, arguments as arguments_on};
 ghost use Rattle.pla.specs.Fault.{differs_count, is_too_long, is_inside_row, is_bad_number, is_bad_type};
 ghost use Rattle.pla.specs.Header.{Header};
@@ -65,7 +66,7 @@ pub(crate) fn is(word: &[u8], text: &[u8]) -> bool
 
 /// The type of this name.
 fn named_type(word: &[u8]) -> Option<FileType>
-    ensures { result ≡ type_named word.now }
+    ensures { result ≡ type_by (word.now ∷ []) }
 {
     if is(word, b"f") {
         Some(FileType::F)
@@ -252,7 +253,7 @@ impl Head {
         is(keyword, b".type") && self.has_symbols
     }
 
-    /// The first kind that stands on a keyword line of these words.
+    /// The first fault of a keyword line with these words.
     #[tactic(auto, unfolding(crate::specs::HeadView::keyword_fault, crate::specs::Fault::is_refused))]
     pub fn keyword_fault(&self, unfinished: usize, words: &[&[u8]]) -> Option<ReadKind>
         ensures { (line : List ℕ) → texts words.now ≡ keyword_words line

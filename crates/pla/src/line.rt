@@ -1,19 +1,11 @@
-//! What a line is and holds.
+//! What a line holds.
 ghost use Rattle.std.specs.Prelude.{◌≡◌, [], slice_index_or, ◌<◌, ◌^◌, IfOk, find, position, ◌==◌, not, filter};
 ghost use Rattle.std.specs.List.{list_any};
-ghost use Rattle.pla.specs.Lines.{is_blank, is_row_blank, kind, words, is_empty, row_code, keyword_code, keyword};
+ghost use Rattle.pla.specs.Lines.{is_blank, is_row_blank, is_keyword_line, words, is_empty, row_code, keyword_code, keyword};
 ghost use Rattle.pla.specs.Keywords.{texts, number_within};
 
 use memchr::memchr;
 use std::alloc::{AllocError, Global};
-
-/// What a line is, by its first byte that is no blank.
-#[derive(Clone, Copy, Debug, PartialEq, Eq)]
-pub enum LineKind {
-    Empty,
-    Keyword,
-    Row,
-}
 
 pub fn blank(b: u8) -> bool
     ensures { result ≡ is_blank b }
@@ -33,13 +25,13 @@ pub fn first_not_blank(line: &[u8]) -> Option<u8>
     line.iter().copied().find(|b| !blank(*b))
 }
 
-pub fn kind_of(line: &[u8]) -> LineKind
-    ensures { result ≡ kind line.now }
+/// Whether it is a keyword line: its first byte that is no blank is a dot.
+pub fn begins_keyword(line: &[u8]) -> bool
+    ensures { result ≡ is_keyword_line line.now }
 {
     match first_not_blank(line) {
-        None => LineKind::Empty,
-        Some(b'.') => LineKind::Keyword,
-        Some(_) => LineKind::Row,
+        Some(b) => b == b'.',
+        None => false,
     }
 }
 
@@ -121,8 +113,9 @@ fn first_word(code: &[u8]) -> &[u8]
 pub fn keyword_of(line: &[u8]) -> &[u8]
     ensures { result.now ≡ keyword line.now }
 {
-    match kind_of(line) {
-        LineKind::Keyword => first_word(keyword_code_of(line)),
-        LineKind::Empty | LineKind::Row => &[],
+    if begins_keyword(line) {
+        first_word(keyword_code_of(line))
+    } else {
+        &[]
     }
 }

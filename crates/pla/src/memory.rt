@@ -1,4 +1,4 @@
-//! Devices in memory, which report their bytes: for tests.
+//! `Given` and `Taken`: an input and an output in memory, which report their bytes, for tests.
 ghost use Rattle.std.specs.Prelude.{◌≡◌, ◌+◌, ◌-◌, ◌<◌, ◌≤◌, ◌↔◌, ◌⊎◌, Some, None, false, [], length, min, IfOk, IfErr, IsErr, IsTrue};
 ghost use Rattle.std.specs.Io.KnownBytes.{ReadConsumes, WriteAppends};
 ghost use Rattle.pla.specs.Device.{TellsFlush, TellsRead, TellsWrite};

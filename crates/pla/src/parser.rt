@@ -1,9 +1,8 @@
 //! A file, line by line.
-ghost use Rattle.std.specs.Prelude.{◌≡◌, ◌+◌, ◌<◌, ◌≤◌, ◌++◌, ◌∷◌, [], List, ℕ, Some, None, false, option_map, IfErr, MatchResult, OnOk};
+ghost use Rattle.std.specs.Prelude.{◌≡◌, ◌+◌, ◌<◌, ◌≤◌, ◌++◌, ◌∷◌, [], List, ℕ, Some, None, true, false, option_map, IfErr, MatchResult, OnOk};
 ghost use Rattle.std.specs.Option.{option_or};
 ghost use Rattle.cube.specs.Limits.{format_limits};
-ghost use Rattle.pla.specs.declared.line.LineKind.TheVariants.{Keyword};
-ghost use Rattle.pla.specs.Lines.{kind, row_code};
+ghost use Rattle.pla.specs.Lines.{is_keyword_line, row_code};
 ghost use Rattle.pla.specs.Scan.{StandsForLines, Refuses};
 ghost use Rattle.pla.specs.Header.{header_of, type_in};
 ghost use Rattle.pla.specs.HeadView.{seen, keyword_fault, with_keyword};
@@ -15,7 +14,7 @@ ghost use Rattle.pla.specs.Description.{description_of};
 use crate::description::Pla;
 use crate::fault::{FileType, LineError, ReadKind};
 use crate::header::{Head, too_long};
-use crate::line::{LineKind, has_symbol, keyword_code_of, kind_of, words_of};
+use crate::line::{begins_keyword, has_symbol, keyword_code_of, words_of};
 use crate::rows::Rows;
 use cube::Shape;
 use std::alloc::Global;
@@ -49,7 +48,7 @@ fn take_keyword(
     alloc: Global,
     line: &[u8],
 ) -> Result<(), LineError>
-    requires { kind line.now ≡ Keyword }
+    requires { is_keyword_line line.now ≡ true }
     ensures lines { head.new.lines ≡ head.old.lines }
     ensures tied { IsTied (seen head.old 0) rows.old → IsTied (seen head.new 0) rows.new }
     ensures faultless { OnOk result
@@ -158,10 +157,10 @@ impl Parser {
         if too_long(line) {
             return Err(LineError::Fault(ReadKind::LineTooLong));
         }
-        match kind_of(line) {
-            LineKind::Empty => {}
-            LineKind::Keyword => take_keyword(&mut self.head, &mut self.rows, self.alloc, line)?,
-            LineKind::Row => take_row(&mut self.head, &mut self.rows, code)?,
+        if begins_keyword(line) {
+            take_keyword(&mut self.head, &mut self.rows, self.alloc, line)?;
+        } else {
+            take_row(&mut self.head, &mut self.rows, code)?;
         }
         self.head.lines += 1;
         Ok(())

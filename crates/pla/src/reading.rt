@@ -1,4 +1,4 @@
-//! Reading of a whole input, piece by piece.
+//! `read_pla`: a whole input, read piece by piece. (The device `Reading` is in `over_std`.)
 ghost use Rattle.std.specs.Prelude.{◌≡◌, ◌++◌, ◌+◌, ◌≤◌, [], List, ℕ, Some, None, false, IfOk, IfErr, length};
 ghost use Rattle.cube.specs.Limits.{format_limits};
 ghost use Rattle.pla.specs.Description.{described};

@@ -121,8 +121,11 @@ fn take_line<W: Output>(
 /// Reading of a text that comes in pieces: what is kept between them.
 #[derive(Drop)]
 pub struct Scan {
+    /// Whether comments are passed on.
     echo: Echo,
+    /// What the whole lines have given.
     parser: Parser,
+    /// The bytes after the last line feed.
     rest: Vec<u8>,
 }
 

@@ -94,7 +94,7 @@ fn type_line(out_type: OutType) -> &'static [u8]
 // How many rows are printed. Three counts may pass the last value of a u64.
 fn row_count(out_type: OutType, on: &Cover, dc: &Cover, off: &Cover) -> u128
     ensures { result
-        ≡ sum_by (λ section. length section.cubes)
+        ≡ sum_by (λ section. length section.1)
         (sections out_type (lists_of on.now dc.now off.now)) }
 {
     let on = on.len() as u128;
@@ -192,7 +192,7 @@ fn write_rows<W: Output>(
     other: u8,
 ) -> Result<(), WriteFault>
     ensures bytes { PutsOn (W.taken out.old) buffer.old done (W.taken out.new) buffer.new result
-        (rows_text other (record { mark = mark; cubes = list.now.cubes })) }
+        (rows_text other (mark, list.now.cubes)) }
     ensures count { CountsOn (W.calls out.old) done (W.calls out.new) result }
 {
     let mut done = done;

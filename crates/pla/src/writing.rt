@@ -1,4 +1,4 @@
-//! Texts to an output.
+//! Texts written to an output. (The device `Writing` is in `over_std`.)
 //!
 //! A text is written part by part: [`write_bytes`] writes the first, and [`write_next`] each
 //! further one, only while all went well. So what the output took is always a prefix of the text,

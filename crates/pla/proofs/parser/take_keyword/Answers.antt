@@ -1,9 +1,9 @@
-use Rattle.std.proofs.Common.{◌≡◌, [], None, ap, sym, ◌∙◌, subst, option_map}
+use Rattle.std.proofs.Common.{◌≡◌, [], cond, None, ap, sym, ◌∙◌, subst, option_map}
 use Rattle.std.specs.Option.{option_or}
 use Rattle.cube.specs.Limits.{format_limits}
 use Rattle.cube.specs.Size.{Size}
 use Rattle.pla.specs.declared.fault.FileType.TheVariants.{Fd}
-use Rattle.pla.specs.Lines.{words, keyword_words, keyword_words_at}
+use Rattle.pla.specs.Lines.{words, keyword_code, keyword_words}
 use Rattle.pla.specs.Keywords.{texts}
 use Rattle.pla.specs.HeadView.{seen, keyword_fault}
 use Rattle.pla.specs.Reading.{RowsRead, rows_of}
@@ -24,7 +24,7 @@ pub returns-clause-tied : goal.returns-clause-tied
 returns-clause-tied c = λ tied.
     let line = c.args.line.now in
     let named : texts c.deref.result.now ≡ keyword_words line =
-    ap texts c.deref.ensures.value ∙ c.in_ok-words.ensures ∙ ap words c.keyword_code_of.ensures ∙ sym (ap (λ k. keyword_words_at k line) c.requires) in
+    ap texts c.deref.ensures.value ∙ c.in_ok-words.ensures ∙ ap words c.keyword_code_of.ensures ∙ sym (ap (λ t. cond t (words (keyword_code line)) []) c.requires) in
     let again : texts c.deref-2.result.now ≡ keyword_words line =
     ap texts (c.deref-2.ensures.value ∙ sym c.deref.ensures.value) ∙ named in
     let unfinished = unfinished_of c.args.rows.now in

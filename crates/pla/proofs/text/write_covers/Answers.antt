@@ -12,7 +12,7 @@ use Rattle.pla.proofs.text.write_covers.Goals as goal
 text_parts : (d : Description) (t : OutType) (lists : SetLists) (inputs outputs input_names output_names type count : List ℕ)
     → inputs ≡ decimal d.size.inputs → outputs ≡ decimal d.size.outputs
     → input_names ≡ names_text (codes ".ilb") d.input_names → output_names ≡ names_text (codes ".ob") d.output_names
-    → type ≡ type_text t → count ≡ decimal (sum_by (λ section. length section.cubes) (sections t lists))
+    → type ≡ type_text t → count ≡ decimal (sum_by (λ section. length section.1) (sections t lists))
     → codes ".i " ++ inputs ++ codes "\n.o " ++ outputs ++ codes "\n" ++ input_names ++ output_names ++ type
     ++ codes ".p " ++ count ++ codes "\n" ++ flat_map (rows_text (elsewhere t)) (sections t lists) ++ codes ".e\n" ≡ text_of d t lists
 text_parts d t lists inputs outputs input_names output_names type count i o n m y c = cc
