@@ -1,88 +1,110 @@
 -- The first source of a run, and the second behind it.
-use Rattle.std.proofs.Common.{◌≡◌, ℕ, refl, sym, ap, subst, List, [], ◌++◌, Option, Some, None, Result, Ok, Err, append-nil}
+use Rattle.std.proofs.Common.{◌≡◌, ℕ, Bool, cond, true, false, refl, sym, ap, subst, inl, List, [], ◌++◌, Option, Some, None, Result, Ok, Err, append-nil}
+use Rattle.std.proofs.lemmas.Bool.{eq-eqb}
+use Rattle.std.specs.Prelude.{◌==◌}
+use Rattle.cube.specs.Size.{Size}
 use Rattle.pla.specs.declared.calls.WriteCalls.{WriteCalls}
 use Rattle.pla.specs.Description.{Description}
 use Rattle.tool.specs.declared.status.Status.{Status}
 use Rattle.tool.specs.declared.failure.Operand.TheVariants.{First, Second}
 use Rattle.tool.specs.declared.failure.Failure.{Failure}
-use Rattle.tool.specs.Run.{Absent, Asked, Intake, Intakes, IsSecondOf, Trace, echoes_due, second_due, trace}
-use Rattle.tool.specs.Steps.{Answers, FileOf, FilesOf, IsReadAs, Names, PutsOut, Reports, Stands, StandsAt, StandsBehind}
-use Rattle.tool.specs.Answer.{Answer, answer_of}
-use Rattle.tool.specs.Tool.{File, answered, first_name, reading_then, second_name, with_both, with_first}
-use Rattle.tool.specs.Words.{Meaning, Text}
+use Rattle.tool.specs.declared.failure.Failure.TheVariants as failure
+use Rattle.tool.specs.Run.{Intake, Intakes, IsSecondOf, Trace, Uncalled, echoes_due, second_due, trace}
+use Rattle.tool.specs.Steps.{Answers, FilesOf, IsReadAs, Names, PutsOut, Reports, SecondOf, Stands, StandsAt, StandsBehind, names_said}
+use Rattle.tool.specs.Answer.{Answer, Answering, answer_of, of_one, of_two}
+use Rattle.tool.specs.Tool.{Outcome, answered, first_name, reading_then, same_size, second_name, stopped, with_both, with_first}
+use Rattle.tool.specs.Messages.{sizes_message}
+use Rattle.tool.specs.Words.{Request}
+use Rattle.tool.proofs.Outputs.{appends_nothing, front_nothing}
 use Rattle.tool.proofs.Ways.{answers_stand, put_answers, stands_same, stopped_there, went_on}
-
--- ---- behind the second
-
-module _ (line : Meaning) (pla : Description) (name : Text) (taken : Intake) (old mid : Option (List ℕ)) (before count : WriteCalls) where
-  no_more : (names : Names) (out : Trace) (result : Result Status Failure)
-      → StandsAt (FileOf taken) (λ second. reading_then line name second.file (with_both line pla)) (echoes_due line taken ++ []) names out result
-      → StandsAt (FileOf taken) (λ second. reading_then line name second.file (with_both line pla)) (echoes_due line taken) names out result
-  no_more names out result h = subst (λ t. StandsAt (FileOf taken) (λ second. reading_then line name second.file (with_both line pla)) t names out result)
-      (append-nil (echoes_due line taken)) h
-
-  pub both_stopped : (s : Failure) → IsReadAs line Second name taken (trace old mid before count) (Err s)
-      → StandsBehind line pla taken name (trace old mid before count) (Err s)
-  both_stopped s read first = let names : Names = record { first = first; second = name } in no_more names _ (Err s)
-      (stopped_there line Second name taken (FileOf taken) (λ x. x.file) (λ x. x.is_file) (λ _. with_both line pla) [] names old mid before count s refl read)
-
-  pub both_answered : (other : Description) (new : Option (List ℕ)) (after : WriteCalls) (result : Result Status Failure)
-      → IsReadAs line Second name taken (trace old mid before count) (Ok other)
-      → Answers (with_both line pla other) (trace mid new count after) result
-      → StandsBehind line pla taken name (trace old new before after) result
-  both_answered other new after result read h first = let names : Names = record { first = first; second = name } in no_more names _ result
-      (went_on line Second name taken (FileOf taken) (λ x. x.file) (λ x. x.is_file) (λ _. with_both line pla) [] names old mid before count other new after read result
-      (answers_stand (FileOf taken) (with_both line pla other) [] names (trace mid new count after) result h))
 
 -- ---- behind the first
 
-module _ (line : Meaning) (taken : Intakes) (names : Names) (named : names.first ≡ first_name line.files) (old mid : Option (List ℕ)) (before count : WriteCalls) where
-  by_name : (r : Result Description Failure) → IsReadAs line First names.first taken.first (trace old mid before count) r
-      → IsReadAs line First (first_name line.files) taken.first (trace old mid before count) r
-  by_name r h = subst (λ name. IsReadAs line First name taken.first (trace old mid before count) r) named h
+module _ (line : Request) (pla : Description) (taken : Option Intake) (out : Trace) (result : Result Status Failure) where
+  -- what stands by the command's way of answering
+  abbrev StandsBy : Answering → Type 0
+  StandsBy answering = StandsAt (SecondOf taken) (λ second. with_first line second.file answering pla) (second_due line taken) (names_said line) out result
 
-  pub first_stopped : (s : Failure) → IsReadAs line First names.first taken.first (trace old mid before count) (Err s)
-      → Stands line taken names (trace old mid before count) (Err s)
-  first_stopped s h = stopped_there line First (first_name line.files) taken.first (FilesOf taken) (λ x. x.first) (λ x. x.is_first) (λ x. with_first line x.second)
-      (second_due line taken.second) names old mid before count s named (by_name (Err s) h)
+  pub stands_by : (answering : Answering) → answer_of line.command line.out line.choice ≡ answering → StandsBy answering → StandsBehind line pla taken out result
+  stands_by answering is h = subst StandsBy (sym is) h
 
-  module _ (pla : Description) (new : Option (List ℕ)) (after : WriteCalls) (result : Result Status Failure) (read : IsReadAs line First names.first taken.first (trace old mid before count) (Ok pla)) where
-    first_read : StandsAt (FilesOf taken) (λ x. with_first line x.second pla) (second_due line taken.second) names (trace mid new count after) result
-        → Stands line taken names (trace old new before after) result
-    first_read h = went_on line First (first_name line.files) taken.first (FilesOf taken) (λ x. x.first) (λ x. x.is_first) (λ x. with_first line x.second)
-        (second_due line taken.second) names old mid before count pla new after (by_name (Ok pla) read) result h
+-- a command on one file answered
+pub one_answered : (line : Request) (pla : Description) (answer : Description → Answer) (out : Trace) (result : Result Status Failure)
+    → answer_of line.command line.out line.choice ≡ of_one answer → PutsOut (answer pla) out result → StandsBehind line pla None out result
+one_answered line pla answer out result is h = stands_by line pla None out result (of_one answer) is
+    (answers_stand (SecondOf None) (answered (answer pla)) [] (names_said line) out result (put_answers (answer pla) out result h))
 
-    abbrev said : Answer
-    said = answer_of line.command line.out line.choice pla pla
+-- memory was refused before the second source was opened
+pub unopened_stands : (line : Request) (pla : Description) (out : Trace) → Uncalled out → StandsBehind line pla None out (Err failure.OutOfMemory)
+unopened_stands line pla out h = (inl (front_nothing out.taken out.taken_after [] h.0), ap (λ (c : WriteCalls). c.counts) h.1)
 
-    -- one file
-    pub one_answered : taken.second ≡ Absent → PutsOut said (trace mid new count after) result → Stands line taken names (trace old new before after) result
-    one_answered absent h = first_read (stands_same (FilesOf taken) (FilesOf taken) (λ x. x) (λ x. with_first line x.second pla) (λ _. answered said)
-        (λ x. sym (alone x.second (subst (λ t. IsSecondOf t x.second) absent x.is_second)))
-        (second_due line taken.second) names (trace mid new count after) result
-        (answers_stand (FilesOf taken) (answered said) (second_due line taken.second) names (trace mid new count after) result (put_answers said (trace mid new count after) result h)))
-      where
-        alone : (second : Option File) → IsSecondOf Absent second → with_first line second pla ≡ answered said
-        alone None is = refl
-        alone (Some file) is = absurd is
+-- ---- behind the second
 
-    -- two files
-    pub two_answered : (intake : Intake) → taken.second ≡ Asked intake → names.second ≡ second_name line.files
-        → StandsBehind line pla intake names.second (trace mid new count after) result → Stands line taken names (trace old new before after) result
-    two_answered intake asked is h = first_read (subst (λ t. StandsAt (FilesOf taken) (λ x. with_first line x.second pla) (second_due line t) names (trace mid new count after) result) (sym asked)
-        (stands_same (FilesOf taken) (FileOf intake) (λ x. behind_first x.second (subst (λ t. IsSecondOf t x.second) asked x.is_second))
-        (λ x. with_first line x.second pla) (λ y. reading_then line names.second y.file (with_both line pla))
-        (λ x. same x.second (subst (λ t. IsSecondOf t x.second) asked x.is_second))
-        (echoes_due line intake) names (trace mid new count after) result (h names.first)))
-      where
-        behind_first : (second : Option File) → IsSecondOf (Asked intake) second → FileOf intake
-        behind_first None fits = absurd fits
-        behind_first (Some file) fits = record { file = file; is_file = fits }
+module _ (line : Request) (pla : Description) (answer : Description → Description → Answer) (is : answer_of line.command line.out line.choice ≡ of_two answer)
+    (intake : Intake) (old mid : Option (List ℕ)) (before count : WriteCalls) where
+  -- a text with nothing behind it
+  behind_all : (out : Trace) (result : Result Status Failure)
+      → StandsAt (SecondOf (Some intake)) (λ second. reading_then line (second_name line.files) second.file (with_both answer pla)) (echoes_due line intake ++ []) (names_said line) out result
+      → StandsBehind line pla (Some intake) out result
+  behind_all out result h = stands_by line pla (Some intake) out result (of_two answer) is
+      (subst (λ t. StandsAt (SecondOf (Some intake)) (λ second. reading_then line (second_name line.files) second.file (with_both answer pla)) t (names_said line) out result)
+      (append-nil (echoes_due line intake)) h)
 
-        same : (second : Option File) (fits : IsSecondOf (Asked intake) second)
-            → reading_then line names.second (behind_first second fits).file (with_both line pla) ≡ with_first line second pla
-        same None fits = absurd fits
-        same (Some file) fits = ap (λ name. reading_then line name file (with_both line pla)) is
+  pub two_stopped : (s : Failure) → IsReadAs line Second (second_name line.files) intake (trace old mid before count) (Err s)
+      → StandsBehind line pla (Some intake) (trace old mid before count) (Err s)
+  two_stopped s read = behind_all _ (Err s)
+      (stopped_there line Second (second_name line.files) intake (SecondOf (Some intake)) (λ x. x.file) (λ x. x.is_file) (λ _. with_both answer pla) [] (names_said line) old mid before count s refl read)
+
+  module _ (other : Description) (new : Option (List ℕ)) (after : WriteCalls) (result : Result Status Failure)
+      (read : IsReadAs line Second (second_name line.files) intake (trace old mid before count) (Ok other)) where
+    two_read : Answers (with_both answer pla other) (trace mid new count after) result → StandsBehind line pla (Some intake) (trace old new before after) result
+    two_read h = behind_all _ result
+        (went_on line Second (second_name line.files) intake (SecondOf (Some intake)) (λ x. x.file) (λ x. x.is_file) (λ _. with_both answer pla) [] (names_said line) old mid before count other new after read result
+        (answers_stand (SecondOf (Some intake)) (with_both answer pla other) [] (names_said line) (trace mid new count after) result h))
+
+    -- the outcome by whether the sizes are the same
+    both_by : (same : Bool) → same_size pla.size other.size ≡ same → (outcome : Outcome)
+        → cond same (answered (answer pla other)) outcome ≡ cond (same_size pla.size other.size) (answered (answer pla other)) outcome
+    both_by same e outcome = ap (λ b. cond b (answered (answer pla other)) outcome) (sym e)
+
+    pub two_answered : same_size pla.size other.size ≡ true → PutsOut (answer pla other) (trace mid new count after) result
+        → StandsBehind line pla (Some intake) (trace old new before after) result
+    two_answered same h = two_read (subst (λ o. Answers o (trace mid new count after) result) (both_by true same _)
+        (put_answers (answer pla other) (trace mid new count after) result h))
+
+  -- its size is another
+  pub two_differ : (other : Description) → IsReadAs line Second (second_name line.files) intake (trace old mid before count) (Ok other) → same_size pla.size other.size ≡ false
+      → StandsBehind line pla (Some intake) (trace old mid before count) (Err failure.SizesDiffer)
+  two_differ other read differ = two_read other mid count (Err failure.SizesDiffer) read
+      (subst (λ o. Answers o (trace mid mid count count) (Err failure.SizesDiffer)) (both_by other mid count (Err failure.SizesDiffer) read false differ (stopped sizes_message))
+      (record { output = appends_nothing mid; same_message = refl; same_status = refl }, refl))
+
+-- sizes that are equal
+same_number : (n : ℕ) → (n == n) ≡ true
+same_number n = eq-eqb n n refl
+
+pub same_sizes : (a b : Size) → b ≡ a → same_size a b ≡ true
+same_sizes a b e = subst (λ c. same_size a c ≡ true) (sym e) (rw (same_number a.inputs, same_number a.outputs) refl)
+
+-- ---- from the first on
+
+module _ (line : Request) (taken : Intakes) (old mid : Option (List ℕ)) (before count : WriteCalls) where
+  pub first_stopped : (s : Failure) → IsReadAs line First (first_name line.files) taken.first (trace old mid before count) (Err s)
+      → Stands line taken (names_said line) (trace old mid before count) (Err s)
+  first_stopped s h = stopped_there line First (first_name line.files) taken.first (FilesOf taken) (λ x. x.first) (λ x. x.is_first)
+      (λ x. with_first line x.second (answer_of line.command line.out line.choice))
+      (second_due line taken.second) (names_said line) old mid before count s refl h
+
+  pub first_read : (pla : Description) (new : Option (List ℕ)) (after : WriteCalls) (result : Result Status Failure)
+      → IsReadAs line First (first_name line.files) taken.first (trace old mid before count) (Ok pla)
+      → StandsBehind line pla taken.second (trace mid new count after) result → Stands line taken (names_said line) (trace old new before after) result
+  first_read pla new after result read h = went_on line First (first_name line.files) taken.first (FilesOf taken) (λ x. x.first) (λ x. x.is_first)
+      (λ x. with_first line x.second (answer_of line.command line.out line.choice))
+      (second_due line taken.second) (names_said line) old mid before count pla new after read result
+      (stands_same (FilesOf taken) (SecondOf taken.second) (λ x. record { file = x.second; is_file = x.is_second })
+      (λ x. with_first line x.second (answer_of line.command line.out line.choice) pla)
+      (λ y. with_first line y.file (answer_of line.command line.out line.choice) pla) (λ x. refl)
+      (second_due line taken.second) (names_said line) (trace mid new count after) result h)
 
 -- ---- names
 

@@ -6,7 +6,7 @@ use Rattle.std.specs.Str.{bytes_eq}
 use Rattle.clap.specs.Walk.{Row, Text, all_of, used}
 use Rattle.std.proofs.Common.{◌+◌, ℕ, zero, suc}
 use Rattle.std.specs.Prelude.{codes}
-use Rattle.tool.specs.Words.{chosen, choices_of, fewest, Item, Letter, command_letter, type_letter, eat_letter, option, file, same_letter, values_of, files_of, said, meaning, meaning_of, command_named, type_named, eat_named}
+use Rattle.tool.specs.Words.{choice_by_count, choices_of, fewest, Item, Letter, command_letter, type_letter, eat_letter, option, file, dashes, unknown, same_letter, values_of, files_of, value_once, request, request_of, command_named, type_named, eat_named}
 use Rattle.tool.specs.declared.command.Command.{Command}
 use Rattle.covering.specs.declared.choice.Choice.{Choice}
 use Rattle.pla.specs.declared.out_type.OutType.{OutType}
@@ -24,55 +24,61 @@ values-append l (option k v ∷ xs) ys = go (same_letter k l) (values-append l x
     go false e = e
 values-append l (fewest ∷ xs) ys = values-append l xs ys
 values-append l (file f ∷ xs) ys = values-append l xs ys
+values-append l (dashes ∷ xs) ys = values-append l xs ys
+values-append l (unknown ∷ xs) ys = values-append l xs ys
 
 pub files-append : (xs ys : List Item) → files_of (xs ++ ys) ≡ files_of xs ++ files_of ys
 files-append [] ys = refl
 files-append (option k v ∷ xs) ys = files-append xs ys
 files-append (fewest ∷ xs) ys = files-append xs ys
 files-append (file f ∷ xs) ys = ap (λ t. f ∷ t) (files-append xs ys)
+files-append (dashes ∷ xs) ys = files-append xs ys
+files-append (unknown ∷ xs) ys = files-append xs ys
 
 pub choices-append : (xs ys : List Item) → choices_of (xs ++ ys) ≡ choices_of xs + choices_of ys
 choices-append [] ys = omega arith
 choices-append (option k v ∷ xs) ys = choices-append xs ys
 choices-append (fewest ∷ xs) ys = omega (arith, choices-append xs ys)
 choices-append (file f ∷ xs) ys = choices-append xs ys
+choices-append (dashes ∷ xs) ys = choices-append xs ys
+choices-append (unknown ∷ xs) ys = choices-append xs ys
 
 -- ---- items that say no line
 
 -- the values of this option are refused
 abbrev pub Refuses : Letter → List Text → Type 0
-Refuses command_letter vs = said command_named None vs ≡ None
-Refuses type_letter vs = said type_named (Some F) vs ≡ None
-Refuses eat_letter vs = said eat_named (Some false) vs ≡ None
+Refuses command_letter vs = value_once command_named None vs ≡ None
+Refuses type_letter vs = value_once type_named (Some F) vs ≡ None
+Refuses eat_letter vs = value_once eat_named (Some false) vs ≡ None
 
-no_type : (a : Option Command) (e : Option Bool) (n : Option Choice) (files : List Text) → meaning a None e n files ≡ None
+no_type : (a : Option Command) (e : Option Bool) (n : Option Choice) (files : List Text) → request a None e n files ≡ None
 no_type None e n files = refl
 no_type (Some a) e n files = refl
 
-no_eat : (a : Option Command) (o : Option OutType) (n : Option Choice) (files : List Text) → meaning a o None n files ≡ None
+no_eat : (a : Option Command) (o : Option OutType) (n : Option Choice) (files : List Text) → request a o None n files ≡ None
 no_eat None o n files = refl
 no_eat (Some a) None n files = refl
 no_eat (Some a) (Some o) n files = refl
 
-no_choice : (a : Option Command) (o : Option OutType) (e : Option Bool) (files : List Text) → meaning a o e None files ≡ None
+no_choice : (a : Option Command) (o : Option OutType) (e : Option Bool) (files : List Text) → request a o e None files ≡ None
 no_choice None o e files = refl
 no_choice (Some a) None e files = refl
 no_choice (Some a) (Some o) None files = refl
 no_choice (Some a) (Some o) (Some e) files = refl
 
 module _ (items : List Item) where
-  pub choice-refused : chosen (choices_of items) ≡ None → meaning_of items ≡ None
-  choice-refused e = ap (λ n. meaning (said command_named None (values_of command_letter items)) (said type_named (Some F) (values_of type_letter items)) (said eat_named (Some false) (values_of eat_letter items)) n (files_of items)) e
-      ∙ no_choice (said command_named None (values_of command_letter items)) (said type_named (Some F) (values_of type_letter items)) (said eat_named (Some false) (values_of eat_letter items)) (files_of items)
+  pub choice-refused : choice_by_count (choices_of items) ≡ None → request_of items ≡ None
+  choice-refused e = ap (λ n. request (value_once command_named None (values_of command_letter items)) (value_once type_named (Some F) (values_of type_letter items)) (value_once eat_named (Some false) (values_of eat_letter items)) n (files_of items)) e
+      ∙ no_choice (value_once command_named None (values_of command_letter items)) (value_once type_named (Some F) (values_of type_letter items)) (value_once eat_named (Some false) (values_of eat_letter items)) (files_of items)
 
-pub meaning-refused : (l : Letter) (items : List Item) → Refuses l (values_of l items) → meaning_of items ≡ None
-meaning-refused command_letter items e = ap (λ a. meaning a (said type_named (Some F) (values_of type_letter items)) (said eat_named (Some false) (values_of eat_letter items)) (chosen (choices_of items)) (files_of items)) e
-meaning-refused type_letter items e = ap (λ o. meaning (said command_named None (values_of command_letter items)) o (said eat_named (Some false) (values_of eat_letter items)) (chosen (choices_of items)) (files_of items)) e
-    ∙ no_type (said command_named None (values_of command_letter items)) (said eat_named (Some false) (values_of eat_letter items)) (chosen (choices_of items)) (files_of items)
-meaning-refused eat_letter items e = ap (λ b. meaning (said command_named None (values_of command_letter items)) (said type_named (Some F) (values_of type_letter items)) b (chosen (choices_of items)) (files_of items)) e
-    ∙ no_eat (said command_named None (values_of command_letter items)) (said type_named (Some F) (values_of type_letter items)) (chosen (choices_of items)) (files_of items)
+pub request-refused : (l : Letter) (items : List Item) → Refuses l (values_of l items) → request_of items ≡ None
+request-refused command_letter items e = ap (λ a. request a (value_once type_named (Some F) (values_of type_letter items)) (value_once eat_named (Some false) (values_of eat_letter items)) (choice_by_count (choices_of items)) (files_of items)) e
+request-refused type_letter items e = ap (λ o. request (value_once command_named None (values_of command_letter items)) o (value_once eat_named (Some false) (values_of eat_letter items)) (choice_by_count (choices_of items)) (files_of items)) e
+    ∙ no_type (value_once command_named None (values_of command_letter items)) (value_once eat_named (Some false) (values_of eat_letter items)) (choice_by_count (choices_of items)) (files_of items)
+request-refused eat_letter items e = ap (λ b. request (value_once command_named None (values_of command_letter items)) (value_once type_named (Some F) (values_of type_letter items)) b (choice_by_count (choices_of items)) (files_of items)) e
+    ∙ no_eat (value_once command_named None (values_of command_letter items)) (value_once type_named (Some F) (values_of type_letter items)) (choice_by_count (choices_of items)) (files_of items)
 
-twice_chosen : (n : ℕ) → 2 ≤ n → chosen n ≡ None
+twice_chosen : (n : ℕ) → 2 ≤ n → choice_by_count n ≡ None
 twice_chosen zero h = absurd (omega arith)
 twice_chosen (suc zero) h = absurd (omega arith)
 twice_chosen (suc (suc n)) h = refl
@@ -91,7 +97,7 @@ hyphened eat_letter v = refl
 
 -- no line begins with these items
 abbrev pub Spoilt : List Item → Type 0
-Spoilt items = (more : List Item) → meaning_of (items ++ more) ≡ None
+Spoilt items = (more : List Item) → request_of (items ++ more) ≡ None
 
 same-letter : (l : Letter) → same_letter l l ≡ true
 same-letter command_letter = refl
@@ -106,10 +112,10 @@ values-more l v xs more = values-append l (xs ++ option l v ∷ []) more
     ∙ ap (λ t. t ++ values_of l more) (values-append l xs (option l v ∷ []) ∙ ap (λ t. values_of l xs ++ t) (values-one l v))
 
 pub spoilt-twice : (l : Letter) (v : Text) (xs : List Item) → 1 ≤ length (values_of l xs) → Spoilt (xs ++ option l v ∷ [])
-spoilt-twice l v xs h more = meaning-refused l ((xs ++ option l v ∷ []) ++ more) (twice l (values_of l ((xs ++ option l v ∷ []) ++ more)) (omega (arith, ap length (values-more l v xs more), length-append (values_of l xs ++ v ∷ []) (values_of l more), length-append (values_of l xs) (v ∷ []), h)))
+spoilt-twice l v xs h more = request-refused l ((xs ++ option l v ∷ []) ++ more) (twice l (values_of l ((xs ++ option l v ∷ []) ++ more)) (omega (arith, ap length (values-more l v xs more), length-append (values_of l xs ++ v ∷ []) (values_of l more), length-append (values_of l xs) (v ∷ []), h)))
 
 pub spoilt-hyphen : (l : Letter) (v : Text) (xs : List Item) → Spoilt (xs ++ option l (45 ∷ v) ∷ [])
-spoilt-hyphen l v xs more = meaning-refused l ((xs ++ option l (45 ∷ v) ∷ []) ++ more) (subst (Refuses l) (sym (values-more l (45 ∷ v) xs more)) (go (values_of l xs) (values_of l more)))
+spoilt-hyphen l v xs more = request-refused l ((xs ++ option l (45 ∷ v) ∷ []) ++ more) (subst (Refuses l) (sym (values-more l (45 ∷ v) xs more)) (go (values_of l xs) (values_of l more)))
   where
     go : (olds bs : List Text) → Refuses l ((olds ++ (45 ∷ v) ∷ []) ++ bs)
     go [] [] = hyphened l v

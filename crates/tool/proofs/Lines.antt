@@ -26,9 +26,9 @@ use Rattle.tool.specs.Matches.{choice_by, choice_in}
 use Rattle.tool.proofs.Rows.{has_row-all_of, with_values-other, with_values-same}
 use Rattle.tool.proofs.Built.{choice_id, choice_rule, rows_from}
 use Rattle.tool.proofs.Items.{choice_not, shown_choice}
-use Rattle.tool.specs.Words.{chosen, choices_of, Item, Letter, command_letter, type_letter, eat_letter, command_named, eat_named, type_named, items_from, line_of, meaning, meaning_of, said, values_of, files_of}
+use Rattle.tool.specs.Words.{choice_by_count, choices_of, Item, Letter, command_letter, type_letter, eat_letter, command_named, eat_named, type_named, items_from, line_of, request, request_of, value_once, values_of, files_of}
 use Rattle.tool.specs.Parser.{espresso_app}
-use Rattle.tool.specs.Matches.{files_in, meaning_in}
+use Rattle.tool.specs.Matches.{files_in, request_in}
 use Rattle.pla.specs.declared.out_type.OutType.TheVariants.{F}
 use Rattle.tool.proofs.Built.{simple_is, fault_is, files_id, id_of, matches_are}
 use Rattle.tool.proofs.Steps.{is_clean, nothing}
@@ -62,10 +62,10 @@ listed_first : (vs : List Text) → option_and_then (λ (us : List Text). slice_
 listed_first [] = refl
 listed_first (v ∷ vs) = refl
 
-said-first : {X : Type 0} (named : Text → Option X) (missing : Option X) (vs : List Text) → length vs ≤ 1 → said named missing vs ≡ option_map_or named (slice_get vs 0) missing
-said-first named missing [] h = refl
-said-first named missing (v ∷ []) h = refl
-said-first named missing (v ∷ w ∷ vs) h = absurd (omega arith)
+value_once-first : {X : Type 0} (named : Text → Option X) (missing : Option X) (vs : List Text) → length vs ≤ 1 → value_once named missing vs ≡ option_map_or named (slice_get vs 0) missing
+value_once-first named missing [] h = refl
+value_once-first named missing (v ∷ []) h = refl
+value_once-first named missing (v ∷ w ∷ vs) h = absurd (omega arith)
 
 map_or-and_then : {X : Type 0} (named : Text → Option X) (o : Option Text) → option_map_or named o None ≡ option_and_then named o
 map_or-and_then named None = refl
@@ -108,13 +108,13 @@ finishes items rows s = record {
   once_chosen = s.once_chosen;
 }
 
-is_chosen : (n : ℕ) → n ≤ 1 → chosen n ≡ Some (choice_by (bytes_eq (flag_text n) (codes "true")))
+is_chosen : (n : ℕ) → n ≤ 1 → choice_by_count n ≡ Some (choice_by (bytes_eq (flag_text n) (codes "true")))
 is_chosen zero h = refl
 is_chosen (suc zero) h = refl
 is_chosen (suc (suc n)) h = absurd (omega arith)
 
 module _ (f : Found) (items : List Item) (s : Final items (rows_of f)) where
-  choice_is : chosen (choices_of items) ≡ Some (choice_in f)
+  choice_is : choice_by_count (choices_of items) ≡ Some (choice_in f)
   choice_is = is_chosen (choices_of items) s.once_chosen ∙ ap (λ o. Some (choice_by (option_map_or (λ t. bytes_eq t (codes "true")) o false)))
       (sym (first_value-rows f choice_id ∙ first_all choice_id (rows_of f) ∙ ap (option_and_then (λ (us : List Text). slice_get us 0)) s.choice))
 
@@ -124,19 +124,19 @@ module _ (f : Found) (items : List Item) (s : Final items (rows_of f)) where
   files_are : files_of items ≡ files_in f
   files_are = sym (ap (λ o. unwrap_or o []) (raw_values-rows f files_id ∙ s.files) ∙ listed-unlisted (files_of items))
 
-  said_is : {X : Type 0} (named : Text → Option X) (missing : Option X) (l : Letter) → said named missing (values_of l items) ≡ option_map_or named (first_value f (id_of l)) missing
-  said_is named missing l = said-first named missing (values_of l items) (s.once l) ∙ ap (λ o. option_map_or named o missing) (value_is l)
+  value_once_is : {X : Type 0} (named : Text → Option X) (missing : Option X) (l : Letter) → value_once named missing (values_of l items) ≡ option_map_or named (first_value f (id_of l)) missing
+  value_once_is named missing l = value_once-first named missing (values_of l items) (s.once l) ∙ ap (λ o. option_map_or named o missing) (value_is l)
 
-  meaning_is : meaning_of items ≡ meaning_in f
-  meaning_is = λ i. meaning ((said_is command_named None command_letter ∙ map_or-and_then command_named (first_value f (codes "command"))) i)
-      (said_is type_named (Some F) type_letter i) (said_is eat_named (Some false) eat_letter i) (choice_is i) (files_are i)
+  request_is : request_of items ≡ request_in f
+  request_is = λ i. request ((value_once_is command_named None command_letter ∙ map_or-and_then command_named (first_value f (codes "command"))) i)
+      (value_once_is type_named (Some F) type_letter i) (value_once_is eat_named (Some false) eat_letter i) (choice_is i) (files_are i)
 
 -- the matches of words that the parse takes say their line
-pub taken_line : (words : List Text) → AllUtf8 words → (f : Found) → fault_of espresso_app words ≡ [] → rows_of f ≡ matches_of espresso_app words → line_of words ≡ meaning_in f
+pub taken_line : (words : List Text) → AllUtf8 words → (f : Found) → fault_of espresso_app words ≡ [] → rows_of f ≡ matches_of espresso_app words → line_of words ≡ request_in f
 taken_line words u f e same = go (ends words u)
   where
-    go : Ends [] (walk_from nothing_held) (items_from None words) words → line_of words ≡ meaning_in f
-    go (inl r) = ap (option_and_then meaning_of) r.found ∙ meaning_is f r.more (subst (Final r.more) (sym (same ∙ matches_are words)) (finishes r.more (rows_from (walk_from nothing_held) words) r.shows))
+    go : Ends [] (walk_from nothing_held) (items_from None words) words → line_of words ≡ request_in f
+    go (inl r) = ap (option_and_then request_of) r.found ∙ request_is f r.more (subst (Final r.more) (sym (same ∙ matches_are words)) (finishes r.more (rows_from (walk_from nothing_held) words) r.shows))
     go (inr r) = absurd (true≢false (sym (ap is_clean e) ∙ ap is_clean (fault_is words) ∙ r.fault))
 
 among-unclean : (k : ErrorKind) (kinds : Kinds) → IsAmong k kinds → is_clean kinds ≡ false
@@ -146,7 +146,7 @@ among-unclean k (x ∷ xs) h = refl
 -- ---- what `try_get_matches_from` says of a command that is ours
 
 module _ (app : App) (words : List Text) (ours : app ≡ espresso_app) (u : AllUtf8 words) where
-  pub line_of_matches : (m : ArgMatches) → (is_simple_and_free app ≡ true → fault_of app words ≡ []) → HasMatchesOf app words m → line_of words ≡ meaning_in (found_of m)
+  pub line_of_matches : (m : ArgMatches) → (is_simple_and_free app ≡ true → fault_of app words ≡ []) → HasMatchesOf app words m → line_of words ≡ request_in (found_of m)
   line_of_matches m kinds matches = taken_line words u (found_of m)
       (ap (λ a. fault_of a words) (sym ours) ∙ kinds (ap is_simple_and_free ours ∙ simple_is))
       ((matches (ap is_simple ours ∙ refl)).0 ∙ ap (λ a. matches_of a words) ours)

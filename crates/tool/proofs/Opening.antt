@@ -1,25 +1,24 @@
 -- A second source that is asked for behind the first, or not.
-use Rattle.std.proofs.Common.{◌≡◌, ℕ, Bool, true, false, true≢false, refl, sym, ap, subst, inl, inr, List, Option, Some, None, Result, Ok, Err, is_ok}
+use Rattle.std.proofs.Common.{◌≡◌, ◌∙◌, ℕ, true, false, true≢false, refl, sym, ap, subst, inl, inr, List, Option, Some, None, Result, Ok, Err, is_ok}
 use Rattle.std.specs.Prelude.{◌⊎◌, IfErr, is_some}
 use Rattle.cube.specs.Limits.{format_limits}
 use Rattle.pla.specs.declared.calls.WriteCalls.{WriteCalls}
 use Rattle.pla.specs.declared.fault.ReadFault.{ReadFault}
 use Rattle.pla.specs.Description.{Description, described}
 use Rattle.pla.specs.Fault.{fault_of}
-use Rattle.pla.proofs.Moves.{front_before}
+use Rattle.tool.specs.declared.command.Command.{Command}
+use Rattle.tool.specs.declared.command.Command.TheVariants.{Verify, Intersect, Sharp}
 use Rattle.tool.specs.declared.status.Status.{Status}
 use Rattle.tool.specs.declared.failure.Operand.{Operand}
-use Rattle.tool.specs.declared.failure.Operand.TheVariants.{First}
 use Rattle.tool.specs.declared.failure.Failure.{Failure}
 use Rattle.tool.specs.declared.failure.Failure.TheVariants as failure
-use Rattle.tool.specs.Answer.{answer_of}
-use Rattle.tool.specs.Run.{Absent, Asked, AsksSecond, Bytes, Intake, Intakes, IsCutShort, Nothing, SecondIntake, Stops, Trace, Uncalled, Untouched, all_due, second_due, trace}
-use Rattle.tool.specs.Steps.{Answers, Closes, IsReadAs, Names, PassesOn, PutsOut, ReadsSecond, Reports, Stands, StoppedBefore, names_said}
-use Rattle.tool.specs.Tool.{first_name, outcome_of, second_name, unless_faulty, with_both}
+use Rattle.tool.specs.Answer.{Answer, Answering, answer_of, of_one, of_two}
+use Rattle.tool.specs.Run.{AsksSecond, Intake, Intakes, IsCutShort, NotOpened, Read, Stops, Trace, all_due, trace}
+use Rattle.tool.specs.Steps.{Closes, Follows, IsReadAs, Names, PassesOn, PutsOut, PutsOutOne, PutsOutTwo, ReadsOther, ReadsSecond, Reports, StoppedBefore}
+use Rattle.tool.specs.Tool.{outcome_of, unless_faulty}
 use Rattle.tool.specs.Tool as tool
-use Rattle.tool.specs.Words.{Meaning, Text, takes_two}
-use Rattle.tool.proofs.Both.{both_answered, both_stopped, one_answered, two_answered}
-use Rattle.tool.proofs.Outputs.{front_whole}
+use Rattle.tool.specs.Words.{Request, Text, takes_two}
+use Rattle.tool.proofs.Both.{one_answered, same_sizes, two_answered, two_differ, two_stopped, unopened_stands}
 use Rattle.tool.proofs.Ways.{could_not_write, ran_out}
 
 -- ---- the first source
@@ -29,12 +28,12 @@ has_fault : (name : Text) (fault : Option ReadFault) (d : Description) (message 
 has_fault name (Some fault) d message e = refl
 has_fault name None d message e = absurd (true≢false (ap is_ok e))
 
-stops : (line : Meaning) (name : Text) (taken : Intake) (out : Trace) (message : List ℕ) → PassesOn line name taken out (Err message) → Stops taken
-stops line name Nothing out message h = tt
-stops line name (Bytes bytes met) out message h = λ ending may.
+stops : (line : Request) (name : Text) (taken : Intake) (out : Trace) (message : List ℕ) → PassesOn line name taken out (Err message) → Stops taken
+stops line name NotOpened out message h = tt
+stops line name (Read bytes met) out message h = λ ending may.
     has_fault name (fault_of format_limits ending bytes) (described format_limits ending bytes) message (h.comes_to (tool.Delivered bytes ending) (refl, may))
 
-pub stopped_before : (line : Meaning) (operand : Operand) (name : Text) (taken : Intake) (out : Trace) (s : Failure)
+pub stopped_before : (line : Request) (operand : Operand) (name : Text) (taken : Intake) (out : Trace) (s : Failure)
     → IsReadAs line operand name taken out (Err s) → StoppedBefore taken (Err s)
 stopped_before line operand name taken out (failure.NotOpened at) h = stops line name taken out _ h.0
 stopped_before line operand name taken out (failure.Faulty at fault) h = stops line name taken out _ h.0
@@ -44,7 +43,7 @@ stopped_before line operand name taken out failure.OutOfMemory h = tt
 
 -- ---- why a second one was not opened
 
-pub why_unopened : (line : Meaning) (taken : Intakes) (names : Names) (out err : Trace) (status : Status) (done : Result Status Failure)
+pub why_unopened : (line : Request) (taken : Intakes) (names : Names) (out err : Trace) (status : Status) (done : Result Status Failure)
     → Closes line taken names out done → Reports names err done status → StoppedBefore taken.first done
     → Stops taken.first ⊎ IsCutShort (outcome_of line) (all_due line taken) taken out err status
 why_unopened line taken names out err status (Ok x) h r s = absurd s
@@ -59,86 +58,91 @@ pub stopped_over : (taken : Intake) (done result : Result Status Failure) → If
 stopped_over taken (Ok x) result same h = absurd h
 stopped_over taken (Err s) result same h = subst (StoppedBefore taken) (sym same) h
 
--- a second one that there is, or not
-abbrev pub unopened : Bool → SecondIntake
-unopened true = Untouched
-unopened false = Absent
-
-pub asks_none : {S : Type 0} (asks : S → Intake → S → Type 0) (line : Meaning) (first : Intake) (Stopped : Type 0) (at : S) (two : Bool)
-    → takes_two line.command ≡ two → Stopped → AsksSecond asks line first Stopped at (unopened two) at
-asks_none asks line first Stopped at true is h = (is, h, refl)
-asks_none asks line first Stopped at false is h = (is, refl)
+-- none was asked for, as the run was stopped
+pub asks_none : {S : Type 0} (asks : S → Intake → S → Type 0) (line : Request) (first : Intake) (Stopped : Type 0) (at : S) → Stopped → AsksSecond asks line first Stopped at None at
+asks_none asks line first Stopped at h = (refl, λ two. h)
 
 -- the same second source, not asked for by a reason that follows
-pub asks_since : {S : Type 0} (asks : S → Intake → S → Type 0) (line : Meaning) (first : Intake) (P Q : Type 0) → (P → Q)
-    → (before after : S) (taken : SecondIntake) → AsksSecond asks line first P before taken after → AsksSecond asks line first Q before taken after
-asks_since asks line first P Q f before after Absent h = h
-asks_since asks line first P Q f before after Untouched h = (h.0, f h.1, h.2)
-asks_since asks line first P Q f before after (Asked intake) h = h
-
--- memory was refused for it
-not_opened : (line : Meaning) (taken : Intakes) (name : Text) (names : Names) (old mid : Option (List ℕ)) (before count : WriteCalls) (pla : Description)
-    → IsReadAs line First name taken.first (trace old mid before count) (Ok pla) → Stands line taken names (trace old mid before count) (Err failure.OutOfMemory)
-not_opened line taken name names old mid before count pla h =
-    (inl (front_before old mid _ (second_due line taken.second) (front_whole old mid _ h.0.wrote)), h.1)
+pub asks_since : {S : Type 0} (asks : S → Intake → S → Type 0) (line : Request) (first : Intake) (P Q : Type 0) → (P → Q)
+    → (before after : S) (taken : Option Intake) → AsksSecond asks line first P before taken after → AsksSecond asks line first Q before taken after
+asks_since asks line first P Q f before after None h = (h.0, λ two. f (h.1 two))
+asks_since asks line first P Q f before after (Some intake) h = h
 
 -- ---- behind a first source without a fault
 
--- an output that was not called since
-called : (P : Option (List ℕ) → WriteCalls → Type 0) (mid new : Option (List ℕ)) (count after : WriteCalls) → Uncalled (trace mid new count after) → P mid count → P new after
-called P mid new count after same h = subst (λ calls. P new calls) (sym same.1) (subst (λ taken. P taken count) (sym same.0) h)
+module _ {S : Type 0} (asks : S → Intake → S → Type 0) (line : Request) (pla : Description) where
+  abbrev pub FollowsSome : S → S → Trace → Result Status Failure → Type 0
+  FollowsSome before after out result = (taken : Option Intake) × Follows asks line pla before taken after out result
 
-module _ {S : Type 0} (asks : S → Intake → S → Type 0) (line : Meaning) (first : Intake) (before after : S) (old mid new : Option (List ℕ)) (start count middle : WriteCalls) (pla : Description)
-    (read : IsReadAs line First (first_name line.files) first (trace old mid start count) (Ok pla)) where
-  -- where the run stands that took this of its second source
-  abbrev pub Continues : SecondIntake → Option (List ℕ) → WriteCalls → Result Status Failure → Type 0
-  Continues second last end result = AsksSecond asks line first (StoppedBefore first result) before second after
-      × Stands line (record { first = first; second = second }) (names_said line) (trace old last start end) result
+  -- what the line's command answers, by that command
+  answer_is : (command : Command) (answering : Answering) → line.command ≡ command → answer_of command line.out line.choice ≡ answering
+      → answer_of line.command line.out line.choice ≡ answering
+  answer_is command answering is e = ap (λ k. answer_of k line.out line.choice) is ∙ e
 
-  -- the second source stopped the run, or memory was refused for it
-  pub second_stopped : (second : SecondIntake) (s : Failure) → ReadsSecond asks line before second after (trace mid new count middle) (Err s) → Continues second new middle (Err s)
-  second_stopped Absent s h = absurd h.1
-  second_stopped Untouched (failure.NotOpened operand) h = absurd h.1
-  second_stopped Untouched (failure.Faulty operand fault) h = absurd h.1
-  second_stopped Untouched failure.SizesDiffer h = absurd h.1
-  second_stopped Untouched failure.WriteFailed h = absurd h.1
-  second_stopped Untouched failure.OutOfMemory h = (
-    h.0 first read.2,
-    called (λ last end. Stands line (record { first = first; second = Untouched }) (names_said line) (trace old last start end) (Err failure.OutOfMemory)) mid new count middle h.1
-        (not_opened line (record { first = first; second = Untouched }) (first_name line.files) (names_said line) old mid start count pla read),
-  )
-  second_stopped (Asked intake) s h = (
-    h.0 first read.2,
-    two_answered line (record { first = first; second = Asked intake }) (names_said line) refl old mid start count pla new middle (Err s) read intake refl refl
-        (both_stopped line pla (second_name line.files) intake mid new count middle s h.1),
-  )
+  -- a command on one file
+  pub follows_one : (command : Command) → line.command ≡ command → takes_two command ≡ false
+      → (at : S) (out : Trace) (result : Result Status Failure) → PutsOutOne (answer_of command line.out line.choice) pla out result → FollowsSome at at out result
+  follows_one command is one at out result puts = go (answer_of command line.out line.choice) refl puts
+    where
+      go : (answering : Answering) → answer_of command line.out line.choice ≡ answering → PutsOutOne answering pla out result → FollowsSome at at out result
+      go (of_one answer) e h =
+          (None, ((λ first faultless. (refl, λ two. absurd (true≢false (sym two ∙ ap takes_two is ∙ one)))), one_answered line pla answer out result (answer_is command (of_one answer) is e) h))
+      go (of_two answer) e h = absurd h
 
-  -- there is none, and the command answered
-  pub second_none : (second : SecondIntake) → ReadsSecond asks line before second after (trace mid new count middle) (Ok None)
-      → (last : Option (List ℕ)) (end : WriteCalls) (result : Result Status Failure)
-      → PutsOut (answer_of line.command line.out line.choice pla pla) (trace new last middle end) result → Continues second last end result
-  second_none Absent h last end result puts = (
-    h.0 first read.2,
-    one_answered line (record { first = first; second = Absent }) (names_said line) refl old mid start count pla last end result read refl
-        (subst (λ c. PutsOut (answer_of line.command line.out line.choice pla pla) (trace mid last c end) result) h.1.1
-        (subst (λ t. PutsOut (answer_of line.command line.out line.choice pla pla) (trace t last middle end) result) h.1.0 puts)),
-  )
-  second_none Untouched h last end result puts = absurd h.1
-  second_none (Asked intake) h last end result puts = absurd h.1
+  -- a command on two
+  module _ (before after : S) (old mid : Option (List ℕ)) (start count : WriteCalls) where
+    abbrev pub ReadsSome : Result Description Failure → Type 0
+    ReadsSome result = (taken : Option Intake) × ReadsOther asks line pla before taken after (trace old mid start count) result
 
-  -- it was read, and the run went on with both
-  pub second_read : (second : SecondIntake) (other : Description) → ReadsSecond asks line before second after (trace mid new count middle) (Ok (Some other))
-      → (last : Option (List ℕ)) (end : WriteCalls) (result : Result Status Failure)
-      → Answers (with_both line pla other) (trace new last middle end) result → Continues second last end result
-  second_read Absent other h last end result answers = absurd h.1
-  second_read Untouched other h last end result answers = absurd h.1
-  second_read (Asked intake) other h last end result answers = (
-    h.0 first read.2,
-    two_answered line (record { first = first; second = Asked intake }) (names_said line) refl old mid start count pla last end result read intake refl refl
-        (both_answered line pla (second_name line.files) intake mid new count middle other last end result h.1 answers),
-  )
+    -- a second source that stopped the run is not of another size
+    pub other_stopped : (s : Failure) → ((taken : Option Intake) × ReadsSecond asks line before taken after (trace old mid start count) (Err s)) → ReadsSome (Err s)
+    other_stopped failure.SizesDiffer (Some intake, h) = absurd h.1
+    other_stopped failure.SizesDiffer (None, h) = absurd h.1
+    other_stopped (failure.NotOpened operand) h = h
+    other_stopped (failure.Faulty operand fault) h = h
+    other_stopped failure.WriteFailed h = h
+    other_stopped failure.OutOfMemory h = h
+
+    module _ (answer : Description → Description → Answer) (is : answer_of line.command line.out line.choice ≡ of_two answer) where
+      stopped_second : (s : Failure) → ((taken : Option Intake) × ReadsSecond asks line before taken after (trace old mid start count) (Err s)) → FollowsSome before after (trace old mid start count) (Err s)
+      stopped_second s (Some intake, h) = (Some intake, (h.0, two_stopped line pla answer is intake old mid start count s h.1))
+      stopped_second failure.OutOfMemory (None, h) = (None, (h.0, unopened_stands line pla (trace old mid start count) h.1))
+      stopped_second (failure.NotOpened operand) (None, h) = absurd h.1
+      stopped_second (failure.Faulty operand fault) (None, h) = absurd h.1
+      stopped_second failure.SizesDiffer (None, h) = absurd h.1
+      stopped_second failure.WriteFailed (None, h) = absurd h.1
+
+      stopped_by : (s : Failure) → ReadsSome (Err s) → FollowsSome before after (trace old mid start count) (Err s)
+      stopped_by failure.SizesDiffer (Some intake, (e, h, differ)) = (Some intake, (h.0, two_differ line pla answer is intake old mid start count e h.1 differ))
+      stopped_by failure.SizesDiffer (None, (e, h, differ)) = absurd h.1
+      stopped_by (failure.NotOpened operand) h = stopped_second (failure.NotOpened operand) h
+      stopped_by (failure.Faulty operand fault) h = stopped_second (failure.Faulty operand fault) h
+      stopped_by failure.WriteFailed h = stopped_second failure.WriteFailed h
+      stopped_by failure.OutOfMemory h = stopped_second failure.OutOfMemory h
+
+      answered_by : (other : Description) → ReadsSome (Ok other) → (new : Option (List ℕ)) (end : WriteCalls) (result : Result Status Failure)
+          → PutsOut (answer pla other) (trace mid new count end) result → FollowsSome before after (trace old new start end) result
+      answered_by other (Some intake, (h, same)) new end result puts =
+          (Some intake, (h.0, two_answered line pla answer is intake old mid start count other new end result h.1 (same_sizes pla.size other.size same) puts))
+      answered_by other (None, (h, same)) new end result puts = absurd h.1
+
+    pub follows_stopped : (command : Command) → line.command ≡ command → takes_two command ≡ true → (s : Failure) → ReadsSome (Err s) → FollowsSome before after (trace old mid start count) (Err s)
+    follows_stopped Verify is two s h = stopped_by _ (answer_is Verify _ is refl) s h
+    follows_stopped Intersect is two s h = stopped_by _ (answer_is Intersect _ is refl) s h
+    follows_stopped Sharp is two s h = stopped_by _ (answer_is Sharp _ is refl) s h
+    follows_stopped _ is two s h = absurd (true≢false (sym two))
+
+    pub follows_two : (command : Command) → line.command ≡ command → (other : Description) → ReadsSome (Ok other)
+        → (new : Option (List ℕ)) (end : WriteCalls) (result : Result Status Failure)
+        → PutsOutTwo (answer_of command line.out line.choice) pla other (trace mid new count end) result → FollowsSome before after (trace old new start end) result
+    follows_two command is other read new end result puts = go (answer_of command line.out line.choice) refl puts
+      where
+        go : (answering : Answering) → answer_of command line.out line.choice ≡ answering → PutsOutTwo answering pla other (trace mid new count end) result
+            → FollowsSome before after (trace old new start end) result
+        go (of_one answer) e h = absurd h
+        go (of_two answer) e h = answered_by answer (answer_is command (of_two answer) is e) other read new end result h
 
 -- a source by its name
-pub named : (line : Meaning) (operand : Operand) (name other : Text) (taken : Intake) (out : Trace) (result : Result Description Failure) → name ≡ other
+pub named : (line : Request) (operand : Operand) (name other : Text) (taken : Intake) (out : Trace) (result : Result Description Failure) → name ≡ other
     → IsReadAs line operand name taken out result → IsReadAs line operand other taken out result
 named line operand name other taken out result same h = subst (λ n. IsReadAs line operand n taken out result) same h

@@ -1,8 +1,9 @@
 -- What an output took, from one step to the next.
-use Rattle.std.proofs.Common.{◌∙◌, ℕ, sym, ap, List, [], ◌++◌, Option, Some, None, append_assoc, append-nil}
+use Rattle.std.proofs.Common.{◌≡◌, ◌∙◌, ℕ, refl, sym, ap, subst, List, [], ◌++◌, Option, Some, None, append_assoc, append-nil}
 use Rattle.std.specs.Io.KnownBytes.{Appends, Keeps}
 use Rattle.pla.specs.declared.calls.WriteCalls.{WriteCalls}
-use Rattle.pla.specs.Device.{AllWritten, AppendsFront, LastUnwritten, one_failed}
+use Rattle.pla.specs.Device.{AllWritten, AppendsFront, LastUnwritten}
+use Rattle.pla.proofs.Moves.{one_failed}
 
 -- and then nothing more
 pub appends_kept : (old mid new : Option (List ℕ)) (a : List ℕ) → Appends old mid a → Keeps mid new → Appends old new a
@@ -23,6 +24,10 @@ front_whole old new a h = (a, [], sym (append-nil a), h)
 -- a beginning, and then nothing more
 pub front_kept : (old mid new : Option (List ℕ)) (a : List ℕ) → AppendsFront old mid a → Keeps mid new → AppendsFront old new a
 front_kept old mid new a h k = (h.0, h.1, h.2, appends_kept old mid new h.0 h.3 k)
+
+-- an output that is as it was took a beginning of each text
+pub front_nothing : (old new : Option (List ℕ)) (a : List ℕ) → new ≡ old → AppendsFront old new a
+front_nothing old new a same = ([], a, refl, subst (λ t. Appends old t []) (sym same) (appends_nothing old))
 
 -- a failure behind calls of which none failed
 pub failed_since : (before mid after : WriteCalls) → AllWritten before mid → LastUnwritten mid after → LastUnwritten before after

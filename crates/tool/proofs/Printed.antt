@@ -1,15 +1,10 @@
--- A printed PLA by its ON list.
-use Rattle.std.proofs.Common.{◌≡◌, List, Result, subst}
+-- The cubes of a list that was computed.
+use Rattle.std.proofs.Common.{◌≡◌, List, Result, ap}
+use Rattle.std.proofs.lemmas.Result.{IfOk-weaker}
+use Rattle.std.specs.Prelude.{IfOk}
 use Rattle.cube.specs.Cube.{Cube}
-use Rattle.pla.specs.declared.out_type.OutType.TheVariants.{F}
-use Rattle.pla.specs.Description.{Description}
-use Rattle.tool.specs.declared.status.Status.{Status}
-use Rattle.tool.specs.declared.failure.Failure.{Failure}
-use Rattle.tool.specs.Answer.{printed_with}
-use Rattle.tool.specs.Run.{Trace}
-use Rattle.tool.specs.Steps.{PutsOut}
+use Rattle.cube.specs.Size.{Size}
+use Rattle.cover.specs.Cubes.{Cubes}
 
--- the list may be written in another way
-pub printed_list : (d : Description) (on others : List Cube) (out : Trace) (result : Result Status Failure) → on ≡ others
-    → PutsOut (printed_with d F on) out result → PutsOut (printed_with d F others) out result
-printed_list d on others out result e h = subst (λ cubes. PutsOut (printed_with d F cubes) out result) e h
+pub cubes_of : {E : Type 0} (list : Result Cubes E) (size : Size) (cubes : List Cube) → IfOk list (λ on. on ≡ record { size = size; cubes = cubes }) → IfOk list (λ on. on.cubes ≡ cubes)
+cubes_of list size cubes h = IfOk-weaker list _ _ (λ on e. ap (λ (l : Cubes). l.cubes) e) h

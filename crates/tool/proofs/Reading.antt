@@ -14,7 +14,7 @@ use Rattle.tool.proofs.Items.{choices-append, choice_not, not_choice, shown_choi
 use Rattle.tool.proofs.Refusals.{choice_refused}
 use Rattle.tool.proofs.Steps.{choice_fault, choice_walk}
 use Rattle.tool.proofs.Built.{choice_id, choice_rule}
-use Rattle.tool.specs.Words.{fewest_word, choices_of, fewest, Item, Letter, Meaning, command_letter, type_letter, eat_letter, option, file, dashes, flag_of, unknown, items_at, items_from, letter_of, same_letter, values_of, files_of, meaning_of, with_item, word_of, plain}
+use Rattle.tool.specs.Words.{choices_of, fewest, Item, Letter, Request, command_letter, type_letter, eat_letter, option, file, dashes, option_of, unknown, items_at, items_from, letter_of, same_letter, values_of, files_of, request_of, with_item, item_of}
 use Rattle.tool.proofs.Rows.{bytes_eq-true, has_row-all_of, without-none, with_values-same, with_values-other}
 use Rattle.tool.proofs.Built.{code_of, faults, files_id, id_of, our_rules, our_shape, rows_from, rule_for}
 use Rattle.tool.proofs.Steps.{Free, nothing, files, IsPlain, empty, hyphen, other, at, hold, is_clean, turn, waiting, walk_on}
@@ -148,8 +148,8 @@ stands_option items eat_letter v rows s = use_option items eat_letter v rows s
 
 -- ---- the words that are left
 
-abbrev pub line_from : List Item → Option (List Item) → Option Meaning
-line_from items rest = option_and_then (λ more. meaning_of (items ++ more)) rest
+abbrev pub line_from : List Item → Option (List Item) → Option Request
+line_from items rest = option_and_then (λ more. request_of (items ++ more)) rest
 
 pub record Reads (items : List Item) (w : Walk) (rest : Option (List Item)) (ws : List Text) : Type 0 where
   pub clean : faults w ws ≡ []
@@ -192,7 +192,7 @@ moves_on items w after word rest ws clean next (inr r) =
 
 line_from-with_item : (items : List Item) (i : Item) (rest : Option (List Item)) → line_from items (with_item i rest) ≡ line_from (items ++ i ∷ []) rest
 line_from-with_item items i None = refl
-line_from-with_item items i (Some more) = ap meaning_of (sym (append_assoc items (i ∷ []) more))
+line_from-with_item items i (Some more) = ap request_of (sym (append_assoc items (i ∷ []) more))
 
 -- an item that the walk has taken
 adds_item : (items : List Item) (i : Item) (w : Walk) (rest : Option (List Item)) (ws : List Text) → Ends (items ++ i ∷ []) w rest ws → Ends items w (with_item i rest) ws
@@ -240,7 +240,7 @@ never_given (w ∷ ws) rows l q = faults-failure (at (hold rows (Some (id_of l, 
 -- ---- the kinds of words
 
 pub data View : Text → Type 0 where
-  plain_view : (w : Text) → IsPlain w → word_of w ≡ plain → View w
+  plain_view : (w : Text) → IsPlain w → item_of w ≡ file w → View w
   bare_view : (l : Letter) → View (45 ∷ code_of l ∷ [])
   own_view : (l : Letter) (z : ℕ) (rest : Text) → View (45 ∷ code_of l ∷ z ∷ rest)
   dashes_view : View (45 ∷ 45 ∷ [])
@@ -311,12 +311,12 @@ items-unknown : (y : ℕ) (rest : Text) (ws : List Text) → letter_of y ≡ Non
     → items_from None ((45 ∷ y ∷ rest) ∷ ws) ≡ None
 items-unknown y rest ws none ne nl =
     let w = 45 ∷ y ∷ rest in
-    ap (λ o. items_at (flag_of o rest w) w ws (items_from None ws) (λ l. items_from (Some l) ws)) none
-    ∙ ap (λ b. items_at (cond b dashes (cond (bytes_eq w (codes "--literals")) fewest_word unknown)) w ws (items_from None ws) (λ l. items_from (Some l) ws)) ne
-    ∙ ap (λ b. items_at (cond b fewest_word unknown) w ws (items_from None ws) (λ l. items_from (Some l) ws)) nl
+    ap (λ o. items_at (option_of o rest w) ws (items_from None ws) (λ l. items_from (Some l) ws)) none
+    ∙ ap (λ b. items_at (cond b dashes (cond (bytes_eq w (codes "--literals")) fewest unknown)) ws (items_from None ws) (λ l. items_from (Some l) ws)) ne
+    ∙ ap (λ b. items_at (cond b fewest unknown) ws (items_from None ws) (λ l. items_from (Some l) ws)) nl
 
-items-plain : (w : Text) (ws : List Text) → word_of w ≡ plain → items_from None (w ∷ ws) ≡ with_item (file w) (items_from None ws)
-items-plain w ws e = ap (λ k. items_at k w ws (items_from None ws) (λ l. items_from (Some l) ws)) e
+items-plain : (w : Text) (ws : List Text) → item_of w ≡ file w → items_from None (w ∷ ws) ≡ with_item (file w) (items_from None ws)
+items-plain w ws e = ap (λ k. items_at k ws (items_from None ws) (λ l. items_from (Some l) ws)) e
 
 own_word : (l : Letter) (z : ℕ) (rest : Text) (ws : List Text) → FreeEnds ws → (items : List Item) (rows : List Row) (p : Option (Text × List Text)) (f : Free)
     → settle_fault our_rules false (hold rows p) ≡ [] → Shows items (settled our_rules (hold rows p)).rows

@@ -17,18 +17,18 @@ use Rattle.pla.specs.Reads.{MatchCause, MayEnd}
 use Rattle.std.specs.Io.KnownBytes.{Appends}
 use Rattle.tool.specs.declared.failure.Operand.{Operand}
 use Rattle.tool.specs.Messages.{fault_message}
-use Rattle.tool.specs.Run.{Bytes, IsFileOf, trace}
+use Rattle.tool.specs.Run.{Read, IsFileOf, trace}
 use Rattle.tool.specs.Steps.{IsReadAs, PassesOn, failure_by}
 use Rattle.tool.specs.Tool.{File, echo_by, unless_faulty}
 use Rattle.tool.specs.Tool as tool
-use Rattle.tool.specs.Words.{Meaning, Text}
+use Rattle.tool.specs.Words.{Request, Text}
 
 -- each file that was taken has these bytes
-each_file : (bytes : List ℕ) (met : Option Ending) (P : File → Type 0) → ((e : Ending) → MayEnd met e → P (tool.Delivered bytes e)) → (file : File) → IsFileOf (Bytes bytes met) file → P file
+each_file : (bytes : List ℕ) (met : Option Ending) (P : File → Type 0) → ((e : Ending) → MayEnd met e → P (tool.Delivered bytes e)) → (file : File) → IsFileOf (Read bytes met) file → P file
 each_file bytes met P h tool.Closed is = absurd is
 each_file bytes met P h (tool.Delivered delivered e) is = subst (λ d. P (tool.Delivered d e)) (sym is.0) (h e is.1)
 
-module _ (line : Meaning) (operand : Operand) (name : Text) (bytes : List ℕ) (met : Option Ending) (old mid : Option (List ℕ)) (before count : WriteCalls) where
+module _ (line : Request) (operand : Operand) (name : Text) (bytes : List ℕ) (met : Option Ending) (old mid : Option (List ℕ)) (before count : WriteCalls) where
   -- the echoes that are due, whatever the ending
   abbrev echoes : List ℕ
   echoes = due format_limits (echo_by line.eat) met bytes
@@ -41,7 +41,7 @@ module _ (line : Meaning) (operand : Operand) (name : Text) (bytes : List ℕ) (
 
   faulty_passes : (fault : ReadFault) → ((e : Ending) → MayEnd met e → fault_of format_limits e bytes ≡ Some fault)
       → ((e : Ending) → MayEnd met e → due_at e ≡ echoes) → Appends old mid echoes
-      → PassesOn line name (Bytes bytes met) (trace old mid before count) (Err (fault_message name fault))
+      → PassesOn line name (Read bytes met) (trace old mid before count) (Err (fault_message name fault))
   faulty_passes fault faulty same written = record {
     wrote = written;
     passed = each_file bytes met _ same;
@@ -54,7 +54,7 @@ module _ (line : Meaning) (operand : Operand) (name : Text) (bytes : List ℕ) (
       → ((e : Ending) → MayEnd met e → MatchCause kind ⊤ ⊤ (due_at e ≡ echoes))
       → MatchCause kind (AppendsFront old mid echoes) (AppendsFront old mid echoes) (Appends old mid echoes)
       → MatchCause kind (LastUnwritten before count) (AllWritten before count) (AllWritten before count)
-      → IsReadAs line operand name (Bytes bytes met) (trace old mid before count) (Err (failure_by operand fault kind))
+      → IsReadAs line operand name (Read bytes met) (trace old mid before count) (Err (failure_by operand fault kind))
   stopped_reading fault WriteFailed faulty same written counted = (written, counted)
   stopped_reading fault OutOfMemory faulty same written counted = (written, counted)
   stopped_reading fault _ faulty same written counted = (faulty_passes fault faulty same written, refl, counted)
@@ -62,7 +62,7 @@ module _ (line : Meaning) (operand : Operand) (name : Text) (bytes : List ℕ) (
   -- a reading that came to a description
   pub whole_reading : (pla : Description) → ((e : Ending) → MayEnd met e → (fault_of format_limits e bytes ≡ None) × (pla ≡ described e))
       → ((e : Ending) → MayEnd met e → due_at e ≡ echoes) → Appends old mid echoes → AllWritten before count
-      → IsReadAs line operand name (Bytes bytes met) (trace old mid before count) (Ok pla)
+      → IsReadAs line operand name (Read bytes met) (trace old mid before count) (Ok pla)
   whole_reading pla answer same written counted = (
     record {
       wrote = written;

@@ -1,12 +1,12 @@
 -- Where a run stands, from step to step.
-use Rattle.std.proofs.Common.{◌≡◌, ◌∙◌, ℕ, refl, sym, ap, subst, inl, inr, List, [], ◌++◌, Option, Result, Ok, Err, true≢false, append-nil}
+use Rattle.std.proofs.Common.{◌≡◌, ◌∙◌, ℕ, refl, sym, ap, subst, inl, inr, List, [], ◌++◌, Option, Result, Ok, Err, true, false, true≢false, append-nil}
 use Rattle.std.specs.Prelude.{◌⊎◌, IsTrue}
 use Rattle.std.specs.Io.KnownBytes.{Appends, Keeps}
 use Rattle.pla.specs.declared.device.Broken.{Broken}
 use Rattle.pla.specs.Description.{Description}
 use Rattle.pla.specs.declared.calls.Counts.{Counts}
 use Rattle.pla.specs.declared.calls.WriteCalls.{WriteCalls}
-use Rattle.pla.specs.Device.{AppendsFront, TellsFlush, flush_broke, flush_went, one_more}
+use Rattle.pla.specs.Device.{AppendsFront, TellsFlush, after_flush, one_more}
 use Rattle.pla.proofs.Moves.{appends_then, front_then, front_before}
 use Rattle.tool.specs.declared.status.Status.{Status}
 use Rattle.tool.specs.declared.status.Status.TheVariants.{Fault}
@@ -18,12 +18,12 @@ use Rattle.tool.specs.Run.{CouldNotWrite, EndsAs, Finishes, FlushBroke, FlushWen
 use Rattle.tool.specs.Steps.{Answers, Began, Closes, FilesOf, IsReadAs, Names, PassesOn, Prints, PutsOut, Reports, Stands, StandsAt, name_at}
 use Rattle.tool.specs.Answer.{Answer}
 use Rattle.tool.specs.Tool.{File, Outcome, answered, behind, outcome_of, reading_of, reading_then, unless_stopped}
-use Rattle.tool.specs.Words.{Meaning, Text}
+use Rattle.tool.specs.Words.{Request, Text}
 use Rattle.tool.proofs.Outputs.{appends_kept, failed_since, front_kept, front_whole}
 
 -- ---- the reading of a source, and what follows
 
-module _ (line : Meaning) (operand : Operand) (name : Text) (taken : Intake) (X : Type 0) (file : X → File) (is_file : (x : X) → IsFileOf taken (file x)) (next : X → Description → Outcome) (rest : List ℕ) (names : Names) (old mid : Option (List ℕ)) (before count : WriteCalls) where
+module _ (line : Request) (operand : Operand) (name : Text) (taken : Intake) (X : Type 0) (file : X → File) (is_file : (x : X) → IsFileOf taken (file x)) (next : X → Description → Outcome) (rest : List ℕ) (names : Names) (old mid : Option (List ℕ)) (before count : WriteCalls) where
   abbrev whole : X → Outcome
   whole x = reading_then line name (file x) (next x)
 
@@ -115,7 +115,7 @@ put_answers answer out (Err failure.OutOfMemory) h = h
 
 -- ---- the last flush
 
-module _ (line : Meaning) (taken : Intakes) (names : Names) (old mid new : Option (List ℕ)) (before count after : WriteCalls) (kept : Keeps mid new) where
+module _ (line : Request) (taken : Intakes) (names : Names) (old mid new : Option (List ℕ)) (before count after : WriteCalls) (kept : Keeps mid new) where
   prints_kept : (outcome : Outcome) (message : List ℕ) (status : Status) → Prints outcome (trace old mid before count) message status → Prints outcome (trace old new before after) message status
   prints_kept outcome message status h = record { output = appends_kept old mid new outcome.output h.output kept; same_message = h.same_message; same_status = h.same_status }
 
@@ -153,7 +153,7 @@ module _ (line : Meaning) (taken : Intakes) (names : Names) (old mid new : Optio
   failures_of same = ap (λ (c : Counts). c.failures) same
 
   -- a flush that went well
-  pub flush_kept : (x : Status) → after ≡ flush_went count → Stands line taken names (trace old mid before count) (Ok x) → Closes line taken names end (Ok x)
+  pub flush_kept : (x : Status) → after ≡ after_flush false count → Stands line taken names (trace old mid before count) (Ok x) → Closes line taken names end (Ok x)
   flush_kept x e h = (
     (
       λ files. prints_kept _ [] x (h.0 files),
@@ -176,7 +176,7 @@ module _ (line : Meaning) (taken : Intakes) (names : Names) (old mid new : Optio
   flush_ignored failure.OutOfMemory flush e h = ((began_kept h.0, writes_stay flush e ∙ failures_of h.1), flushed_last flush e (flushes_of h.1))
 
   -- a flush that failed, where all was written
-  pub flush_failed : (x : Status) → after ≡ flush_broke count → Stands line taken names (trace old mid before count) (Ok x) → Closes line taken names end (Err failure.WriteFailed)
+  pub flush_failed : (x : Status) → after ≡ after_flush true count → Stands line taken names (trace old mid before count) (Ok x) → Closes line taken names end (Err failure.WriteFailed)
   flush_failed x e h =
       let whole = λ (files : FilesOf taken). appends_kept old mid new _ (h.0 files).output kept in (
         (
@@ -188,7 +188,7 @@ module _ (line : Meaning) (taken : Intakes) (names : Names) (old mid new : Optio
 
 -- ---- the end
 
-module _ (line : Meaning) (taken : Intakes) (names : Names) (out err : Trace) (status : Status) where
+module _ (line : Request) (taken : Intakes) (names : Names) (out err : Trace) (status : Status) where
   finishes : (message : List ℕ) (s : Status) → ((files : FilesOf taken) → Prints (outcome_of line files.first files.second) out message s) → WroteOrFailed err message → status ≡ s
       → WritesWent out → FlushedLast out → (IsTrue (is_answer s) → FlushWent out) → Finishes (outcome_of line) taken out err status
   finishes message s h say e written flushed unbroken = record {

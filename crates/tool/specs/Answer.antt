@@ -6,9 +6,8 @@ use Rattle.cover.specs.Contained.{contained}
 use Rattle.cover.specs.Places.{agree_outside, holds_all, places}
 use Rattle.pla.specs.declared.out_type.OutType.{OutType}
 use Rattle.pla.specs.declared.out_type.OutType.TheVariants.{F, Fd, Fr, Fdr}
-use Rattle.pla.specs.Completed.{sets_of}
+use Rattle.pla.specs.Completed.{three_sets}
 use Rattle.pla.specs.Description.{Description}
-use Rattle.pla.specs.Sets.{SetLists}
 use Rattle.pla.specs.Text.{text_of}
 use Rattle.covering.specs.declared.choice.Choice.{Choice}
 use Rattle.minimum.specs.Primes.{essential_of, exact_of, primes_of}
@@ -24,6 +23,11 @@ pub record Answer : Type 0 where
   pub text : List ℕ
   pub status : Status
 
+-- what a command answers, on the description of its file or on those of its two
+pub data Answering : Type 0 where
+  of_one : (Description → Answer) → Answering
+  of_two : (Description → Description → Answer) → Answering
+
 -- a text, and nothing to judge
 abbrev pub printed : List ℕ → Answer
 printed text = record { text = text; status = Done }
@@ -32,10 +36,6 @@ printed text = record { text = text; status = Done }
 abbrev pub judged : Bool → List ℕ → List ℕ → Answer
 judged true affirmed denied = record { text = affirmed; status = Done }
 judged false affirmed denied = record { text = denied; status = No }
-
--- the lists of the three sets
-abbrev pub three_sets : Description → SetLists
-three_sets d = sets_of d true true
 
 -- the type prints a DC list
 abbrev pub prints_dc : OutType → Bool
@@ -68,19 +68,22 @@ agree d e = agree_outside d.size (places d.on) (places e.on)
 abbrev pub printed_sum : Description → (Place → Bool) → Answer
 printed_sum d s = printed_with d F (complete_sum d.size s)
 
--- what each command answers on the descriptions of its files; of a single file it is given twice
-abbrev pub answer_of : Command → OutType → Choice → Description → Description → Answer
-answer_of command.Echo out choice d e = printed_with d out d.on
-answer_of command.Check out choice d e = checked (flaws_of (three_sets d))
-answer_of command.Contain out choice d e = printed_with d out (contained d.size d.on)
-answer_of command.Primes out choice d e = printed_with d out (primes_of (three_sets d))
-answer_of command.Essen out choice d e =
-    printed_with d out (essential_of (three_sets d) (primes_of (three_sets d)))
-answer_of command.Exact out choice d e = printed_with d out (exact_of choice (three_sets d))
-answer_of command.Tautology out choice d e = judged (holds_all d.size (places d.on))
-    (codes "ON-set is a tautology\n") (codes "ON-set is not a tautology\n")
-answer_of command.Verify out choice d e = judged (agree d e)
-    (codes "PLAs compared equal\n") (codes "PLA comparison failed; the PLAs are not equivalent\n")
-answer_of command.Intersect out choice d e =
-    printed_sum d (intersection (places d.on) (places e.on))
-answer_of command.Sharp out choice d e = printed_sum d (difference (places d.on) (places e.on))
+-- what each command answers
+abbrev pub answer_of : Command → OutType → Choice → Answering
+answer_of command.Echo out choice = of_one (λ d. printed_with d out d.on)
+answer_of command.Check out choice = of_one (λ d. checked (flaws_of (three_sets d)))
+answer_of command.Contain out choice = of_one (λ d. printed_with d out (contained d.size d.on))
+answer_of command.Primes out choice = of_one (λ d. printed_with d out (primes_of (three_sets d)))
+answer_of command.Essen out choice = of_one (λ d.
+    printed_with d out (essential_of (three_sets d) (primes_of (three_sets d))))
+answer_of command.Exact out choice = of_one (λ d.
+    printed_with d out (exact_of choice (three_sets d)))
+answer_of command.Tautology out choice = of_one (λ d. judged (holds_all d.size (places d.on))
+    (codes "ON-set is a tautology\n") (codes "ON-set is not a tautology\n"))
+answer_of command.Verify out choice = of_two (λ d e. judged (agree d e)
+    (codes "PLAs compared equal\n")
+    (codes "PLA comparison failed; the PLAs are not equivalent\n"))
+answer_of command.Intersect out choice = of_two (λ d e.
+    printed_sum d (intersection (places d.on) (places e.on)))
+answer_of command.Sharp out choice = of_two (λ d e.
+    printed_sum d (difference (places d.on) (places e.on)))

@@ -1,10 +1,11 @@
--- Answers of the commands to files of one input, computed.
-use Rattle.std.specs.Prelude.{◌≡◌, ℕ, List, [], ◌∷◌, None, Some, codes, refl}
+-- Answers of the commands to files of one input, computed. A command on one file leaves the second
+-- alone, which is closed here.
+use Rattle.std.specs.Prelude.{◌≡◌, ℕ, List, [], ◌∷◌, codes, refl}
 use Rattle.std.specs.Fmt.{digits}
 use Rattle.pla.specs.declared.ending.Ending.TheVariants.{End}
 use Rattle.pla.specs.Fault.{fault_in, is_past_limit, is_too_long, is_refused, is_inside_row, is_repeated, is_bad_number, is_name_too_early, is_wrong_count, is_type_too_late, is_bad_type, is_row_too_early, is_bad_symbol}
 use Rattle.tool.specs.declared.status.Status.TheVariants.{Done, No}
-use Rattle.tool.specs.Tool.{Delivered, Outcome, tool}
+use Rattle.tool.specs.Tool.{Closed, Delivered, Outcome, tool}
 
 -- an answer that was printed
 abbrev printed : List ℕ → Outcome
@@ -15,7 +16,7 @@ abbrev denied : List ℕ → Outcome
 denied output = record { output = output; message = []; status = No }
 
 two_is_open_and_three_says_nothing : tool (codes "-Decho" ∷ codes "-o" ∷ codes "fd" ∷ [])
-    (Delivered (codes ".i 1\n.o 1\n1 2\n0 3\n") End) None
+    (Delivered (codes ".i 1\n.o 1\n1 2\n0 3\n") End) Closed
     ≡ printed (codes ".i 1\n.o 1\n.type fd\n.p 1\n1 -\n.e\n")
 unfolding digits fault_in is_past_limit is_too_long is_refused is_inside_row
     is_repeated is_bad_number is_name_too_early is_wrong_count is_type_too_late
@@ -23,7 +24,7 @@ unfolding digits fault_in is_past_limit is_too_long is_refused is_inside_row
 two_is_open_and_three_says_nothing = refl
 
 each_flaw_on_a_line : tool (codes "-Dcheck" ∷ [])
-    (Delivered (codes ".i 1\n.o 2\n.type fdr\n1 1~\n1 -~\n1 0~\n") End) None
+    (Delivered (codes ".i 1\n.o 2\n.type fdr\n1 1~\n1 -~\n1 0~\n") End) Closed
     ≡ denied (codes
     "ON-set and DC-set intersect\nON-set and OFF-set intersect\nDC-set and OFF-set intersect\nON-set, OFF-set and DC-set do not cover the space\n")
 unfolding digits fault_in is_past_limit is_too_long is_refused is_inside_row
@@ -32,7 +33,7 @@ unfolding digits fault_in is_past_limit is_too_long is_refused is_inside_row
 each_flaw_on_a_line = refl
 
 on_meets_dc_alone : tool (codes "-Dcheck" ∷ [])
-    (Delivered (codes ".i 1\n.o 1\n1 1\n- -\n") End) None
+    (Delivered (codes ".i 1\n.o 1\n1 1\n- -\n") End) Closed
     ≡ denied (codes "ON-set and DC-set intersect\n")
 unfolding digits fault_in is_past_limit is_too_long is_refused is_inside_row
     is_repeated is_bad_number is_name_too_early is_wrong_count is_type_too_late
@@ -40,7 +41,7 @@ unfolding digits fault_in is_past_limit is_too_long is_refused is_inside_row
 on_meets_dc_alone = refl
 
 on_meets_off_alone : tool (codes "-Dcheck" ∷ [])
-    (Delivered (codes ".i 1\n.o 1\n.type fr\n1 1\n- 0\n") End) None
+    (Delivered (codes ".i 1\n.o 1\n.type fr\n1 1\n- 0\n") End) Closed
     ≡ denied (codes "ON-set and OFF-set intersect\n")
 unfolding digits fault_in is_past_limit is_too_long is_refused is_inside_row
     is_repeated is_bad_number is_name_too_early is_wrong_count is_type_too_late
@@ -48,7 +49,7 @@ unfolding digits fault_in is_past_limit is_too_long is_refused is_inside_row
 on_meets_off_alone = refl
 
 dc_meets_off_alone : tool (codes "-Dcheck" ∷ [])
-    (Delivered (codes ".i 1\n.o 1\n.type fdr\n1 -\n- 0\n") End) None
+    (Delivered (codes ".i 1\n.o 1\n.type fdr\n1 -\n- 0\n") End) Closed
     ≡ denied (codes "DC-set and OFF-set intersect\n")
 unfolding digits fault_in is_past_limit is_too_long is_refused is_inside_row
     is_repeated is_bad_number is_name_too_early is_wrong_count is_type_too_late
@@ -56,7 +57,7 @@ unfolding digits fault_in is_past_limit is_too_long is_refused is_inside_row
 dc_meets_off_alone = refl
 
 a_gap_alone : tool (codes "-Dcheck" ∷ [])
-    (Delivered (codes ".i 1\n.o 1\n.type fdr\n1 1\n") End) None
+    (Delivered (codes ".i 1\n.o 1\n.type fdr\n1 1\n") End) Closed
     ≡ denied (codes "ON-set, OFF-set and DC-set do not cover the space\n")
 unfolding digits fault_in is_past_limit is_too_long is_refused is_inside_row
     is_repeated is_bad_number is_name_too_early is_wrong_count is_type_too_late
@@ -64,7 +65,7 @@ unfolding digits fault_in is_past_limit is_too_long is_refused is_inside_row
 a_gap_alone = refl
 
 no_flaw : tool (codes "-Dcheck" ∷ [])
-    (Delivered (codes ".i 1\n.o 1\n.type fdr\n1 1\n0 0\n") End) None
+    (Delivered (codes ".i 1\n.o 1\n.type fdr\n1 1\n0 0\n") End) Closed
     ≡ printed (codes "ON-set, OFF-set and DC-set partition the space\n")
 unfolding digits fault_in is_past_limit is_too_long is_refused is_inside_row
     is_repeated is_bad_number is_name_too_early is_wrong_count is_type_too_late
@@ -72,14 +73,14 @@ unfolding digits fault_in is_past_limit is_too_long is_refused is_inside_row
 no_flaw = refl
 
 an_open_place_makes_nothing_essential : tool (codes "-Dessen" ∷ [])
-    (Delivered (codes ".i 1\n.o 1\n1 1\n1 -\n") End) None
+    (Delivered (codes ".i 1\n.o 1\n1 1\n1 -\n") End) Closed
     ≡ printed (codes ".i 1\n.o 1\n.p 0\n.e\n")
 unfolding digits fault_in is_past_limit is_too_long is_refused is_inside_row
     is_repeated is_bad_number is_name_too_early is_wrong_count is_type_too_late
     is_bad_type is_row_too_early is_bad_symbol
 an_open_place_makes_nothing_essential = refl
 
-an_essential_prime : tool (codes "-Dessen" ∷ []) (Delivered (codes ".i 1\n.o 1\n1 1\n") End) None
+an_essential_prime : tool (codes "-Dessen" ∷ []) (Delivered (codes ".i 1\n.o 1\n1 1\n") End) Closed
     ≡ printed (codes ".i 1\n.o 1\n.p 1\n1 1\n.e\n")
 unfolding digits fault_in is_past_limit is_too_long is_refused is_inside_row
     is_repeated is_bad_number is_name_too_early is_wrong_count is_type_too_late
@@ -87,7 +88,7 @@ unfolding digits fault_in is_past_limit is_too_long is_refused is_inside_row
 an_essential_prime = refl
 
 primes_over_an_open_place : tool (codes "-Dprimes" ∷ [])
-    (Delivered (codes ".i 1\n.o 1\n1 1\n0 -\n") End) None
+    (Delivered (codes ".i 1\n.o 1\n1 1\n0 -\n") End) Closed
     ≡ printed (codes ".i 1\n.o 1\n.p 1\n- 1\n.e\n")
 unfolding digits fault_in is_past_limit is_too_long is_refused is_inside_row
     is_repeated is_bad_number is_name_too_early is_wrong_count is_type_too_late
@@ -95,7 +96,7 @@ unfolding digits fault_in is_past_limit is_too_long is_refused is_inside_row
 primes_over_an_open_place = refl
 
 primes_with_the_open_list : tool (codes "-Dprimes" ∷ codes "-o" ∷ codes "fdr" ∷ [])
-    (Delivered (codes ".i 1\n.o 1\n1 1\n0 -\n") End) None
+    (Delivered (codes ".i 1\n.o 1\n1 1\n0 -\n") End) Closed
     ≡ printed (codes ".i 1\n.o 1\n.type fdr\n.p 2\n- 1\n0 -\n.e\n")
 unfolding digits fault_in is_past_limit is_too_long is_refused is_inside_row
     is_repeated is_bad_number is_name_too_early is_wrong_count is_type_too_late
@@ -103,7 +104,7 @@ unfolding digits fault_in is_past_limit is_too_long is_refused is_inside_row
 primes_with_the_open_list = refl
 
 the_dc_list_that_is_left : tool (codes "-Decho" ∷ codes "-o" ∷ codes "fd" ∷ [])
-    (Delivered (codes ".i 1\n.o 1\n.type fr\n1 1\n") End) None
+    (Delivered (codes ".i 1\n.o 1\n.type fr\n1 1\n") End) Closed
     ≡ printed (codes ".i 1\n.o 1\n.type fd\n.p 2\n1 1\n0 -\n.e\n")
 unfolding digits fault_in is_past_limit is_too_long is_refused is_inside_row
     is_repeated is_bad_number is_name_too_early is_wrong_count is_type_too_late
@@ -111,7 +112,7 @@ unfolding digits fault_in is_past_limit is_too_long is_refused is_inside_row
 the_dc_list_that_is_left = refl
 
 the_off_list_that_is_left : tool (codes "-Decho" ∷ codes "-o" ∷ codes "fr" ∷ [])
-    (Delivered (codes ".i 1\n.o 1\n1 1\n") End) None
+    (Delivered (codes ".i 1\n.o 1\n1 1\n") End) Closed
     ≡ printed (codes ".i 1\n.o 1\n.type fr\n.p 2\n1 1\n0 0\n.e\n")
 unfolding digits fault_in is_past_limit is_too_long is_refused is_inside_row
     is_repeated is_bad_number is_name_too_early is_wrong_count is_type_too_late
@@ -119,21 +120,21 @@ unfolding digits fault_in is_past_limit is_too_long is_refused is_inside_row
 the_off_list_that_is_left = refl
 
 a_contained_cube : tool (codes "-Dcontain" ∷ [])
-    (Delivered (codes ".i 1\n.o 1\n1 1\n- 1\n") End) None
+    (Delivered (codes ".i 1\n.o 1\n1 1\n- 1\n") End) Closed
     ≡ printed (codes ".i 1\n.o 1\n.p 1\n- 1\n.e\n")
 unfolding digits fault_in is_past_limit is_too_long is_refused is_inside_row
     is_repeated is_bad_number is_name_too_early is_wrong_count is_type_too_late
     is_bad_type is_row_too_early is_bad_symbol
 a_contained_cube = refl
 
-the_least_cover : tool (codes "-Dexact" ∷ []) (Delivered (codes ".i 1\n.o 1\n1 1\n0 1\n") End) None
+the_least_cover : tool (codes "-Dexact" ∷ []) (Delivered (codes ".i 1\n.o 1\n1 1\n0 1\n") End) Closed
     ≡ printed (codes ".i 1\n.o 1\n.p 1\n- 1\n.e\n")
 unfolding digits fault_in is_past_limit is_too_long is_refused is_inside_row
     is_repeated is_bad_number is_name_too_early is_wrong_count is_type_too_late
     is_bad_type is_row_too_early is_bad_symbol
 the_least_cover = refl
 
-everything : tool (codes "-Dtautology" ∷ []) (Delivered (codes ".i 1\n.o 1\n1 1\n0 1\n") End) None
+everything : tool (codes "-Dtautology" ∷ []) (Delivered (codes ".i 1\n.o 1\n1 1\n0 1\n") End) Closed
     ≡ printed (codes "ON-set is a tautology\n")
 unfolding digits fault_in is_past_limit is_too_long is_refused is_inside_row
     is_repeated is_bad_number is_name_too_early is_wrong_count is_type_too_late
@@ -141,7 +142,7 @@ unfolding digits fault_in is_past_limit is_too_long is_refused is_inside_row
 everything = refl
 
 not_everything : tool (codes "-Dtautology" ∷ [])
-    (Delivered (codes ".i 1\n.o 1\n1 1\n0 -\n") End) None
+    (Delivered (codes ".i 1\n.o 1\n1 1\n0 -\n") End) Closed
     ≡ denied (codes "ON-set is not a tautology\n")
 unfolding digits fault_in is_past_limit is_too_long is_refused is_inside_row
     is_repeated is_bad_number is_name_too_early is_wrong_count is_type_too_late
@@ -149,7 +150,7 @@ unfolding digits fault_in is_past_limit is_too_long is_refused is_inside_row
 not_everything = refl
 
 other_functions : tool (codes "-Dverify" ∷ codes "a" ∷ codes "b" ∷ [])
-    (Delivered (codes ".i 1\n.o 1\n1 1\n") End) (Some (Delivered (codes ".i 1\n.o 1\n0 1\n") End))
+    (Delivered (codes ".i 1\n.o 1\n1 1\n") End) (Delivered (codes ".i 1\n.o 1\n0 1\n") End)
     ≡ denied (codes "PLA comparison failed; the PLAs are not equivalent\n")
 unfolding digits fault_in is_past_limit is_too_long is_refused is_inside_row
     is_repeated is_bad_number is_name_too_early is_wrong_count is_type_too_late
@@ -158,7 +159,7 @@ other_functions = refl
 
 an_open_place_of_the_second : tool (codes "-Dverify" ∷ codes "a" ∷ codes "b" ∷ [])
     (Delivered (codes ".i 1\n.o 1\n- 1\n") End)
-    (Some (Delivered (codes ".i 1\n.o 1\n1 1\n0 -\n") End))
+    (Delivered (codes ".i 1\n.o 1\n1 1\n0 -\n") End)
     ≡ printed (codes "PLAs compared equal\n")
 unfolding digits fault_in is_past_limit is_too_long is_refused is_inside_row
     is_repeated is_bad_number is_name_too_early is_wrong_count is_type_too_late
@@ -166,7 +167,7 @@ unfolding digits fault_in is_past_limit is_too_long is_refused is_inside_row
 an_open_place_of_the_second = refl
 
 what_both_hold : tool (codes "-Dintersect" ∷ codes "a" ∷ codes "b" ∷ [])
-    (Delivered (codes ".i 1\n.o 1\n- 1\n") End) (Some (Delivered (codes ".i 1\n.o 1\n1 1\n") End))
+    (Delivered (codes ".i 1\n.o 1\n- 1\n") End) (Delivered (codes ".i 1\n.o 1\n1 1\n") End)
     ≡ printed (codes ".i 1\n.o 1\n.p 1\n1 1\n.e\n")
 unfolding digits fault_in is_past_limit is_too_long is_refused is_inside_row
     is_repeated is_bad_number is_name_too_early is_wrong_count is_type_too_late

@@ -7,7 +7,7 @@ use Rattle.clap.specs.declared.parser.matches.Found.{Found}
 use Rattle.covering.specs.declared.choice.Choice.{Choice}
 use Rattle.covering.specs.declared.choice.Choice.TheVariants.{First, Literals}
 use Rattle.pla.specs.declared.out_type.OutType.TheVariants.{F}
-use Rattle.tool.specs.Words.{Meaning, command_named, eat_named, meaning, type_named}
+use Rattle.tool.specs.Words.{Request, command_named, eat_named, request, type_named}
 
 -- the file words that the parse found
 abbrev pub files_in : Found → List (List ℕ)
@@ -25,8 +25,8 @@ choice_in f =
     (option_map_or (λ t. bytes_eq t (codes "true")) (first_value f (codes "literals")) false)
 
 -- the line that the parse found, by the values of its options and its files
-abbrev pub meaning_in : Found → Option Meaning
-meaning_in f = meaning (option_and_then command_named (first_value f (codes "command")))
+abbrev pub request_in : Found → Option Request
+request_in f = request (option_and_then command_named (first_value f (codes "command")))
     (option_map_or type_named (first_value f (codes "type")) (Some F))
     (option_map_or eat_named (first_value f (codes "eat")) (Some false))
     (Some (choice_in f)) (files_in f)

@@ -9,7 +9,7 @@ use Rattle.tool.specs.declared.status.Status.TheVariants.{Memory}
 use Rattle.tool.specs.Messages.{memory_message}
 use Rattle.tool.specs.Run.{HasOutcome, Intake, Runs, Trace, Uncalled, WroteOrFailed}
 use Rattle.tool.specs.Tool.{File, Outcome, refusal_of, tool}
-use Rattle.tool.specs.Words.{Meaning, Text, line_of}
+use Rattle.tool.specs.Words.{Request, Text, line_of}
 
 -- ---- the words
 
@@ -20,12 +20,12 @@ words_behind texts (Ok given) = Ok (drop 1 (texts given))
 words_behind texts (Err fault) = Err fault
 
 -- the line that they say
-abbrev pub line_said : Result (List Text) LineFault → Option Meaning
+abbrev pub line_said : Result (List Text) LineFault → Option Request
 line_said (Ok words) = line_of words
 line_said (Err fault) = None
 
 -- what the tool answers on them: words that are no text are refused, and out of memory is said
-abbrev pub tool_on : Result (List Text) LineFault → File → Option File → Outcome
+abbrev pub tool_on : Result (List Text) LineFault → File → File → Outcome
 tool_on (Ok words) first second = tool words first second
 tool_on (Err fault) first second = refusal_of fault
 
@@ -64,8 +64,7 @@ pub record Refuses {O : Type 0} (words : Result (List Text) LineFault) (before a
     (out err : Trace) (status : Status) : Type 0 where
   pub refused : line_said words ≡ None
   pub unopened : after ≡ before
-  pub outcome : (first : File) (second : Option File)
-      → HasOutcome (tool_on words first second) out err status
+  pub outcome : (first second : File) → HasOutcome (tool_on words first second) out err status
   pub untouched : out.calls_after ≡ out.calls
 
 -- memory was refused before a source was opened: the output was not called, and that is said
@@ -78,8 +77,8 @@ pub record GivesUp {O : Type 0} (before after : O) (out err : Trace) (status : S
 -- a line is run on its files, of which each is opened once, the second after the first, and nothing
 -- else is; this is the tool's answer on files
 pub record RunsOn {O D : Type 0} (opens : Option Text → O → Source D → O → Type 0)
-    (takes : Source D → Source D → Intake → Type 0) (line : Meaning)
-    (answer : File → Option File → Outcome) (before after : O) (out err : Trace)
+    (takes : Source D → Source D → Intake → Type 0) (line : Request)
+    (answer : File → File → Outcome) (before after : O) (out err : Trace)
     (status : Status) : Type 0 where
   pub between : O
   pub runs : Runs
@@ -89,7 +88,7 @@ pub record RunsOn {O D : Type 0} (opens : Option Text → O → Source D → O �
 
 -- a line is run, unless memory is refused before
 abbrev pub RunsLine : {O D : Type 0} → (Option Text → O → Source D → O → Type 0)
-    → (Source D → Source D → Intake → Type 0) → Meaning → (File → Option File → Outcome)
+    → (Source D → Source D → Intake → Type 0) → Request → (File → File → Outcome)
     → O → O → Trace → Trace → Status → Type 0
 RunsLine opens takes line answer before after out err status =
     GivesUp before after out err status ⊎ RunsOn opens takes line answer before after out err status
@@ -102,5 +101,5 @@ abbrev pub Executes : {O D : Type 0} → (Option Text → O → Source D → O �
 Executes opens takes words before after out err status =
     Refuses words before after out err status
     ⊎ (((texts : List Text) × (words ≡ Ok texts) × GivesUp before after out err status)
-    ⊎ ((line : Meaning) × (line_said words ≡ Some line)
+    ⊎ ((line : Request) × (line_said words ≡ Some line)
     × RunsOn opens takes line (tool_on words) before after out err status))

@@ -1,5 +1,5 @@
 -- What a run takes from its sources and how it ends, in one of three ways, by what its devices report.
-use Rattle.std.specs.Prelude.{◌≡◌, ◌≤◌, ℕ, true, false, List, [], ◌++◌, length, Option, Some, None, ⊤, ◌⊎◌, string_bytes, is_some, MatchOption, IsTrue}
+use Rattle.std.specs.Prelude.{◌≡◌, ◌≤◌, ℕ, true, List, [], ◌++◌, length, Option, Some, None, ⊤, ◌⊎◌, string_bytes, is_some, MatchOption, IsTrue}
 use Rattle.std.specs.Io.KnownBytes.{Appends, Consumes}
 use Rattle.cube.specs.Limits.{format_limits}
 use Rattle.pla.specs.declared.calls.ReadCalls.{ReadCalls}
@@ -16,46 +16,37 @@ use Rattle.tool.specs.declared.status.Status.TheVariants.{Fault, Memory}
 use Rattle.tool.specs.Messages.{is_answer, memory_message, write_failed_message}
 use Rattle.tool.specs.Tool.{File, Outcome, echo_by}
 use Rattle.tool.specs.Tool as tool
-use Rattle.tool.specs.Words.{Meaning, Text, takes_two}
+use Rattle.tool.specs.Words.{Request, Text, takes_two}
 
 -- ---- the files of the sources
 
 -- what a run took from a source: it was closed, or it delivered these bytes, and reading met this
 -- ending, or came to its end before it met one
 pub data Intake : Type 0 where
-  Nothing : Intake
-  Bytes : List ℕ → Option Ending → Intake
+  NotOpened : Intake
+  Read : List ℕ → Option Ending → Intake
 
--- what a run took from its second source: there is none, or it stayed as it was, since the run was
--- stopped before, or the run asked for it
-pub data SecondIntake : Type 0 where
-  Absent : SecondIntake
-  Untouched : SecondIntake
-  Asked : Intake → SecondIntake
-
--- what a run took from its sources
+-- what a run took from its sources, if it asked for the second
 pub record Intakes : Type 0 where
   pub first : Intake
-  pub second : SecondIntake
+  pub second : Option Intake
 
 -- the file of what was taken: with either ending, if reading met none
 abbrev pub IsFileOf : Intake → File → Type 0
-IsFileOf Nothing tool.Closed = ⊤
-IsFileOf Nothing (tool.Delivered delivered ending) = ⊥
-IsFileOf (Bytes bytes met) tool.Closed = ⊥
-IsFileOf (Bytes bytes met) (tool.Delivered delivered ending) =
+IsFileOf NotOpened tool.Closed = ⊤
+IsFileOf NotOpened (tool.Delivered delivered ending) = ⊥
+IsFileOf (Read bytes met) tool.Closed = ⊥
+IsFileOf (Read bytes met) (tool.Delivered delivered ending) =
     (delivered ≡ bytes) × MayEnd met ending
 
 -- the second file of what was taken: any, if the source was not asked for
-abbrev pub IsSecondOf : SecondIntake → Option File → Type 0
-IsSecondOf Absent None = ⊤
-IsSecondOf Untouched (Some file) = ⊤
-IsSecondOf (Asked intake) (Some file) = IsFileOf intake file
-IsSecondOf _ _ = ⊥
+abbrev pub IsSecondOf : Option Intake → File → Type 0
+IsSecondOf None file = ⊤
+IsSecondOf (Some intake) file = IsFileOf intake file
 
 -- what holds of each two files of what was taken
-abbrev pub OnFiles : Intakes → (File → Option File → Type 0) → Type 0
-OnFiles taken P = (first : File) (second : Option File)
+abbrev pub OnFiles : Intakes → (File → File → Type 0) → Type 0
+OnFiles taken P = (first second : File)
     → IsFileOf taken.first first → IsSecondOf taken.second second → P first second
 
 -- the name that a source has in messages
@@ -76,22 +67,22 @@ pub record Delivers (left left_after : Option (List ℕ)) (calls calls_after : R
 -- what was taken of a source, which keeps its case and its name
 abbrev pub Takes : {R : Type 0} → (R → Option (List ℕ)) → (R → ReadCalls) → Source R
     → Source R → Intake → Type 0
-Takes left calls (Closed name) (Closed name_after) Nothing = name_after ≡ name
-Takes left calls (Open name input) (Open name_after input_after) (Bytes bytes met) =
+Takes left calls (Closed name) (Closed name_after) NotOpened = name_after ≡ name
+Takes left calls (Open name input) (Open name_after input_after) (Read bytes met) =
     (name_after ≡ name)
     × Delivers (left input) (left input_after) (calls input) (calls input_after) bytes met
 Takes left calls _ _ _ = ⊥
 
 -- a source that was read whole and has no fault
 abbrev pub IsFaultless : Intake → Type 0
-IsFaultless Nothing = ⊥
-IsFaultless (Bytes bytes met) =
+IsFaultless NotOpened = ⊥
+IsFaultless (Read bytes met) =
     (ending : Ending) → MayEnd met ending → fault_of format_limits ending bytes ≡ None
 
 -- what was taken of a first source that stops the run: it was closed, or has a fault
 abbrev pub Stops : Intake → Type 0
-Stops Nothing = ⊤
-Stops (Bytes bytes met) =
+Stops NotOpened = ⊤
+Stops (Read bytes met) =
     (ending : Ending) → MayEnd met ending → is_some (fault_of format_limits ending bytes) ≡ true
 
 -- what was taken of a source that there is
@@ -100,16 +91,14 @@ abbrev pub TakesSome : {R : Type 0} → (R → Option (List ℕ)) → (R → Rea
 TakesSome left calls (Some source) intake (Some after) = Takes left calls source after intake
 TakesSome left calls _ intake _ = ⊥
 
--- what was taken of the second source, with what it is taken from before and after: the command
--- takes none; or it was left as it was, since the run was stopped before; or the first was read whole
--- and has no fault, and then it was asked for
-abbrev pub AsksSecond : {S : Type 0} → (S → Intake → S → Type 0) → Meaning → Intake → Type 0
-    → S → SecondIntake → S → Type 0
-AsksSecond asks line first Stopped before Absent after =
-    (takes_two line.command ≡ false) × (after ≡ before)
-AsksSecond asks line first Stopped before Untouched after =
-    (takes_two line.command ≡ true) × Stopped × (after ≡ before)
-AsksSecond asks line first Stopped before (Asked intake) after =
+-- what was taken of the second source, with what it is taken from before and after: it was left as it
+-- was, since the command takes none or the run was stopped before; or the command takes two, the first
+-- was read whole and has no fault, and then it was asked for
+abbrev pub AsksSecond : {S : Type 0} → (S → Intake → S → Type 0) → Request → Intake → Type 0
+    → S → Option Intake → S → Type 0
+AsksSecond asks line first Stopped before None after =
+    (after ≡ before) × (takes_two line.command ≡ true → Stopped)
+AsksSecond asks line first Stopped before (Some intake) after =
     (takes_two line.command ≡ true) × IsFaultless first × asks before intake after
 
 -- ---- what the outputs took
@@ -147,14 +136,14 @@ abbrev pub Unbroken : Trace → Type 0
 Unbroken out = AllWritten out.calls out.calls_after
 
 -- one write failed, and none came after it; no flush was asked for
-abbrev pub Failed : Trace → Type 0
-Failed out = LastUnwritten out.calls out.calls_after
+abbrev pub WriteFailedLast : Trace → Type 0
+WriteFailedLast out = LastUnwritten out.calls out.calls_after
 
 -- the run wrote the message to standard error, or a prefix of it if a write failed, and nothing
 -- else
 abbrev pub WroteOrFailed : Trace → List ℕ → Type 0
 WroteOrFailed err message =
-    (Wrote err message × Unbroken err) ⊎ (WrotePrefix err message × Failed err)
+    (Wrote err message × Unbroken err) ⊎ (WrotePrefix err message × WriteFailedLast err)
 
 -- ---- the calls of a whole run
 
@@ -181,23 +170,23 @@ LastWriteBroke out = (out.calls_after.counts.failures ≡ one_more out.calls.cou
     × (out.calls_after.broken ≡ true)
 
 -- the echoes that are due of what was taken, whose ending may be open
-abbrev pub echoes_due : Meaning → Intake → List ℕ
-echoes_due line Nothing = []
-echoes_due line (Bytes bytes met) = due format_limits (echo_by line.eat) met bytes
+abbrev pub echoes_due : Request → Intake → List ℕ
+echoes_due line NotOpened = []
+echoes_due line (Read bytes met) = due format_limits (echo_by line.eat) met bytes
 
 -- those of the second source
-abbrev pub second_due : Meaning → SecondIntake → List ℕ
-second_due line (Asked intake) = echoes_due line intake
-second_due line _ = []
+abbrev pub second_due : Request → Option Intake → List ℕ
+second_due line None = []
+second_due line (Some intake) = echoes_due line intake
 
 -- ---- the three ways, by what the tool answers on the files
 
 -- the output took what the tool prints
-abbrev pub WroteWhole : (File → Option File → Outcome) → Intakes → Trace → Type 0
+abbrev pub WroteWhole : (File → File → Outcome) → Intakes → Trace → Type 0
 WroteWhole answer taken out = OnFiles taken (λ first second. Wrote out (answer first second).output)
 
 -- the output took a prefix of it, or of the echoes of files that were still being read
-abbrev pub WrotePart : (File → Option File → Outcome) → List ℕ → Intakes → Trace → Type 0
+abbrev pub WrotePart : (File → File → Outcome) → List ℕ → Intakes → Trace → Type 0
 WrotePart answer echoes taken out = WrotePrefix out echoes
     ⊎ OnFiles taken (λ first second. WrotePrefix out (answer first second).output)
 
@@ -208,7 +197,7 @@ pub record HasOutcome (outcome : Outcome) (out err : Trace) (status : Status) : 
   pub same_status : status ≡ outcome.status
 
 -- output, message and status are the tool's; no write failed, and after an answer no flush
-pub record Finishes (answer : File → Option File → Outcome) (taken : Intakes)
+pub record Finishes (answer : File → File → Outcome) (taken : Intakes)
     (out err : Trace) (status : Status) : Type 0 where
   pub outcome : OnFiles taken (λ first second. HasOutcome (answer first second) out err status)
   pub written : WritesWent out
@@ -216,7 +205,7 @@ pub record Finishes (answer : File → Option File → Outcome) (taken : Intakes
   pub unbroken : IsTrue (is_answer status) → FlushWent out
 
 -- memory was refused on the way
-pub record RanOut (answer : File → Option File → Outcome) (echoes : List ℕ)
+pub record RanOut (answer : File → File → Outcome) (echoes : List ℕ)
     (taken : Intakes) (out err : Trace) (status : Status) : Type 0 where
   pub beginning : WrotePart answer echoes taken out
   pub written : WritesWent out
@@ -225,7 +214,7 @@ pub record RanOut (answer : File → Option File → Outcome) (echoes : List ℕ
   pub same_status : status ≡ Memory
 
 -- a write failed on the way, or all was written and the flush failed
-pub record CouldNotWrite (answer : File → Option File → Outcome) (echoes : List ℕ)
+pub record CouldNotWrite (answer : File → File → Outcome) (echoes : List ℕ)
     (taken : Intakes) (out err : Trace) (status : Status) : Type 0 where
   pub beginning : WrotePart answer echoes taken out
   pub failed : LastWriteBroke out ⊎ (WroteWhole answer taken out × WritesWent out × FlushBroke out)
@@ -234,25 +223,25 @@ pub record CouldNotWrite (answer : File → Option File → Outcome) (echoes : L
   pub same_status : status ≡ Fault
 
 -- memory was refused on the way, or the output failed
-abbrev pub IsCutShort : (File → Option File → Outcome) → List ℕ → Intakes → Trace
+abbrev pub IsCutShort : (File → File → Outcome) → List ℕ → Intakes → Trace
     → Trace → Status → Type 0
 IsCutShort answer echoes taken out err status =
     RanOut answer echoes taken out err status ⊎ CouldNotWrite answer echoes taken out err status
 
 -- a run that took this from its sources, and on whose files the tool answers this
-abbrev pub EndsAs : (File → Option File → Outcome) → List ℕ → Intakes → Trace
+abbrev pub EndsAs : (File → File → Outcome) → List ℕ → Intakes → Trace
     → Trace → Status → Type 0
 EndsAs answer echoes taken out err status =
     Finishes answer taken out err status ⊎ IsCutShort answer echoes taken out err status
 
 -- the echoes that are due of all that was taken
-abbrev pub all_due : Meaning → Intakes → List ℕ
+abbrev pub all_due : Request → Intakes → List ℕ
 all_due line taken = echoes_due line taken.first ++ second_due line taken.second
 
 -- a run with this line, on whose files the tool answers this: what it took from its first source,
 -- what from its second, by what that is taken from before and after, and how it ends
 pub record Runs {S : Type 0} (takes : Intake → Type 0) (asks : S → Intake → S → Type 0)
-    (line : Meaning) (answer : File → Option File → Outcome) (before after : S) (out err : Trace)
+    (line : Request) (answer : File → File → Outcome) (before after : S) (out err : Trace)
     (status : Status) : Type 0 where
   pub taken : Intakes
   pub first : takes taken.first

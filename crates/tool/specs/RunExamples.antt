@@ -7,7 +7,7 @@ use Rattle.pla.specs.declared.calls.ReadCalls.{ReadCalls}
 use Rattle.pla.specs.declared.calls.WriteCalls.{WriteCalls}
 use Rattle.pla.specs.declared.ending.Ending.TheVariants.{End, Failed}
 use Rattle.pla.specs.declared.out_type.OutType.TheVariants.{F}
-use Rattle.pla.specs.Device.{flush_went, flush_broke, write_went, write_broke}
+use Rattle.pla.specs.Device.{after_flush, after_write}
 use Rattle.pla.specs.Fault.{fault_in, is_past_limit, is_too_long, is_refused, is_inside_row, is_repeated, is_bad_number, is_name_too_early, is_wrong_count, is_type_too_late, is_bad_type, is_row_too_early, is_bad_symbol}
 use Rattle.tool.specs.declared.command.Command.{Command}
 use Rattle.tool.specs.declared.command.Command.TheVariants.{Echo, Verify}
@@ -15,29 +15,34 @@ use Rattle.tool.specs.declared.line.LineFault.TheVariants as line_fault
 use Rattle.tool.specs.declared.sources.Source.TheVariants.{Open, Closed}
 use Rattle.tool.specs.declared.status.Status.TheVariants.{Fault, Memory}
 use Rattle.tool.specs.Program.{GivesUp, IsOpenedAs, OpensAndTakes, line_said, named_file, tool_on, words_behind}
-use Rattle.tool.specs.Run.{Absent, Asked, AsksSecond, Bytes, CouldNotWrite, FlushBroke, FlushedLast, FlushWent, Intake, Intakes, IsFaultless, IsFileOf, IsSecondOf, LastWriteBroke, Nothing, RanOut, Stops, Takes, TakesSome, Trace, Untouched, WritesWent, all_due, trace}
+use Rattle.tool.specs.Run.{AsksSecond, Read, CouldNotWrite, FlushBroke, FlushedLast, FlushWent, Intake, Intakes, IsFaultless, IsFileOf, IsSecondOf, LastWriteBroke, NotOpened, RanOut, Stops, Takes, TakesSome, Trace, WritesWent, all_due, trace}
 use Rattle.tool.specs.Steps.{names_said}
 use Rattle.tool.specs.Tool.{File, Outcome}
 use Rattle.tool.specs.Tool as tool
-use Rattle.tool.specs.Words.{Meaning, Text, meaning_by}
+use Rattle.tool.specs.Words.{Request, Text, request_by}
 
 -- a line of a command on the files a and b
-abbrev on_two : Command → Meaning
-on_two command = meaning_by command F false First (codes "a" ∷ codes "b" ∷ [])
+abbrev on_two : Command → Request
+on_two command = request_by command F false First (codes "a" ∷ codes "b" ∷ [])
+
+-- a text without a fault goes on, and one with a fault stops the run
+abbrev faultless : Intake
+faultless = Read (codes ".i 1\n.o 1\n") (Some End)
+
+abbrev faulty : Intake
+faulty = Read (codes "1\n") (Some End)
 
 -- ---- the files of what was taken
 
 pub record Files : Type 0 where
-  pub closed : IsFileOf Nothing tool.Closed
-  pub never_delivered : IsFileOf Nothing (tool.Delivered [] End) → ⊥
-  pub never_closed : IsFileOf (Bytes [] None) tool.Closed → ⊥
-  pub either_ending : IsFileOf (Bytes (codes "a") None) (tool.Delivered (codes "a") Failed)
-  pub other_ending : IsFileOf (Bytes [] (Some End)) (tool.Delivered [] Failed) → ⊥
-  pub none : IsSecondOf Absent None
-  pub none_given : IsSecondOf Absent (Some tool.Closed) → ⊥
-  pub any : IsSecondOf Untouched (Some tool.Closed)
-  pub any_given : IsSecondOf Untouched None → ⊥
-  pub asked : IsSecondOf (Asked Nothing) None → ⊥
+  pub closed : IsFileOf NotOpened tool.Closed
+  pub never_delivered : IsFileOf NotOpened (tool.Delivered [] End) → ⊥
+  pub never_closed : IsFileOf (Read [] None) tool.Closed → ⊥
+  pub either_ending : IsFileOf (Read (codes "a") None) (tool.Delivered (codes "a") Failed)
+  pub other_ending : IsFileOf (Read [] (Some End)) (tool.Delivered [] Failed) → ⊥
+  pub any : IsSecondOf None (tool.Delivered [] End)
+  pub asked : IsSecondOf (Some NotOpened) tool.Closed
+  pub asked_closed : IsSecondOf (Some NotOpened) (tool.Delivered [] End) → ⊥
 
 files : Files
 files = record {
@@ -46,11 +51,9 @@ files = record {
   never_closed = λ h. h;
   either_ending = (refl, tt);
   other_ending = λ h. let same : Failed ≡ End = h.1 in cc;
-  none = tt;
-  none_given = λ h. h;
   any = tt;
-  any_given = λ h. h;
-  asked = λ h. h;
+  asked = tt;
+  asked_closed = λ h. h;
 }
 
 -- ---- the calls of a whole run
@@ -68,16 +71,16 @@ abbrev called : WriteCalls → Trace
 called calls = trace None None fresh calls
 
 pub record Calls : Type 0 where
-  pub flushed_last : FlushedLast (called (flush_went (write_went fresh)))
-  pub flushed_twice : FlushedLast (called (flush_went (flush_went fresh))) → ⊥
-  pub never_flushed : FlushedLast (called (write_went fresh)) → ⊥
-  pub written_behind : FlushedLast (called (write_went (flush_went fresh))) → ⊥
-  pub flush_went_well : FlushWent (called (flush_went fresh))
-  pub flush_that_broke : FlushBroke (called (flush_broke fresh))
-  pub write_that_broke : LastWriteBroke (called (flush_went (write_broke fresh)))
-  pub tried_again : LastWriteBroke (called (write_went (write_broke fresh))) → ⊥
-  pub two_broke : LastWriteBroke (called (write_broke (write_broke fresh))) → ⊥
-  pub writes_went_well : WritesWent (called (flush_broke (write_went fresh)))
+  pub flushed_last : FlushedLast (called (after_flush false (after_write false fresh)))
+  pub flushed_twice : FlushedLast (called (after_flush false (after_flush false fresh))) → ⊥
+  pub never_flushed : FlushedLast (called (after_write false fresh)) → ⊥
+  pub written_behind : FlushedLast (called (after_write false (after_flush false fresh))) → ⊥
+  pub flush_went_well : FlushWent (called (after_flush false fresh))
+  pub flush_that_broke : FlushBroke (called (after_flush true fresh))
+  pub write_that_broke : LastWriteBroke (called (after_flush false (after_write true fresh)))
+  pub tried_again : LastWriteBroke (called (after_write false (after_write true fresh))) → ⊥
+  pub two_broke : LastWriteBroke (called (after_write true (after_write true fresh))) → ⊥
+  pub writes_went_well : WritesWent (called (after_flush true (after_write false fresh)))
 
 calls : Calls
 calls = record {
@@ -104,13 +107,13 @@ pub record Named : Type 0 where
   pub no_text : line_said (Err line_fault.Usage) ≡ None
   pub no_line : line_said (Ok (codes "a" ∷ [])) ≡ None
   pub a_line : line_said (Ok (codes "-Dverify" ∷ codes "a" ∷ codes "b" ∷ [])) ≡ Some (on_two Verify)
-  pub refused : tool_on (Err line_fault.Usage) tool.Closed None
+  pub refused : tool_on (Err line_fault.Usage) tool.Closed tool.Closed
       ≡ record {
         output = [];
         message = codes "usage: espresso -Dcommand [-o type] [-e eat] [file [file]]\n";
         status = Fault;
       }
-  pub no_memory : tool_on (Err line_fault.Memory) tool.Closed None
+  pub no_memory : tool_on (Err line_fault.Memory) tool.Closed tool.Closed
       ≡ record { output = []; message = codes "espresso: out of memory\n"; status = Memory }
   pub first_name : (names_said (on_two Verify)).first ≡ codes "a"
   pub second_name : (names_said (on_two Verify)).second ≡ codes "b"
@@ -132,7 +135,7 @@ named = record {
 
 -- the echoes of the first file come before those of the second
 echoes_in_order : all_due (on_two Verify)
-    (record { first = Bytes (codes "#a\n") (Some End); second = Asked (Bytes (codes "#b\n") None) })
+    (record { first = Read (codes "#a\n") (Some End); second = Some (Read (codes "#b\n") None) })
     ≡ codes "#a\n#b\n"
 unfolding fault_in is_past_limit is_too_long is_refused is_inside_row is_repeated
     is_bad_number is_name_too_early is_wrong_count is_type_too_late is_bad_type
@@ -177,24 +180,23 @@ pub record Opened (name : String Global) : Type 0 where
   pub opened_twice : IsOpenedAs (opens (codes "a")) is_input (Some (codes "a")) [] (Open name 1)
       (codes "a" ∷ codes "a" ∷ []) → ⊥
   -- what was taken
-  pub of_closed : Takes untold uncalled (Closed name) (Closed name) Nothing
-  pub bytes_of_closed : Takes untold uncalled (Closed name) (Closed name) (Bytes [] None) → ⊥
-  pub nothing_of_open : Takes untold uncalled (Open name 0) (Open name 0) Nothing → ⊥
-  pub closed_then : Takes untold uncalled (Open name 0) (Closed name) (Bytes [] None) → ⊥
+  pub of_closed : Takes untold uncalled (Closed name) (Closed name) NotOpened
+  pub bytes_of_closed : Takes untold uncalled (Closed name) (Closed name) (Read [] None) → ⊥
+  pub nothing_of_open : Takes untold uncalled (Open name 0) (Open name 0) NotOpened → ⊥
+  pub closed_then : Takes untold uncalled (Open name 0) (Closed name) (Read [] None) → ⊥
   -- of a source that there is
-  pub of_some : TakesSome untold uncalled (Some (Closed name)) Nothing (Some (Closed name))
-  pub lost : TakesSome untold uncalled (Some (Closed name)) Nothing None → ⊥
-  pub of_none : TakesSome untold uncalled None Nothing None → ⊥
+  pub of_some : TakesSome untold uncalled (Some (Closed name)) NotOpened (Some (Closed name))
+  pub lost : TakesSome untold uncalled (Some (Closed name)) NotOpened None → ⊥
+  pub of_none : TakesSome untold uncalled None NotOpened None → ⊥
   -- of the second one
-  pub takes_one : AsksSecond asks (on_two Echo) Nothing ⊥ [] Absent []
-  pub opens_more : AsksSecond asks (on_two Echo) Nothing ⊥ [] Absent (codes "b" ∷ []) → ⊥
-  pub takes_two : AsksSecond asks (on_two Verify) Nothing ⊤ [] Absent [] → ⊥
-  pub stopped : AsksSecond asks (on_two Verify) Nothing ⊤ [] Untouched []
-  pub opened_behind : AsksSecond asks (on_two Verify) Nothing ⊤ [] Untouched (codes "b" ∷ []) → ⊥
-  pub not_stopped : AsksSecond asks (on_two Verify) Nothing ⊥ [] Untouched [] → ⊥
-  pub stopped_one : AsksSecond asks (on_two Echo) Nothing ⊤ [] Untouched [] → ⊥
-  pub asked_behind : AsksSecond asks (on_two Verify) Nothing ⊤ [] (Asked Nothing)
+  pub takes_one : AsksSecond asks (on_two Echo) NotOpened ⊥ [] None []
+  pub opens_more : AsksSecond asks (on_two Echo) NotOpened ⊥ [] None (codes "b" ∷ []) → ⊥
+  pub stopped : AsksSecond asks (on_two Verify) NotOpened ⊤ [] None []
+  pub opened_behind : AsksSecond asks (on_two Verify) NotOpened ⊤ [] None (codes "b" ∷ []) → ⊥
+  pub not_stopped : AsksSecond asks (on_two Verify) NotOpened ⊥ [] None [] → ⊥
+  pub asked_behind : AsksSecond asks (on_two Verify) NotOpened ⊤ [] (Some NotOpened)
       (codes "b" ∷ []) → ⊥
+  pub asked_for_none : AsksSecond asks (on_two Echo) faultless ⊤ [] (Some NotOpened) [] → ⊥
 
 opened : (name : String Global) → Opened name
 opened name = record {
@@ -213,22 +215,14 @@ opened name = record {
   of_some = refl;
   lost = λ h. h;
   of_none = λ h. h;
-  takes_one = (refl, refl);
-  opens_more = λ h. let more : (let one : List Text = codes "b" ∷ [] in one) ≡ [] = h.1 in cc;
-  takes_two = λ h. let two : true ≡ false = h.0 in cc;
-  stopped = (refl, tt, refl);
-  opened_behind = λ h. let more : (let one : List Text = codes "b" ∷ [] in one) ≡ [] = h.2 in cc;
-  not_stopped = λ h. h.1;
-  stopped_one = λ h. let one : false ≡ true = h.0 in cc;
+  takes_one = (refl, λ two. cc);
+  opens_more = λ h. let more : (let one : List Text = codes "b" ∷ [] in one) ≡ [] = h.0 in cc;
+  stopped = (refl, λ two. tt);
+  opened_behind = λ h. let more : (let one : List Text = codes "b" ∷ [] in one) ≡ [] = h.0 in cc;
+  not_stopped = λ h. h.1 refl;
   asked_behind = λ h. h.1;
+  asked_for_none = λ h. let one : false ≡ true = h.0 in cc;
 }
-
--- a text without a fault goes on, and one with a fault stops the run
-abbrev faultless : Intake
-faultless = Bytes (codes ".i 1\n.o 1\n") (Some End)
-
-abbrev faulty : Intake
-faulty = Bytes (codes "1\n") (Some End)
 
 it_goes_on : IsFaultless faultless
 unfolding fault_in is_past_limit is_too_long is_refused is_inside_row is_repeated
@@ -248,15 +242,15 @@ unfolding fault_in is_past_limit is_too_long is_refused is_inside_row is_repeate
     is_row_too_early is_bad_symbol
 it_stops ending met = rw met refl
 
-a_closed_one_stops : Stops Nothing
+a_closed_one_stops : Stops NotOpened
 a_closed_one_stops = tt
 
-a_closed_one_has_no_text : IsFaultless Nothing → ⊥
+a_closed_one_has_no_text : IsFaultless NotOpened → ⊥
 a_closed_one_has_no_text h = h
 
 -- the second file is opened after it
 opened_behind : (name : String Global)
-    → AsksSecond asks (on_two Verify) faultless ⊥ (codes "a" ∷ []) (Asked Nothing)
+    → AsksSecond asks (on_two Verify) faultless ⊥ (codes "a" ∷ []) (Some NotOpened)
     (codes "b" ∷ codes "a" ∷ [])
 opened_behind name = (
   refl,
@@ -271,13 +265,13 @@ opened_behind name = (
 
 -- ---- the statuses of the ways to end
 
-pub record Ends (answer : File → Option File → Outcome) (echoes : List ℕ)
+pub record Ends (answer : File → File → Outcome) (echoes : List ℕ)
     (taken : Intakes) (out err : Trace) : Type 0 where
   pub ran_out : RanOut answer echoes taken out err Fault → ⊥
   pub could_not_write : CouldNotWrite answer echoes taken out err Memory → ⊥
   pub gave_up : (before after : List Text) → GivesUp before after out err Fault → ⊥
 
-ends : (answer : File → Option File → Outcome) (echoes : List ℕ) (taken : Intakes) (out err : Trace)
+ends : (answer : File → File → Outcome) (echoes : List ℕ) (taken : Intakes) (out err : Trace)
     → Ends answer echoes taken out err
 ends answer echoes taken out err = record {
   ran_out = λ h. let other : Fault ≡ Memory = h.same_status in cc;

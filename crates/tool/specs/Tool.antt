@@ -15,9 +15,9 @@ use Rattle.tool.specs.declared.line.LineFault.{LineFault}
 use Rattle.tool.specs.declared.line.LineFault.TheVariants as line_fault
 use Rattle.tool.specs.declared.status.Status.{Status}
 use Rattle.tool.specs.declared.status.Status.TheVariants.{Fault, Memory}
-use Rattle.tool.specs.Answer.{Answer, answer_of}
+use Rattle.tool.specs.Answer.{Answer, Answering, answer_of, of_one, of_two}
 use Rattle.tool.specs.Messages.{closed_message, fault_message, memory_message, sizes_message, usage_message}
-use Rattle.tool.specs.Words.{Meaning, Text, line_of}
+use Rattle.tool.specs.Words.{Request, Text, line_of}
 
 -- a file could not be opened, or it delivered these bytes and reading ended so
 pub data File : Type 0 where
@@ -66,7 +66,7 @@ refusal_of line_fault.Usage = refused
 refusal_of line_fault.Memory = record { output = []; message = memory_message; status = Memory }
 
 -- what is passed on of a file: nothing of a closed one, and else the echoes that are due
-abbrev pub passed_on : Meaning → File → List ℕ
+abbrev pub passed_on : Request → File → List ℕ
 passed_on line Closed = []
 passed_on line (Delivered bytes ending) = due format_limits (echo_by line.eat) (Some ending) bytes
 
@@ -91,7 +91,7 @@ abbrev pub behind : List ℕ → Outcome → Outcome
 behind text outcome = record outcome { output = text ++ outcome.output }
 
 -- a file is read, which passes its echoes on, and then the run is stopped, or goes on
-abbrev pub reading_then : Meaning → Text → File → (Description → Outcome) → Outcome
+abbrev pub reading_then : Request → Text → File → (Description → Outcome) → Outcome
 reading_then line name file next =
     behind (passed_on line file) (unless_stopped next (reading_of name file))
 
@@ -100,22 +100,23 @@ abbrev pub answered : Answer → Outcome
 answered answer = record { output = answer.text; message = []; status = answer.status }
 
 -- two files were read: their sizes are compared, and then the command answers
-abbrev pub with_both : Meaning → Description → Description → Outcome
-with_both line d e = if same_size d.size e.size
-    then answered (answer_of line.command line.out line.choice d e)
-    else stopped sizes_message
+abbrev pub with_both : (Description → Description → Answer) → Description → Description → Outcome
+with_both answer d e =
+    if same_size d.size e.size then answered (answer d e) else stopped sizes_message
 
--- the first file was read: now the second is, if there is one, or the command answers
-abbrev pub with_first : Meaning → Option File → Description → Outcome
-with_first line None d = answered (answer_of line.command line.out line.choice d d)
-with_first line (Some file) d = reading_then line (second_name line.files) file (with_both line d)
+-- the first file was read: the command answers, or the second is read as well
+abbrev pub with_first : Request → File → Answering → Description → Outcome
+with_first line second (of_one answer) d = answered (answer d)
+with_first line second (of_two answer) d =
+    reading_then line (second_name line.files) second (with_both answer d)
 
--- what a line answers on its files: the first is read, and then what follows
-abbrev pub outcome_of : Meaning → File → Option File → Outcome
-outcome_of line first second =
-    reading_then line (first_name line.files) first (with_first line second)
+-- what a line answers on its files: the first is read, and then what follows. A command on one file
+-- leaves the second alone
+abbrev pub outcome_of : Request → File → File → Outcome
+outcome_of line first second = reading_then line (first_name line.files) first
+    (with_first line second (answer_of line.command line.out line.choice))
 
 -- what the tool answers on words and the files that they name
-abbrev pub tool : List Text → File → Option File → Outcome
+abbrev pub tool : List Text → File → File → Outcome
 tool words first second =
     option_map_or (λ line. outcome_of line first second) (line_of words) refused

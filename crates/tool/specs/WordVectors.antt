@@ -3,113 +3,113 @@ use Rattle.std.specs.Prelude.{◌≡◌, refl, [], ◌∷◌, Some, None, codes,
 use Rattle.tool.specs.declared.command.Command.TheVariants.{Echo, Check, Contain, Primes, Essen, Exact, Tautology, Verify, Intersect, Sharp}
 use Rattle.covering.specs.declared.choice.Choice.TheVariants.{First, Literals}
 use Rattle.pla.specs.declared.out_type.OutType.TheVariants.{F, Fd, Fr, Fdr}
-use Rattle.tool.specs.Words.{line_of, meaning_by}
+use Rattle.tool.specs.Words.{line_of, request_by}
 
 takes_a_command_in_one_word : line_of (codes "-Decho" ∷ [])
-    ≡ Some (meaning_by Echo F false First ([]))
+    ≡ Some (request_by Echo F false First ([]))
 takes_a_command_in_one_word = refl
 
 takes_a_command_in_the_next_word : line_of (codes "-D" ∷ codes "echo" ∷ codes "f" ∷ [])
-    ≡ Some (meaning_by Echo F false First (codes "f" ∷ []))
+    ≡ Some (request_by Echo F false First (codes "f" ∷ []))
 takes_a_command_in_the_next_word = refl
 
 takes_a_command_after_an_equals_sign : line_of (codes "-D=echo" ∷ codes "f" ∷ [])
-    ≡ Some (meaning_by Echo F false First (codes "f" ∷ []))
+    ≡ Some (request_by Echo F false First (codes "f" ∷ []))
 takes_a_command_after_an_equals_sign = refl
 
 takes_an_option_after_the_file : line_of (codes "f" ∷ codes "-Decho" ∷ [])
-    ≡ Some (meaning_by Echo F false First (codes "f" ∷ []))
+    ≡ Some (request_by Echo F false First (codes "f" ∷ []))
 takes_an_option_after_the_file = refl
 
 takes_comments_left_out : line_of (codes "-Decho" ∷ codes "-e" ∷ codes "eat" ∷ codes "f" ∷ [])
-    ≡ Some (meaning_by Echo F true First (codes "f" ∷ []))
+    ≡ Some (request_by Echo F true First (codes "f" ∷ []))
 takes_comments_left_out = refl
 
 takes_options_in_any_order : line_of (codes "-eeat" ∷ codes "-Decho" ∷ codes "f" ∷ [])
-    ≡ Some (meaning_by Echo F true First (codes "f" ∷ []))
+    ≡ Some (request_by Echo F true First (codes "f" ∷ []))
 takes_options_in_any_order = refl
 
 takes_an_equals_sign_before_the_value_of_each_option : line_of
     (codes "-e=eat" ∷ codes "-o=f" ∷ codes "-D=echo" ∷ [])
-    ≡ Some (meaning_by Echo F true First ([]))
+    ≡ Some (request_by Echo F true First ([]))
 takes_an_equals_sign_before_the_value_of_each_option = refl
 
 takes_an_output_type_in_one_word : line_of (codes "-of" ∷ codes "-Decho" ∷ [])
-    ≡ Some (meaning_by Echo F false First ([]))
+    ≡ Some (request_by Echo F false First ([]))
 takes_an_output_type_in_one_word = refl
 
 takes_an_output_type_in_the_next_word : line_of
     (codes "-Decho" ∷ codes "-o" ∷ codes "f" ∷ codes "a" ∷ [])
-    ≡ Some (meaning_by Echo F false First (codes "a" ∷ []))
+    ≡ Some (request_by Echo F false First (codes "a" ∷ []))
 takes_an_output_type_in_the_next_word = refl
 
 takes_the_type_with_a_dc_list : line_of (codes "-Decho" ∷ codes "-ofd" ∷ [])
-    ≡ Some (meaning_by Echo Fd false First [])
+    ≡ Some (request_by Echo Fd false First [])
 takes_the_type_with_a_dc_list = refl
 
 takes_the_type_with_an_off_list : line_of (codes "-o" ∷ codes "fr" ∷ codes "-Dcontain" ∷ [])
-    ≡ Some (meaning_by Contain Fr false First [])
+    ≡ Some (request_by Contain Fr false First [])
 takes_the_type_with_an_off_list = refl
 
 takes_the_type_with_all_lists : line_of (codes "-o=fdr" ∷ codes "-Dtautology" ∷ [])
-    ≡ Some (meaning_by Tautology Fdr false First [])
+    ≡ Some (request_by Tautology Fdr false First [])
 takes_the_type_with_all_lists = refl
 
 takes_a_file_with_a_hyphen_after_two_hyphens : line_of
     (codes "-Decho" ∷ codes "--" ∷ codes "-x" ∷ [])
-    ≡ Some (meaning_by Echo F false First (codes "-x" ∷ []))
+    ≡ Some (request_by Echo F false First (codes "-x" ∷ []))
 takes_a_file_with_a_hyphen_after_two_hyphens = refl
 
 takes_two_hyphens_as_a_file : line_of (codes "-Decho" ∷ codes "--" ∷ codes "--" ∷ [])
-    ≡ Some (meaning_by Echo F false First (codes "--" ∷ []))
+    ≡ Some (request_by Echo F false First (codes "--" ∷ []))
 takes_two_hyphens_as_a_file = refl
 
 takes_two_hyphens_and_no_file : line_of (codes "-Decho" ∷ codes "--" ∷ [])
-    ≡ Some (meaning_by Echo F false First ([]))
+    ≡ Some (request_by Echo F false First ([]))
 takes_two_hyphens_and_no_file = refl
 
 takes_standard_input_by_name : line_of (codes "-Decho" ∷ codes "-" ∷ [])
-    ≡ Some (meaning_by Echo F false First (codes "-" ∷ []))
+    ≡ Some (request_by Echo F false First (codes "-" ∷ []))
 takes_standard_input_by_name = refl
 
 takes_standard_input_by_name_after_two_hyphens : line_of
     (codes "-Decho" ∷ codes "--" ∷ codes "-" ∷ [])
-    ≡ Some (meaning_by Echo F false First (codes "-" ∷ []))
+    ≡ Some (request_by Echo F false First (codes "-" ∷ []))
 takes_standard_input_by_name_after_two_hyphens = refl
 
 takes_a_file_whose_name_is_empty : line_of (codes "-Decho" ∷ codes "" ∷ [])
-    ≡ Some (meaning_by Echo F false First (codes "" ∷ []))
+    ≡ Some (request_by Echo F false First (codes "" ∷ []))
 takes_a_file_whose_name_is_empty = refl
 
 takes_check : line_of (codes "-Dcheck" ∷ codes "-o" ∷ codes "fr" ∷ [])
-    ≡ Some (meaning_by Check Fr false First [])
+    ≡ Some (request_by Check Fr false First [])
 takes_check = refl
 
-takes_contain : line_of (codes "-Dcontain" ∷ []) ≡ Some (meaning_by Contain F false First [])
+takes_contain : line_of (codes "-Dcontain" ∷ []) ≡ Some (request_by Contain F false First [])
 takes_contain = refl
 
 takes_primes : line_of (codes "-Dprimes" ∷ codes "-ofdr" ∷ [])
-    ≡ Some (meaning_by Primes Fdr false First [])
+    ≡ Some (request_by Primes Fdr false First [])
 takes_primes = refl
 
-takes_essen : line_of (codes "-Dessen" ∷ []) ≡ Some (meaning_by Essen F false First [])
+takes_essen : line_of (codes "-Dessen" ∷ []) ≡ Some (request_by Essen F false First [])
 takes_essen = refl
 
 takes_exact : line_of (codes "-D" ∷ codes "exact" ∷ codes "f" ∷ [])
-    ≡ Some (meaning_by Exact F false First (codes "f" ∷ []))
+    ≡ Some (request_by Exact F false First (codes "f" ∷ []))
 takes_exact = refl
 
 takes_a_choice_before_the_command : line_of (codes "--literals" ∷ codes "-Dexact" ∷ [])
-    ≡ Some (meaning_by Exact F false Literals [])
+    ≡ Some (request_by Exact F false Literals [])
 takes_a_choice_before_the_command = refl
 
 takes_a_choice_between_files_and_options : line_of
     (codes "-Dexact" ∷ codes "f" ∷ codes "--literals" ∷ codes "-ofd" ∷ [])
-    ≡ Some (meaning_by Exact Fd false Literals (codes "f" ∷ []))
+    ≡ Some (request_by Exact Fd false Literals (codes "f" ∷ []))
 takes_a_choice_between_files_and_options = refl
 
 takes_tautology : line_of (codes "-D" ∷ codes "tautology" ∷ codes "f" ∷ [])
-    ≡ Some (meaning_by Tautology F false First (codes "f" ∷ []))
+    ≡ Some (request_by Tautology F false First (codes "f" ∷ []))
 takes_tautology = refl
 
 refuses_no_words : line_of ([]) ≡ None
@@ -233,23 +233,23 @@ refuses_a_part_of_a_long_option = refl
 
 takes_a_long_option_as_a_file_after_two_hyphens : line_of
     (codes "-Decho" ∷ codes "--" ∷ codes "--literals" ∷ [])
-    ≡ Some (meaning_by Echo F false First (codes "--literals" ∷ []))
+    ≡ Some (request_by Echo F false First (codes "--literals" ∷ []))
 takes_a_long_option_as_a_file_after_two_hyphens = refl
 
 takes_verify : line_of (codes "-Dverify" ∷ codes "a" ∷ codes "b" ∷ [])
-    ≡ Some (meaning_by Verify F false First (codes "a" ∷ codes "b" ∷ []))
+    ≡ Some (request_by Verify F false First (codes "a" ∷ codes "b" ∷ []))
 takes_verify = refl
 
 takes_intersect : line_of (codes "-Dintersect" ∷ codes "-" ∷ codes "b" ∷ [])
-    ≡ Some (meaning_by Intersect F false First (codes "-" ∷ codes "b" ∷ []))
+    ≡ Some (request_by Intersect F false First (codes "-" ∷ codes "b" ∷ []))
 takes_intersect = refl
 
 takes_sharp : line_of (codes "-Dsharp" ∷ codes "a" ∷ codes "-" ∷ [])
-    ≡ Some (meaning_by Sharp F false First (codes "a" ∷ codes "-" ∷ []))
+    ≡ Some (request_by Sharp F false First (codes "a" ∷ codes "-" ∷ []))
 takes_sharp = refl
 
 takes_a_type_with_verify : line_of (codes "-Dverify" ∷ codes "-ofd" ∷ codes "a" ∷ codes "b" ∷ [])
-    ≡ Some (meaning_by Verify Fd false First (codes "a" ∷ codes "b" ∷ []))
+    ≡ Some (request_by Verify Fd false First (codes "a" ∷ codes "b" ∷ []))
 takes_a_type_with_verify = refl
 
 refuses_a_type_with_intersect : line_of

@@ -5,27 +5,42 @@
 ghost use Rattle.std.specs.Prelude.{◌≡◌, ◌||◌, IfOk, not};
 ghost use Rattle.cover.specs.Places.{holds_all, places, share_place};
 ghost use Rattle.pla.specs.Device.{TellsFailure, Writes};
-ghost use Rattle.tool.specs.Answer.{checked, three_sets};
+ghost use Rattle.pla.specs.Completed.{three_sets};
+ghost use Rattle.tool.specs.Answer.{answer_of, checked};
 ghost use Rattle.tool.specs.Check.{flaws_of, flaws_text, has_flaw, line_if as line_if_of};
 ghost use Rattle.tool.specs.Run.{trace};
-ghost use Rattle.tool.specs.Steps.{PutsOut};
+ghost use Rattle.tool.specs.Steps.{PutsOut, PutsOutOne};
 
+use crate::command::Command;
 use crate::failure::Failure;
+use crate::printing::print_text;
 use crate::status::Status;
-use pla::{FileType, Output, Pla, WriteFault, write_bytes, write_next};
+use minimum::Choice;
+use pla::{FileType, OutType, Output, Pla, WriteFault, write_bytes, write_next};
 use std::alloc::AllocError;
+
+// Whether the three sets part the space.
+pub(crate) fn check<W: Output>(pla: &Pla, out: &mut W) -> Result<Status, Failure>
+    ensures { PutsOutOne (answer_of Command.Check OutType.F Choice.First) pla.now
+        (trace (W.taken out.old) (W.taken out.new) (W.calls out.old) (W.calls out.new)) result }
+{
+    match flaws_in(pla) {
+        Ok(flaws) => print_flaws(flaws, out),
+        Err(AllocError) => Err(Failure::OutOfMemory),
+    }
+}
 
 // Which of the three sets share a place, and whether there is a place outside of all.
 #[derive(Clone, Copy, Debug, PartialEq, Eq)]
-pub(crate) struct Flaws {
-    pub(crate) on_dc: bool,
-    pub(crate) on_off: bool,
-    pub(crate) dc_off: bool,
-    pub(crate) gap: bool,
+struct Flaws {
+    on_dc: bool,
+    on_off: bool,
+    dc_off: bool,
+    gap: bool,
 }
 
 // The flaws of the description's three sets.
-pub(crate) fn flaws_in(pla: &Pla) -> Result<Flaws, AllocError>
+fn flaws_in(pla: &Pla) -> Result<Flaws, AllocError>
     ensures { IfOk result (λ flaws. flaws ≡ flaws_of (three_sets pla.now)) }
 {
     match pla.file_type() {
@@ -100,7 +115,7 @@ impl Flaws {
 }
 
 // A line for each flaw, or the one that says that there is none.
-pub(crate) fn put_flaws<W: Output>(flaws: Flaws, out: &mut W) -> Result<Status, Failure>
+fn print_flaws<W: Output>(flaws: Flaws, out: &mut W) -> Result<Status, Failure>
     ensures { PutsOut (checked flaws)
         (trace (W.taken out.old) (W.taken out.new) (W.calls out.old) (W.calls out.new)) result }
 {
@@ -110,10 +125,11 @@ pub(crate) fn put_flaws<W: Output>(flaws: Flaws, out: &mut W) -> Result<Status, 
             Err(WriteFault) => Err(Failure::WriteFailed),
         }
     } else {
-        match write_bytes(out, b"ON-set, OFF-set and DC-set partition the space\n") {
-            Ok(()) => Ok(Status::Done),
-            Err(WriteFault) => Err(Failure::WriteFailed),
-        }
+        print_text(
+            b"ON-set, OFF-set and DC-set partition the space\n",
+            Status::Done,
+            out,
+        )
     }
 }
 

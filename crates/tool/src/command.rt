@@ -1,6 +1,6 @@
 //! What a command line can ask for.
 ghost use Rattle.std.specs.Prelude.{◌≡◌};
-ghost use Rattle.tool.specs.Words.{chooses, command_named, eat_named, is_f as is_f_of, is_first as is_first_of, prints_only_f, takes_two, type_named};
+ghost use Rattle.tool.specs.Words.{allows, command_named, eat_named, takes_two, type_named};
 
 use minimum::Choice;
 use pla::OutType;
@@ -30,6 +30,31 @@ pub enum Command {
     Intersect,
     /// The places in the first file's ON-set and not in the second's, as a PLA of type f.
     Sharp,
+}
+
+impl Command {
+    // The command takes two files.
+    pub(crate) fn takes_two(self) -> bool
+        ensures { result ≡ takes_two self }
+    {
+        match self {
+            Command::Verify | Command::Intersect | Command::Sharp => true,
+            _ => false,
+        }
+    }
+
+    // The command takes this output type and this choice.
+    pub(crate) fn allows(self, out: OutType, choice: Choice) -> bool
+        ensures { result ≡ allows self out choice }
+    {
+        match (self, out, choice) {
+            (Command::Exact, _, _) => true,
+            (Command::Intersect | Command::Sharp, OutType::F, Choice::First) => true,
+            (Command::Intersect | Command::Sharp, _, _) => false,
+            (_, _, Choice::First) => true,
+            (_, _, Choice::Literals) => false,
+        }
+    }
 }
 
 // The command of this name.
@@ -71,64 +96,5 @@ pub(crate) fn eat_of(name: &str) -> Option<bool>
     match name {
         "eat" => Some(true),
         _ => None,
-    }
-}
-
-// The command takes two files.
-pub(crate) fn is_pair(command: Command) -> bool
-    ensures { result ≡ takes_two command }
-{
-    match command {
-        Command::Echo => false,
-        Command::Check => false,
-        Command::Contain => false,
-        Command::Primes => false,
-        Command::Essen => false,
-        Command::Exact => false,
-        Command::Tautology => false,
-        Command::Verify | Command::Intersect | Command::Sharp => true,
-    }
-}
-
-// The command prints type f alone.
-pub(crate) fn is_f_only(command: Command) -> bool
-    ensures { result ≡ prints_only_f command }
-{
-    match command {
-        Command::Echo | Command::Check | Command::Contain | Command::Primes => false,
-        Command::Essen | Command::Exact | Command::Tautology | Command::Verify => false,
-        Command::Intersect | Command::Sharp => true,
-    }
-}
-
-// The type is f.
-pub(crate) fn is_f(out: OutType) -> bool
-    ensures { result ≡ is_f_of out }
-{
-    match out {
-        OutType::F => true,
-        OutType::Fd | OutType::Fr | OutType::Fdr => false,
-    }
-}
-
-// The command chooses among covers.
-pub(crate) fn is_choosing(command: Command) -> bool
-    ensures { result ≡ chooses command }
-{
-    match command {
-        Command::Echo | Command::Check | Command::Contain | Command::Primes => false,
-        Command::Exact => true,
-        Command::Essen | Command::Tautology => false,
-        Command::Verify | Command::Intersect | Command::Sharp => false,
-    }
-}
-
-// The choice that no option makes.
-pub(crate) fn is_first(choice: Choice) -> bool
-    ensures { result ≡ is_first_of choice }
-{
-    match choice {
-        Choice::First => true,
-        Choice::Literals => false,
     }
 }

@@ -1,7 +1,7 @@
 //! Laws of the definitions.
-ghost use Rattle.std.specs.Prelude.{◌≡◌, List, Option, Some, None};
+ghost use Rattle.std.specs.Prelude.{◌≡◌, List, Some, None};
 ghost use Rattle.tool.specs.Tool.{File, outcome_of, refusal_of, tool};
-ghost use Rattle.tool.specs.Words.{Meaning, Text, line_of};
+ghost use Rattle.tool.specs.Words.{Request, Text, line_of};
 
 use crate::line::LineFault;
 
@@ -9,10 +9,10 @@ use crate::line::LineFault;
 /// promise one by one is together what the tool answers: if the words say a line, its outcome on
 /// the files, and otherwise the usage.
 pub fn tool_in_parts()
-    ensures lines { (words : List Text) (line : Meaning) → line_of words ≡ Some line
-        → (first : File) (second : Option File)
+    ensures lines { (words : List Text) (line : Request) → line_of words ≡ Some line
+        → (first second : File)
         → tool words first second ≡ outcome_of line first second }
     ensures refusals { (words : List Text) → line_of words ≡ None
-        → (first : File) (second : Option File)
+        → (first second : File)
         → tool words first second ≡ refusal_of LineFault.Usage }
 {}

@@ -56,12 +56,13 @@ mod failure;
 mod laws;
 mod line;
 mod parser;
+mod printing;
 mod program;
 mod run_files;
 mod second_source;
 mod sources;
 mod status;
-mod two_files;
+mod verify;
 
 pub use command::Command;
 pub use laws::tool_in_parts;

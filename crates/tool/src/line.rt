@@ -1,9 +1,9 @@
-//! A command line that was read.
+//! A command line that was read. (A line of a file is `pla`'s.)
 ghost use Rattle.std.specs.Prelude.{◌≡◌, IfOk, Some, None, Err, map, string_bytes};
 ghost use Rattle.tool.specs.Tool.{echo_by};
-ghost use Rattle.tool.specs.Words.{line_of, meaning_by, takes_two};
+ghost use Rattle.tool.specs.Words.{line_of, request_by, takes_two};
 
-use crate::command::{Command, is_pair};
+use crate::command::Command;
 use crate::parser::{espresso_command, fault_from, line_in};
 use minimum::Choice;
 use pla::{Echo, OutType};
@@ -23,12 +23,12 @@ pub struct Line {
 
 impl Model for Line {
     ghost use Rattle.std.specs.Prelude.{map, string_bytes};
-    ghost use Rattle.tool.specs.Words.{Meaning, meaning_by};
+    ghost use Rattle.tool.specs.Words.{Request, request_by};
 
-    ghost Value = { Meaning };
+    ghost Value = { Request };
 
     ghost view = { λ l.
-        meaning_by l.command l.out l.eat l.choice (map string_bytes l.files.items) };
+        request_by l.command l.out l.eat l.choice (map string_bytes l.files.items) };
 }
 
 /// Why a list of words gave no line.
@@ -65,7 +65,7 @@ impl Line {
         choice: Choice,
         files: Vec<String>,
     ) -> Line
-        ensures { result ≡ meaning_by command out eat choice (map string_bytes files.items) }
+        ensures { result ≡ request_by command out eat choice (map string_bytes files.items) }
     {
         Line {
             command,
@@ -105,7 +105,7 @@ impl Line {
     pub fn pair(&self) -> bool
         ensures { result ≡ takes_two self.now.command }
     {
-        is_pair(self.command)
+        self.command.takes_two()
     }
 
     /// The file words, in order.

@@ -4,12 +4,10 @@ ghost use Rattle.std.specs.Option.{option_map_or};
 ghost use Rattle.clap.specs.Simple.{with_rule};
 ghost use Rattle.clap.specs.Words.{app_of, first_value, found_of, kind_of};
 ghost use Rattle.tool.specs.Parser.{bare_app, espresso_app, files_arg, literals_arg, option_arg};
-ghost use Rattle.tool.specs.Matches.{choice_in, meaning_in};
-ghost use Rattle.tool.specs.Words.{eat_named, fits, meaning, command_named, type_named};
+ghost use Rattle.tool.specs.Matches.{choice_in, request_in};
+ghost use Rattle.tool.specs.Words.{eat_named, fits, request, command_named, type_named};
 
-use crate::command::{
-    Command, command_of, eat_of, is_choosing, is_f, is_f_only, is_first, is_pair, out_type_of,
-};
+use crate::command::{Command, command_of, eat_of, out_type_of};
 use crate::line::{Line, LineFault};
 use clap::error::ErrorKind;
 use clap::{Arg, ArgAction, ArgMatches, Error};
@@ -86,8 +84,8 @@ pub(crate) fn fault_from(error: &Error) -> LineFault
 
 // The line that the matches say.
 pub(crate) fn line_in(alloc: Global, matches: &ArgMatches<'_>) -> Result<Line, LineFault>
-    ensures ok { IfOk result (λ l. meaning_in (found_of matches.now) ≡ Some l) }
-    ensures usage { result ≡ Err LineFault.Usage → meaning_in (found_of matches.now) ≡ None }
+    ensures ok { IfOk result (λ l. request_in (found_of matches.now) ≡ Some l) }
+    ensures usage { result ≡ Err LineFault.Usage → request_in (found_of matches.now) ≡ None }
 {
     let command = given_command(matches);
     let out = given_type(matches);
@@ -149,9 +147,9 @@ fn line_with(
     names: &[&str],
 ) -> Result<Line, LineFault>
     ensures ok { IfOk result
-        (λ l. meaning command out eat (Some choice) (map (λ s. s.now) names.now) ≡ Some l) }
+        (λ l. request command out eat (Some choice) (map (λ s. s.now) names.now) ≡ Some l) }
     ensures usage { result ≡ Err LineFault.Usage
-        → meaning command out eat (Some choice) (map (λ s. s.now) names.now) ≡ None }
+        → request command out eat (Some choice) (map (λ s. s.now) names.now) ≡ None }
 {
     let Some(command) = command else {
         return Err(LineFault::Usage);
@@ -171,20 +169,18 @@ fn line_with(
     }
 }
 
-// A type that the command prints, a choice that it makes, and as many files as it takes, with
-// standard input once at most.
+// A type and a choice that the command takes, and as many files as it takes, with standard input
+// once at most.
 fn is_fitting(command: Command, out: OutType, choice: Choice, files: &[&str]) -> bool
     ensures { result ≡ fits command out choice (map (λ s. s.now) files.now) }
 {
-    let is_printed = is_f(out) || !is_f_only(command);
-    let is_count = if is_pair(command) {
+    let is_count = if command.takes_two() {
         files.len() == 2
     } else {
         files.len() <= 1
     };
     let inputs = files.iter().filter(|file| **file == "-").count();
-    let is_chosen = is_first(choice) || is_choosing(command);
-    is_printed && is_chosen && is_count && inputs <= 1
+    command.allows(out, choice) && is_count && inputs <= 1
 }
 
 fn copy_names(alloc: Global, names: &[&str]) -> Result<Vec<String>, AllocError>

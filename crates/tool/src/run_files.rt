@@ -1,18 +1,19 @@
-//! A run: reading one source or two, the command, and the last word to standard error.
+//! A run: reading one source or two, whether two have one size, the command, and the message on
+//! standard error; also the usage message (`refuse`).
 ghost use Rattle.std.specs.Prelude.{◌≡◌, Err, IfErr, IfSome, IsTrue, is_some};
 ghost use Rattle.tool.specs.Messages.{is_answer};
 ghost use Rattle.tool.specs.Run.{AsksSecond, Intakes, Runs, Takes, TakesSome, WroteOrFailed, name_of, trace};
-ghost use Rattle.tool.specs.Steps.{Answers, Passes, Reports, Stands, StoppedBefore, names_said};
-ghost use Rattle.tool.specs.Tool.{first_name, outcome_of, refusal_of, second_name, with_both};
+ghost use Rattle.tool.specs.Steps.{Passes, Reports, Stands, StoppedBefore, names_said};
+ghost use Rattle.tool.specs.Tool.{first_name, outcome_of, refusal_of, second_name};
 ghost use Rattle.tool.specs.Words.{takes_two};
 
-use crate::answer::put_answer;
+use crate::answer::answer;
 use crate::failure::{Failure, Operand};
 use crate::line::{Line, LineFault};
 use crate::second_source::{Second, read_source};
 use crate::sources::{Source, after_first, name_in_messages};
 use crate::status::Status;
-use pla::{Broken, Input, Output, Pla, write_bytes};
+use pla::{Broken, Input, Output, write_bytes};
 use std::alloc::Global;
 
 /// Says on standard error why words gave no line, and answers how the process ends: with a fault,
@@ -117,30 +118,7 @@ fn read_and_answer<R: Input, S: Second, W: Output>(
         (trace (W.taken out.old) (W.taken out.new) (W.calls out.old) (W.calls out.new)) result }
 {
     let pla = read_source(alloc, line, Operand::First, first, out)?;
-    match second.read(alloc, line, out)? {
-        None => put_answer(alloc, line, &pla, &pla, out),
-        Some(other) => put_together(alloc, line, &pla, &other, out),
-    }
-}
-
-// Compares the sizes, and prints what the command answers.
-fn put_together<W: Output>(
-    alloc: Global,
-    line: &Line,
-    pla: &Pla,
-    other: &Pla,
-    out: &mut W,
-) -> Result<Status, Failure>
-    ensures { Answers (with_both line.now pla.now other.now)
-        (trace (W.taken out.old) (W.taken out.new) (W.calls out.old) (W.calls out.new)) result }
-{
-    let size = pla.shape();
-    let other_size = other.shape();
-    if size.inputs() == other_size.inputs() && size.outputs() == other_size.outputs() {
-        put_answer(alloc, line, pla, other, out)
-    } else {
-        Err(Failure::SizesDiffer)
-    }
+    answer(alloc, line, &pla, second, out)
 }
 
 // Flushes the output, once and last. A failure stops a run that was not stopped yet.

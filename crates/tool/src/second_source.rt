@@ -1,10 +1,11 @@
-//! Reading a source, and the second source of a run: one that is there, or one to be opened.
-ghost use Rattle.std.specs.Prelude.{◌≡◌, IfErr, IfOk, map, string_bytes};
+//! Opening a source (`open_source`), reading it (`read_source`), and the second source of a run:
+//! one that is there, or one to be opened.
+ghost use Rattle.std.specs.Prelude.{◌≡◌, IfErr, IfOk, Option, Some, map, string_bytes, true};
 ghost use Rattle.tool.specs.Program.{IsOpenedAs, named_file};
-ghost use Rattle.tool.specs.Run.{Asked, Intake, SecondIntake, Takes, name_of, trace};
-ghost use Rattle.tool.specs.Steps.{IsReadAs, IsSecondReadAs, ReadsSecond};
+ghost use Rattle.tool.specs.Run.{Intake, Takes, name_of, trace};
+ghost use Rattle.tool.specs.Steps.{IsReadAs, IsSecondReadAs, ReadsOther, ReadsSecond};
 ghost use Rattle.tool.specs.Tool.{first_name, second_name};
-ghost use Rattle.tool.specs.Words.{Meaning};
+ghost use Rattle.tool.specs.Words.{Request, takes_two};
 
 use crate::failure::{Failure, Operand};
 use crate::line::Line;
@@ -15,20 +16,16 @@ use std::alloc::{AllocError, Global};
 // What gives the second source of a run.
 pub(crate) trait Second {
     // It can give the second source of this line.
-    ghost fits: { Meaning → Self → Type 0 };
+    ghost fits: { Request → Self → Type 0 };
 
     // From the first state to the last, this was taken of the second source of this line.
-    ghost asked: { Meaning → Self → Intake → Self → Type 0 };
+    ghost asked: { Request → Self → Intake → Self → Type 0 };
 
-    // Reads the second source of the line, if its command takes two.
-    fn read<W: Output>(
-        &mut self,
-        alloc: Global,
-        line: &Line,
-        out: &mut W,
-    ) -> Result<Option<Pla>, Failure>
-        requires { fits line.now self.old }
-        ensures { (taken : SecondIntake) × ReadsSecond (asked line.now) line.now self.old taken
+    // Reads the second source of a line whose command takes two.
+    fn read<W: Output>(&mut self, alloc: Global, line: &Line, out: &mut W) -> Result<Pla, Failure>
+        requires two { takes_two line.now.command ≡ true }
+        requires second { fits line.now self.old }
+        ensures { (taken : Option Intake) × ReadsSecond (asked line.now) line.now self.old taken
             self.new
             (trace (W.taken out.old) (W.taken out.new) (W.calls out.old) (W.calls out.new)) result };
 }
@@ -45,15 +42,10 @@ impl<R: Input> Second for Option<Source<R>> {
 
     ghost asked = { λ line. TakesSome R.left R.calls };
 
-    fn read<W: Output>(
-        &mut self,
-        alloc: Global,
-        line: &Line,
-        out: &mut W,
-    ) -> Result<Option<Pla>, Failure> {
+    fn read<W: Output>(&mut self, alloc: Global, line: &Line, out: &mut W) -> Result<Pla, Failure> {
         match self {
             Some(source) => read_second(alloc, line, source, out),
-            None => Ok(None),
+            None => unreachable!(),
         }
     }
 }
@@ -69,15 +61,7 @@ impl<O: Opener> Second for O {
     ghost asked = { λ line. OpensAndTakes (IsOpenedAs O.file O.input)
         (Takes O.Device.left O.Device.calls) (named_file (drop 1 line.files)) };
 
-    fn read<W: Output>(
-        &mut self,
-        alloc: Global,
-        line: &Line,
-        out: &mut W,
-    ) -> Result<Option<Pla>, Failure> {
-        if !line.pair() {
-            return Ok(None);
-        }
+    fn read<W: Output>(&mut self, alloc: Global, line: &Line, out: &mut W) -> Result<Pla, Failure> {
         match open_source(alloc, self, after_first(line.files())) {
             Ok(mut source) => read_second(alloc, line, &mut source, out),
             Err(AllocError) => Err(Failure::OutOfMemory),
@@ -114,15 +98,36 @@ fn read_second<R: Input, W: Output>(
     line: &Line,
     source: &mut Source<R>,
     out: &mut W,
-) -> Result<Option<Pla>, Failure>
+) -> Result<Pla, Failure>
     requires { name_of source.old ≡ second_name line.now.files }
     ensures { (taken : Intake) × Takes R.left R.calls source.old source.new taken
-        × IsSecondReadAs line.now (Asked taken)
+        × IsSecondReadAs line.now (Some taken)
         (trace (W.taken out.old) (W.taken out.new) (W.calls out.old) (W.calls out.new)) result }
 {
-    match read_source(alloc, line, Operand::Second, source, out) {
-        Ok(pla) => Ok(Some(pla)),
-        Err(failure) => Err(failure),
+    read_source(alloc, line, Operand::Second, source, out)
+}
+
+// Reads the second source of a line whose command takes two. Its description has to be of the size
+// of the first.
+pub(crate) fn read_other<S: Second, W: Output>(
+    alloc: Global,
+    line: &Line,
+    pla: &Pla,
+    second: &mut S,
+    out: &mut W,
+) -> Result<Pla, Failure>
+    requires two { takes_two line.now.command ≡ true }
+    requires second { S.fits line.now second.old }
+    ensures { (taken : Option Intake) × ReadsOther (S.asked line.now) line.now pla.now second.old
+        taken second.new
+        (trace (W.taken out.old) (W.taken out.new) (W.calls out.old) (W.calls out.new)) result }
+{
+    let other = second.read(alloc, line, out)?;
+    let (size, other_size) = (pla.shape(), other.shape());
+    if size.inputs() == other_size.inputs() && size.outputs() == other_size.outputs() {
+        Ok(other)
+    } else {
+        Err(Failure::SizesDiffer)
     }
 }
 

@@ -1,21 +1,17 @@
-use Rattle.std.proofs.Common.{◌∙◌, ap, drop, refl, subst, sym}
+use Rattle.std.proofs.Common.{◌∙◌, Some, ap, drop, subst}
 use Rattle.tool.specs.Program.{IsOpenedAs, named_file}
-use Rattle.tool.specs.Run.{Absent, Asked}
 use Rattle.tool.specs.Tool.{first_name}
 use Rattle.tool.proofs.second_source.AnySecond.read.Goals as goal
-
-pub returns-then-not-pair : goal.returns-then-not-pair
-returns-then-not-pair g c = (Absent, ((λ first faultless. (sym c.pair.ensures ∙ c.if-not-pair.true, refl)), (refl, refl)))
 
 pub read_second-requires : goal.read_second-requires
 read_second-requires g c = c.in-Ok.ensures.name ∙ ap first_name (c.after_first.ensures ∙ ap (drop 1) c.files.ensures)
 
 pub returns-in-Ok : goal.returns-in-Ok
 returns-in-Ok g c = let rest = c.read_second.ensures in (
-  Asked rest.0,
+  Some rest.0,
   (
     (λ first faultless. (
-      sym c.pair.ensures ∙ c.if-not-pair.false,
+      c.requires.two,
       faultless,
       record {
         source = c.in-Ok.source;

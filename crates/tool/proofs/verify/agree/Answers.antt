@@ -7,7 +7,7 @@ use Rattle.cover.proofs.MaskedAgreement.{masked_agreement-first, masked_agreemen
 use Rattle.pla.specs.Completed.{dc_list}
 use Rattle.pla.specs.Description.{Description}
 use Rattle.tool.proofs.Comparing.{settles, dcs-free, held-masked}
-use Rattle.tool.proofs.two_files.agree.Goals as goal
+use Rattle.tool.proofs.verify.agree.Goals as goal
 
 -- all don't-cares of two files, and those that they list
 abbrev all_dc : Description → Description → List Cube

@@ -1,4 +1,4 @@
-//! What the commands on two files answer.
+//! Whether two files agree outside their don't-cares.
 ghost use Rattle.std.specs.Prelude.{◌≡◌, ◌↔◌, ◌||◌, ◌++◌, IfOk, IsTrue, false};
 ghost use Rattle.cube.specs.Cube.{IsSubset};
 ghost use Rattle.cover.specs.Places.{places};
@@ -6,36 +6,31 @@ ghost use Rattle.pla.specs.Completed.{dc_list};
 ghost use Rattle.tool.specs.Answer.{agree as agree_of, answer_of};
 ghost use Rattle.tool.specs.Comparing.{settled};
 ghost use Rattle.tool.specs.Run.{trace};
-ghost use Rattle.tool.specs.Steps.{PutsOut};
+ghost use Rattle.tool.specs.Steps.{PutsOutTwo};
 
-use crate::answer::{lent, put_judgement, put_lists};
 use crate::command::Command;
 use crate::failure::Failure;
+use crate::printing::{judge, lent};
 use crate::status::Status;
-use cover::{Cover, are_meets_within_either, difference, intersect, is_within_either};
+use cover::{Cover, are_meets_within_either, is_within_either};
 use minimum::Choice;
 use pla::{FileType, OutType, Output, Pla, open_dc};
 use std::alloc::{AllocError, Global};
 
 // Whether the two agree outside their DC-sets.
-pub(crate) fn put_comparison<W: Output>(
+pub(crate) fn verify<W: Output>(
     alloc: Global,
     pla: &Pla,
     other: &Pla,
     out: &mut W,
 ) -> Result<Status, Failure>
     requires { other.now.size ≡ pla.now.size }
-    ensures { PutsOut (answer_of Command.Verify OutType.F Choice.First pla.now other.now)
+    ensures { PutsOutTwo (answer_of Command.Verify OutType.F Choice.First) pla.now other.now
         (trace (W.taken out.old) (W.taken out.new) (W.calls out.old) (W.calls out.new)) result }
 {
-    match agree(alloc, pla, other) {
-        Ok(holds) => {
-            let yes = b"PLAs compared equal\n";
-            let no = b"PLA comparison failed; the PLAs are not equivalent\n";
-            put_judgement(holds, yes, no, out)
-        }
-        Err(_) => Err(Failure::OutOfMemory),
-    }
+    let yes = b"PLAs compared equal\n";
+    let no = b"PLA comparison failed; the PLAs are not equivalent\n";
+    judge(agree(alloc, pla, other), yes, no, out)
 }
 
 // The DC cubes that the two list.
@@ -85,38 +80,4 @@ fn agree(alloc: Global, pla: &Pla, other: &Pla) -> Result<bool, AllocError>
         return Ok(false);
     }
     is_held(other, pla, &free)
-}
-
-// The PLA of the places in both ON-sets.
-pub(crate) fn put_intersection<W: Output>(
-    alloc: Global,
-    pla: &Pla,
-    other: &Pla,
-    out: &mut W,
-) -> Result<Status, Failure>
-    requires { other.now.size ≡ pla.now.size }
-    ensures { PutsOut (answer_of Command.Intersect OutType.F Choice.First pla.now other.now)
-        (trace (W.taken out.old) (W.taken out.new) (W.calls out.old) (W.calls out.new)) result }
-{
-    match intersect(pla.on(), other.on()) {
-        Ok(on) => put_lists(alloc, pla, OutType::F, &on, out),
-        Err(_) => Err(Failure::OutOfMemory),
-    }
-}
-
-// The PLA of the places in the first ON-set that are not in the second.
-pub(crate) fn put_difference<W: Output>(
-    alloc: Global,
-    pla: &Pla,
-    other: &Pla,
-    out: &mut W,
-) -> Result<Status, Failure>
-    requires { other.now.size ≡ pla.now.size }
-    ensures { PutsOut (answer_of Command.Sharp OutType.F Choice.First pla.now other.now)
-        (trace (W.taken out.old) (W.taken out.new) (W.calls out.old) (W.calls out.new)) result }
-{
-    match difference(pla.on(), other.on()) {
-        Ok(on) => put_lists(alloc, pla, OutType::F, &on, out),
-        Err(_) => Err(Failure::OutOfMemory),
-    }
 }
