@@ -27,6 +27,9 @@ def page(name):
         return file.read()
 
 
+DECLARED = r"^(\S+)(?: [{(][^})]*[})])* : "        # the first line of a definition that is no data type and no record
+
+
 def defined_on(text):
     """The names that a page defines: in its code, and in its table of the logic's own words."""
     names = set()
@@ -34,11 +37,16 @@ def defined_on(text):
         if kind:
             names |= set(re.findall(r"\b(?:enum|struct|trait|const|fn) (\w+)|^    (\w+)(?:\(.*\))?(?: = .*)?,(?:  //.*)?$|^    ghost (\w+)", code, re.M))
         else:
-            names |= set(re.findall(r"^(?:abbrev |unfoldable |pub |data |record )+(\S+)|^  ((?:\S+ )+):", code, re.M))
+            names |= set(re.findall(r"^(?:data |record )(\S+)|" + DECLARED + r"|^  ((?:\S+ )+):", code, re.M))
     names |= {a or b for a, b in re.findall(r"`(\w+)`\s+is\s+`\w+`\s+of|^// (\w+) is \w+ of", text, re.M)}
     words = re.findall(r"^\| (`.*`) \|", text, re.M) + re.findall(r"\b[A-Z]\b", text.partition("are any types")[0].rpartition("\n\n")[2])
     found = {word for group in names for part in ([group] if isinstance(group, str) else group) for word in part.split()} | set(re.findall(r"[^\s`,\"]+", " ".join(words)))
     return found | {part for name in found for part in definitions.parts(name)}
+
+
+def as_in_a_file(line):
+    """A line of a page's code as a file has it: with the word that a declaration begins with, and no comment behind it."""
+    return re.sub(rf"^(?={DECLARED}|(?:data|record) )", "pub ", re.sub(r"(?<=\S)  -- .*", "", line))
 
 
 class OnPage(definitions.Module):
@@ -47,7 +55,7 @@ class OnPage(definitions.Module):
     def __init__(self, code, names):
         self.place, self.about, self.entries, self.own = "page", "", [], {}
         self.names, self.short, self.missing = dict.fromkeys(names, ("page", "")), {}, set()
-        self.read(code.split("\n"))
+        self.read([as_in_a_file(line) for line in code.split("\n")])
         for entry in self.entries:
             self.cite(entry)
 
@@ -112,6 +120,6 @@ class Closed(unittest.TestCase):
         self.check(text, defined_on(page("STATEMENT.md")) | defined_on(text))
 
     def test_a_name_that_is_not_defined_is_seen(self):
-        block = "abbrev pub twice : ℕ → ℕ\ntwice n = add n n\n"
+        block = "twice : ℕ → ℕ  -- twice as much\ntwice n = add n n\n"
         self.assertEqual(OnPage(block, {"twice", "ℕ"}).missing, {("twice", "add")})
         self.assertEqual(OnPage(block, {"twice", "ℕ", "add"}).missing, set())
