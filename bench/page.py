@@ -277,6 +277,17 @@ LOSSES = """## Where others are faster
 All sizes at which this tool takes {noted:g} milliseconds or more and the other is faster, or only the other answers.
 """
 
+OPEN = """## Open
+
+Two functions of the families above have no answer yet, here or from cbc. Their least covers have
+
+- squares of 8 inputs: 166 to 170 products;
+- multipliers, 5 × 5 bits: 453 to 457 products.
+
+The lower bounds are those of subgradient steps and of cbc on the reduced tables, the covers those of a local search with row weights;
+all together took {minutes} minutes of one processor.
+"""
+
 COMPARED = """## {title}
 
 {told}
@@ -336,6 +347,7 @@ def lines(found, limit, jobs, minutes):
     yield LOSSES.format(noted=NOTED * 1000)
     yield from list(losses(found)) or ["None in this run."]
     yield ""
+    yield OPEN
     for comparison, _, _ in found:
         yield COMPARED.format(title=capital(comparison.title), told=textwrap.fill(comparison.told, 120),
                               picture=picture_name(comparison))

@@ -61,12 +61,12 @@ but `set_symbol` leave the cube as it is. A cube of up to four words is refused 
 # (`crate::item`). An enum or struct that is not listed stands before the first module that names it, and a module that is
 # not listed at the end.
 SUBJECTS = (
-    ("What a process does", """`execute` is given the words of the process and what opens its files. Words that say no line are refused, and nothing is opened. Else
-the file that each word names is opened, once, and no other; no word, or `-`, is standard input. The second is opened only after a
+    ("What a process does", """`execute` is given the words of the process and an opener of files. Words that form no command line are refused, and no file is
+opened. Otherwise the file that each word names is opened, once, and no other; no word, or `-`, is standard input. The second is opened only after a
 first that was read without a fault. Output, message and status are those of `tool`, unless memory runs out or the output fails.
 
 This is a claim for every input and output that reports its bytes. The code is the same for those that report none, as the system's
-files and streams: of their bytes no contract speaks.""",
+files and streams: no contract says anything of their bytes.""",
      ("tool::execute", "tool.Program")),
     ("The tool", """What a run prints, says and answers, as a function of the words and of what the files give. The first file is read whole before the
 second. The echoes of both come first, in order; then sizes are compared, and then the command answers.""",
@@ -103,20 +103,20 @@ no contract says what they hold.""",
 )
 
 READING = """`pla.Fault` is the file `crates/pla/specs/Fault.antt`, and `pla::Echo` an item of `crates/pla/src`. A definition has its type, and
-then an equation for each case, of which the first that fits counts; a `record` has fields, and a `data` cases. `abbrev`,
-`unfoldable` and `pub` say when the checker looks into a definition and who may use it, and nothing of what it means. `P × Q` is
+then an equation for each case, of which the first that fits counts; a `record` has fields, and a `data` cases. `P × Q` is
 both, `P ⊎ Q` either, `P → Q` whenever P then Q, `(x : T) → P` for each x, `(x : T) × P` for some x, `⊤` what always holds and `⊥`
 what never does. `λ x. t` is the function that answers t. Texts are lists of bytes, and `codes` gives those of a quoted one. In a
 contract `x.old` and `x.new` are what a borrowed value is before and after the call, `x.now` is what a shared one is, and `result`
 is what the call answers; a type that has a model is seen as its model. A name that several sections define is that of its own
-section, unless a head says otherwise. Comments are wrapped anew or put beside what they
-are about, and lines of a definition are put together where they fit."""
+section, unless a head says otherwise. The page leaves out the words `abbrev`, `unfoldable` and `pub`, which say when the checker
+looks into a definition and who may use it; it wraps comments anew or puts them beside what they are about, and puts lines of a
+definition together where they fit."""
 
 STATEMENT = """# The statement
 
-What has to be believed of this program, and nothing else: the contract of `execute`, which is that of the whole process, given the
-words, files and streams that `start` hands it; and every definition, enum, struct and trait that it reaches, those of the kit too:
-{definitions} in all, on {lines:,} lines and {comments} of comments. A checker has proved that the code keeps the contract; no proof
+All that has to be believed of this program. It is the contract of `execute`, which is that of the whole process on the words, files
+and streams that `start` hands it, and each definition, enum, struct and trait that it reaches, also in the kit: {definitions} in
+all, on {lines:,} lines with {comments} of comments. A checker has proved that the code keeps the contract; no proof
 has to be read.
 
 The page is written by `docs/statement.py` from `crates/*/specs`, `crates/*/src` and the kit's files, and `tests/run` checks that it is
@@ -250,8 +250,17 @@ def beside(lines, width=130):
 
 def printed(entry):
     """The lines of an entry, as a page shows them."""
-    lines = wrapped(entry.lines)
-    return [*wrapped(entry.comment), *(beside(lines) if is_item(entry) else joined(lines))]
+    comment, lines = wrapped(entry.comment), wrapped(entry.lines)
+    if is_item(entry):
+        return [*comment, *beside(lines)]
+    return with_comment(comment, joined([re.sub(r"^( *)((abbrev|unfoldable|pub) )+", r"\1", line) for line in lines]))
+
+
+def with_comment(comment, lines, width=130):
+    """The lines of a definition under its comment; one of a single line stands after the first line, where it fits."""
+    if len(comment) == 1 and len(lines[0]) + len(comment[0]) + 2 <= width:
+        return [f"{lines[0]}  {comment[0]}", *lines[1:]]
+    return [*comment, *lines]
 
 
 def counted(entries):
