@@ -284,8 +284,8 @@ Two functions of the families above have no answer yet, here or from cbc. Their 
 - squares of 8 inputs: 166 to 170 products;
 - multipliers, 5 × 5 bits: 453 to 457 products.
 
-The lower bounds are those of subgradient steps and of cbc on the reduced tables, the covers those of a local search with row weights;
-all together took {minutes} minutes of one processor.
+The lower bounds are those of subgradient steps and of cbc on the reduced tables, and the covers those of a local search with row
+weights, in an hour of one processor.
 """
 
 COMPARED = """## {title}
