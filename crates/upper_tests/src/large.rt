@@ -1,19 +1,16 @@
-//! Long lists, wide rows, tables of many columns and long names on each call, with answers that are
-//! known from how these are made.
+//! Long lists, wide rows and tables of many columns on each call, with answers that are known from
+//! how these are made.
 //!
 //! A call may be refused memory at any time, and would still meet its contract. So each is asked
 //! here for more than it might be tempted to keep short.
 use crate::descriptions::{ALL, Case, ESSENTIAL, OUTSIDE, answers};
 use crate::rules::{Outputs, Rule};
-use crate::runs::{Ran, has_left, run_on};
 use crate::tables::{has_taken, least_is, rings, rings_are_solved};
 use covering::{all_marked, copy_of, is_marked, numbers, unmark};
 use minimum::{Choice, Effort, Table, least_cover_plain, least_cover_with_effort, reduce};
-use pla::{Ending, Given, Taken};
 use signature_search::{Rows, signature_places};
 use std::alloc::{AllocError, Global};
 use std::test::Fail;
-use tool::{Line, LineFault, Status};
 
 const LARGE: [Case; 6] = [
     // Points of which each is an essential prime, and these in a table of 4,096 columns.
@@ -199,48 +196,5 @@ fn each_row_of_a_large_decoder_has_a_place(rt: HostRuntime) -> Result<(), Fail> 
     let none = Rows::new(alloc, 10, 1024);
     let places = signature_places(alloc, &on, &none, &off, false, 20_000)?;
     assert!(rt; places.len() == 1024);
-    Ok(())
-}
-
-/// A text of a beginning and 60,000 letters.
-fn letters(alloc: Global, begin: &str, end: &str) -> Result<String, Fail> {
-    let mut text = String::from_str(alloc, begin)?;
-    for _ in 0..60_000 {
-        text.push_str("n")?;
-    }
-    text.push_str(end)?;
-    Ok(text)
-}
-
-/// What a command on files with a long name leaves, where the second file has a fault.
-fn left_by(alloc: Global, name: &str) -> Result<Ran, Fail> {
-    let first = Given::new(b".i 1\n.o 1\n1 1\n".to_vec(alloc)?, 3, Ending::End);
-    let second = Given::new(b".i 1\n.o 1\nx 1\n".to_vec(alloc)?, 3, Ending::End);
-    let output = Taken::new(alloc, 100, 100, false)?;
-    run_on(alloc, &["-Dverify", "a", name], first, second, output)
-}
-
-#[test]
-fn long_names_of_files_are_told(rt: HostRuntime) -> Result<(), Fail> {
-    let alloc = rt.alloc();
-    let ran = left_by(alloc, letters(alloc, "", "")?.as_str())?;
-    let message = letters(alloc, "espresso: ", ":3: bad symbol\n")?;
-    assert!(rt; has_left(&ran, b"", message.as_bytes(), Status::Fault));
-    Ok(())
-}
-
-/// So many words.
-fn words(alloc: Global, count: usize) -> Result<Vec<String>, Fail> {
-    let mut list = Vec::new(alloc);
-    for _ in 0..count {
-        list.push(String::from_str(alloc, "-Decho")?)?;
-    }
-    Ok(list)
-}
-
-#[test]
-fn many_words_are_refused_for_what_they_are(rt: HostRuntime) -> Result<(), Fail> {
-    let words = words(rt.alloc(), 20_000)?;
-    assert!(rt; Line::read(rt.alloc(), &words).err() == Some(LineFault::Usage));
     Ok(())
 }

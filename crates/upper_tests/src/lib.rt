@@ -1,13 +1,12 @@
-//! Tests of the public calls of `minimum` and `tool`.
+//! Tests of the public calls of `covering`, `minimum` and `signature_search`.
 //!
-//! They stand in a crate of their own, as those of the crates below do (`lower_tests`), since the
-//! crate that a test stands in is proved a second time with it.
+//! They stand in a crate of their own, as those of the crates below (`lower_tests`) and above
+//! (`tool_tests`) do, since the crate that a test stands in is proved a second time with it.
 //!
 //! - Minima: `primes`, `tables` of rows, `solutions` of whole files; `descriptions` by `rules`, in
 //!   `small_cases` and `wide`, which also sets functions of a few inputs among many; `signatures` of
 //!   a decoder.
-//! - `large`: each call on long lists, wide rows, many columns and long names.
-//! - Runs: `runs` on devices that fail, `processes` from their words to their status.
+//! - `large`: each call on long lists, wide rows and many columns.
 #![tactic(auto)]
 
 #[cfg(test)]
@@ -17,11 +16,7 @@ mod large;
 #[cfg(test)]
 mod primes;
 #[cfg(test)]
-mod processes;
-#[cfg(test)]
 mod rules;
-#[cfg(test)]
-mod runs;
 #[cfg(test)]
 mod signatures;
 #[cfg(test)]
