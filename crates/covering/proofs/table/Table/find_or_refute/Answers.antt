@@ -1,5 +1,5 @@
 use Rattle.std.proofs.Common.{Some}
-use Rattle.covering.proofs.table.Table.decide_within.Goals as goal
+use Rattle.covering.proofs.table.Table.find_or_refute.Goals as goal
 
 pub returns-in-Some-3 : goal.returns-in-Some-3
 returns-in-Some-3 c =

@@ -1,6 +1,6 @@
 use Rattle.std.proofs.Common.{length}
 use Rattle.covering.specs.Cover.{IsCover}
-use Rattle.covering.proofs.table.Table.shortest.Given as goal
+use Rattle.covering.proofs.table.Table.shortest_cover.Given as goal
 
 abbrev pub invariant-loop-cover : goal.invariant-loop-cover
 invariant-loop-cover l = IsCover l.self l.cover.items
