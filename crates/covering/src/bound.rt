@@ -53,13 +53,7 @@ pub(crate) fn scaled_costs(
 
 /// The scaled cost of so many columns with that cost, and the overloads; `None` if the sum is too
 /// large.
-pub(crate) fn limit_of(
-    one: u32,
-    columns: usize,
-    each: u32,
-    cost: u128,
-    over: u128,
-) -> Option<u128>
+pub(crate) fn limit_of(one: u32, columns: usize, each: u32, cost: u128, over: u128) -> Option<u128>
     ensures { IfSome result (λ limit. limit ≡ one * columns + each * cost + over) }
 {
     let first = u128::from(one) * (columns as u128);

@@ -167,11 +167,13 @@ impl Table {
         &self,
         alloc: Global,
         choice: Choice,
+        transpose: &[Vec<usize>],
     ) -> Result<Option<Table>, AllocError>
+        requires transpose { IsTranspose self.now.columns self.now.rows (items_of transpose.now) }
+        requires long { length transpose.now ≡ self.now.columns }
         ensures { IfOk result (λ o. MatchOption o (HasNoDominatedColumn choice self.now)
             (Shrinks choice self.now)) }
     {
-        let transpose = self.transpose(alloc)?;
         let keep = column_dominance(
             alloc,
             Preference::Earlier,
@@ -179,7 +181,7 @@ impl Table {
             self.literals(),
             self.live_columns(),
             self.row_lists(),
-            &transpose,
+            transpose,
         )?;
         let live = marked_columns(alloc, self.live_columns(), &keep)?;
         if live.len() == self.live_columns().len() {
@@ -196,10 +198,12 @@ impl Table {
         &self,
         alloc: Global,
         choice: Choice,
+        transpose: &[Vec<usize>],
     ) -> Result<Option<Table>, AllocError>
+        requires transpose { IsTranspose self.now.columns self.now.rows (items_of transpose.now) }
+        requires long { length transpose.now ≡ self.now.columns }
         ensures { IfOk result (λ o. IfSome o (IsWeakStep choice self.now)) }
     {
-        let transpose = self.transpose(alloc)?;
         let keep = column_dominance(
             alloc,
             Preference::NoDearer,
@@ -207,7 +211,7 @@ impl Table {
             self.literals(),
             self.live_columns(),
             self.row_lists(),
-            &transpose,
+            transpose,
         )?;
         let live = marked_columns(alloc, self.live_columns(), &keep)?;
         if live.len() >= self.live_columns().len() {

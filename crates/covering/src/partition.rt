@@ -43,7 +43,8 @@ fn are_apart(rows: &[Vec<usize>], marks: &[bool], others: &[bool]) -> bool
 }
 
 impl Table {
-    /// The live columns with marks, and the rows of these alone, under these taken columns.
+    /// The table of the marked live columns and of the rows that have no others, with these columns
+    /// taken.
     fn part(&self, alloc: Global, taken: Vec<usize>, marks: &[bool]) -> Result<Table, AllocError>
         requires rises { RisesFrom 0 taken.items }
         requires taken { IsWithin taken.items self.now.taken }

@@ -109,7 +109,7 @@ impl Table {
         Table::new(alloc, rows, literals)
     }
 
-    /// The columns for which the numbers stand, and the taken ones.
+    /// The taken columns and those that have these numbers.
     pub(crate) fn with_numbers(
         &self,
         alloc: Global,

@@ -19,7 +19,7 @@ use std::alloc::{AllocError, Global};
 const LIKELIEST: i64 = 1048576;
 
 /// Whether the row is the other list without the columns that are not live.
-fn is_left_of(row: &[usize], other: &[u32], live: &[bool]) -> bool {
+fn is_live_part_of(row: &[usize], other: &[u32], live: &[bool]) -> bool {
     let mut met = 0;
     for column in other {
         if flag(live, *column as usize) {
@@ -32,10 +32,10 @@ fn is_left_of(row: &[usize], other: &[u32], live: &[bool]) -> bool {
     met == row.len()
 }
 
-/// The first of the rows, from an index on, that this row is what is left of.
+/// The first of the rows, from an index on, whose live columns are this row.
 fn matching_row(rows: &Lists, row: &[usize], live: &[bool], from: usize) -> usize {
     for index in from..rows.len() {
-        if row.len() <= rows.list(index).len() && is_left_of(row, rows.list(index), live) {
+        if row.len() <= rows.list(index).len() && is_live_part_of(row, rows.list(index), live) {
             return index;
         }
     }

@@ -7,11 +7,11 @@ loop-partial-init c = record { partial = c.requires; next = next_self c.args.cho
 pub drop_by_bound-requires : goal.drop_by_bound-requires
 drop_by_bound-requires c = c.loop-partial.invariant.partial
 
-pub returns-then-live-left-clause-partial : goal.returns-then-live-left-clause-partial
-returns-then-live-left-clause-partial c = c.in_ok-partial.ensures.partial
+pub returns-then-live-still_live-clause-partial : goal.returns-then-live-still_live-clause-partial
+returns-then-live-still_live-clause-partial c = c.in_ok-partial.ensures.partial
 
-pub returns-then-live-left-clause-next : goal.returns-then-live-left-clause-next
-returns-then-live-left-clause-next c = next_join c.args.choice c.args.self.table c.loop-partial.partial.table c.in_ok-partial.partial.table c.loop-partial.invariant.next c.in_ok-partial.ensures.next
+pub returns-then-live-still_live-clause-next : goal.returns-then-live-still_live-clause-next
+returns-then-live-still_live-clause-next c = next_join c.args.choice c.args.self.table c.loop-partial.partial.table c.in_ok-partial.partial.table c.loop-partial.invariant.next c.in_ok-partial.ensures.next
 
 pub loop-partial-preserved : goal.loop-partial-preserved
 loop-partial-preserved c = record {
