@@ -506,28 +506,16 @@ impl Table {
         warm_start.count_question();
         warm_start.count_table();
         let goal = self.goal(choice, budget);
-        if let Some(cover) = self.find_by_local_search(
-            alloc,
-            choice,
-            budget,
-            goal,
-            warm_start.hint(),
-            3,
-        )? {
+        let found = self.find_by_local_search(alloc, choice, budget, goal, warm_start.hint(), 3)?;
+        if let Some(cover) = found {
             return Ok(Some(cover));
         }
         let Some(table) = self.prune(alloc, choice, budget, warm_start)? else {
             return Ok(None);
         };
         let goal = table.goal(choice, budget);
-        if let Some(cover) = table.find_by_local_search(
-            alloc,
-            choice,
-            budget,
-            goal,
-            warm_start.hint(),
-            12,
-        )? {
+        let found = table.find_by_local_search(alloc, choice, budget, goal, warm_start.hint(), 12)?;
+        if let Some(cover) = found {
             return Ok(Some(cover));
         }
         let mut tables_left = most_tables;
