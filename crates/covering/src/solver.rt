@@ -211,7 +211,7 @@ impl Partial {
     }
 
     /// Drops the columns that row weights show to be in no cover within the budget.
-    fn drop_by_bound(
+    fn drop_outside_once(
         self,
         alloc: Global,
         choice: Choice,
@@ -232,8 +232,8 @@ impl Partial {
         }
     }
 
-    /// Drops such columns until weights show few more.
-    fn prune(
+    /// Drops columns that are in no cover within the budget, until row weights show few more.
+    fn drop_outside(
         self,
         alloc: Global,
         choice: Choice,
@@ -248,7 +248,7 @@ impl Partial {
         let mut partial = self;
         loop {
             let live = partial.table.live_columns().len();
-            partial = partial.drop_by_bound(alloc, choice, budget, questions)?;
+            partial = partial.drop_outside_once(alloc, choice, budget, questions)?;
             let still_live = partial.table.live_columns().len();
             if live <= still_live || !is_worth_a_bound(live, still_live) {
                 return Ok(partial);
@@ -277,13 +277,13 @@ impl Partial {
         }
         let partial = self.ask_for_many(alloc, choice, budget, column, questions)?;
         if !contains(partial.table.live_columns(), column) {
-            return partial.prune(alloc, choice, budget, questions);
+            return partial.drop_outside(alloc, choice, budget, questions);
         }
         if contains(&partial.witness, column) {
             return partial.ask_for_one(alloc, choice, budget, column, questions);
         }
         let partial = partial.ask_for_one(alloc, choice, budget, column, questions)?;
-        partial.prune(alloc, choice, budget, questions)
+        partial.drop_outside(alloc, choice, budget, questions)
     }
 }
 
@@ -334,7 +334,7 @@ impl Table {
             table: self.copy(alloc)?,
             witness: best,
         };
-        partial = partial.prune(alloc, choice, budget, questions)?;
+        partial = partial.drop_outside(alloc, choice, budget, questions)?;
         questions.warm_start.hurry();
         for column in 0..self.columns() {
             if partial.table.is_solved() {

@@ -5,7 +5,7 @@ use Rattle.covering.specs.Table.{Table, has}
 use Rattle.covering.specs.Steps.{take_column}
 use Rattle.covering.specs.Search.{Answers, IsAnswer, IsOutside, NoneWithin, IsPartial, Continues, marked}
 use Rattle.covering.proofs.Sets.{without_lacks}
-use Rattle.covering.proofs.Partials.{stage_taken, next_taken, witness_taken, outside_taken, lacks_marked, marked_but, same_column, some_left, stage_left, next_left}
+use Rattle.covering.proofs.Partials.{partial_taken, next_taken, witness_taken, outside_taken, lacks_marked, marked_but, same_column, some_left, partial_left, next_left}
 use Rattle.covering.proofs.solver.Partial.ask_for_one.Goals as goal
 use Rattle.covering.proofs.solver.Partial.ask_for_one.Goals.{Then-contains, In-Some, In_ok-keep-in-None}
 
@@ -15,7 +15,7 @@ own c = witness_taken c.args.choice c.args.self.table c.args.column c.args.budge
 pub returns-then-contains-clause-partial : goal.returns-then-contains-clause-partial
 returns-then-contains-clause-partial c =
     subst (λ g. IsPartial c.args.choice c.args.budget.columns c.args.budget.cost g c.args.self.witness.items) (sym c.in_ok-with.ensures.taken)
-    (stage_taken c.args.choice c.args.self.table c.args.column c.args.budget.columns c.args.budget.cost c.args.self.witness.items c.requires.partial.none c.requires.live (own (goal.at.returns-then-contains-clause-partial c).Then-contains))
+    (partial_taken c.args.choice c.args.self.table c.args.column c.args.budget.columns c.args.budget.cost c.args.self.witness.items c.requires.partial.none c.requires.live (own (goal.at.returns-then-contains-clause-partial c).Then-contains))
 
 pub returns-then-contains-clause-next : goal.returns-then-contains-clause-next
 returns-then-contains-clause-next c =
@@ -32,7 +32,7 @@ found c = subst (λ g. IsAnswer c.args.choice g c.args.budget.columns c.args.bud
 pub returns-in-Some-clause-partial : goal.returns-in-Some-clause-partial
 returns-in-Some-clause-partial c =
     subst (λ g. IsPartial c.args.choice c.args.budget.columns c.args.budget.cost g c.in-Some.witness.items) (sym c.in_ok-with.ensures.taken)
-    (stage_taken c.args.choice c.args.self.table c.args.column c.args.budget.columns c.args.budget.cost c.in-Some.witness.items c.requires.partial.none c.requires.live (found (goal.at.returns-in-Some-clause-partial c).In-Some))
+    (partial_taken c.args.choice c.args.self.table c.args.column c.args.budget.columns c.args.budget.cost c.in-Some.witness.items c.requires.partial.none c.requires.live (found (goal.at.returns-in-Some-clause-partial c).In-Some))
 
 pub returns-in-Some-clause-next : goal.returns-in-Some-clause-next
 returns-in-Some-clause-next c =
@@ -59,7 +59,7 @@ pub returns-in_ok-keep-in-None-clause-partial : goal.returns-in_ok-keep-in-None-
 returns-in_ok-keep-in-None-clause-partial c =
     let left = rw c.deref-in-None.ensures.value at c.without_columns.ensures in
     IfOk-weaker c.without_columns.result _ _
-    (λ s h. rw h.1 (stage_left c.args.choice (marked c.in_ok-keep-in-None.keep.items) c.args.self.table c.args.budget.columns c.args.budget.cost c.args.self.witness.items c.columns.ensures.table c.requires.partial (out (goal.at.returns-in_ok-keep-in-None-clause-partial c).In_ok-keep-in-None) s.table h.0))
+    (λ s h. rw h.1 (partial_left c.args.choice (marked c.in_ok-keep-in-None.keep.items) c.args.self.table c.args.budget.columns c.args.budget.cost c.args.self.witness.items c.columns.ensures.table c.requires.partial (out (goal.at.returns-in_ok-keep-in-None-clause-partial c).In_ok-keep-in-None) s.table h.0))
     left
 
 pub returns-in_ok-keep-in-None-clause-next : goal.returns-in_ok-keep-in-None-clause-next
