@@ -214,15 +214,27 @@ impl Table {
         total_cost(choice, self.literals(), self.taken_columns()) > budget.cost
     }
 
-    /// What a cover within the budget may have beside the taken columns, for hints.
+    /// The budget less the taken columns: what a cover within it may have beside these.
+    fn remaining_budget(&self, choice: Choice, budget: Budget) -> Budget
+        ensures columns { result.columns ≡ budget.columns - length self.now.taken }
+        ensures cost { result.cost ≡ budget.cost
+            - sum_over (counted choice self.now.weights) self.now.taken }
+    {
+        let taken = self.taken_columns();
+        Budget {
+            columns: budget.columns.saturating_sub(taken.len()),
+            cost: budget
+                .cost
+                .saturating_sub(total_cost(choice, self.literals(), taken)),
+        }
+    }
+
+    /// That rest, for hints.
     fn goal(&self, choice: Choice, budget: Budget) -> Goal {
-        let columns = budget.columns.saturating_sub(self.taken_columns().len());
-        let cost = budget
-            .cost
-            .saturating_sub(total_cost(choice, self.literals(), self.taken_columns()));
+        let rest = self.remaining_budget(choice, budget);
         Goal {
-            columns: i64::try_from(columns).unwrap_or(i64::MAX),
-            cost: i64::try_from(cost).unwrap_or(i64::MAX),
+            columns: i64::try_from(rest.columns).unwrap_or(i64::MAX),
+            cost: i64::try_from(rest.cost).unwrap_or(i64::MAX),
         }
     }
 
@@ -268,15 +280,12 @@ impl Table {
             multipliers.cost,
         )?;
         let loads = lagrangian(alloc, rows, &multipliers.weights, &scaled_costs)?;
-        let columns = budget.columns.saturating_sub(self.taken_columns().len());
-        let cost = budget
-            .cost
-            .saturating_sub(total_cost(choice, self.literals(), self.taken_columns()));
+        let rest = self.remaining_budget(choice, budget);
         let Some(limit) = limit_of(
             multipliers.column,
-            columns,
+            rest.columns,
             multipliers.cost,
-            cost,
+            rest.cost,
             loads.over,
         ) else {
             return Ok(Some(self.all_columns_marked(alloc)?));

@@ -37,13 +37,9 @@ covers c = subst (λ rows. BoundsCovers rows c.in_ok-scaled_costs.scaled_costs.i
 limit : (c : In-Some) → c.in-Some.limit ≡ c.args.multipliers.now.column * (c.args.budget.columns - length c.args.self.now.taken) + c.args.multipliers.now.cost * (c.args.budget.cost - sum_over (counted c.args.choice c.args.self.now.weights) c.args.self.now.taken) + c.in_ok-loads.loads.over
 limit c =
     let k = c.args.budget.columns in
-    let w = c.args.budget.cost in
     let one = c.args.multipliers.now.column in
     let per = c.args.multipliers.now.cost in
-    let columns : c.saturating_sub-columns.result ≡ k - length c.args.self.now.taken = c.saturating_sub-columns.ensures ∙ ap (λ n. k - n) (ap length c.taken_columns.ensures.value) in
-    let sum : c.total_cost.result ≡ sum_over (counted c.args.choice c.args.self.now.weights) c.args.self.now.taken = c.total_cost.ensures ∙ ap (λ ws. sum_over (counted c.args.choice ws) c.taken_columns-2.result.now) c.literals-2.ensures.value ∙ ap (sum_over (counted c.args.choice c.args.self.now.weights)) c.taken_columns-2.ensures.value in
-    let cost : c.saturating_sub-cost.result ≡ w - sum_over (counted c.args.choice c.args.self.now.weights) c.args.self.now.taken = c.saturating_sub-cost.ensures ∙ ap (λ n. w - n) sum in
-    c.in-Some.ensures ∙ ap (λ n. one * n + per * c.saturating_sub-cost.result + c.in_ok-loads.loads.over) columns ∙ ap (λ n. one * (k - length c.args.self.now.taken) + per * n + c.in_ok-loads.loads.over) cost
+    c.in-Some.ensures ∙ ap (λ n. one * n + per * c.remaining_budget-rest.result.cost + c.in_ok-loads.loads.over) c.remaining_budget-rest.ensures.columns ∙ ap (λ n. one * (k - length c.args.self.now.taken) + per * n + c.in_ok-loads.loads.over) c.remaining_budget-rest.ensures.cost
 
 pub returns-then-loads-limit : goal.returns-then-loads-limit
 returns-then-loads-limit c =
