@@ -87,9 +87,9 @@ impl Questions {
         Ok(witness)
     }
 
-    /// The answer to a question about a batch; `None` if it takes too many tables. A cover that has
+    /// The same, if it takes no more than `BATCH_TABLES` tables; else `None`. A cover that has
     /// one of many columns can be far harder to rule out than a cover that has the first of them.
-    fn ask_for_batch(
+    fn ask_briefly(
         &mut self,
         alloc: Global,
         choice: Choice,
@@ -159,7 +159,7 @@ impl Partial {
         let Some(extended) = self.table.with_marked_row(alloc, &marks)? else {
             return Ok(self);
         };
-        let Some(answer) = questions.ask_for_batch(alloc, choice, budget, &extended)? else {
+        let Some(answer) = questions.ask_briefly(alloc, choice, budget, &extended)? else {
             return Ok(self);
         };
         match answer {
