@@ -1,4 +1,4 @@
--- Columns settled one by one, with a cover within the budget.
+-- Columns decided one by one, with a cover within the budget.
 use Rattle.std.proofs.Common.{◌≡◌, ℕ, ◌+◌, ◌<◌, ◌≤◌, ◌⊎◌, inl, inr, Bool, true, false, List, [], ◌∷◌, ◌++◌, length, map, not, eqb, refl, sym, ap, subst, ◌∙◌, arith}
 use Rattle.std.specs.Prelude.{filter}
 use Rattle.std.specs.List.{AllByRecursion, list_any, range_with_len}
@@ -34,12 +34,12 @@ least_within choice t k w s x a none h =
 -- ---- the first live column is taken
 
 module _ (choice : Choice) (t : Table) (c k w : ℕ) (s : List ℕ) (none : NoneBelow choice t k w) (live : has c t.live ≡ true) (a : IsAnswer choice (take_column c t) k w s) where
-  pub stage_taken : IsPartial choice k w (take_column c t) s
-  stage_taken = record { none = λ x h. none x (take_back t c x live h).0; witness = a }
+  pub partial_taken : IsPartial choice k w (take_column c t) s
+  partial_taken = record { none = λ x h. none x (take_back t c x live h).0; witness = a }
 
   pub next_taken : ((m : ℕ) → has m t.live ≡ true → c ≤ m) → Continues choice t (take_column c t)
   next_taken first = record {
-    least = λ x h. let fits = least_within choice (take_column c t) k w s x a stage_taken.none h in taken_least choice t k w x fits.0 fits.1 c live first none h;
+    least = λ x h. let fits = least_within choice (take_column c t) k w s x a partial_taken.none h in taken_least choice t k w x fits.0 fits.1 c live first none h;
     live = λ n h. without_only n c t.live h;
   }
 
@@ -56,8 +56,8 @@ module _ (choice : Choice) (test : ℕ → Bool) (t : Table) (k w : ℕ) (s : Li
   has_kept : (c : ℕ) → has c s ≡ true → has c t.live ≡ true → test c ≡ true
   has_kept c h l = elim (cases_Bool (test c)) [ inl e ↦ e | inr e ↦ absurd (not_both choice t k w s partial.witness (out c l e s partial.witness.cover h)) ]
 
-  pub stage_kept : IsPartial choice k w (keep_columns test t) s
-  stage_kept = record {
+  pub partial_kept : IsPartial choice k w (keep_columns test t) s
+  partial_kept = record {
     none = λ x h. partial.none x (kept_back test t x h);
     witness = record { cover = kept_cover test t wt s partial.witness.cover has_kept; fits = partial.witness.fits; counts = partial.witness.counts };
   }
@@ -65,7 +65,7 @@ module _ (choice : Choice) (test : ℕ → Bool) (t : Table) (k w : ℕ) (s : Li
   pub next_kept : Continues choice t (keep_columns test t)
   next_kept = record {
     least = λ x h.
-        let fits = least_within choice (keep_columns test t) k w s x stage_kept.witness stage_kept.none h in
+        let fits = least_within choice (keep_columns test t) k w s x partial_kept.witness partial_kept.none h in
         record {
           cover = kept_back test t x h.cover;
           first = λ y g. elim (split test t y) [
@@ -82,8 +82,8 @@ module _ (choice : Choice) (test : ℕ → Bool) (t : Table) (k w : ℕ) (s : Li
     | inr e ↦ e
   ]
 
-  pub stage_left : (u : Table) → u ≡ keep_columns test t → IsPartial choice k w u s
-  stage_left u e = subst (λ g. IsPartial choice k w g s) (sym e) stage_kept
+  pub partial_left : (u : Table) → u ≡ keep_columns test t → IsPartial choice k w u s
+  partial_left u e = subst (λ g. IsPartial choice k w g s) (sym e) partial_kept
 
   pub next_left : (u : Table) → u ≡ keep_columns test t → Continues choice t u
   next_left u e = subst (Continues choice t) (sym e) next_kept
@@ -109,15 +109,15 @@ row_table t row w some rises within = record {
   weighed = w.weighed;
 }
 
-pub answer_asked : (choice : Choice) (t : Table) (row : List ℕ) (k w : ℕ) (s : List ℕ) → IsAnswer choice (with_rows t (t.rows ++ row ∷ [])) k w s → IsAnswer choice t k w s
-answer_asked choice t row k w s a = record {
+pub answer_extended : (choice : Choice) (t : Table) (row : List ℕ) (k w : ℕ) (s : List ℕ) → IsAnswer choice (with_rows t (t.rows ++ row ∷ [])) k w s → IsAnswer choice t k w s
+answer_extended choice t row k w s a = record {
   cover = record { rises = a.cover.rises; taken = a.cover.taken; only = a.cover.only; rows = all_front (λ r. meets s r ≡ true) t.rows row a.cover.rows };
   fits = a.fits;
   counts = a.counts;
 }
 
-pub outside_asked : (choice : Choice) (t : Table) (row : List ℕ) (k w c : ℕ) → has c row ≡ true → NoneWithin choice (with_rows t (t.rows ++ row ∷ [])) k w → IsOutside choice t k w c
-outside_asked choice t row k w c h none x g there = none x (record {
+pub outside_extended : (choice : Choice) (t : Table) (row : List ℕ) (k w c : ℕ) → has c row ≡ true → NoneWithin choice (with_rows t (t.rows ++ row ∷ [])) k w → IsOutside choice t k w c
+outside_extended choice t row k w c h none x g there = none x (record {
   rises = g.rises;
   taken = g.taken;
   only = g.only;
@@ -158,16 +158,16 @@ pub gone_next : (choice : Choice) (t u : Table) (c : ℕ) → Continues choice t
 gone_next choice t u c h e = elim (cases_Bool (has c u.live)) [ inl f ↦ absurd (both_ways _ e (h.live c f)) | inr f ↦ f ]
 
 -- where no row is left the taken columns are the least cover
-pub stage_done : (choice : Choice) (t u : Table) (s : List ℕ) → IsTable u → Continues choice t u → u.rows ≡ [] → s ≡ u.taken → IsLeast choice t s
-stage_done choice t u s w h e f = subst (IsLeast choice t) (sym f) (h.least u.taken (leaf choice u w e))
+pub partial_done : (choice : Choice) (t u : Table) (s : List ℕ) → IsTable u → Continues choice t u → u.rows ≡ [] → s ≡ u.taken → IsLeast choice t s
+partial_done choice t u s w h e f = subst (IsLeast choice t) (sym f) (h.least u.taken (leaf choice u w e))
 
 none_in : (xs : List ℕ) → ((c : ℕ) → has c xs ≡ true → ⊥) → xs ≡ []
 none_in [] f = refl
 none_in (x ∷ xs) f = absurd (f x (has_here x x xs refl))
 
 -- and where no live column is left no row is
-pub all_settled : (choice : Choice) (t u : Table) (n : ℕ) → IsTable t → IsTable u → Continues choice t u → ((c : ℕ) → has c u.live ≡ true → n ≤ c) → t.columns ≤ n → u.rows ≡ []
-all_settled choice t u n wt wu h first e = no_live u wu (none_in u.live (λ c l. let a = first c l in let b = wt.within c (h.live c l) in omega arith))
+pub all_decided : (choice : Choice) (t u : Table) (n : ℕ) → IsTable t → IsTable u → Continues choice t u → ((c : ℕ) → has c u.live ≡ true → n ≤ c) → t.columns ≤ n → u.rows ≡ []
+all_decided choice t u n wt wu h first e = no_live u wu (none_in u.live (λ c l. let a = first c l in let b = wt.within c (h.live c l) in omega arith))
 
 pub first_next : (u v : Table) (n : ℕ) → ((c : ℕ) → has c v.live ≡ true → has c u.live ≡ true) → ((c : ℕ) → has c u.live ≡ true → n ≤ c) → has n v.live ≡ false → (c : ℕ) → has c v.live ≡ true → n + 1 ≤ c
 first_next u v n within first gone c l = let a = first c (within c l) in elim (cases_eq n c) [

@@ -65,15 +65,6 @@ pub record IsPruned (choice : Choice) (k w : ℕ) (t u : Table) : Type 0 where
 abbrev pub IsForced : Table → ℕ → Type 0
 IsForced t c = (x : List ℕ) → IsCover t x → has c x ≡ true
 
--- every cover has so many columns at least
-abbrev pub IsShortest : Table → ℕ → Type 0
-IsShortest t k = (x : List ℕ) → IsCover t x → k ≤ length x
-
--- a cover of fewer columns
-pub record HasShorter (t : Table) (k : ℕ) (s : List ℕ) : Type 0 where
-  pub cover : IsCover t s
-  pub shorter : length s < k
-
 -- every cover has more columns, or as many literals
 abbrev pub IsFewest : Table → ℕ → ℕ → Type 0
 IsFewest t k w = (x : List ℕ) → IsCover t x → (k < length x)

@@ -6,14 +6,16 @@ ghost use Rattle.covering.specs.Cover.{counted};
 ghost use Rattle.covering.specs.Weights.{at};
 
 use crate::choice::Choice;
-use crate::columns::count;
+use crate::columns::cost;
 use std::alloc::{AllocError, Global};
 
-/// What a cover may have at most: so many columns, which together count so much.
+/// What a cover may have at most.
 #[derive(Clone, Copy)]
 pub(crate) struct Budget {
+    /// The number of its columns.
     pub(crate) columns: usize,
-    pub(crate) counts: u128,
+    /// Their cost, all together.
+    pub(crate) cost: u128,
 }
 
 /// The number for the column, 0 if there is none.
@@ -27,41 +29,35 @@ pub(crate) fn at(numbers: &[u64], column: usize) -> u64
     }
 }
 
-/// The scaled cost of a column: a number for itself, and one for each thing that it counts.
-fn scaled_cost(choice: Choice, weights: &[u32], one: u32, each: u32, column: usize) -> u64
-    ensures { result ≡ one + each * counted choice weights.now column }
+/// The scaled cost of a column: `one` for itself, and `each` for each unit of its cost.
+fn scaled_cost(choice: Choice, literals: &[u32], one: u32, each: u32, column: usize) -> u64
+    ensures { result ≡ one + each * counted choice literals.now column }
 {
-    u64::from(one) + u64::from(each) * u64::from(count(choice, weights, column))
+    u64::from(one) + u64::from(each) * u64::from(cost(choice, literals, column))
 }
 
 pub(crate) fn scaled_costs(
     alloc: Global,
     choice: Choice,
-    weights: &[u32],
+    literals: &[u32],
     one: u32,
     each: u32,
 ) -> Result<Vec<u64>, AllocError>
-    ensures { IfOk result (λ v. v.items ≡ map (λ c. one + each * counted choice weights.now c)
-        (range_with_len 0 (length weights.now))) }
+    ensures { IfOk result (λ v. v.items ≡ map (λ c. one + each * counted choice literals.now c)
+        (range_with_len 0 (length literals.now))) }
 {
-    (0..weights.len())
-        .map(|column| scaled_cost(choice, weights, one, each, column))
+    (0..literals.len())
+        .map(|column| scaled_cost(choice, literals, one, each, column))
         .collect(alloc)
 }
 
-/// The scaled costs of so many columns that count so much, and the overloads; `None` if the sum is
-/// too large.
-pub(crate) fn limit_of(
-    one: u32,
-    columns: usize,
-    each: u32,
-    counts: u128,
-    over: u128,
-) -> Option<u128>
-    ensures { IfSome result (λ limit. limit ≡ one * columns + each * counts + over) }
+/// The scaled cost of so many columns with that cost, and the overloads; `None` if the sum is too
+/// large.
+pub(crate) fn limit_of(one: u32, columns: usize, each: u32, cost: u128, over: u128) -> Option<u128>
+    ensures { IfSome result (λ limit. limit ≡ one * columns + each * cost + over) }
 {
     let first = u128::from(one) * (columns as u128);
-    let Some(second) = u128::from(each).checked_mul(counts) else {
+    let Some(second) = u128::from(each).checked_mul(cost) else {
         return None;
     };
     let Some(both) = first.checked_add(second) else {

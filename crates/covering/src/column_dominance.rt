@@ -1,8 +1,8 @@
-//! Column dominance: drop a column if another is in all its rows and is preferred.
+//! Column dominance: drop a column if another is in all its rows and may replace it.
 //!
-//! In a reduction that one comes first: it counts less, or as much and has a smaller number. In a
-//! search within a budget, which asks for any cover, it counts no more. It stands in a shortest row
-//! of the column that leaves, so that candidates are few.
+//! In a reduction the other one costs less, or as much and has a smaller number. In a search within
+//! a budget, which asks for any cover, it costs no more. It is in each row of the dropped column, so
+//! candidates are looked for in a shortest one.
 
 ghost use Rattle.std.specs.Prelude.{◌≡◌, ◌<◌, ◌==◌, ◌&&◌, ◌||◌, ℕ, [], IfOk, IfSome, MatchOption, length, true};
 ghost use Rattle.std.specs.List.{list_any};
@@ -12,73 +12,74 @@ ghost use Rattle.covering.specs.Search.{IsWeakStep};
 ghost use Rattle.covering.specs.Reduce.{row_at, IsTranspose, LeavesNoDominatedColumn, is_preferred, dominates, HasNoDominatedColumn, Shrinks};
 
 use crate::choice::Choice;
-use crate::columns::{copy_of, count, is_within};
+use crate::columns::{copy_of, cost, is_within};
 use crate::marks::{all_marked, is_marked, marked_columns, rows_of_marked, unmark};
 use crate::table::Table;
 use crate::transpose::entry;
 use std::alloc::{AllocError, Global};
 
-/// Which of two columns may stay in place of the other.
+/// Which columns may replace another one.
 #[derive(Clone, Copy)]
 enum Preference {
-    /// One that counts less, or as much and has a smaller number.
+    /// Those that cost less, or as much and have a smaller number.
     Earlier,
-    /// One that counts no more.
+    /// Those that cost no more.
     NoDearer,
 }
 
-/// Whether `b` may stay in place of `a`.
-fn is_preferred(preference: Preference, choice: Choice, weights: &[u32], b: usize, a: usize) -> bool
-    ensures { result ≡ is_preferred preference (counted choice weights.now) b a }
+/// Whether `b` may replace `a`.
+fn may_replace(preference: Preference, choice: Choice, literals: &[u32], b: usize, a: usize) -> bool
+    ensures { result ≡ is_preferred preference (counted choice literals.now) b a }
 {
-    let first = count(choice, weights, b);
-    let second = count(choice, weights, a);
+    let first = cost(choice, literals, b);
+    let second = cost(choice, literals, a);
     match preference {
         Preference::Earlier => first < second || (first == second && b < a),
         Preference::NoDearer => first <= second,
     }
 }
 
-/// Whether another column `b` is kept, may stay in place of `a` and stands in all its rows.
-fn dominates(
+/// Whether `b` is another column than `a`, is kept, may replace it and is in all its rows.
+fn is_dominated_by(
     preference: Preference,
     choice: Choice,
-    weights: &[u32],
+    literals: &[u32],
     transpose: &[Vec<usize>],
     keep: &[bool],
     a: usize,
     b: usize,
 ) -> bool
     requires { (c : ℕ) → RisesFrom 0 (row_at (items_of transpose.now) c) }
-    ensures { result ≡ dominates (is_preferred preference (counted choice weights.now))
+    ensures { result ≡ dominates (is_preferred preference (counted choice literals.now))
         (items_of transpose.now) keep.now a b }
 {
     a != b
         && is_marked(keep, b)
-        && is_preferred(preference, choice, weights, b, a)
+        && may_replace(preference, choice, literals, b, a)
         && is_within(entry(transpose, a), entry(transpose, b))
 }
 
+/// Whether one of the columns `among` dominates `a`.
 // Inlined with its callers, so that the preference is known where columns are compared.
 #[inline(always)]
 fn any_dominates(
     preference: Preference,
     choice: Choice,
-    weights: &[u32],
+    literals: &[u32],
     transpose: &[Vec<usize>],
     keep: &[bool],
     a: usize,
     among: &[usize],
 ) -> bool
     requires { (c : ℕ) → RisesFrom 0 (row_at (items_of transpose.now) c) }
-    ensures { result ≡ list_any (dominates (is_preferred preference (counted choice weights.now))
+    ensures { result ≡ list_any (dominates (is_preferred preference (counted choice literals.now))
         (items_of transpose.now) keep.now a) among.now }
 {
-    among.iter().any(|b| dominates(preference, choice, weights, transpose, keep, a, *b))
+    among.iter().any(|b| is_dominated_by(preference, choice, literals, transpose, keep, a, *b))
 }
 
 /// The shortest of these rows; `None` for none.
-pub(crate) fn shortest(rows: &[Vec<usize>], among: &[usize]) -> Option<usize>
+pub(crate) fn shortest_row(rows: &[Vec<usize>], among: &[usize]) -> Option<usize>
     ensures { MatchOption result (among.now ≡ []) (λ i. has i among.now ≡ true) }
 {
     if among.is_empty() {
@@ -93,13 +94,13 @@ pub(crate) fn shortest(rows: &[Vec<usize>], among: &[usize]) -> Option<usize>
     Some(shortest)
 }
 
-/// Whether a live column is kept, preferred to `a` and stands in all its rows; such a column stands
-/// in each of them, so that a shortest one has it.
+/// Whether a live column dominates `a`. Such a column is in each row of `a`, so that only the
+/// columns of a shortest one are tried.
 #[inline(always)]
 fn is_dominated(
     preference: Preference,
     choice: Choice,
-    weights: &[u32],
+    literals: &[u32],
     live: &[usize],
     rows: &[Vec<usize>],
     transpose: &[Vec<usize>],
@@ -110,16 +111,16 @@ fn is_dominated(
         (items_of transpose.now) }
     requires within { (i : ℕ) → IsWithin (row_at (items_of rows.now) i) live.now }
     requires below { (c : ℕ) → has c live.now ≡ true → c < length transpose.now }
-    ensures { result ≡ list_any (dominates (is_preferred preference (counted choice weights.now))
+    ensures { result ≡ list_any (dominates (is_preferred preference (counted choice literals.now))
         (items_of transpose.now) keep.now a) live.now }
 {
-    match shortest(rows, entry(transpose, a)) {
-        None => any_dominates(preference, choice, weights, transpose, keep, a, live),
+    match shortest_row(rows, entry(transpose, a)) {
+        None => any_dominates(preference, choice, literals, transpose, keep, a, live),
         Some(number) => {
             any_dominates(
                 preference,
                 choice,
-                weights,
+                literals,
                 transpose,
                 keep,
                 a,
@@ -129,14 +130,14 @@ fn is_dominated(
     }
 }
 
-/// Marks columns so that each other live column is dominated by a marked one, and one is unmarked
-/// if any can leave.
+/// Marks columns so that each unmarked live column is dominated by a marked one; all are marked
+/// only if none is dominated.
 #[inline(always)]
 fn column_dominance(
     alloc: Global,
     preference: Preference,
     choice: Choice,
-    weights: &[u32],
+    literals: &[u32],
     live: &[usize],
     rows: &[Vec<usize>],
     transpose: &[Vec<usize>],
@@ -146,13 +147,13 @@ fn column_dominance(
     requires within { (i : ℕ) → IsWithin (row_at (items_of rows.now) i) live.now }
     requires below { (c : ℕ) → has c live.now ≡ true → c < length transpose.now }
     ensures { IfOk result (λ v. LeavesNoDominatedColumn
-        (is_preferred preference (counted choice weights.now)) live.now (items_of transpose.now)
+        (is_preferred preference (counted choice literals.now)) live.now (items_of transpose.now)
         v.items) }
 {
     let mut keep = all_marked(alloc, transpose.len())?;
     for column in live {
         if is_dominated(
-            preference, choice, weights, live, rows, transpose, &keep, *column,
+            preference, choice, literals, live, rows, transpose, &keep, *column,
         ) {
             unmark(&mut keep, *column);
         }
@@ -161,16 +162,18 @@ fn column_dominance(
 }
 
 impl Table {
-    /// Lets each column leave that another dominates; `None` if there is none.
+    /// Drops each column that another dominates; `None` if there is none.
     pub(crate) fn drop_dominated_columns(
         &self,
         alloc: Global,
         choice: Choice,
+        transpose: &[Vec<usize>],
     ) -> Result<Option<Table>, AllocError>
+        requires transpose { IsTranspose self.now.columns self.now.rows (items_of transpose.now) }
+        requires long { length transpose.now ≡ self.now.columns }
         ensures { IfOk result (λ o. MatchOption o (HasNoDominatedColumn choice self.now)
             (Shrinks choice self.now)) }
     {
-        let transpose = self.transpose(alloc)?;
         let keep = column_dominance(
             alloc,
             Preference::Earlier,
@@ -178,7 +181,7 @@ impl Table {
             self.literals(),
             self.live_columns(),
             self.row_lists(),
-            &transpose,
+            transpose,
         )?;
         let live = marked_columns(alloc, self.live_columns(), &keep)?;
         if live.len() == self.live_columns().len() {
@@ -189,16 +192,18 @@ impl Table {
         Ok(Some(self.with(alloc, taken, live, rows)?))
     }
 
-    /// Lets each column leave that any other dominates which counts no more, in a search for some
-    /// cover within a budget; `None` if none leaves.
+    /// Drops each column that another dominates which costs no more, in a search for some cover
+    /// within a budget; `None` if there is none.
     pub(crate) fn drop_weakly_dominated_columns(
         &self,
         alloc: Global,
         choice: Choice,
+        transpose: &[Vec<usize>],
     ) -> Result<Option<Table>, AllocError>
+        requires transpose { IsTranspose self.now.columns self.now.rows (items_of transpose.now) }
+        requires long { length transpose.now ≡ self.now.columns }
         ensures { IfOk result (λ o. IfSome o (IsWeakStep choice self.now)) }
     {
-        let transpose = self.transpose(alloc)?;
         let keep = column_dominance(
             alloc,
             Preference::NoDearer,
@@ -206,7 +211,7 @@ impl Table {
             self.literals(),
             self.live_columns(),
             self.row_lists(),
-            &transpose,
+            transpose,
         )?;
         let live = marked_columns(alloc, self.live_columns(), &keep)?;
         if live.len() >= self.live_columns().len() {

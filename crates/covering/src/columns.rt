@@ -101,25 +101,25 @@ pub(crate) fn rises(row: &[usize], end: usize) -> bool
     true
 }
 
-/// What a column counts under the choice.
-pub(crate) fn count(choice: Choice, weights: &[u32], column: usize) -> u32
-    ensures { result ≡ counted choice weights.now column }
+/// The cost of a column under the choice: 0, or its literals.
+pub(crate) fn cost(choice: Choice, literals: &[u32], column: usize) -> u32
+    ensures { result ≡ counted choice literals.now column }
 {
     match choice {
         Choice::First => 0,
-        Choice::Literals => weights.get(column).copied().unwrap_or(0),
+        Choice::Literals => literals.get(column).copied().unwrap_or(0),
     }
 }
 
-/// What a list of columns counts under the choice.
-pub(crate) fn sum(choice: Choice, weights: &[u32], columns: &[usize]) -> u128
-    ensures { result ≡ sum_over (counted choice weights.now) columns.now }
+/// The cost of all columns of the list together.
+pub(crate) fn total_cost(choice: Choice, literals: &[u32], columns: &[usize]) -> u128
+    ensures { result ≡ sum_over (counted choice literals.now) columns.now }
 {
-    let mut sum: u128 = 0;
+    let mut total: u128 = 0;
     for column in columns {
-        sum += u128::from(count(choice, weights, *column));
+        total += u128::from(cost(choice, literals, *column));
     }
-    sum
+    total
 }
 
 pub(crate) fn copy_rows(alloc: Global, rows: &[Vec<usize>]) -> Result<Vec<Vec<usize>>, AllocError>

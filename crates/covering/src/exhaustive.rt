@@ -9,7 +9,7 @@ ghost use Rattle.covering.specs.Cover.{meets, counted, IsLeast};
 ghost use Rattle.covering.specs.Choices.{choices, join, better, best_of, best_choice};
 
 use crate::choice::Choice;
-use crate::columns::{all_met, join, sum};
+use crate::columns::{all_met, join, total_cost};
 use crate::table::Table;
 use itertools::{Combinations, Itertools};
 use std::alloc::{AllocError, Global};
@@ -27,20 +27,20 @@ fn live_choices(
     live.iter().copied().combinations(alloc, size)
 }
 
-/// The one that counts less, and the earlier of two that count alike.
+/// The one that costs less, and the earlier of two that cost the same.
 fn better_of(
     choice: Choice,
-    weights: &[u32],
+    literals: &[u32],
     best: Option<Vec<usize>>,
     chosen: Vec<usize>,
 ) -> Vec<usize>
-    ensures { better (counted choice weights.now) (option_map (λ v. v.items) best) chosen.items
+    ensures { better (counted choice literals.now) (option_map (λ v. v.items) best) chosen.items
         ≡ Some result.items }
 {
     let Some(best) = best else {
         return chosen;
     };
-    if sum(choice, weights, &chosen) < sum(choice, weights, &best) {
+    if total_cost(choice, literals, &chosen) < total_cost(choice, literals, &best) {
         chosen
     } else {
         best
@@ -51,20 +51,20 @@ fn better_of(
 fn best_choice(
     alloc: Global,
     choice: Choice,
-    weights: &[u32],
+    literals: &[u32],
     live: &[usize],
     rows: &[Vec<usize>],
     size: usize,
 ) -> Result<Option<Vec<usize>>, AllocError>
     ensures { IfOk result (λ o. option_map (λ v. v.items) o
-        ≡ best_of (counted choice weights.now) (λ s. list_all (λ row. meets s row.items) rows.now)
+        ≡ best_of (counted choice literals.now) (λ s. list_all (λ row. meets s row.items) rows.now)
         None (choices size live.now)) }
 {
     let mut best: Option<Vec<usize>> = None;
     for chosen in live_choices(alloc, live, size)? {
         let chosen = chosen?;
         if all_met(&chosen, rows) {
-            best = Some(better_of(choice, weights, best, chosen));
+            best = Some(better_of(choice, literals, best, chosen));
         }
     }
     Ok(best)
@@ -83,7 +83,7 @@ impl Table {
         ensures table { IsTable self.now }
         ensures long { length self.now.live < 2 ^ 64 }
     {
-        best_choice(alloc, choice, &self.weights, &self.live, &self.rows, size)
+        best_choice(alloc, choice, &self.literals, &self.live, &self.rows, size)
     }
 
     /// The rising list of the taken columns and these.

@@ -14,7 +14,7 @@
 //! lists of primes as well: [`numbers`], [`copy_of`], [`is_within`], [`is_blank`]; [`all_marked`],
 //! [`is_marked`], [`unmark`].
 //!
-//! The ring of six columns, each of which stands in two rows, has the rows {0,3}, {0,4}, {1,2},
+//! The ring of six columns, each of which is in two rows, has the rows {0,3}, {0,4}, {1,2},
 //! {1,5}, {2,3} and {4,5}. No step reduces it, and its least cover is 0, 2, 5: the other cover of
 //! three columns, 1, 3, 4, comes later.
 //!
@@ -28,10 +28,10 @@
 //! (Coudert, On solving covering problems, 1996). Weights, witnesses and branches are hints, which
 //! are checked before they are used. Rows that fall into parts which share no column are solved part
 //! by part, each renumbered (the first of two lists of one length has the least number in which they
-//! differ, so that the parts' least covers make the least cover); if all columns of a part count
-//! alike its size decides. A search holds a copy of
-//! the table for each branch that is open, as many as columns are decided on one path. The number
-//! of branches is not bounded by less than the number of covers.
+//! differ, so that the parts' least covers make the least cover); if all columns of a part cost the
+//! same its size decides. A search holds a copy of the table for each branch that is open, as many
+//! as columns are decided on one path. The number of branches is not bounded by less than the number
+//! of covers.
 #![tactic(auto)]
 
 mod bound;

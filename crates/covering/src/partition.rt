@@ -1,9 +1,9 @@
 //! The least cover, part by part.
 //!
 //! If the rows fall into parts that share no column, a list is a cover if it has a cover of each
-//! part, and no part asks what another has. Lists compare by their length, then by what they count,
+//! part, whatever columns it has of the others. Lists compare by their length, then by their cost,
 //! and then by the least column in which they differ; so the least covers of the parts together are
-//! the least cover. Without this, the questions that find the least cover would be asked of all
+//! the least cover. Without this, each question on the way to the least cover would be asked of all
 //! parts together. Which columns make a part is a hint; it is checked that each row lies on one
 //! side.
 
@@ -43,7 +43,8 @@ fn are_apart(rows: &[Vec<usize>], marks: &[bool], others: &[bool]) -> bool
 }
 
 impl Table {
-    /// The live columns with marks, and the rows of these alone, under these taken columns.
+    /// The table of the marked live columns and of the rows that have no others, with these columns
+    /// taken.
     fn part(&self, alloc: Global, taken: Vec<usize>, marks: &[bool]) -> Result<Table, AllocError>
         requires rises { RisesFrom 0 taken.items }
         requires taken { IsWithin taken.items self.now.taken }
@@ -68,8 +69,8 @@ impl Table {
         let taken = copy_of(alloc, self.taken_columns())?;
         let one = self.part(alloc, taken, &marks)?;
         let other = self.part(alloc, Vec::new(alloc), &others)?;
-        let most = one.row_count().max(other.row_count());
-        if self.row_count() <= most {
+        let larger = one.row_count().max(other.row_count());
+        if self.row_count() <= larger {
             return Ok(None);
         }
         Ok(Some(Parts { one, other }))

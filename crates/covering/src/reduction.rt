@@ -1,10 +1,11 @@
 //! The reductions of a table, in passes over all rows or all columns until none changes it.
 //!
-//! A pass first lists the rows of each column. A row that has all columns of another is among the
-//! rows of that row's rarest column; a column that is in all rows of another is in that column's
-//! shortest row. So candidates are few, and each is tested by a binary search for each number. Rows
-//! or columns to drop are marked, and dropped together: each is dominated by one that stays, so they
-//! could be dropped one by one. If a pass marks nothing, no step of its kind applies.
+//! The rows of each column are listed first (the transpose). A row that has all columns of another is
+//! among the rows of that row's rarest column; a column that is in all rows of another is in that
+//! column's shortest row. So candidates are few, and each is tested by a binary search for each
+//! number. Rows or columns to drop are marked, and dropped together: each is dominated by one that
+//! is kept, so they could be dropped one by one. If a pass marks nothing, no step of its kind
+//! applies.
 
 ghost use Rattle.std.specs.Prelude.{◌≡◌, ◌<◌, ◌==◌, ◌||◌, IfOk, IfSome, MatchOption, not, filter};
 ghost use Rattle.std.specs.List.{range_with_len};
@@ -84,10 +85,11 @@ impl Table {
         if let Some(table) = self.take_essential_columns(alloc)? {
             return Ok(Some(table));
         }
-        if let Some(table) = self.drop_dominating_rows(alloc)? {
+        let transpose = self.transpose(alloc)?;
+        if let Some(table) = self.drop_dominating_rows(alloc, &transpose)? {
             return Ok(Some(table));
         }
-        self.drop_weakly_dominated_columns(alloc, choice)
+        self.drop_weakly_dominated_columns(alloc, choice, &transpose)
     }
 
     /// The table after all passes, in a search for some cover within a budget.
@@ -101,7 +103,7 @@ impl Table {
         Ok(table)
     }
 
-    /// The same, of a copy of the table.
+    /// The table after all passes, as [`Table::reduce_weakly`] makes it, of a table that is kept.
     pub(crate) fn weakly_reduced_copy(
         &self,
         alloc: Global,
@@ -135,10 +137,11 @@ impl Table {
         if let Some(table) = self.take_essential_columns(alloc)? {
             return Ok(Some(table));
         }
-        if let Some(table) = self.drop_dominating_rows(alloc)? {
+        let transpose = self.transpose(alloc)?;
+        if let Some(table) = self.drop_dominating_rows(alloc, &transpose)? {
             return Ok(Some(table));
         }
-        self.drop_dominated_columns(alloc, choice)
+        self.drop_dominated_columns(alloc, choice, &transpose)
     }
 }
 

@@ -10,7 +10,7 @@ ghost use Rattle.covering.specs.Choices.{join};
 ghost use Rattle.covering.specs.Parts.{IsRenumbered, pick};
 
 use crate::choice::Choice;
-use crate::columns::{count, join};
+use crate::columns::{cost, join};
 use crate::table::Table;
 use std::alloc::{AllocError, Global};
 
@@ -85,11 +85,11 @@ fn columns_of(alloc: Global, live: &[usize], numbers: &[usize]) -> Result<Vec<us
 }
 
 /// The literals of the columns.
-fn literals_of(alloc: Global, weights: &[u32], live: &[usize]) -> Result<Vec<u32>, AllocError>
-    ensures { IfOk result (λ v. v.items ≡ map (λ c. slice_index_or weights.now c 0) live.now) }
+fn literals_of(alloc: Global, literals: &[u32], live: &[usize]) -> Result<Vec<u32>, AllocError>
+    ensures { IfOk result (λ v. v.items ≡ map (λ c. slice_index_or literals.now c 0) live.now) }
 {
     live.iter()
-        .map(|column| count(Choice::Literals, weights, *column))
+        .map(|column| cost(Choice::Literals, literals, *column))
         .collect(alloc)
 }
 
@@ -105,11 +105,11 @@ impl Table {
         let Some(rows) = numbers_of_rows(alloc, live, self.row_lists())? else {
             return Ok(None);
         };
-        let weights = literals_of(alloc, self.literals(), live)?;
-        Table::new(alloc, rows, weights)
+        let literals = literals_of(alloc, self.literals(), live)?;
+        Table::new(alloc, rows, literals)
     }
 
-    /// The columns for which the numbers stand, and the taken ones.
+    /// The taken columns and those that have these numbers.
     pub(crate) fn with_numbers(
         &self,
         alloc: Global,

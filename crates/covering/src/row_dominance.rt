@@ -77,12 +77,17 @@ fn row_dominance(
 
 impl Table {
     /// Drops each row that has all columns of another; `None` if there is none.
-    pub(crate) fn drop_dominating_rows(&self, alloc: Global) -> Result<Option<Table>, AllocError>
+    pub(crate) fn drop_dominating_rows(
+        &self,
+        alloc: Global,
+        transpose: &[Vec<usize>],
+    ) -> Result<Option<Table>, AllocError>
+        requires transpose { IsTranspose self.now.columns self.now.rows (items_of transpose.now) }
+        requires long { length transpose.now ≡ self.now.columns }
         ensures { (choice : Choice) → IfOk result (λ o.
             MatchOption o (HasNoDominatingRow self.now.rows) (Shrinks choice self.now)) }
     {
-        let transpose = self.transpose(alloc)?;
-        let stay = row_dominance(alloc, self.row_lists(), &transpose)?;
+        let stay = row_dominance(alloc, self.row_lists(), transpose)?;
         if is_full(&stay) {
             return Ok(None);
         }

@@ -1,12 +1,11 @@
 //! Whether there is a cover within a budget.
 //!
-//! A budget is a number of columns and of what they count. A search answers a cover within it, or
-//! that there is none: it prunes the table, branches on a column, first chosen and then dropped, and
-//! searches on. A table is pruned by the steps of a reduction, by dropping columns that another one
-//! dominates which counts no more, and by weights of its rows (the dual bound): if the weights are
-//! more than the budget there is no cover within it, and a column with more slack than the gap that
-//! is left is in none. Any cover within the budget is a right answer, so any order of branches
-//! serves.
+//! A budget is a number of columns and a cost. A search answers a cover within it, or that there is
+//! none: it prunes the table, branches on a column, first taken and then dropped, and prunes on. A
+//! table is pruned by the steps of a reduction, by dropping columns that another one dominates which
+//! costs no more, and by weights of its rows (the dual bound): if the weights are more than the
+//! budget there is no cover within it, and a column with more slack than the remaining gap is in
+//! none. Any cover within the budget is a right answer, so any order of branches serves.
 
 ghost use Rattle.std.specs.Prelude.{◌≡◌, ◌≤◌, ◌<◌, ◌*◌, ◌-◌, ℕ, Vec, IfOk, IfSome, MatchOption, MatchBool, IsTrue, ◌↔◌, [], ◌==◌, ◌&&◌, ◌||◌, option_map, map, filter, not, length, true, false};
 ghost use Rattle.std.specs.List.{list_all, list_any, range_with_len};
@@ -17,7 +16,7 @@ ghost use Rattle.covering.specs.Search.{NoneWithin, Answers, IsAnswer, IsPruned,
 
 use crate::bound::{Budget, columns_within_gap, limit_of, scaled_costs};
 use crate::choice::Choice;
-use crate::columns::{contains, copy_of, count, holds, is_blank, sum, with_column};
+use crate::columns::{contains, copy_of, cost, holds, is_blank, total_cost, with_column};
 use crate::lagrangian::lagrangian;
 use crate::marks::{all_kept, all_marked, is_marked, marked_columns, rows_of_marked};
 use crate::table::Table;
@@ -27,6 +26,9 @@ use heuristics::{
 };
 use std::alloc::{AllocError, Global};
 
+/// More tables than any search looks at.
+pub(crate) const UNLIMITED: u64 = u64::MAX;
+
 /// Why a question has no answer.
 #[derive(Drop)]
 pub(crate) enum Stop {
@@ -34,6 +36,13 @@ pub(crate) enum Stop {
     Memory,
     /// The search would look at more tables than it may.
     Spent,
+}
+
+/// For a search of [`UNLIMITED`] tables, which only memory stops.
+impl From<Stop> for AllocError {
+    fn from(_: Stop) -> AllocError {
+        AllocError
+    }
 }
 
 impl From<AllocError> for Stop {
@@ -110,7 +119,7 @@ fn taken_and_marked(
         .collect(alloc)
 }
 
-/// Whether the row has a number of the list, which rises.
+/// Whether the row has a column of the list, which rises.
 fn is_held(columns: &[usize], row: &[usize]) -> bool
     requires { RisesFrom 0 columns.now }
     ensures { result ≡ meets columns.now row.now }
@@ -118,7 +127,7 @@ fn is_held(columns: &[usize], row: &[usize]) -> bool
     row.iter().any(|c| holds(columns, *c))
 }
 
-/// Whether each row has a number of the list, which rises.
+/// Whether each row has a column of the list, which rises.
 fn all_held(columns: &[usize], rows: &[Vec<usize>]) -> bool
     requires { RisesFrom 0 columns.now }
     ensures { result ≡ list_all (λ row. meets columns.now row.items) rows.now }
@@ -126,16 +135,16 @@ fn all_held(columns: &[usize], rows: &[Vec<usize>]) -> bool
     rows.iter().all(|row| is_held(columns, row))
 }
 
-/// What each live column counts, for hints.
+/// The cost of each live column, for hints.
 fn live_costs(
     alloc: Global,
     choice: Choice,
-    weights: &[u32],
+    literals: &[u32],
     live: &[usize],
 ) -> Result<Vec<i64>, AllocError> {
     let mut costs = Vec::with_capacity(alloc, live.len())?;
     for column in live {
-        costs.push(i64::from(count(choice, weights, *column)))?;
+        costs.push(i64::from(cost(choice, literals, *column)))?;
     }
     Ok(costs)
 }
@@ -195,25 +204,37 @@ impl Table {
 
     /// Whether the taken columns alone go past the budget.
     fn is_over_budget(&self, choice: Choice, budget: Budget) -> bool
-        ensures { MatchBool result (NoneWithin choice self.now budget.columns budget.counts)
+        ensures { MatchBool result (NoneWithin choice self.now budget.columns budget.cost)
             ((length self.now.taken ≤ budget.columns)
-            × (sum_over (counted choice self.now.weights) self.now.taken ≤ budget.counts)) }
+            × (sum_over (counted choice self.now.weights) self.now.taken ≤ budget.cost)) }
     {
         if self.taken_columns().len() > budget.columns {
             return true;
         }
-        sum(choice, self.literals(), self.taken_columns()) > budget.counts
+        total_cost(choice, self.literals(), self.taken_columns()) > budget.cost
     }
 
-    /// What a cover within the budget may have beside the chosen columns, for hints.
+    /// The budget less the taken columns: what a cover within it may have beside these.
+    fn remaining_budget(&self, choice: Choice, budget: Budget) -> Budget
+        ensures columns { result.columns ≡ budget.columns - length self.now.taken }
+        ensures cost { result.cost ≡ budget.cost
+            - sum_over (counted choice self.now.weights) self.now.taken }
+    {
+        let taken = self.taken_columns();
+        Budget {
+            columns: budget.columns.saturating_sub(taken.len()),
+            cost: budget
+                .cost
+                .saturating_sub(total_cost(choice, self.literals(), taken)),
+        }
+    }
+
+    /// That rest, for hints.
     fn goal(&self, choice: Choice, budget: Budget) -> Goal {
-        let columns = budget.columns.saturating_sub(self.taken_columns().len());
-        let counts = budget
-            .counts
-            .saturating_sub(sum(choice, self.literals(), self.taken_columns()));
+        let rest = self.remaining_budget(choice, budget);
         Goal {
-            columns: i64::try_from(columns).unwrap_or(i64::MAX),
-            counts: i64::try_from(counts).unwrap_or(i64::MAX),
+            columns: i64::try_from(rest.columns).unwrap_or(i64::MAX),
+            cost: i64::try_from(rest.cost).unwrap_or(i64::MAX),
         }
     }
 
@@ -244,8 +265,8 @@ impl Table {
         multipliers: &Multipliers,
     ) -> Result<Option<Vec<bool>>, AllocError>
         ensures { IfOk result (λ o. MatchOption o (NoneWithin choice self.now budget.columns
-            budget.counts) (λ v. (c : ℕ) → has c self.now.live ≡ true → marked v.items c ≡ false
-            → IsOutside choice self.now budget.columns budget.counts c)) }
+            budget.cost) (λ v. (c : ℕ) → has c self.now.live ≡ true → marked v.items c ≡ false
+            → IsOutside choice self.now budget.columns budget.cost c)) }
     {
         let rows = self.row_lists();
         if multipliers.weights.len() != rows.len() || rows.len() >= 4611686018427387904 {
@@ -256,18 +277,15 @@ impl Table {
             choice,
             self.literals(),
             multipliers.column,
-            multipliers.count,
+            multipliers.cost,
         )?;
         let loads = lagrangian(alloc, rows, &multipliers.weights, &scaled_costs)?;
-        let columns = budget.columns.saturating_sub(self.taken_columns().len());
-        let counts = budget
-            .counts
-            .saturating_sub(sum(choice, self.literals(), self.taken_columns()));
+        let rest = self.remaining_budget(choice, budget);
         let Some(limit) = limit_of(
             multipliers.column,
-            columns,
-            multipliers.count,
-            counts,
+            rest.columns,
+            multipliers.cost,
+            rest.cost,
             loads.over,
         ) else {
             return Ok(Some(self.all_columns_marked(alloc)?));
@@ -278,7 +296,8 @@ impl Table {
         Ok(Some(columns_within_gap(alloc, &scaled_costs, &loads.loads, limit - loads.total)?))
     }
 
-    /// Marks them, by multipliers that are a hint.
+    /// Marks the columns that a cover within the budget may have, as far as multipliers show that
+    /// subgradient steps find; `None` if they show that there is no such cover.
     pub(crate) fn columns_within_budget(
         &self,
         alloc: Global,
@@ -287,8 +306,8 @@ impl Table {
         warm_start: &mut WarmStart,
     ) -> Result<Option<Vec<bool>>, AllocError>
         ensures marks { IfOk result (λ o. MatchOption o (NoneWithin choice self.now budget.columns
-            budget.counts) (λ v. (c : ℕ) → has c self.now.live ≡ true → marked v.items c ≡ false
-            → IsOutside choice self.now budget.columns budget.counts c)) }
+            budget.cost) (λ v. (c : ℕ) → has c self.now.live ≡ true → marked v.items c ≡ false
+            → IsOutside choice self.now budget.columns budget.cost c)) }
         ensures table { IsTable self.now }
     {
         let compact = self.compact(alloc, choice)?;
@@ -314,7 +333,7 @@ impl Table {
         warm_start: &mut WarmStart,
     ) -> Result<Option<Table>, AllocError>
         ensures { IfOk result (λ o. MatchOption o (NoneWithin choice self budget.columns
-            budget.counts) (IsPruned choice budget.columns budget.counts self)) }
+            budget.cost) (IsPruned choice budget.columns budget.cost self)) }
     {
         let Some(keep) = self.columns_within_budget(alloc, choice, budget, warm_start)? else {
             return Ok(None);
@@ -335,7 +354,7 @@ impl Table {
         warm_start: &mut WarmStart,
     ) -> Result<Option<Table>, AllocError>
         ensures { IfOk result (λ o. MatchOption o (NoneWithin choice self.now budget.columns
-            budget.counts) (IsPruned choice budget.columns budget.counts self.now)) }
+            budget.cost) (IsPruned choice budget.columns budget.cost self.now)) }
     {
         let mut table = self.weakly_reduced_copy(alloc, choice)?;
         loop {
@@ -367,8 +386,9 @@ impl Table {
         Ok(self.live.first().copied())
     }
 
-    /// A cover within the budget, or none if there is none; each table that is looked at takes one
-    /// of those left. What the search learns of row weights goes back once it is over.
+    /// A cover within the budget, or none if there is none: prunes and branches. It looks at no more
+    /// than `tables_left` tables, and takes from them those that it looked at. What it learns of row
+    /// weights goes back to the warm start once it is over.
     #[cycle(search)]
     fn search(
         &self,
@@ -376,42 +396,27 @@ impl Table {
         choice: Choice,
         budget: Budget,
         warm_start: &mut WarmStart,
-        left: &mut u64,
+        tables_left: &mut u64,
     ) -> Result<Option<Vec<usize>>, Stop>
-        ensures { IfOk result (λ o. Answers choice self.now budget.columns budget.counts
+        ensures { IfOk result (λ o. Answers choice self.now budget.columns budget.cost
             (option_map (λ v. v.items) o)) }
     {
-        let Some(rest) = left.checked_sub(1) else {
+        let Some(rest) = tables_left.checked_sub(1) else {
             return Err(Stop::Spent);
         };
-        *left = rest;
+        *tables_left = rest;
         let mut own = warm_start.copy(alloc)?;
         own.count_table();
-        let found = self.search_on(alloc, choice, budget, &mut own, left);
+        let found = match self.prune(alloc, choice, budget, &mut own)? {
+            None => Ok(None),
+            Some(table) => table.branch(alloc, choice, budget, &mut own, tables_left),
+        };
         warm_start.learn(&own);
         found
     }
 
-    /// The same, with a warm start of its own.
-    #[cycle(search)]
-    fn search_on(
-        &self,
-        alloc: Global,
-        choice: Choice,
-        budget: Budget,
-        warm_start: &mut WarmStart,
-        left: &mut u64,
-    ) -> Result<Option<Vec<usize>>, Stop>
-        ensures { IfOk result (λ o. Answers choice self.now budget.columns budget.counts
-            (option_map (λ v. v.items) o)) }
-    {
-        match self.prune(alloc, choice, budget, warm_start)? {
-            None => Ok(None),
-            Some(table) => table.branch(alloc, choice, budget, warm_start, left),
-        }
-    }
-
-    /// A cover within the budget by taking a live column, and if that leads to none by dropping it.
+    /// A cover within the budget, or none if there is none: takes a live column, and if no such cover
+    /// has it drops it.
     #[cycle(search)]
     fn branch(
         &self,
@@ -419,9 +424,9 @@ impl Table {
         choice: Choice,
         budget: Budget,
         warm_start: &mut WarmStart,
-        left: &mut u64,
+        tables_left: &mut u64,
     ) -> Result<Option<Vec<usize>>, Stop>
-        ensures { IfOk result (λ o. Answers choice self.now budget.columns budget.counts
+        ensures { IfOk result (λ o. Answers choice self.now budget.columns budget.cost
             (option_map (λ v. v.items) o)) }
     {
         if self.is_over_budget(choice, budget) {
@@ -434,12 +439,12 @@ impl Table {
             return Ok(None);
         };
         let with = self.take(alloc, column)?;
-        if let Some(cover) = with.search(alloc, choice, budget, warm_start, left)? {
+        if let Some(cover) = with.search(alloc, choice, budget, warm_start, tables_left)? {
             return Ok(Some(cover));
         }
         match self.drop_live(alloc, column)? {
             None => Ok(None),
-            Some(rest) => rest.search(alloc, choice, budget, warm_start, left),
+            Some(rest) => rest.search(alloc, choice, budget, warm_start, tables_left),
         }
     }
 
@@ -452,7 +457,7 @@ impl Table {
         marks: &[bool],
     ) -> Result<Option<Vec<usize>>, AllocError>
         ensures { IfOk result (λ o. IfSome o (λ v. IsAnswer choice self.now budget.columns
-            budget.counts v.items)) }
+            budget.cost v.items)) }
     {
         let cover = taken_and_marked(
             alloc,
@@ -464,7 +469,7 @@ impl Table {
         if budget.columns < cover.len() {
             return Ok(None);
         }
-        if budget.counts < sum(choice, self.literals(), &cover) {
+        if budget.cost < total_cost(choice, self.literals(), &cover) {
             return Ok(None);
         }
         if !all_held(&cover, self.row_lists()) {
@@ -473,8 +478,8 @@ impl Table {
         Ok(Some(cover))
     }
 
-    /// A cover within the budget that a local search comes upon.
-    pub(crate) fn witness(
+    /// A cover within the budget, if a local search of so many steps a row finds one.
+    pub(crate) fn find_by_local_search(
         &self,
         alloc: Global,
         choice: Choice,
@@ -484,7 +489,7 @@ impl Table {
         steps: usize,
     ) -> Result<Option<Vec<usize>>, AllocError>
         ensures { IfOk result (λ o. IfSome o (λ v. IsAnswer choice self.now budget.columns
-            budget.counts v.items)) }
+            budget.cost v.items)) }
     {
         let compact = self.compact(alloc, choice)?;
         let steps = steps.saturating_mul(self.row_lists().len()).min(100000);
@@ -494,51 +499,35 @@ impl Table {
         self.cover_from_marks(alloc, choice, budget, &marks)
     }
 
-    /// A cover within the budget, or none if there is none: a local search looks for one before the
-    /// branches, in which as many tables are looked at as given.
-    pub(crate) fn decide_within(
+    /// A cover within the budget, or none if there is none: local searches look for one first, and
+    /// then a search by branches, which looks at no more than `most_tables` tables.
+    pub(crate) fn find_or_refute(
         &self,
         alloc: Global,
         choice: Choice,
         budget: Budget,
         warm_start: &mut WarmStart,
-        most: u64,
+        most_tables: u64,
     ) -> Result<Option<Vec<usize>>, Stop>
-        ensures { IfOk result (λ o. Answers choice self.now budget.columns budget.counts
+        ensures { IfOk result (λ o. Answers choice self.now budget.columns budget.cost
             (option_map (λ v. v.items) o)) }
     {
         warm_start.count_question();
         warm_start.count_table();
         let goal = self.goal(choice, budget);
-        if let Some(cover) = self.witness(alloc, choice, budget, goal, warm_start.hint(), 3)? {
+        let found = self.find_by_local_search(alloc, choice, budget, goal, warm_start.hint(), 3)?;
+        if let Some(cover) = found {
             return Ok(Some(cover));
         }
         let Some(table) = self.prune(alloc, choice, budget, warm_start)? else {
             return Ok(None);
         };
         let goal = table.goal(choice, budget);
-        if let Some(cover) = table.witness(alloc, choice, budget, goal, warm_start.hint(), 12)? {
+        let found = table.find_by_local_search(alloc, choice, budget, goal, warm_start.hint(), 12)?;
+        if let Some(cover) = found {
             return Ok(Some(cover));
         }
-        let mut left = most;
-        table.branch(alloc, choice, budget, warm_start, &mut left)
-    }
-
-    /// A cover within the budget, or none if there is none.
-    pub(crate) fn decide(
-        &self,
-        alloc: Global,
-        choice: Choice,
-        budget: Budget,
-        warm_start: &mut WarmStart,
-    ) -> Result<Option<Vec<usize>>, AllocError>
-        ensures { IfOk result (λ o. Answers choice self.now budget.columns budget.counts
-            (option_map (λ v. v.items) o)) }
-    {
-        // No search lives to look at 2^64 tables.
-        match self.decide_within(alloc, choice, budget, warm_start, u64::MAX) {
-            Ok(cover) => Ok(cover),
-            Err(_) => Err(AllocError),
-        }
+        let mut tables_left = most_tables;
+        table.branch(alloc, choice, budget, warm_start, &mut tables_left)
     }
 }

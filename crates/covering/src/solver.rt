@@ -1,26 +1,26 @@
-//! The least cover: its length, then what it counts, and then the first such cover in list order.
+//! The least cover: its length, then its cost, and then the first such cover in list order.
 //!
 //! A cover of the least length is found by asking for shorter ones until there is none; with
 //! literals, covers with fewer are asked for in the same way. Then the columns are decided one by
 //! one, in list order. If the witness, a cover within the budget, has the next column, so has the
 //! least cover; else it is asked whether some cover within the budget has it, which gives a new
-//! witness or drops the column. Many columns are asked for at once, by a further row of them: if no
-//! cover has one of them all are dropped. Such a question may look at a few tables only, and is else
-//! given up for the first column alone.
+//! witness or drops the column. A batch of columns is asked for at once, by a further row of them: if
+//! no cover has one of them all are dropped. Such a question may look at a few tables only; if they
+//! do not suffice the first column is asked for alone.
 
-ghost use Rattle.std.specs.Prelude.{◌≡◌, ◌≢◌, ◌≤◌, ◌<◌, ◌+◌, ◌++◌, ◌∷◌, [], ℕ, IfOk, IfSome, MatchOption, filter, length, map, option_map, ◌==◌, true, false};
+ghost use Rattle.std.specs.Prelude.{◌≡◌, ◌≢◌, ◌≤◌, ◌<◌, ◌+◌, ◌++◌, ◌∷◌, [], ℕ, List, IfOk, IfSome, MatchOption, filter, length, map, option_map, ◌==◌, true, false};
 ghost use Rattle.std.specs.List.{list_all, list_any};
 ghost use Rattle.covering.specs.Table.{has, IsWithin, RisesFrom};
 ghost use Rattle.covering.specs.Cover.{IsCover, IsLeast, counted};
-ghost use Rattle.covering.specs.Search.{Answers, Continues, HasFewer, HasShorter, IsBest, IsFewest, IsOutside, IsShortest, IsPartial, is_blank, keep_columns, marked};
+ghost use Rattle.covering.specs.Search.{Answers, Continues, HasFewer, IsBest, IsFewest, IsOutside, IsPartial, is_blank, keep_columns, marked};
 ghost use Rattle.covering.specs.Steps.{with_rows};
 
 use crate::bound::Budget;
 use crate::choice::Choice;
-use crate::columns::{contains, copy_of, copy_rows, count, join, sum};
+use crate::columns::{contains, copy_of, copy_rows, cost, join, total_cost};
 use crate::exhaustive::least_cover_plain;
 use crate::marks::{all_but, marked_columns, others};
-use crate::search::Stop;
+use crate::search::{Stop, UNLIMITED};
 use crate::table::Table;
 use heuristics::{Effort, Goal, WarmStart, batch, is_worth_a_bound};
 use std::alloc::{AllocError, Global};
@@ -28,84 +28,68 @@ use std::alloc::{AllocError, Global};
 /// A table with so few live columns is solved by trying all choices.
 const FEW: usize = 8;
 
-/// A question about several columns looks at so many tables, and is then given up.
+/// A question about a batch of columns is given up after so many tables.
 const BATCH_TABLES: u64 = 200;
 
-/// So many columns are asked for at once at first.
+/// The first batch has so many columns.
 const FIRST_BATCH: usize = 4;
 
-/// A partial solution: what is left of the table, and a cover of it within the budget.
+/// A partial solution: the table of what is undecided, and a cover of it within the budget.
 #[derive(Drop)]
 struct Partial {
     table: Table,
     witness: Vec<usize>,
 }
 
-/// How questions are asked: from which weights, and for how many columns at once.
+/// How questions are asked: from which row weights, and for how many columns at once.
 #[derive(Drop)]
 struct Questions {
     /// Row weights and the last cover, from which the next question starts.
     warm_start: WarmStart,
-    /// How many columns the next batch asks for.
-    most: usize,
+    /// How many columns the next batch has at most.
+    batch_size: usize,
 }
 
 impl Questions {
-    /// After a yes a quarter as many columns are asked for at once, and the next cover is looked for
-    /// near this one; after a no twice as many are asked for.
+    /// After a cover the next batch has a quarter as many columns, and the next cover is looked for
+    /// near this one; after none it has twice as many.
     fn adapt(&mut self, alloc: Global, witness: &Option<Vec<usize>>) -> Result<(), AllocError> {
         match witness {
             Some(cover) => {
-                self.most = (self.most / 4).max(1);
+                self.batch_size = (self.batch_size / 4).max(1);
                 self.warm_start.set_hint(alloc, cover)
             }
             None => {
-                self.most = self.most.saturating_mul(2);
+                self.batch_size = self.batch_size.saturating_mul(2);
                 Ok(())
             }
         }
     }
 
-    /// A cover within the budget, or none if there is none; as many tables are looked at as given.
-    fn decide_within(
+    /// A cover within the budget, or none if there is none; looks at no more than `most_tables`
+    /// tables.
+    fn ask(
         &mut self,
         alloc: Global,
         choice: Choice,
         budget: Budget,
         table: &Table,
-        most: u64,
+        most_tables: u64,
     ) -> Result<Option<Vec<usize>>, Stop>
-        ensures { IfOk result (λ o. Answers choice table.now budget.columns budget.counts
+        ensures { IfOk result (λ o. Answers choice table.now budget.columns budget.cost
             (option_map (λ v. v.items) o)) }
     {
         let mut warm_start = self.warm_start.copy(alloc)?;
-        let decided = table.decide_within(alloc, choice, budget, &mut warm_start, most);
+        let answer = table.find_or_refute(alloc, choice, budget, &mut warm_start, most_tables);
         self.warm_start.learn(&warm_start);
-        let witness = decided?;
+        let witness = answer?;
         self.adapt(alloc, &witness)?;
         Ok(witness)
     }
 
-    /// The same, however many tables that takes.
-    fn decide(
-        &mut self,
-        alloc: Global,
-        choice: Choice,
-        budget: Budget,
-        table: &Table,
-    ) -> Result<Option<Vec<usize>>, AllocError>
-        ensures { IfOk result (λ o. Answers choice table.now budget.columns budget.counts
-            (option_map (λ v. v.items) o)) }
-    {
-        match self.decide_within(alloc, choice, budget, table, u64::MAX) {
-            Ok(witness) => Ok(witness),
-            Err(_) => Err(AllocError),
-        }
-    }
-
-    /// The same of a batch, or no answer where that takes too many tables: a cover that has one of
-    /// many columns can be far harder to rule out than a cover that has the first of them.
-    fn decide_batch(
+    /// The same, if it takes no more than `BATCH_TABLES` tables; else `None`. A cover that has
+    /// one of many columns can be far harder to rule out than a cover that has the first of them.
+    fn ask_briefly(
         &mut self,
         alloc: Global,
         choice: Choice,
@@ -113,12 +97,12 @@ impl Questions {
         table: &Table,
     ) -> Result<Option<Option<Vec<usize>>>, AllocError>
         ensures { IfOk result (λ r. IfSome r (λ o. Answers choice table.now budget.columns
-            budget.counts (option_map (λ v. v.items) o))) }
+            budget.cost (option_map (λ v. v.items) o))) }
     {
-        match self.decide_within(alloc, choice, budget, table, BATCH_TABLES) {
+        match self.ask(alloc, choice, budget, table, BATCH_TABLES) {
             Ok(witness) => Ok(Some(witness)),
             Err(Stop::Spent) => {
-                self.most = 1;
+                self.batch_size = 1;
                 Ok(None)
             }
             Err(Stop::Memory) => Err(AllocError),
@@ -126,13 +110,13 @@ impl Questions {
     }
 }
 
-/// Whether each of the columns counts so much.
-fn all_count(choice: Choice, weights: &[u32], columns: &[usize], number: u32) -> bool
-    ensures { result ≡ list_all (λ c. counted choice weights.now c == number) columns.now }
+/// Whether each of the columns has this cost.
+fn all_cost(choice: Choice, literals: &[u32], columns: &[usize], same: u32) -> bool
+    ensures { result ≡ list_all (λ c. counted choice literals.now c == same) columns.now }
 {
     columns
         .iter()
-        .all(|column| count(choice, weights, *column) == number)
+        .all(|column| cost(choice, literals, *column) == same)
 }
 
 impl Partial {
@@ -159,8 +143,8 @@ impl Partial {
         column: usize,
         questions: &mut Questions,
     ) -> Result<Partial, AllocError>
-        requires { IsPartial choice budget.columns budget.counts self.table self.witness.items }
-        ensures partial { IfOk result (λ s. IsPartial choice budget.columns budget.counts s.table
+        requires { IsPartial choice budget.columns budget.cost self.table self.witness.items }
+        ensures partial { IfOk result (λ s. IsPartial choice budget.columns budget.cost s.table
             s.witness.items) }
         ensures next { IfOk result (λ s. Continues choice self.table s.table) }
     {
@@ -169,13 +153,13 @@ impl Partial {
             self.table.live_columns(),
             &self.witness,
             column,
-            questions.most,
+            questions.batch_size,
             self.table.columns(),
         )?;
-        let Some(asked) = self.table.with_marked_row(alloc, &marks)? else {
+        let Some(extended) = self.table.with_marked_row(alloc, &marks)? else {
             return Ok(self);
         };
-        let Some(answer) = questions.decide_batch(alloc, choice, budget, &asked)? else {
+        let Some(answer) = questions.ask_briefly(alloc, choice, budget, &extended)? else {
             return Ok(self);
         };
         match answer {
@@ -199,10 +183,10 @@ impl Partial {
         column: usize,
         questions: &mut Questions,
     ) -> Result<Partial, AllocError>
-        requires partial { IsPartial choice budget.columns budget.counts self.table self.witness.items }
+        requires partial { IsPartial choice budget.columns budget.cost self.table self.witness.items }
         requires live { has column self.table.live ≡ true }
         requires first { (c : ℕ) → has c self.table.live ≡ true → column ≤ c }
-        ensures partial { IfOk result (λ s. IsPartial choice budget.columns budget.counts s.table
+        ensures partial { IfOk result (λ s. IsPartial choice budget.columns budget.cost s.table
             s.witness.items) }
         ensures next { IfOk result (λ s. Continues choice self.table s.table) }
         ensures gone { IfOk result (λ s. has column s.table.live ≡ false) }
@@ -214,7 +198,7 @@ impl Partial {
                 witness: self.witness,
             });
         }
-        match questions.decide(alloc, choice, budget, &with)? {
+        match questions.ask(alloc, choice, budget, &with, UNLIMITED)? {
             Some(witness) => Ok(Partial {
                 table: with,
                 witness,
@@ -227,15 +211,15 @@ impl Partial {
     }
 
     /// Drops the columns that row weights show to be in no cover within the budget.
-    fn drop_by_bound(
+    fn drop_outside_once(
         self,
         alloc: Global,
         choice: Choice,
         budget: Budget,
         questions: &mut Questions,
     ) -> Result<Partial, AllocError>
-        requires { IsPartial choice budget.columns budget.counts self.table self.witness.items }
-        ensures partial { IfOk result (λ s. IsPartial choice budget.columns budget.counts s.table
+        requires { IsPartial choice budget.columns budget.cost self.table self.witness.items }
+        ensures partial { IfOk result (λ s. IsPartial choice budget.columns budget.cost s.table
             s.witness.items) }
         ensures next { IfOk result (λ s. Continues choice self.table s.table) }
     {
@@ -248,25 +232,25 @@ impl Partial {
         }
     }
 
-    /// Drops such columns until weights show few more.
-    fn prune(
+    /// Drops columns that are in no cover within the budget, until row weights show few more.
+    fn drop_outside(
         self,
         alloc: Global,
         choice: Choice,
         budget: Budget,
         questions: &mut Questions,
     ) -> Result<Partial, AllocError>
-        requires { IsPartial choice budget.columns budget.counts self.table self.witness.items }
-        ensures partial { IfOk result (λ s. IsPartial choice budget.columns budget.counts s.table
+        requires { IsPartial choice budget.columns budget.cost self.table self.witness.items }
+        ensures partial { IfOk result (λ s. IsPartial choice budget.columns budget.cost s.table
             s.witness.items) }
         ensures next { IfOk result (λ s. Continues choice self.table s.table) }
     {
         let mut partial = self;
         loop {
             let live = partial.table.live_columns().len();
-            partial = partial.drop_by_bound(alloc, choice, budget, questions)?;
-            let left = partial.table.live_columns().len();
-            if live <= left || !is_worth_a_bound(live, left) {
+            partial = partial.drop_outside_once(alloc, choice, budget, questions)?;
+            let still_live = partial.table.live_columns().len();
+            if live <= still_live || !is_worth_a_bound(live, still_live) {
                 return Ok(partial);
             }
         }
@@ -281,9 +265,9 @@ impl Partial {
         column: usize,
         questions: &mut Questions,
     ) -> Result<Partial, AllocError>
-        requires partial { IsPartial choice budget.columns budget.counts self.table self.witness.items }
+        requires partial { IsPartial choice budget.columns budget.cost self.table self.witness.items }
         requires first { (c : ℕ) → has c self.table.live ≡ true → column ≤ c }
-        ensures partial { IfOk result (λ s. IsPartial choice budget.columns budget.counts s.table
+        ensures partial { IfOk result (λ s. IsPartial choice budget.columns budget.cost s.table
             s.witness.items) }
         ensures next { IfOk result (λ s. Continues choice self.table s.table) }
         ensures gone { IfOk result (λ s. has column s.table.live ≡ false) }
@@ -293,13 +277,13 @@ impl Partial {
         }
         let partial = self.ask_for_many(alloc, choice, budget, column, questions)?;
         if !contains(partial.table.live_columns(), column) {
-            return partial.prune(alloc, choice, budget, questions);
+            return partial.drop_outside(alloc, choice, budget, questions);
         }
         if contains(&partial.witness, column) {
             return partial.ask_for_one(alloc, choice, budget, column, questions);
         }
         let partial = partial.ask_for_one(alloc, choice, budget, column, questions)?;
-        partial.prune(alloc, choice, budget, questions)
+        partial.drop_outside(alloc, choice, budget, questions)
     }
 }
 
@@ -343,14 +327,14 @@ impl Table {
     {
         let budget = Budget {
             columns: best.len(),
-            counts: sum(choice, self.literals(), &best),
+            cost: total_cost(choice, self.literals(), &best),
         };
         questions.warm_start.set_hint(alloc, &best)?;
         let mut partial = Partial {
             table: self.copy(alloc)?,
             witness: best,
         };
-        partial = partial.prune(alloc, choice, budget, questions)?;
+        partial = partial.drop_outside(alloc, choice, budget, questions)?;
         questions.warm_start.hurry();
         for column in 0..self.columns() {
             if partial.table.is_solved() {
@@ -361,23 +345,6 @@ impl Table {
         copy_of(alloc, partial.table.taken_columns())
     }
 
-    /// A shorter cover; `None` if there is none.
-    fn shorter(
-        &self,
-        alloc: Global,
-        columns: usize,
-        warm_start: &mut WarmStart,
-    ) -> Result<Option<Vec<usize>>, AllocError>
-        ensures { IfOk result (λ o. MatchOption o (IsShortest self.now columns)
-            (λ v. HasShorter self.now columns v.items)) }
-    {
-        let Some(columns) = columns.checked_sub(1) else {
-            return Ok(None);
-        };
-        let budget = Budget { columns, counts: 0 };
-        self.decide(alloc, Choice::First, budget, warm_start)
-    }
-
     /// All taken and live columns: a cover.
     fn all_columns(&self, alloc: Global) -> Result<Vec<usize>, AllocError>
         ensures { IfOk result (λ v. IsCover self.now v.items) }
@@ -385,8 +352,8 @@ impl Table {
         join(alloc, self.taken_columns(), self.live_columns())
     }
 
-    /// A cover that a local search comes upon, in so many steps a row or once it has so few columns
-    /// and nothing is counted.
+    /// A cover that a local search finds, in so many steps a row; it ends early at a cover of so few
+    /// columns that costs nothing. All columns if it finds none.
     fn some_cover(
         &self,
         alloc: Global,
@@ -398,38 +365,38 @@ impl Table {
     {
         let budget = Budget {
             columns: self.columns(),
-            counts: u128::MAX,
+            cost: u128::MAX,
         };
         let others = columns.saturating_sub(self.taken_columns().len());
         let goal = Goal {
             columns: i64::try_from(others).unwrap_or(0),
-            counts: 0,
+            cost: 0,
         };
         let all = self.all_columns(alloc)?;
-        match self.witness(alloc, choice, budget, goal, &[], steps)? {
+        match self.find_by_local_search(alloc, choice, budget, goal, &[], steps)? {
             None => Ok(all),
             Some(cover) => Ok(cover),
         }
     }
 
-    /// How many columns each cover has at least, if one has so many, as far as row weights show: a
-    /// hint.
+    /// A lower bound on the length of covers, where one of so many columns is known: a hint, as row
+    /// weights show it.
     fn least_length(
         &self,
         alloc: Global,
         columns: usize,
         warm_start: &mut WarmStart,
     ) -> Result<usize, AllocError> {
-        let asked = columns.saturating_sub(1);
+        let fewer = columns.saturating_sub(1);
         let budget = Budget {
-            columns: asked,
-            counts: 0,
+            columns: fewer,
+            cost: 0,
         };
         match self.columns_within_budget(alloc, Choice::First, budget, warm_start)? {
             None => Ok(columns),
             Some(_) => {
                 let missing = usize::try_from(warm_start.shortfall()).unwrap_or(usize::MAX);
-                Ok(asked.saturating_sub(missing))
+                Ok(fewer.saturating_sub(missing))
             }
         }
     }
@@ -449,7 +416,7 @@ impl Table {
     }
 
     /// A cover of the least length.
-    fn shortest(
+    fn shortest_cover(
         &self,
         alloc: Global,
         choice: Choice,
@@ -459,8 +426,12 @@ impl Table {
     {
         let mut cover = self.short_cover(alloc, choice, warm_start)?;
         warm_start.set_hint(alloc, &cover)?;
-        while let Some(shorter) = self.shorter(alloc, cover.len(), warm_start)? {
-            cover = shorter;
+        while let Some(columns) = cover.len().checked_sub(1) {
+            let budget = Budget { columns, cost: 0 };
+            match self.find_or_refute(alloc, Choice::First, budget, warm_start, UNLIMITED)? {
+                Some(shorter) => cover = shorter,
+                None => return Ok(cover),
+            }
         }
         Ok(cover)
     }
@@ -477,15 +448,16 @@ impl Table {
         ensures { IfOk result (λ o. MatchOption o (IsFewest self.now columns literals)
             (λ v. HasFewer self.now columns literals v.items)) }
     {
-        let Some(counts) = literals.checked_sub(1) else {
+        let Some(cost) = literals.checked_sub(1) else {
             return Ok(None);
         };
-        let budget = Budget { columns, counts };
-        self.decide(alloc, Choice::Literals, budget, warm_start)
+        let budget = Budget { columns, cost };
+        let fewer = self.find_or_refute(alloc, Choice::Literals, budget, warm_start, UNLIMITED)?;
+        Ok(fewer)
     }
 
     /// A cover of the least length with the fewest literals, from one of the least length.
-    fn fewest(
+    fn fewest_literals(
         &self,
         alloc: Global,
         cover: Vec<usize>,
@@ -498,52 +470,50 @@ impl Table {
         let mut cover = cover;
         let mut low: u128 = 0;
         loop {
-            let counts = sum(Choice::Literals, self.literals(), &cover);
-            if counts <= low {
+            let cost = total_cost(Choice::Literals, self.literals(), &cover);
+            if cost <= low {
                 return Ok(cover);
             }
-            let target = self.target_count(alloc, columns, counts, warm_start)?;
+            let target = self.target_cost(alloc, columns, cost, warm_start)?;
             warm_start.set_hint(alloc, &cover)?;
-            let asked = target.max(low + 1).min(counts);
-            match self.with_fewer(alloc, columns, asked, warm_start)? {
-                None => low = asked,
+            let limit = target.max(low + 1).min(cost);
+            match self.with_fewer(alloc, columns, limit, warm_start)? {
+                None => low = limit,
                 Some(fewer) => cover = fewer,
             }
         }
     }
 
-    /// Fewer literals than which covers of so many columns hardly have, as far as row weights show:
-    /// a hint.
-    fn target_count(
+    /// A lower bound on the literals of covers of so many columns, where one of this cost is known: a
+    /// hint, as row weights show it.
+    fn target_cost(
         &self,
         alloc: Global,
         columns: usize,
-        counts: u128,
+        cost: u128,
         warm_start: &mut WarmStart,
     ) -> Result<u128, AllocError> {
-        let budget = Budget { columns, counts };
+        let budget = Budget { columns, cost };
         self.columns_within_budget(alloc, Choice::Literals, budget, warm_start)?;
-        Ok(counts.saturating_sub(u128::from(warm_start.shortfall())))
+        Ok(cost.saturating_sub(u128::from(warm_start.shortfall())))
     }
 
-    /// A cover of the least length, and with literals of the fewest among those.
-    fn best(
-        &self,
-        alloc: Global,
-        choice: Choice,
-        warm_start: &mut WarmStart,
-    ) -> Result<Vec<usize>, AllocError>
-        ensures { IfOk result (λ v. IsBest choice self.now v.items) }
+    /// The choice that decides: `First` if all live columns cost the same, since covers of one length
+    /// then do too.
+    fn deciding_choice(&self, choice: Choice) -> Choice
+        ensures { (s : List ℕ) → IsLeast result self.now s → IsLeast choice self.now s }
     {
-        let cover = self.shortest(alloc, choice, warm_start)?;
-        match choice {
-            Choice::First => Ok(cover),
-            Choice::Literals => self.fewest(alloc, cover, warm_start),
+        let Some(first) = self.live_columns().first() else {
+            return choice;
+        };
+        let same = cost(choice, self.literals(), *first);
+        if all_cost(choice, self.literals(), self.live_columns(), same) {
+            return Choice::First;
         }
+        choice
     }
 
-    /// The least cover, of all rows at once. If all live columns count alike, size decides before
-    /// what they count.
+    /// The least cover, of all rows at once.
     pub(crate) fn least_of_whole(
         &self,
         alloc: Global,
@@ -552,37 +522,21 @@ impl Table {
     ) -> Result<Vec<usize>, AllocError>
         ensures { IfOk result (λ v. IsLeast choice self.now v.items) }
     {
-        let live = self.live_columns();
-        if live.len() <= FEW {
+        if self.live_columns().len() <= FEW {
             return least_cover_plain(self, choice);
         }
-        if all_count(
-            choice,
-            self.literals(),
-            live,
-            count(choice, self.literals(), live[0]),
-        ) {
-            return self.first_of_best(alloc, Choice::First, effort);
-        }
-        self.first_of_best(alloc, choice, effort)
-    }
-
-    /// The first of the best covers.
-    fn first_of_best(
-        &self,
-        alloc: Global,
-        choice: Choice,
-        effort: &mut Effort,
-    ) -> Result<Vec<usize>, AllocError>
-        ensures { IfOk result (λ v. IsLeast choice self.now v.items) }
-    {
+        let deciding = self.deciding_choice(choice);
         let mut warm_start = WarmStart::new(alloc, *effort);
-        let best = self.best(alloc, choice, &mut warm_start)?;
+        let shortest = self.shortest_cover(alloc, deciding, &mut warm_start)?;
+        let best = match deciding {
+            Choice::First => shortest,
+            Choice::Literals => self.fewest_literals(alloc, shortest, &mut warm_start)?,
+        };
         let mut questions = Questions {
             warm_start,
-            most: FIRST_BATCH,
+            batch_size: FIRST_BATCH,
         };
-        let first = self.first_of(alloc, choice, best, &mut questions)?;
+        let first = self.first_of(alloc, deciding, best, &mut questions)?;
         *effort = questions.warm_start.effort();
         Ok(first)
     }
@@ -593,8 +547,10 @@ impl Table {
 pub fn least_cover(table: &Table, choice: Choice) -> Result<Vec<usize>, AllocError>
     ensures { IfOk result (λ v. IsLeast choice table.now v.items) }
 {
+    let alloc = *table.rows.allocator();
     let mut effort = Effort::none();
-    least_cover_with_effort(table, choice, &mut effort)
+    let core = table.cyclic_core(alloc, choice)?;
+    core.least_by_parts(alloc, choice, &mut effort)
 }
 
 /// The least cover, as [`least_cover`] gives it; adds what was done to find it, figures that no

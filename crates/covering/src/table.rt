@@ -39,8 +39,8 @@ pub struct Table {
     pub(crate) live: Vec<usize>,
     /// The rows not covered yet, each a rising list of live columns.
     pub(crate) rows: Vec<Vec<usize>>,
-    /// By column: its number of literals (not the weights of rows that bounds use).
-    pub(crate) weights: Vec<u32>,
+    /// The number of literals of each column.
+    pub(crate) literals: Vec<u32>,
 }
 
 impl Model for Table {
@@ -53,7 +53,7 @@ impl Model for Table {
       taken = t.taken.items;
       live = t.live.items;
       rows = items_of t.rows.items;
-      weights = t.weights.items;
+      weights = t.literals.items;
     } };
 
     ghost invariant = { λ t. IsTable (record {
@@ -61,7 +61,7 @@ impl Model for Table {
       taken = t.taken.items;
       live = t.live.items;
       rows = items_of t.rows.items;
-      weights = t.weights.items;
+      weights = t.literals.items;
     }) };
 }
 
@@ -89,7 +89,7 @@ impl Table {
             taken: Vec::new(alloc),
             live: numbers(alloc, columns)?,
             rows,
-            weights,
+            literals: weights,
         }))
     }
 
@@ -149,10 +149,10 @@ impl Table {
         ensures value { result.now ≡ self.now.weights }
         ensures table { IsTable self.now }
     {
-        &self.weights
+        &self.literals
     }
 
-    /// The table with the columns and weights of this one.
+    /// The table with the number of columns and the literals of this one.
     pub(crate) fn with(
         &self,
         alloc: Global,
@@ -165,13 +165,13 @@ impl Table {
         ensures { IfOk result (λ t. t ≡ table_of self.now.columns taken.items live.items
             (items_of rows.items) self.now.weights) }
     {
-        let weights: Vec<u32> = self.weights.iter().copied().collect(alloc)?;
+        let literals: Vec<u32> = self.literals.iter().copied().collect(alloc)?;
         Ok(Table {
             columns: self.columns,
             taken,
             live,
             rows,
-            weights,
+            literals,
         })
     }
 

@@ -55,11 +55,11 @@ fn sum_of_counts(row: &[usize], counts: &[i64]) -> i64 {
 /// The likeliest column of the row; among equals, the one in more rows.
 fn likeliest_of(row: &[usize], likely: &[i64], counts: &[i64]) -> usize {
     let mut best = 0;
-    let mut most = (i64::MIN, i64::MIN);
+    let mut highest = (i64::MIN, i64::MIN);
     for column in row {
         let here = (at(likely, *column), at(counts, *column));
-        if here > most {
-            most = here;
+        if here > highest {
+            highest = here;
             best = *column;
         }
     }
@@ -73,23 +73,23 @@ fn likeliest_of(row: &[usize], likely: &[i64], counts: &[i64]) -> usize {
 /// and how many rows it is in.
 pub fn likeliest(rows: &[Vec<usize>], likely: &[i64], counts: &[i64]) -> usize {
     let mut shortest = usize::MAX;
-    let mut most = i64::MIN;
+    let mut highest = i64::MIN;
     let mut best = 0;
     for row in rows {
         let here = sum_of_counts(row, counts);
-        if row.len() < shortest || (row.len() == shortest && here > most) {
+        if row.len() < shortest || (row.len() == shortest && here > highest) {
             shortest = row.len();
-            most = here;
+            highest = here;
             best = likeliest_of(row, likely, counts);
         }
     }
     best
 }
 
-/// Whether to compute a bound again: whether at least an eighth of the columns was dropped since
-/// the last one.
-pub fn is_worth_a_bound(before: usize, left: usize) -> bool {
-    left <= before.saturating_sub(before / 8)
+/// Whether to compute a bound again: whether at least an eighth of the columns that there were
+/// `before`, at the last one, is dropped `now`.
+pub fn is_worth_a_bound(before: usize, now: usize) -> bool {
+    now <= before.saturating_sub(before / 8)
 }
 
 /// Whether the list has the column.
@@ -97,7 +97,7 @@ fn has(columns: &[usize], column: usize) -> bool {
     columns.iter().any(|other| *other == column)
 }
 
-/// Marks the next columns to ask for: the first `most` live ones from `column` on, up to the first
+/// Marks the next columns to ask for: the first `size` live ones from `column` on, up to the first
 /// that the witness has. The marks are one for each of `end` columns. Each mark costs a pass over
 /// the witness.
 pub fn batch(
@@ -105,14 +105,14 @@ pub fn batch(
     live: &[usize],
     witness: &[usize],
     column: usize,
-    most: usize,
+    size: usize,
     end: usize,
 ) -> Result<Vec<bool>, AllocError> {
     let mut marks = vec![in alloc; false; end]?;
     let mut number: usize = 0;
     for other in live {
         if column <= *other {
-            if number >= most || has(witness, *other) {
+            if number >= size || has(witness, *other) {
                 return Ok(marks);
             }
             number = number.saturating_add(1);

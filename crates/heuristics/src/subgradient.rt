@@ -2,7 +2,7 @@
 //!
 //! Whole-number subgradient steps with momentum (Held and Karp, The traveling-salesman problem and
 //! minimum spanning trees, 1970 and 1971). A column has a scaled cost: a multiplier for itself, and
-//! one for each thing that it counts. Its load is the sum of its rows' weights. A step lowers the
+//! one for each unit of its cost. Its load is the sum of its rows' weights. A step lowers the
 //! weights of rows whose columns are overloaded, which have more load than scaled cost, and raises
 //! the others. From time to time the weights are polished: lowered where more than one column of a
 //! row is overloaded, and raised by the least slack of the row's columns. If the steps end just
@@ -14,7 +14,7 @@ use crate::goal::Goal;
 use crate::numbers::{at, copy_to, put, shift, total};
 use std::alloc::{AllocError, Global};
 
-/// The multiplier of a column where columns cost alike.
+/// The multiplier of a column where columns cost the same.
 pub(crate) const UNIT: i64 = 16777216;
 
 /// The most steps for a bound.
@@ -26,7 +26,7 @@ pub(crate) const FEW_STEPS: u32 = 30;
 /// The first length of a step.
 pub(crate) const PACE: i64 = 4096;
 
-/// The first length where the steps continue from another table's and columns cost alike.
+/// The first length where the steps continue from another table's and columns cost the same.
 pub(crate) const NEAR_PACE: i64 = 2048;
 
 /// After so many steps the weights are polished, and it is tested whether the goal is within reach.
@@ -35,7 +35,7 @@ const SPAN: u32 = 25;
 /// The steps are given up if so many times the last gain would not reach the goal.
 pub(crate) const REACH: i64 = 20;
 
-/// The same where the steps continue from another table's and columns cost alike.
+/// The same where the steps continue from another table's and columns cost the same.
 pub(crate) const NEAR_REACH: i64 = 4;
 
 /// The least length of a step; shorter ones gain nothing.
@@ -45,15 +45,15 @@ const LAST_PACE: i64 = 16;
 const PATIENCE: u32 = 10;
 
 /// The multipliers of the relaxation: weights of rows, and the parts of a column's scaled cost, for
-/// itself and for each thing that it counts.
+/// itself and for each unit of its cost.
 #[derive(Drop)]
 pub struct Multipliers {
     /// The weight of each row.
     pub weights: Vec<u64>,
-    /// What a column costs for itself.
+    /// The multiplier of a column.
     pub column: u32,
-    /// What it costs for each thing that it counts.
-    pub count: u32,
+    /// The multiplier of each unit of a column's cost.
+    pub cost: u32,
 }
 
 /// The state of the steps: the present weights, their direction, and the best weights so far.
@@ -73,8 +73,8 @@ pub(crate) struct Ascent {
     pub(crate) loads: Vec<i64>,
     /// How many overloaded columns each row has.
     held: Vec<i64>,
-    /// The multiplier of each thing that a column counts; 0 where columns cost alike.
-    pub(crate) count: i64,
+    /// The multiplier of each unit of a column's cost; 0 where columns cost the same.
+    pub(crate) cost: i64,
     /// The best value of a step.
     top: i64,
     /// The weights of that step.
@@ -183,8 +183,8 @@ fn by_weight(alloc: Global, weights: &[i64]) -> Result<Vec<(i64, usize)>, AllocE
     Ok(order)
 }
 
-/// The multiplier of each thing that a column counts, by which columns cost a unit on average.
-fn count_multiplier(table: &Compact) -> i64 {
+/// The multiplier of each unit of a column's cost, by which columns cost `UNIT` on average.
+fn cost_multiplier(table: &Compact) -> i64 {
     let number = i64::try_from(table.costs.len()).unwrap_or(i64::MAX);
     UNIT.wrapping_mul(number)
         .wrapping_div(total(&table.costs).max(1))
@@ -211,7 +211,7 @@ impl Ascent {
             scaled_costs: vec![in alloc; 0; table.costs.len()]?,
             loads: vec![in alloc; 0; table.costs.len()]?,
             held: vec![in alloc; 0; weights.len()]?,
-            count: if uneven { count_multiplier(table) } else { 0 },
+            cost: if uneven { cost_multiplier(table) } else { 0 },
             top: i64::MIN,
             top_weights: weights.to_vec(alloc)?,
             top_column: column,
@@ -228,9 +228,9 @@ impl Ascent {
 
     /// Sets the scaled costs, for this multiplier of a column.
     fn set_scaled_costs(&mut self, costs: &[i64], column: i64) {
-        let count = self.count;
+        let each = self.cost;
         for (i, scaled_cost) in self.scaled_costs.iter_mut().enumerate() {
-            *scaled_cost = column.wrapping_add(count.wrapping_mul(at(costs, i)));
+            *scaled_cost = column.wrapping_add(each.wrapping_mul(at(costs, i)));
         }
     }
 
@@ -239,7 +239,7 @@ impl Ascent {
         total(weights)
             .wrapping_sub(overload)
             .wrapping_sub(column.wrapping_mul(goal.columns))
-            .wrapping_sub(self.count.wrapping_mul(goal.counts))
+            .wrapping_sub(self.cost.wrapping_mul(goal.cost))
     }
 
     /// Lowers the weights of rows with several overloaded columns, the least weight first.
@@ -278,7 +278,7 @@ impl Ascent {
         goal: Goal,
     ) -> Result<(), AllocError> {
         let mut weights = weights;
-        if self.count > 0 {
+        if self.cost > 0 {
             self.set_scaled_costs(&table.costs, column);
         }
         table.column_rows.sums(&weights, &mut self.loads);
@@ -332,7 +332,7 @@ impl Ascent {
                 square = square.wrapping_add(next.wrapping_mul(next));
             }
         }
-        if self.count > 0 {
+        if self.cost > 0 {
             let slope = overloaded.wrapping_sub(goal.columns).wrapping_mul(16);
             self.column_direction = slope.wrapping_add(self.column_direction.wrapping_mul(12) >> 4);
             square = square.wrapping_add(self.column_direction.wrapping_mul(self.column_direction));
@@ -365,7 +365,7 @@ impl Ascent {
 
     /// Sets the loads for the present weights, and answers their value.
     pub(crate) fn weigh(&mut self, table: &Compact, goal: Goal) -> i64 {
-        if self.count > 0 {
+        if self.cost > 0 {
             self.set_scaled_costs(&table.costs, self.column);
         }
         table.column_rows.sums(&self.weights, &mut self.loads);
@@ -470,7 +470,7 @@ impl Ascent {
         Ok(Multipliers {
             weights,
             column: u32::try_from(self.best_column).unwrap_or(u32::MAX),
-            count: u32::try_from(self.count).unwrap_or(u32::MAX),
+            cost: u32::try_from(self.cost).unwrap_or(u32::MAX),
         })
     }
 }

@@ -219,8 +219,8 @@ impl LocalSearch {
         }
     }
 
-    /// What the chosen columns count.
-    fn counts(&self, table: &Compact) -> i64 {
+    /// The cost of the chosen columns.
+    fn cost(&self, table: &Compact) -> i64 {
         let mut sum: i64 = 0;
         for column in &self.chosen {
             sum = sum.wrapping_add(at(&table.costs, *column));
@@ -235,7 +235,7 @@ impl LocalSearch {
 
     /// Whether the list reaches the goal.
     fn reaches(&self, table: &Compact, goal: Goal) -> bool {
-        self.size() <= goal.columns && self.counts(table) <= goal.counts
+        self.size() <= goal.columns && self.cost(table) <= goal.cost
     }
 
     /// Adds those of the marked columns that uncovered rows have.
@@ -319,9 +319,9 @@ impl LocalSearch {
         let mut seed = SEED;
         for now in 1..steps {
             if self.open.is_empty() {
-                let counts = self.counts(table);
-                if (self.size(), counts) < least {
-                    least = (self.size(), counts);
+                let cost = self.cost(table);
+                if (self.size(), cost) < least {
+                    least = (self.size(), cost);
                     self.keep(alloc)?;
                 }
                 if self.reaches(table, goal) {

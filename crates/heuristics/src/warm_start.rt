@@ -19,7 +19,7 @@ use std::alloc::{AllocError, Global};
 const LIKELIEST: i64 = 1048576;
 
 /// Whether the row is the other list without the columns that are not live.
-fn is_left_of(row: &[usize], other: &[u32], live: &[bool]) -> bool {
+fn is_live_part_of(row: &[usize], other: &[u32], live: &[bool]) -> bool {
     let mut met = 0;
     for column in other {
         if flag(live, *column as usize) {
@@ -32,10 +32,10 @@ fn is_left_of(row: &[usize], other: &[u32], live: &[bool]) -> bool {
     met == row.len()
 }
 
-/// The first of the rows, from an index on, that this row is what is left of.
+/// The first of the rows, from an index on, whose live columns are this row.
 fn matching_row(rows: &Lists, row: &[usize], live: &[bool], from: usize) -> usize {
     for index in from..rows.len() {
-        if row.len() <= rows.list(index).len() && is_left_of(row, rows.list(index), live) {
+        if row.len() <= rows.list(index).len() && is_live_part_of(row, rows.list(index), live) {
             return index;
         }
     }
@@ -140,8 +140,8 @@ impl WarmStart {
         &self.likely
     }
 
-    /// By how much the last bound fell short of its goal: in columns, or in what is counted where
-    /// columns do not all cost alike.
+    /// By how much the last bound fell short of its goal: in columns, or in cost where columns have
+    /// different costs.
     pub fn shortfall(&self) -> u64 {
         self.missing
     }
@@ -262,7 +262,7 @@ impl WarmStart {
     ) -> Result<(), AllocError> {
         let mut course = if self.rows.is_none() {
             Course::new(STEPS, REACH)
-        } else if ascent.count > 0 {
+        } else if ascent.cost > 0 {
             Course::new(self.steps, REACH)
         } else {
             Course::new(self.steps, NEAR_REACH)
@@ -338,9 +338,9 @@ impl WarmStart {
         self.rows = Some(Lists::of(alloc, rows)?);
         self.numbers = numbers;
         let short = 0i64.wrapping_sub(ascent.best_value).max(0);
-        let missing = if ascent.count > 0 {
+        let missing = if ascent.cost > 0 {
             self.column = ascent.top_column;
-            short / ascent.count.max(1)
+            short / ascent.cost.max(1)
         } else {
             short / UNIT
         };

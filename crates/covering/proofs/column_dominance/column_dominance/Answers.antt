@@ -11,13 +11,13 @@ use Rattle.covering.proofs.column_dominance.column_dominance.Goals as goal
 use Rattle.covering.proofs.column_dominance.column_dominance.Goals.{then-is_dominated, else-is_dominated}
 
 pub loop-column-init : goal.loop-column-init
-loop-column-init c = keep_start (is_preferred c.args.preference (counted c.args.choice c.args.weights.now)) c.args.live.now (items_of c.args.transpose.now) c.in_ok-keep.keep.items
+loop-column-init c = keep_start (is_preferred c.args.preference (counted c.args.choice c.args.literals.now)) c.args.live.now (items_of c.args.transpose.now) c.in_ok-keep.keep.items
     (λ a h. ap (λ xs. marked xs a) c.in_ok-keep.ensures ∙ all_marked_at _ a (c.requires.below a h))
 
 pub loop-column-preserved : goal.loop-column-preserved
 loop-column-preserved c =
-    let preferred = is_preferred c.args.preference (counted c.args.choice c.args.weights.now) in
-    let trans = preferred_on c.args.preference (counted c.args.choice c.args.weights.now) in
+    let preferred = is_preferred c.args.preference (counted c.args.choice c.args.literals.now) in
+    let trans = preferred_on c.args.preference (counted c.args.choice c.args.literals.now) in
     let live = c.args.live.now in
     let transpose = items_of c.args.transpose.now in
     let i = c.loop-column.column-index in
@@ -30,5 +30,5 @@ loop-column-preserved c =
     ]
 
 pub returns : goal.returns
-returns c = keep_done (is_preferred c.args.preference (counted c.args.choice c.args.weights.now)) c.args.live.now (items_of c.args.transpose.now) c.loop-column.keep.items
-    (subst (λ asked. ColumnDominanceSoFar (is_preferred c.args.preference (counted c.args.choice c.args.weights.now)) c.args.live.now (items_of c.args.transpose.now) asked c.loop-column.keep.items) (take_all c.loop-column.column-index c.args.live.now c.loop-column-test.false) c.loop-column.invariant)
+returns c = keep_done (is_preferred c.args.preference (counted c.args.choice c.args.literals.now)) c.args.live.now (items_of c.args.transpose.now) c.loop-column.keep.items
+    (subst (λ asked. ColumnDominanceSoFar (is_preferred c.args.preference (counted c.args.choice c.args.literals.now)) c.args.live.now (items_of c.args.transpose.now) asked c.loop-column.keep.items) (take_all c.loop-column.column-index c.args.live.now c.loop-column-test.false) c.loop-column.invariant)

@@ -9,7 +9,7 @@ use Rattle.covering.proofs.column_dominance.is_dominated.Goals as goal
 
 pub returns-in-Some : goal.returns-in-Some
 returns-in-Some c =
-    let preferred = is_preferred c.args.preference (counted c.args.choice c.args.weights.now) in
+    let preferred = is_preferred c.args.preference (counted c.args.choice c.args.literals.now) in
     let transpose = items_of c.args.transpose.now in
     let wide = length_items c.args.transpose.now in
     c.any_dominates-in-Some.ensures ∙ ap (list_any (dominates preferred transpose c.args.keep.now c.args.a)) c.entry-in-Some.ensures

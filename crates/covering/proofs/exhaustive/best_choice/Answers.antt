@@ -18,14 +18,14 @@ loop-chosen-init c =
     record {
       pool = ap (λ s. s.pool.items) same ∙ items;
       below = subst (AllByRecursion (AreBelow (length live))) (sym left) (combinations_below (length live) c.args.size);
-      left = ap (best_of (counted c.args.choice c.args.weights.now) _ None) (sym (ap (map (picks live)) left ∙ combinations_choices live c.args.size));
+      left = ap (best_of (counted c.args.choice c.args.literals.now) _ None) (sym (ap (map (picks live)) left ∙ combinations_choices live c.args.size));
     }
 
 pub loop-chosen-preserved-then-all_met : goal.loop-chosen-preserved-then-all_met
 loop-chosen-preserved-then-all_met c =
     let inv = c.loop-chosen.invariant in
     let live = c.args.live.now in
-    let count = counted c.args.choice c.args.weights.now in
+    let count = counted c.args.choice c.args.literals.now in
     let test : List ℕ → Bool = λ s. list_all (λ row. meets s row.items) c.args.rows.now in
     let best : Option (List ℕ) = option_map (λ (v : Vec ℕ Global). v.items) c.loop-chosen.best in
     let st = rw c.in_ok-chosen.was at c.in-Some.ensures.steps in
@@ -43,7 +43,7 @@ pub loop-chosen-preserved : goal.loop-chosen-preserved
 loop-chosen-preserved c =
     let inv = c.loop-chosen.invariant in
     let live = c.args.live.now in
-    let count = counted c.args.choice c.args.weights.now in
+    let count = counted c.args.choice c.args.literals.now in
     let test : List ℕ → Bool = λ s. list_all (λ row. meets s row.items) c.args.rows.now in
     let best : Option (List ℕ) = option_map (λ (v : Vec ℕ Global). v.items) c.loop-chosen.best in
     let st = rw c.in_ok-chosen.was at c.in-Some.ensures.steps in

@@ -11,5 +11,5 @@ abbrev pub invariant-loop-chosen : goal.invariant-loop-chosen
 invariant-loop-chosen l = record {
   pool : l.chosen-iterator.pool.items ≡ l.live;
   below : AllByRecursion (AreBelow (length l.live)) (combination_left l.chosen-iterator);
-  left : best_of (counted l.choice l.weights) (λ s. list_all (λ row. meets s row.items) l.rows) None (choices l.size l.live) ≡ best_of (counted l.choice l.weights) (λ s. list_all (λ row. meets s row.items) l.rows) (option_map (λ v. v.items) l.best) (map (picks l.live) (combination_left l.chosen-iterator));
+  left : best_of (counted l.choice l.literals) (λ s. list_all (λ row. meets s row.items) l.rows) None (choices l.size l.live) ≡ best_of (counted l.choice l.literals) (λ s. list_all (λ row. meets s row.items) l.rows) (option_map (λ v. v.items) l.best) (map (picks l.live) (combination_left l.chosen-iterator));
 }

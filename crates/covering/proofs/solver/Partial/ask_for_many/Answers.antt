@@ -6,12 +6,12 @@ use Rattle.covering.specs.Table.{has}
 use Rattle.covering.specs.Search.{Answers, IsAnswer, IsOutside, NoneWithin, marked}
 use Rattle.covering.proofs.Sets.{filter_keeps}
 use Rattle.covering.proofs.Lagrange.{marks_at}
-use Rattle.covering.proofs.Partials.{answer_asked, outside_asked, not_false, some_left, stage_left, next_left}
+use Rattle.covering.proofs.Partials.{answer_extended, outside_extended, not_false, some_left, partial_left, next_left}
 use Rattle.covering.proofs.solver.Partial.ask_for_many.Goals as goal
 use Rattle.covering.proofs.solver.Partial.ask_for_many.Goals.{In_ok-keep-in-None}
 
 -- the columns that leave
-out : (c : In_ok-keep-in-None) → (d : ℕ) → has d c.args.self.table.live ≡ true → marked c.in_ok-keep-in-None.keep.items d ≡ false → IsOutside c.args.choice c.args.self.table c.args.budget.columns c.args.budget.counts d
+out : (c : In_ok-keep-in-None) → (d : ℕ) → has d c.args.self.table.live ≡ true → marked c.in_ok-keep-in-None.keep.items d ≡ false → IsOutside c.args.choice c.args.self.table c.args.budget.columns c.args.budget.cost d
 out c d l e =
     let t = c.args.self.table in
     let marks = c.in_ok-marks.marks.items in
@@ -19,33 +19,33 @@ out c d l e =
     let wide = c.columns-in-None.ensures.count in
     let is : marked c.in_ok-keep-in-None.keep.items d ≡ not (marked marks d) = ap (λ ks. marked ks d) c.in_ok-keep-in-None.ensures ∙ ap (λ ks. marked ks d) (ap (λ ks. map (λ n. not (marked ks n)) (range_with_len 0 c.columns-in-None.result)) c.deref-in-None.ensures.value) ∙ marks_at (λ n. not (marked marks n)) c.columns-in-None.result d (omega arith) in
     let lacks : marked marks d ≡ true = not_false (marked marks d) (sym is ∙ e) in
-    let asked = rw c.in-Some.is at c.in_ok-asked.ensures in
+    let extended = rw c.in-Some.is at c.in_ok-extended.ensures in
     let there : has d (filter (marked c.deref-2.result.now) t.live) ≡ true = filter_keeps (marked c.deref-2.result.now) d t.live l (ap (λ ks. marked ks d) c.deref-2.ensures.value ∙ lacks) in
-    let none = subst (λ (o : Option (Vec ℕ Global)). Answers c.args.choice c.in-Some.asked c.args.budget.columns c.args.budget.counts (option_map (λ v. v.items) o)) c.in-None.is (rw c.in-Some-2.is at c.in_ok-answer.ensures) in
-    outside_asked c.args.choice t (filter (marked c.deref-2.result.now) t.live) c.args.budget.columns c.args.budget.counts d there (subst (λ g. NoneWithin c.args.choice g c.args.budget.columns c.args.budget.counts) asked none)
+    let none = subst (λ (o : Option (Vec ℕ Global)). Answers c.args.choice c.in-Some.extended c.args.budget.columns c.args.budget.cost (option_map (λ v. v.items) o)) c.in-None.is (rw c.in-Some-2.is at c.in_ok-answer.ensures) in
+    outside_extended c.args.choice t (filter (marked c.deref-2.result.now) t.live) c.args.budget.columns c.args.budget.cost d there (subst (λ g. NoneWithin c.args.choice g c.args.budget.columns c.args.budget.cost) extended none)
 
 pub without_columns-requires : goal.without_columns-requires
 without_columns-requires c =
     rw c.deref-in-None-2.ensures.value
-    (some_left c.args.choice (marked c.in_ok-keep-in-None.keep.items) c.args.self.table c.args.budget.columns c.args.budget.counts c.args.self.witness.items c.columns-in-None.ensures.table c.requires (out (goal.at.without_columns-requires c).In_ok-keep-in-None))
+    (some_left c.args.choice (marked c.in_ok-keep-in-None.keep.items) c.args.self.table c.args.budget.columns c.args.budget.cost c.args.self.witness.items c.columns-in-None.ensures.table c.requires (out (goal.at.without_columns-requires c).In_ok-keep-in-None))
 
 pub returns-in_ok-keep-in-None-clause-partial : goal.returns-in_ok-keep-in-None-clause-partial
 returns-in_ok-keep-in-None-clause-partial c =
     let left = rw c.deref-in-None-2.ensures.value at c.without_columns.ensures in
     IfOk-weaker c.without_columns.result _ _
-    (λ s h. rw h.1 (stage_left c.args.choice (marked c.in_ok-keep-in-None.keep.items) c.args.self.table c.args.budget.columns c.args.budget.counts c.args.self.witness.items c.columns-in-None.ensures.table c.requires (out (goal.at.returns-in_ok-keep-in-None-clause-partial c).In_ok-keep-in-None) s.table h.0))
+    (λ s h. rw h.1 (partial_left c.args.choice (marked c.in_ok-keep-in-None.keep.items) c.args.self.table c.args.budget.columns c.args.budget.cost c.args.self.witness.items c.columns-in-None.ensures.table c.requires (out (goal.at.returns-in_ok-keep-in-None-clause-partial c).In_ok-keep-in-None) s.table h.0))
     left
 
 pub returns-in_ok-keep-in-None-clause-next : goal.returns-in_ok-keep-in-None-clause-next
 returns-in_ok-keep-in-None-clause-next c =
     let left = rw c.deref-in-None-2.ensures.value at c.without_columns.ensures in
     IfOk-weaker c.without_columns.result _ _
-    (λ s h. next_left c.args.choice (marked c.in_ok-keep-in-None.keep.items) c.args.self.table c.args.budget.columns c.args.budget.counts c.args.self.witness.items c.columns-in-None.ensures.table c.requires (out (goal.at.returns-in_ok-keep-in-None-clause-next c).In_ok-keep-in-None) s.table h.0)
+    (λ s h. next_left c.args.choice (marked c.in_ok-keep-in-None.keep.items) c.args.self.table c.args.budget.columns c.args.budget.cost c.args.self.witness.items c.columns-in-None.ensures.table c.requires (out (goal.at.returns-in_ok-keep-in-None-clause-next c).In_ok-keep-in-None) s.table h.0)
     left
 
 pub returns-in-Some-answer-clause-partial : goal.returns-in-Some-answer-clause-partial
 returns-in-Some-answer-clause-partial c =
     let t = c.args.self.table in
-    let asked = rw c.in-Some.is at c.in_ok-asked.ensures in
-    let found = subst (λ (o : Option (Vec ℕ Global)). Answers c.args.choice c.in-Some.asked c.args.budget.columns c.args.budget.counts (option_map (λ v. v.items) o)) c.in-Some-answer.is (rw c.in-Some-2.is at c.in_ok-answer.ensures) in
-    record { none = c.requires.none; witness = answer_asked c.args.choice t (filter (marked c.deref-2.result.now) t.live) c.args.budget.columns c.args.budget.counts c.in-Some-answer.witness.items (subst (λ g. IsAnswer c.args.choice g c.args.budget.columns c.args.budget.counts c.in-Some-answer.witness.items) asked found) }
+    let extended = rw c.in-Some.is at c.in_ok-extended.ensures in
+    let found = subst (λ (o : Option (Vec ℕ Global)). Answers c.args.choice c.in-Some.extended c.args.budget.columns c.args.budget.cost (option_map (λ v. v.items) o)) c.in-Some-answer.is (rw c.in-Some-2.is at c.in_ok-answer.ensures) in
+    record { none = c.requires.none; witness = answer_extended c.args.choice t (filter (marked c.deref-2.result.now) t.live) c.args.budget.columns c.args.budget.cost c.in-Some-answer.witness.items (subst (λ g. IsAnswer c.args.choice g c.args.budget.columns c.args.budget.cost c.in-Some-answer.witness.items) extended found) }

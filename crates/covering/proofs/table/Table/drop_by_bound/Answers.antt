@@ -12,10 +12,10 @@ pub returns : goal.returns
 returns c =
     let out = rw c.in-Some.is at c.in_ok-keep.ensures.marks in
     IfOk-weaker c.keep_marked.result _ _
-    (λ o h. pruned_from c.args.choice (marked c.in-Some.keep.items) c.args.self c.args.budget.columns c.args.budget.counts c.keep_marked.ensures.table out o
+    (λ o h. pruned_from c.args.choice (marked c.in-Some.keep.items) c.args.self c.args.budget.columns c.args.budget.cost c.keep_marked.ensures.table out o
     (subst (λ ks. MatchOption o (list_any is_blank (map (filter (marked ks)) c.args.self.rows) ≡ true) (λ u. u ≡ keep_columns (marked ks) c.args.self)) c.deref-2.ensures.value h))
     c.keep_marked.ensures.kept
 
 pub returns-then-all_kept : goal.returns-then-all_kept
 returns-then-all_kept c =
-    weakly_reduced_pruned c.args.choice c.args.budget.columns c.args.budget.counts c.args.self c.args.self (weakly_reduced_same c.args.choice c.args.self)
+    weakly_reduced_pruned c.args.choice c.args.budget.columns c.args.budget.cost c.args.self c.args.self (weakly_reduced_same c.args.choice c.args.self)

@@ -14,12 +14,12 @@ marks : (c : In_ok-stay) → LeavesNoDominatingRow c.args.self.now.rows c.in_ok-
 marks c = subst (λ rs. LeavesNoDominatingRow rs c.in_ok-stay.stay.items) c.row_lists.ensures.value c.in_ok-stay.ensures
 
 left : (c : In_ok-rows) → items_of c.in_ok-rows.rows.items ≡ rows_from (marked c.in_ok-stay.stay.items) 0 c.args.self.now.rows
-left c = c.in_ok-rows.ensures ∙ ap (λ ks. rows_from (marked ks) 0 (items_of c.row_lists-2.result.now)) c.deref-3.ensures.value ∙ ap (rows_from (marked c.in_ok-stay.stay.items) 0) c.row_lists-2.ensures.value
+left c = c.in_ok-rows.ensures ∙ ap (λ ks. rows_from (marked ks) 0 (items_of c.row_lists-2.result.now)) c.deref-2.ensures.value ∙ ap (rows_from (marked c.in_ok-stay.stay.items) 0) c.row_lists-2.ensures.value
 
 pub returns-then-is_full : goal.returns-then-is_full
 returns-then-is_full c = λ choice.
     let at = goal.at.returns-then-is_full c in
-    none_left_out c.args.self.now c.in_ok-stay.stay.items (marks at.In_ok-stay) (sym (ap (list_all (λ mark. mark)) c.deref-2.ensures.value) ∙ sym c.is_full.ensures ∙ c.if-is_full.true)
+    none_left_out c.args.self.now c.in_ok-stay.stay.items (marks at.In_ok-stay) (sym (ap (list_all (λ mark. mark)) c.deref.ensures.value) ∙ sym c.is_full.ensures ∙ c.if-is_full.true)
 
 pub returns-then-len-row_lists : goal.returns-then-len-row_lists
 returns-then-len-row_lists c = λ choice.

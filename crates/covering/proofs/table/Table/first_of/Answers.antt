@@ -1,11 +1,11 @@
 use Rattle.std.proofs.Common.{◌∙◌, refl, arith}
 use Rattle.std.proofs.lemmas.Result.{IfOk-weaker}
-use Rattle.covering.proofs.Partials.{next_join, stage_done, all_settled, first_next}
+use Rattle.covering.proofs.Partials.{next_join, partial_done, all_decided, first_next}
 use Rattle.covering.proofs.table.Table.first_of.Goals as goal
 
 pub returns-then-is_solved : goal.returns-then-is_solved
 returns-then-is_solved c = IfOk-weaker c.copy_of.result _ _
-    (λ v h. stage_done c.args.choice c.args.self.now c.loop-column.partial.table v.items c.taken_columns.ensures.table c.loop-column.invariant.next (c.if-is_solved.ensures.solved.0 refl) (h ∙ c.taken_columns.ensures.value))
+    (λ v h. partial_done c.args.choice c.args.self.now c.loop-column.partial.table v.items c.taken_columns.ensures.table c.loop-column.invariant.next (c.if-is_solved.ensures.solved.0 refl) (h ∙ c.taken_columns.ensures.value))
     c.copy_of.ensures
 
 pub loop-column-preserved : goal.loop-column-preserved
@@ -19,7 +19,7 @@ pub returns : goal.returns
 returns c =
     let past = c.loop-column-test.false in
     let wide = c.columns-column-end.ensures.count in
-    let done = all_settled c.args.choice c.args.self.now c.loop-column.partial.table c.loop-column.column c.literals.ensures.table c.taken_columns-2.ensures.table c.loop-column.invariant.next c.loop-column.invariant.first (omega arith) in
+    let done = all_decided c.args.choice c.args.self.now c.loop-column.partial.table c.loop-column.column c.literals.ensures.table c.taken_columns-2.ensures.table c.loop-column.invariant.next c.loop-column.invariant.first (omega arith) in
     IfOk-weaker c.copy_of-2.result _ _
-    (λ v h. stage_done c.args.choice c.args.self.now c.loop-column.partial.table v.items c.taken_columns-2.ensures.table c.loop-column.invariant.next done (h ∙ c.taken_columns-2.ensures.value))
+    (λ v h. partial_done c.args.choice c.args.self.now c.loop-column.partial.table v.items c.taken_columns-2.ensures.table c.loop-column.invariant.next done (h ∙ c.taken_columns-2.ensures.value))
     c.copy_of-2.ensures

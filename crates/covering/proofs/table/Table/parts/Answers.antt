@@ -28,6 +28,6 @@ returns c =
     c.in_ok-other.ensures ∙ ap (λ ks. part_of (marked ks) c.new.result.items t) c.deref-5.ensures.value ∙ ap (λ ts. part_of (marked others) ts t) c.new.ensures.items in
     record {
       least = λ choice s x h k. parts_least t (marked marks) (marked others) c.row_lists.ensures.table two sides choice s x (subst (λ g. IsLeast choice g s) one h) (subst (λ g. IsLeast choice g x) other k);
-      fewer = omega (arith, c.if-row_count-most.false, c.row_count.ensures, c.row_count-2.ensures, c.row_count-3.ensures, c.max-most.ensures);
-      other_fewer = omega (arith, c.if-row_count-most.false, c.row_count.ensures, c.row_count-2.ensures, c.row_count-3.ensures, c.max-most.ensures);
+      fewer = omega (arith, c.if-row_count-larger.false, c.row_count.ensures, c.row_count-2.ensures, c.row_count-3.ensures, c.max-larger.ensures);
+      other_fewer = omega (arith, c.if-row_count-larger.false, c.row_count.ensures, c.row_count-2.ensures, c.row_count-3.ensures, c.max-larger.ensures);
     }

@@ -11,6 +11,6 @@ returns c =
     let live = c.live_columns-live.ensures.value in
     let rows : map (map (pick t.live)) (items_of c.in-Some.rows.items) ≡ t.rows =
     ap (λ ls. map (map (pick ls)) (items_of c.in-Some.rows.items)) (sym live) ∙ rw c.in-Some.is at c.in_ok-rows.ensures ∙ c.row_lists.ensures.value in
-    let weights : c.in_ok-weights.weights.items ≡ map (λ d. slice_index_or t.weights d 0) t.live =
-    c.in_ok-weights.ensures ∙ ap (λ ws. map (λ d. slice_index_or ws d 0) c.live_columns-live.result.now) c.literals.ensures.value ∙ ap (map (λ d. slice_index_or t.weights d 0)) live in
-    IfOk-weaker c.new.result _ _ (λ o h. renumbered t c.live_columns-live.ensures.table (items_of c.in-Some.rows.items) c.in_ok-weights.weights.items rows weights o h) c.new.ensures
+    let literals : c.in_ok-literals.literals.items ≡ map (λ d. slice_index_or t.weights d 0) t.live =
+    c.in_ok-literals.ensures ∙ ap (λ ws. map (λ d. slice_index_or ws d 0) c.live_columns-live.result.now) c.literals.ensures.value ∙ ap (map (λ d. slice_index_or t.weights d 0)) live in
+    IfOk-weaker c.new.result _ _ (λ o h. renumbered t c.live_columns-live.ensures.table (items_of c.in-Some.rows.items) c.in_ok-literals.literals.items rows literals o h) c.new.ensures
