@@ -2,13 +2,22 @@ use Rattle.std.proofs.Common.{◌≡◌, ℕ, ◌+◌, ◌<◌, List, Option, No
 use Rattle.std.specs.List.{Contains}
 use Rattle.cube.specs.Cube.{Cube, Place, holds, intersection, IsDisjoint}
 use Rattle.cover.specs.Cubes.{Cubes}
+use Rattle.cover.proofs.Found.{meet_output}
 use Rattle.minimum.specs.Blocking.{HasCommon}
 use Rattle.minimum.proofs.Blocking.{common_none, common_more, common_next, part_none}
 use Rattle.minimum.proofs.essential_by_neighbours.blocking.+has_common.Goals as goal
 use Rattle.minimum.proofs.essential_by_neighbours.blocking.+has_common.Goals.{in-Some+in_ok-has_common+else-branch+in-Heap-1, in-Some+in_ok-has_common+else-branch+in-Inline-1, in_default}
 
 pub returns-then-from-lists-clause-some : goal.returns-then-from-lists-clause-some
-returns-then-from-lists-clause-some t c _ = common_none c.args.region.now c.args.lists.now c.args.from c.if-from-lists.true c.shape-shape.ensures.is_cube.some_output
+returns-then-from-lists-clause-some t c _ = common_none c.args.region.now c.args.lists.now c.args.from c.if-from-lists.true c.requires.output
+
+pub has_common-requires-clause-output : goal.has_common-requires-clause-output
+has_common-requires-clause-output t c =
+    let region = c.args.region.now in
+    let row = c.row-item.result in
+    let both : (p : Place) → holds c.in-Some.part p ≡ intersection (holds region) (holds row) p =
+    subst (λ o. IfSome o (λ d. (p : Place) → holds d p ≡ intersection (holds region) (holds row) p)) c.in-Some.is c.in_ok-part.ensures.places in
+    meet_output region row c.in-Some.part c.in_ok-part.field-0 c.in-Some.is c.in_ok-part.ensures.none both
 
 pub returns-then-branch-clause-some : goal.returns-then-branch-clause-some
 returns-then-branch-clause-some t c _ =
