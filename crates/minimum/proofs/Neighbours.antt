@@ -7,13 +7,14 @@ use Rattle.std.proofs.lemmas.List.{get_or-set_other, get_or_past, take_more}
 use Rattle.cube.specs.declared.symbol.Symbol.{Symbol}
 use Rattle.cube.specs.declared.symbol.Symbol.TheVariants.{Dash, Zero, One}
 use Rattle.cube.specs.Pattern.{agrees, matches}
-use Rattle.cube.specs.Cube.{Cube, Place, holds, with_symbol, SameSize, size_of}
+use Rattle.cube.specs.Cube.{Cube, Place, holds, with_symbol, SameSize, IsDisjoint, size_of}
 use Rattle.cube.specs.Literals.{are_opposite, is_beyond_symbol}
 use Rattle.cube.specs.Sharp.{opposite, minus}
 use Rattle.cube.proofs.HoldsLemmas.{agrees_at-matches}
 use Rattle.cube.proofs.SharpLemmas.{some_true, true_some, get_or-minus}
 use Rattle.cover.specs.Cubes.{AreCubes}
 use Rattle.cover.specs.Places.{places}
+use Rattle.cover.proofs.Found.{output_of_place}
 use Rattle.cover.proofs.Inputs.{matches-set_bit, matches-own}
 use Rattle.cover.proofs.Regions.{zero_literal, one_literal}
 use Rattle.cover.proofs.SumMeets.{places-append}
@@ -44,6 +45,13 @@ against Zero true literal a b = false≢true a
 against Zero false literal a b = false≢true b
 against One true literal a b = false≢true b
 against One false literal a b = false≢true a
+
+-- a cube that is not apart from another has an output
+pub met_output : (a b : Cube) → (IsDisjoint (holds a) (holds b) → ⊥) → list_any (λ x. x) a.outputs ≡ true
+met_output a b meets = elim (cases_Bool (list_any (λ x. x) a.outputs)) [
+  | inl on ↦ on
+  | inr off ↦ absurd (meets (λ p mine theirs. false≢true (sym off ∙ output_of_place a p mine)))
+]
 
 -- no opposite literals, and no literal that the second does not have
 

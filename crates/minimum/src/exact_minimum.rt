@@ -8,6 +8,7 @@
 
 ghost use Rattle.std.specs.Prelude.{◌≡◌, ◌<◌, ◌||◌, IfOk, IfSome, not};
 ghost use Rattle.cube.specs.Cube.{IsPlace, Place};
+ghost use Rattle.cube.specs.Limits.{IsWithinLimits, format_limits};
 ghost use Rattle.cover.specs.Places.{places};
 ghost use Rattle.pla.specs.Sets.{SetLists};
 ghost use Rattle.minimum.specs.Points.{IsSource, StandsFor};
@@ -104,6 +105,7 @@ pub(crate) fn exact_by_points(
     ghost sets: { SetLists }
     requires source { IsSource given.now.size source.now }
     requires same { StandsFor sets given.now source.now }
+    requires limits { IsWithinLimits format_limits given.now.size }
     ensures { IfOk result (λ o. IfSome o (λ list. list ≡ record
         { size = given.now.size; cubes = exact_of choice sets })) }
 {

@@ -18,6 +18,7 @@
 ghost use Rattle.std.specs.Prelude.{◌≡◌, ◌++◌, true, IfOk, IfSome, OnOk, All, length, map};
 ghost use Rattle.std.specs.List.{Contains, range_with_len};
 ghost use Rattle.cube.specs.Cube.{IsCube, SameSize, literals, Cube as Row};
+ghost use Rattle.cube.specs.Limits.{IsWithinLimits, format_limits};
 ghost use Rattle.cover.specs.Cubes.{AreCubes};
 ghost use Rattle.pla.specs.Sets.{SetLists};
 ghost use Rattle.covering.specs.Table.{AreRows};
@@ -185,6 +186,7 @@ fn point_table(alloc: Global, points: &[Cube], columns: &Cover) -> Result<Table,
         → All (λ d. SameSize d x) columns.now.cubes }
     requires rows { AreRows (length (map literals columns.now.cubes))
         (map (holders columns.now.cubes) points.now) }
+    requires limits { IsWithinLimits format_limits columns.now.size }
     ensures { IfOk result (λ t. t ≡ point_table_of points.now columns.now.cubes) }
 {
     let all = numbers(alloc, columns.len())?;
@@ -192,7 +194,7 @@ fn point_table(alloc: Global, points: &[Cube], columns: &Cover) -> Result<Table,
     for point in points {
         rows.push(spanning(alloc, columns.as_slice(), point, &all)?)?;
     }
-    let weights = weights(alloc, columns.as_slice())?;
+    let weights = weights(alloc, columns)?;
     match Table::new(alloc, rows, weights)? {
         Some(table) => Ok(table),
         None => unreachable!(),
@@ -211,6 +213,7 @@ pub(crate) fn table_of_points(
     ghost sets: { SetLists }
     requires source { IsSource given.now.size source.now }
     requires same { StandsFor sets given.now source.now }
+    requires limits { IsWithinLimits format_limits given.now.size }
     ensures size { IfOk result (λ r. r.0.size ≡ given.now.size) }
     ensures exact { IfOk result (λ r. HasExact sets r.0.cubes r.1) }
 {
