@@ -123,13 +123,13 @@ impl Cover {
     pub fn try_clone(&self) -> Result<Cover, AllocError>
         ensures { IfOk result (λ c. c ≡ self.now) }
     {
-        let cubes = copy_of(self.allocator(), self.as_slice())?;
+        let cubes = clone_cubes(self.allocator(), self.as_slice())?;
         Ok(Cover::from_cubes(self.shape(), cubes))
     }
 }
 
 /// An equal list.
-pub(crate) fn copy_of(alloc: Global, cubes: &[Cube]) -> Result<Vec<Cube>, AllocError>
+pub(crate) fn clone_cubes(alloc: Global, cubes: &[Cube]) -> Result<Vec<Cube>, AllocError>
     ensures { IfOk result (λ copy. copy.items ≡ cubes.now) }
 {
     let mut copy = Vec::with_capacity(alloc, cubes.len())?;
@@ -137,4 +137,15 @@ pub(crate) fn copy_of(alloc: Global, cubes: &[Cube]) -> Result<Vec<Cube>, AllocE
         copy.push(cube.try_clone()?)?;
     }
     Ok(copy)
+}
+
+/// The cubes by themselves.
+pub(crate) fn clone_referents(alloc: Global, rows: &[&Cube]) -> Result<Vec<Cube>, AllocError>
+    ensures { IfOk result (λ copies. copies.items ≡ behind rows.now) }
+{
+    let mut copies = Vec::with_capacity(alloc, rows.len())?;
+    for row in rows {
+        copies.push(row.try_clone()?)?;
+    }
+    Ok(copies)
 }

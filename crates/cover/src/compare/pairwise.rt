@@ -16,9 +16,9 @@ ghost use Rattle.cover.specs.Reason.{AreAmong, AreKnown};
 use crate::literal_counts::LiteralCounts;
 use crate::region::learned::Learned;
 use crate::region::nearest_rows::RowBits;
-use crate::region::splitting_input::{literal_words, shares_literal};
-use crate::region::{covers_cube_near, is_seen_to_cover};
-use crate::symbols::{having, open_at};
+use crate::region::open_literals::{literal_words, shares_literal};
+use crate::region::{holds_by_splits_or_search, is_seen_to_hold};
+use crate::symbols::{rows_with_compatible_symbol, rows_with_symbol};
 use cube::{Cube, Shape, Symbol};
 use std::alloc::{AllocError, Global};
 
@@ -33,7 +33,7 @@ pub(crate) enum Relation {
 }
 
 // Whether the row has no place of the others.
-pub(crate) fn misses(row: &Cube, others: &[&Cube]) -> bool
+pub(crate) fn is_disjoint_from_all(row: &Cube, others: &[&Cube]) -> bool
     requires { All (λ d. SameSize row.now d.now) others.now }
     ensures { IsTrue result ↔ IsDisjoint (holds row.now) (places (behind others.now)) }
 {
@@ -46,13 +46,13 @@ pub(crate) fn misses(row: &Cube, others: &[&Cube]) -> bool
 }
 
 // Whether no row has a place of the others, by pairs.
-fn are_disjoint(rows: &[&Cube], others: &[&Cube]) -> bool
+fn are_disjoint_by_pairs(rows: &[&Cube], others: &[&Cube]) -> bool
     requires { (size : Size) × All (λ d. HasSize d.now size) rows.now
         × All (λ d. HasSize d.now size) others.now }
     ensures { IsTrue result ↔ IsDisjoint (places (behind rows.now)) (places (behind others.now)) }
 {
     for row in rows {
-        if !misses(row, others) {
+        if !is_disjoint_from_all(row, others) {
             return false;
         }
     }
@@ -63,7 +63,7 @@ fn are_disjoint(rows: &[&Cube], others: &[&Cube]) -> bool
 const FEW: usize = 64;
 
 // Whether both lists are so long that it pays to keep which rows have a literal.
-fn are_many(rows: usize, others: usize) -> bool {
+fn are_both_long(rows: usize, others: usize) -> bool {
     rows.min(others) > FEW
 }
 
@@ -88,13 +88,13 @@ fn rows_sharing_literal<'a>(
 }
 
 // The bits of the rows, if these and the regions that are asked for are many.
-fn bits_of(
+fn bits_if_both_long(
     alloc: Global,
     shape: Shape,
     regions: usize,
     rows: &[&Cube],
 ) -> Result<Option<RowBits>, AllocError> {
-    if are_many(regions, rows.len()) {
+    if are_both_long(regions, rows.len()) {
         return Ok(Some(RowBits::of(alloc, shape, rows)?));
     }
     Ok(None)
@@ -102,7 +102,7 @@ fn bits_of(
 
 // Whether the rows hold the region. If they are many, those nearest to it often do so alone, which
 // takes few looks; else those that have a literal of it come first.
-fn holds_region(
+fn holds_region_nearest_first(
     alloc: Global,
     shape: Shape,
     rows: &[&Cube],
@@ -118,18 +118,18 @@ fn holds_region(
         (λ held. IsTrue held ↔ IsSubset (holds region.now) (places (behind rows.now))) }
 {
     let Some(bits) = bits else {
-        return covers_cube_near(alloc, rows, &[], 0, region, learned);
+        return holds_by_splits_or_search(alloc, rows, &[], 0, region, learned);
     };
     let nearest = bits.nearest(alloc, rows, region)?;
-    if is_seen_to_cover(alloc, &nearest, region, rows.len())? {
+    if is_seen_to_hold(alloc, &nearest, region, rows.len())? {
         return Ok(true);
     }
     let near = rows_sharing_literal(alloc, shape, rows, region)?;
-    covers_cube_near(alloc, rows, &near, bits.fewest_literals(), region, learned)
+    holds_by_splits_or_search(alloc, rows, &near, bits.fewest_literals(), region, learned)
 }
 
 // Whether the others hold each row, one by one.
-fn are_contained(
+fn are_held_one_by_one(
     alloc: Global,
     shape: Shape,
     rows: &[&Cube],
@@ -140,10 +140,10 @@ fn are_contained(
     ensures { IfOk result
         (λ held. IsTrue held ↔ IsSubset (places (behind rows.now)) (places (behind others.now))) }
 {
-    let bits = bits_of(alloc, shape, rows.len(), others)?;
+    let bits = bits_if_both_long(alloc, shape, rows.len(), others)?;
     let mut learned = Learned::new(alloc);
     for row in rows {
-        if !holds_region(alloc, shape, others, &bits, row, &mut learned)? {
+        if !holds_region_nearest_first(alloc, shape, others, &bits, row, &mut learned)? {
             return Ok(false);
         }
     }
@@ -152,7 +152,7 @@ fn are_contained(
 
 /// Of each region, whether the rows hold it. What a search learns of the rows for one region serves
 /// those that follow.
-pub(crate) fn each_held(
+pub(crate) fn holds_each_region(
     alloc: Global,
     shape: Shape,
     rows: &[&Cube],
@@ -163,18 +163,18 @@ pub(crate) fn each_held(
     ensures { IfOk result (λ held. held.items
         ≡ map (λ d. is_subset shape (holds d) (places (behind rows.now))) regions.now) }
 {
-    let bits = bits_of(alloc, shape, regions.len(), rows)?;
+    let bits = bits_if_both_long(alloc, shape, regions.len(), rows)?;
     let mut learned = Learned::new(alloc);
     let mut held = Vec::with_capacity(alloc, regions.len())?;
     for region in regions {
-        let answer = holds_region(alloc, shape, rows, &bits, region, &mut learned)?;
+        let answer = holds_region_nearest_first(alloc, shape, rows, &bits, region, &mut learned)?;
         held.push(answer)?;
     }
     Ok(held)
 }
 
 // Whether the lists are related, row by row.
-fn row_by_row(
+fn are_related_row_by_row(
     alloc: Global,
     shape: Shape,
     relation: Relation,
@@ -187,8 +187,8 @@ fn row_by_row(
         (λ held. IsTrue held ↔ AreRelated relation (behind rows.now) (behind others.now)) }
 {
     match relation {
-        Relation::Contained => are_contained(alloc, shape, rows, others),
-        Relation::Disjoint => Ok(are_disjoint(rows, others)),
+        Relation::Contained => are_held_one_by_one(alloc, shape, rows, others),
+        Relation::Disjoint => Ok(are_disjoint_by_pairs(rows, others)),
     }
 }
 
@@ -196,7 +196,7 @@ fn row_by_row(
 const SAMPLE: usize = 64;
 
 // Rows from all over the list, at most [`SAMPLE`].
-fn sample<'a>(alloc: Global, rows: &[&'a Cube]) -> Result<Vec<&'a Cube>, AllocError>
+fn sample_rows<'a>(alloc: Global, rows: &[&'a Cube]) -> Result<Vec<&'a Cube>, AllocError>
     ensures { IfOk result (λ some. (size : Size) → All (λ d. HasSize d.now size) rows.now
         → All (λ d. HasSize d.now size) some.items) }
 {
@@ -211,7 +211,7 @@ fn sample<'a>(alloc: Global, rows: &[&'a Cube]) -> Result<Vec<&'a Cube>, AllocEr
 }
 
 // How many pairs of a row of each list have opposite literals at input `i`.
-fn opposites(rows: &LiteralCounts, others: &LiteralCounts, i: usize) -> u64
+fn count_opposite_pairs(rows: &LiteralCounts, others: &LiteralCounts, i: usize) -> u64
     requires { All (λ n. i < n)
         (length rows.now.zeros.items ∷ length rows.now.ones.items ∷ length others.now.zeros.items ∷
         length others.now.ones.items ∷ []) }
@@ -222,17 +222,17 @@ fn opposites(rows: &LiteralCounts, others: &LiteralCounts, i: usize) -> u64
 }
 
 // Where both lists are long, a split pays if it parts so much of their pairs.
-const PART: u64 = 32;
+const SHARE: u64 = 32;
 
 // How many of some pairs have to be parted, so that it pays to go through all rows once more. A row
 // may ask for all of the others, so there have to be as many as two rows' pairs, and more where a
 // row asks for 64 of the others at once.
-fn least_weight(relation: Relation, pairs: u64, rows: usize, others: usize) -> u64 {
+fn least_opposite_pairs(relation: Relation, pairs: u64, rows: usize, others: usize) -> u64 {
     match relation {
         Relation::Disjoint => 0,
         Relation::Contained => {
-            if are_many(rows, others) {
-                pairs / PART
+            if are_both_long(rows, others) {
+                pairs / SHARE
             } else {
                 pairs.saturating_mul(2) / (rows as u64).max(1)
             }
@@ -242,7 +242,7 @@ fn least_weight(relation: Relation, pairs: u64, rows: usize, others: usize) -> u
 
 // The input at which most pairs of counted rows have opposite literals, if these are more than so
 // many.
-fn most_opposite(
+fn most_opposite_input(
     mine: &LiteralCounts,
     theirs: &LiteralCounts,
     inputs: usize,
@@ -256,7 +256,7 @@ fn most_opposite(
     let mut best = None;
     let mut most = least;
     for i in 0..inputs {
-        let weight = opposites(mine, theirs, i);
+        let weight = count_opposite_pairs(mine, theirs, i);
         if weight > most {
             best = Some(i);
             most = weight;
@@ -267,7 +267,7 @@ fn most_opposite(
 
 // The input at which most pairs of a row of each list have opposite literals, as far as some of the
 // rows show, if enough have.
-fn parting_input(
+fn split_input_of_pairs(
     alloc: Global,
     shape: Shape,
     relation: Relation,
@@ -278,15 +278,15 @@ fn parting_input(
     requires others { All (λ d. HasSize d.now shape) others.now }
     ensures { IfOk result (λ found. IfSome found (λ i. i < shape.inputs)) }
 {
-    let (some, more) = (sample(alloc, rows)?, sample(alloc, others)?);
+    let (some, more) = (sample_rows(alloc, rows)?, sample_rows(alloc, others)?);
     let inputs = shape.inputs();
     let (mine, theirs) = (
         LiteralCounts::of(alloc, &some, inputs)?,
         LiteralCounts::of(alloc, &more, inputs)?,
     );
     let pairs = (some.len() as u64).saturating_mul(more.len() as u64);
-    let least = least_weight(relation, pairs, rows.len(), others.len());
-    Ok(most_opposite(&mine, &theirs, inputs, least))
+    let least = least_opposite_pairs(relation, pairs, rows.len(), others.len());
+    Ok(most_opposite_input(&mine, &theirs, inputs, least))
 }
 
 /// Whether the lists are related. On the way down at most `depth` inputs are split at.
@@ -305,10 +305,10 @@ pub(crate) fn are_related(
         (λ held. IsTrue held ↔ AreRelated relation (behind rows.now) (behind others.now)) }
 {
     if depth == 0 || rows.len() <= SMALL || others.len() <= SMALL {
-        return row_by_row(alloc, shape, relation, rows, others);
+        return are_related_row_by_row(alloc, shape, relation, rows, others);
     }
-    let Some(i) = parting_input(alloc, shape, relation, rows, others)? else {
-        return row_by_row(alloc, shape, relation, rows, others);
+    let Some(i) = split_input_of_pairs(alloc, shape, relation, rows, others)? else {
+        return are_related_row_by_row(alloc, shape, relation, rows, others);
     };
     let rest = depth - 1;
     if !are_related_at(
@@ -355,7 +355,7 @@ fn are_related_at(
         (behind (filter (λ d. is_symbol at.1 (slice_index_or d.now.symbols at.0 Symbol.Dash))
         rows.now)) (behind others.now)) }
 {
-    let near = having(alloc, rows, at.0, at.1)?;
-    let far = open_at(alloc, others, at.0, at.1)?;
-    are_related(alloc, shape, relation, depth, &near, &far)
+    let having = rows_with_symbol(alloc, rows, at.0, at.1)?;
+    let compatible = rows_with_compatible_symbol(alloc, others, at.0, at.1)?;
+    are_related(alloc, shape, relation, depth, &having, &compatible)
 }

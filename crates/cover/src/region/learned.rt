@@ -12,23 +12,24 @@ ghost use Rattle.cube.specs.Cube.{HasSize, Place, SameSize, IsSubset, holds, siz
 ghost use Rattle.cover.specs.Places.{places, behind};
 ghost use Rattle.cover.specs.Reason.{AreKnown};
 
-use crate::compare::pairwise::misses;
-use crate::off_set::one_output;
+use crate::compare::pairwise::is_disjoint_from_all;
+use crate::cubes::cube_of_output;
+use crate::list::clone_referents;
+use crate::region::open_literals::first_open_literal;
 use crate::region::opposite;
-use crate::region::splitting_input::first_open;
 use cube::{Cube, Shape, Symbol};
 use sat_search::{Answer, Limits, Refutation, Search};
 use std::alloc::{AllocError, Global};
 
 // Takes from the region the half that the row holds, if the row is seen to hold one.
-fn take_half(region: &mut Cube, row: &Cube) -> bool
+fn remove_held_half(region: &mut Cube, row: &Cube) -> bool
     requires { SameSize row.now region.old }
     ensures size { SameSize region.new region.old }
     ensures held { IsTrue result
         → IsSubset (holds region.old) (λ p. holds row.now p || holds region.new p) }
 {
     let shape = region.shape();
-    let (i, literal) = first_open(row, region);
+    let (i, literal) = first_open_literal(row, region);
     if i >= shape.inputs() || literal == Symbol::Dash {
         return false;
     }
@@ -39,7 +40,7 @@ fn take_half(region: &mut Cube, row: &Cube) -> bool
 }
 
 // Whether the hints show that the known cubes hold each place of the cube.
-fn follows(known: &[Cube], hints: &[u32], cube: &Cube) -> Result<bool, AllocError>
+fn holds_by_hints(known: &[Cube], hints: &[u32], cube: &Cube) -> Result<bool, AllocError>
     requires { All (λ d. SameSize d cube.now) known.now }
     ensures { IfOk result
         (λ held. IsTrue held → IsSubset (holds cube.now) (places known.now)) }
@@ -52,7 +53,7 @@ fn follows(known: &[Cube], hints: &[u32], cube: &Cube) -> Result<bool, AllocErro
         if row.contains(&region) {
             return Ok(true);
         }
-        if !take_half(&mut region, row) {
+        if !remove_held_half(&mut region, row) {
             return Ok(false);
         }
     }
@@ -60,7 +61,7 @@ fn follows(known: &[Cube], hints: &[u32], cube: &Cube) -> Result<bool, AllocErro
 }
 
 // The cube of one output with these literals: twice an input for `1`, and one more for `0`.
-fn cube_of(
+fn cube_of_literals(
     alloc: Global,
     shape: Shape,
     output: usize,
@@ -89,7 +90,7 @@ fn cube_of(
 }
 
 // Adds the cube with these literals to those that are known, if the hints show it.
-fn accept(
+fn accept_nogood(
     alloc: Global,
     shape: Shape,
     output: usize,
@@ -102,10 +103,10 @@ fn accept(
     ensures within { OnOk result
         (IsSubset (places known.new.items) (places known.old.items)) }
 {
-    let Some(cube) = cube_of(alloc, shape, output, literals)? else {
+    let Some(cube) = cube_of_literals(alloc, shape, output, literals)? else {
         return Ok(false);
     };
-    if !follows(known, hints, &cube)? {
+    if !holds_by_hints(known, hints, &cube)? {
         return Ok(false);
     }
     known.push(cube)?;
@@ -113,7 +114,7 @@ fn accept(
 }
 
 // Adds the nogoods of a refutation, if their hints show all of them.
-fn accept_all(
+fn accept_refutation(
     alloc: Global,
     shape: Shape,
     output: usize,
@@ -127,7 +128,7 @@ fn accept_all(
 {
     for k in 0..refutation.len() {
         let (literals, hints) = (refutation.nogood(k), refutation.hints(k));
-        if !accept(alloc, shape, output, known, literals, hints)? {
+        if !accept_nogood(alloc, shape, output, known, literals, hints)? {
             return Ok(false);
         }
     }
@@ -135,18 +136,18 @@ fn accept_all(
 }
 
 // Whether the known cube at a place is seen to hold the region.
-fn is_held_by(known: &[Cube], place: usize, region: &Cube) -> bool
+fn known_cube_contains(known: &[Cube], index: usize, region: &Cube) -> bool
     requires { All (λ d. SameSize d region.now) known.now }
     ensures { IsTrue result → IsSubset (holds region.now) (places known.now) }
 {
-    match known.get(place) {
+    match known.get(index) {
         Some(cube) => cube.contains(region),
         None => false,
     }
 }
 
 // Whether a point is seen to lie in the region and in no row.
-fn is_outside(
+fn is_point_outside(
     alloc: Global,
     rows: &[&Cube],
     region: &Cube,
@@ -157,10 +158,10 @@ fn is_outside(
     ensures { IfOk result (λ out. IsTrue out
         → IsSubset (holds region.now) (places (behind rows.now)) → ⊥) }
 {
-    let Some(point) = cube_of(alloc, region.shape(), output, literals)? else {
+    let Some(point) = cube_of_literals(alloc, region.shape(), output, literals)? else {
         return Ok(false);
     };
-    Ok(region.contains(&point) && misses(&point, rows))
+    Ok(region.contains(&point) && is_disjoint_from_all(&point, rows))
 }
 
 /// What was learned of some rows.
@@ -176,7 +177,7 @@ pub(crate) struct Learned {
     // By output: the search among the rows that have it.
     searches: Vec<Option<Search>>,
     // How many rows splits may still look at before a search is asked.
-    pub(crate) looks: u64,
+    pub(crate) row_budget: u64,
     // Whether a question was asked.
     is_asked: bool,
 }
@@ -185,7 +186,7 @@ pub(crate) struct Learned {
 // number, and once more for each question after the first. Easy questions of many rows, such as
 // decision trees and symmetric functions, look at them twice that root at most, and a search has to
 // read all rows before it begins.
-fn passes(rows: usize) -> u64 {
+fn passes_before_search(rows: usize) -> u64 {
     let bits = usize::BITS.saturating_sub(rows.leading_zeros());
     4 << (bits / 2)
 }
@@ -204,23 +205,27 @@ impl Learned {
         Learned {
             known: Vec::new(alloc),
             searches: Vec::new(alloc),
-            looks: 0,
+            row_budget: 0,
             is_asked: false,
         }
     }
 
     /// There is one question more about so many rows.
-    pub(crate) fn allow(&mut self, rows: usize)
+    pub(crate) fn raise_row_budget(&mut self, rows: usize)
         ensures { self.new.known ≡ self.old.known }
     {
-        let passes = if self.is_asked { 1 } else { passes(rows) };
+        let passes = if self.is_asked {
+            1
+        } else {
+            passes_before_search(rows)
+        };
         let more = passes.saturating_mul(rows as u64);
-        self.looks = self.looks.saturating_add(more);
+        self.row_budget = self.row_budget.saturating_add(more);
         self.is_asked = true;
     }
 
     // Has a search among the rows of an output.
-    fn begin(
+    fn prepare_search(
         &mut self,
         alloc: Global,
         rows: &[&Cube],
@@ -232,16 +237,16 @@ impl Learned {
         ensures { OnOk result (AreKnown shape self.new.known.items (behind rows.now)) }
     {
         if self.known.is_empty() {
-            self.known = copies(alloc, rows)?;
+            self.known = clone_referents(alloc, rows)?;
         }
-        begin_search(alloc, &mut self.searches, rows, output, shape.inputs())?;
+        build_search_if_none(alloc, &mut self.searches, rows, output, shape.inputs())?;
         Ok(())
     }
 
     // How many numbers all searches and implicants keep.
     fn size(&self) -> usize {
         let each = match self.known.first() {
-            Some(cube) => numbers_of(cube.shape()),
+            Some(cube) => numbers_per_cube(cube.shape()),
             None => 0,
         };
         let mut size = self.known.len().saturating_mul(each);
@@ -254,7 +259,12 @@ impl Learned {
     }
 
     // What the search of an output finds of the region.
-    fn look(&mut self, alloc: Global, output: usize, region: &Cube) -> Result<Answer, AllocError>
+    fn ask_search(
+        &mut self,
+        alloc: Global,
+        output: usize,
+        region: &Cube,
+    ) -> Result<Answer, AllocError>
         ensures { OnOk result (self.new.known ≡ self.old.known) }
     {
         let name = u32::try_from(self.known.len()).unwrap_or(u32::MAX);
@@ -274,7 +284,7 @@ impl Learned {
 }
 
 // How many numbers of four bytes a cube of the shape takes.
-fn numbers_of(shape: Shape) -> usize {
+fn numbers_per_cube(shape: Shape) -> usize {
     16usize
         .saturating_add(shape.inputs() / 16)
         .saturating_add(shape.outputs() / 32)
@@ -295,7 +305,7 @@ fn literals_of(alloc: Global, cube: &Cube) -> Result<Vec<u32>, AllocError> {
 }
 
 // A search among the rows that have an output, under their places in the list.
-fn search_of(
+fn build_search(
     alloc: Global,
     rows: &[&Cube],
     output: usize,
@@ -313,7 +323,7 @@ fn search_of(
 }
 
 // Has a search among the rows of an output.
-fn begin_search(
+fn build_search_if_none(
     alloc: Global,
     searches: &mut Vec<Option<Search>>,
     rows: &[&Cube],
@@ -323,27 +333,16 @@ fn begin_search(
     for _ in searches.len()..=output {
         searches.push(None)?;
     }
-    if let Some(place) = searches.get_mut(output) {
-        if place.is_none() {
-            *place = Some(search_of(alloc, rows, output, inputs)?);
+    if let Some(slot) = searches.get_mut(output) {
+        if slot.is_none() {
+            *slot = Some(build_search(alloc, rows, output, inputs)?);
         }
     }
     Ok(())
 }
 
-// Copies of the rows.
-fn copies(alloc: Global, rows: &[&Cube]) -> Result<Vec<Cube>, AllocError>
-    ensures { IfOk result (λ copy. copy.items ≡ behind rows.now) }
-{
-    let mut copy = Vec::with_capacity(alloc, rows.len())?;
-    for row in rows {
-        copy.push(row.try_clone()?)?;
-    }
-    Ok(copy)
-}
-
 // What an answer of a search says of the region, once it is looked at.
-fn check(
+fn check_answer(
     alloc: Global,
     rows: &[&Cube],
     known: &mut Vec<Cube>,
@@ -360,15 +359,15 @@ fn check(
     match answer {
         Answer::Unknown => Ok(None),
         Answer::Point(point) => {
-            if is_outside(alloc, rows, region, output, point)? {
+            if is_point_outside(alloc, rows, region, output, point)? {
                 Ok(Some(false))
             } else {
                 Ok(None)
             }
         }
         Answer::Refutation(refutation) => {
-            if accept_all(alloc, region.shape(), output, known, refutation)?
-                && is_held_by(known, refutation.last() as usize, region)
+            if accept_refutation(alloc, region.shape(), output, known, refutation)?
+                && known_cube_contains(known, refutation.last() as usize, region)
             {
                 Ok(Some(true))
             } else {
@@ -379,7 +378,7 @@ fn check(
 }
 
 // Whether the rows hold each place of the region, which has this output, if a search answers that.
-fn ask_at(
+fn holds_by_search_at(
     alloc: Global,
     rows: &[&Cube],
     learned: &mut Learned,
@@ -393,13 +392,13 @@ fn ask_at(
     ensures held { IfOk result (λ found. IfSome found (λ held. IsTrue held
         ↔ IsSubset (holds region.now) (places (behind rows.now)))) }
 {
-    learned.begin(alloc, rows, output, region.shape())?;
-    let answer = learned.look(alloc, output, region)?;
-    check(alloc, rows, &mut learned.known, output, region, &answer)
+    learned.prepare_search(alloc, rows, output, region.shape())?;
+    let answer = learned.ask_search(alloc, output, region)?;
+    check_answer(alloc, rows, &mut learned.known, output, region, &answer)
 }
 
 // The part of a region at one output, if it has the output.
-fn part_at(alloc: Global, region: &Cube, output: usize) -> Result<Option<Cube>, AllocError>
+fn part_at_output(alloc: Global, region: &Cube, output: usize) -> Result<Option<Cube>, AllocError>
     requires { output < length region.now.outputs }
     ensures size { IfOk result (λ found. IfSome found (λ part. SameSize part region.now)) }
     ensures within { IfOk result
@@ -413,12 +412,12 @@ fn part_at(alloc: Global, region: &Cube, output: usize) -> Result<Option<Cube>, 
     if !region.output(output) {
         return Ok(None);
     }
-    let all = one_output(alloc, shape, output)?;
+    let all = cube_of_output(alloc, shape, output)?;
     region.meet(&all)
 }
 
 /// Whether the rows hold each place of the region, if searches answer that, output by output.
-pub(crate) fn ask(
+pub(crate) fn holds_by_search(
     alloc: Global,
     rows: &[&Cube],
     learned: &mut Learned,
@@ -432,10 +431,10 @@ pub(crate) fn ask(
         ↔ IsSubset (holds region.now) (places (behind rows.now)))) }
 {
     for output in 0..region.shape().outputs() {
-        let Some(part) = part_at(alloc, region, output)? else {
+        let Some(part) = part_at_output(alloc, region, output)? else {
             continue;
         };
-        let Some(held) = ask_at(alloc, rows, learned, output, &part)? else {
+        let Some(held) = holds_by_search_at(alloc, rows, learned, output, &part)? else {
             return Ok(None);
         };
         if !held {

@@ -11,7 +11,7 @@
 ghost use Rattle.std.specs.Prelude.{IfOk, OnOk};
 ghost use Rattle.cover.specs.Reason.{AreAmong};
 
-use crate::region::splitting_input::fewest_literals;
+use crate::region::open_literals::fewest_literals;
 use cube::{Cube, Shape, Symbol};
 use std::alloc::{AllocError, Global};
 
@@ -81,7 +81,7 @@ fn rows_in_all(columns: &[&[u64]], w: usize) -> u64 {
 }
 
 // Takes one from the numbers of the rows, unless they are 0.
-fn take_one(numbers: &mut [u64; DIGITS], rows: u64) {
+fn decrement_numbers(numbers: &mut [u64; DIGITS], rows: u64) {
     let mut borrow = rows;
     for digit in 0..DIGITS {
         if borrow == 0 {
@@ -94,7 +94,7 @@ fn take_one(numbers: &mut [u64; DIGITS], rows: u64) {
 }
 
 // Those of the rows whose number is least, and the number, which has so many digits.
-fn least(numbers: &[u64; DIGITS], digits: usize, rows: u64) -> (u64, u32) {
+fn rows_with_least(numbers: &[u64; DIGITS], digits: usize, rows: u64) -> (u64, u32) {
     let mut rows = rows;
     let mut number = 0u32;
     for digit in (0..digits.min(DIGITS)).rev() {
@@ -109,7 +109,7 @@ fn least(numbers: &[u64; DIGITS], digits: usize, rows: u64) -> (u64, u32) {
 }
 
 // Adds the rows of word `w` that the bits stand for.
-fn push_rows<'a>(
+fn push_rows_at_bits<'a>(
     rows: &[&'a Cube],
     w: usize,
     bits: u64,
@@ -155,7 +155,7 @@ impl<'a> Nearest<'a> {
             self.rows.clear();
         }
         self.fewest = open;
-        push_rows(rows, w, bits, &mut self.rows)
+        push_rows_at_bits(rows, w, bits, &mut self.rows)
     }
 }
 
@@ -268,9 +268,9 @@ impl RowBits {
         let mut rows = rows_in_all(&columns.outputs, w);
         for (own, opposite) in &columns.literals {
             rows &= !word_at(opposite, w);
-            take_one(&mut numbers, word_at(own, w));
+            decrement_numbers(&mut numbers, word_at(own, w));
         }
-        least(&numbers, self.digits.len(), rows)
+        rows_with_least(&numbers, self.digits.len(), rows)
     }
 
     /// Of the rows that the bits are of, those with fewest open literals, as far as they meet the

@@ -18,7 +18,7 @@ const MANY: usize = 32;
 const PAIRS: usize = 1024;
 
 // Whether the row lies in one of the kept rows.
-fn is_absorbed(kept: &[Cube], row: &Cube) -> bool
+fn lies_in_some(kept: &[Cube], row: &Cube) -> bool
     requires { All (λ d. SameSize d row.now) kept.now }
     ensures absorbed { IsTrue result → (d : Row) × Contains kept.now d
         × IsSubset (holds row.now) (holds d) }
@@ -41,7 +41,7 @@ fn absorb_sorted(alloc: Global, rows: &[Cube]) -> Result<Vec<Cube>, AllocError>
 {
     let mut kept = Vec::new(alloc);
     for row in rows {
-        if !is_absorbed(&kept, row) {
+        if !lies_in_some(&kept, row) {
             kept.push(row.try_clone()?)?;
         }
     }
@@ -50,7 +50,7 @@ fn absorb_sorted(alloc: Global, rows: &[Cube]) -> Result<Vec<Cube>, AllocError>
 
 // Whether all rows have as many literals. Of such rows in row order none lies in one before it: it
 // would have the same symbols, and then the one with more outputs comes later.
-fn have_one_size(rows: &[Cube]) -> bool {
+fn have_equal_literal_counts(rows: &[Cube]) -> bool {
     let Some(first) = rows.first() else {
         return true;
     };
@@ -65,7 +65,7 @@ fn have_one_size(rows: &[Cube]) -> bool {
 
 // Whether the rows are seen to rise and to have literals at the same inputs, as points do that a
 // longer list was split into. So none lies in another.
-fn rise_alike(shape: Shape, rows: &[Cube]) -> bool {
+fn rise_with_literals_at_same_inputs(shape: Shape, rows: &[Cube]) -> bool {
     if shape.inputs() > 32 {
         return false;
     }
@@ -78,7 +78,7 @@ fn rise_alike(shape: Shape, rows: &[Cube]) -> bool {
         if row.literal_inputs(0) != inputs {
             return false;
         }
-        let key = row.order_key();
+        let key = row.order_key_of_32_inputs();
         if key <= last {
             return false;
         }
@@ -88,15 +88,15 @@ fn rise_alike(shape: Shape, rows: &[Cube]) -> bool {
 }
 
 // Whether some row lies in one before it, in row order.
-fn has_absorbed(rows: &[Cube]) -> bool
+fn has_absorbed_by_earlier(rows: &[Cube]) -> bool
     requires { HaveOneSize rows.now }
 {
-    if have_one_size(rows) {
+    if have_equal_literal_counts(rows) {
         return false;
     }
     for at in 0..rows.len() {
         let (before, _) = rows.split_at(at);
-        if is_absorbed(before, &rows[at]) {
+        if lies_in_some(before, &rows[at]) {
             return true;
         }
     }
@@ -108,7 +108,7 @@ fn has_absorbed_by(rows: &[Cube], others: &[Cube]) -> bool
     requires { ShareOneSize rows.now others.now }
 {
     for row in rows {
-        if is_absorbed(others, row) {
+        if lies_in_some(others, row) {
             return true;
         }
     }
@@ -116,7 +116,7 @@ fn has_absorbed_by(rows: &[Cube], others: &[Cube]) -> bool
 }
 
 // The rows that lie in none of the others.
-pub(crate) fn drop_absorbed(
+pub(crate) fn drop_absorbed_by(
     alloc: Global,
     rows: &[Cube],
     others: &[Cube],
@@ -126,7 +126,7 @@ pub(crate) fn drop_absorbed(
 {
     let mut kept = Vec::new(alloc);
     for row in rows {
-        if !is_absorbed(others, row) {
+        if !lies_in_some(others, row) {
             kept.push(row.try_clone()?)?;
         }
     }
@@ -134,7 +134,7 @@ pub(crate) fn drop_absorbed(
 }
 
 /// The rows without those that lie in one of the others, or all of them, if the pairs are many.
-pub(crate) fn without_absorbed(
+pub(crate) fn drop_absorbed_by_if_short(
     alloc: Global,
     rows: Vec<Cube>,
     others: &[Cube],
@@ -149,7 +149,7 @@ pub(crate) fn without_absorbed(
     if !has_absorbed_by(&rows, others) {
         return Ok(rows);
     }
-    drop_absorbed(alloc, &rows, others)
+    drop_absorbed_by(alloc, &rows, others)
 }
 
 /// The rows without some of those that lie in others: of few rows none is left that lies in one
@@ -162,14 +162,14 @@ pub(crate) fn absorb_if_short(
     requires { AreCubes shape rows.items }
     ensures { IfOk result (λ kept. IsPartlyAbsorbed rows.items kept.items) }
 {
-    if rows.len() < 2 || rise_alike(shape, &rows) {
+    if rows.len() < 2 || rise_with_literals_at_same_inputs(shape, &rows) {
         return Ok(rows);
     }
     let rows = sort_rows(alloc, rows)?;
     if rows.len() > MANY {
         return Ok(rows);
     }
-    if !has_absorbed(&rows) {
+    if !has_absorbed_by_earlier(&rows) {
         return Ok(rows);
     }
     absorb_sorted(alloc, &rows)

@@ -10,7 +10,7 @@ ghost use Rattle.cube.specs.Cube.{difference as difference_of};
 ghost use Rattle.cube.specs.Sum.{complete_sum as complete_sum_of};
 ghost use Rattle.cover.specs.Places.{places};
 
-use crate::list::copy_of;
+use crate::list::clone_cubes;
 use cube::{Cube, Shape};
 use std::alloc::{AllocError, Global};
 use std::mem;
@@ -106,7 +106,7 @@ impl ComputedTable {
         if !known.is_of(shape, hash, minuend, subtrahend) {
             return Ok(None);
         }
-        Ok(Some(copy_of(alloc, &known.sum)?))
+        Ok(Some(clone_cubes(alloc, &known.sum)?))
     }
 
     /// Keeps a sum with its lists, unless it is longer than all that may be kept.
@@ -126,7 +126,7 @@ impl ComputedTable {
         if sum.len() > ROWS {
             return Ok(());
         }
-        let sum = copy_of(alloc, sum)?;
+        let sum = clone_cubes(alloc, sum)?;
         let known = Entry {
             hash,
             shape,
@@ -195,7 +195,7 @@ impl ComputedTable {
 }
 
 /// A number of two lists, by which their sum is kept.
-pub(crate) fn hash_of(shape: Shape, minuend: &[Cube], subtrahend: &[Cube]) -> u64 {
+pub(crate) fn hash_of_lists(shape: Shape, minuend: &[Cube], subtrahend: &[Cube]) -> u64 {
     let seed = minuend.len() as u64;
     list_hash(shape, subtrahend, list_hash(shape, minuend, seed))
 }

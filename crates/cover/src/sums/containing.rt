@@ -7,22 +7,22 @@
 //!
 //! A row that one literal alone parts from the region gives this literal to every cube. Such rows
 //! come first: then one cube is left, which most other rows do not meet, and these are done with.
-ghost use Rattle.std.specs.Prelude.{◌≡◌, ◌⊎◌, false, All, IfOk, IfSome, not, filter};
+ghost use Rattle.std.specs.Prelude.{◌≡◌, false, All, IfOk, IfSome, not, filter};
 ghost use Rattle.std.specs.List.{Contains};
 ghost use Rattle.cube.specs.Size.{Size};
-ghost use Rattle.cube.specs.Cube.{HasSize, SameSize, IsDisjoint, IsSubset, Cube as Row, holds, difference, size_of};
+ghost use Rattle.cube.specs.Cube.{HasSize, SameSize, IsDisjoint, Cube as Row, holds, difference, size_of};
 ghost use Rattle.cube.specs.Sum.{complete_sum};
 ghost use Rattle.cover.specs.Cubes.{AreCubes};
 ghost use Rattle.cover.specs.Sizes.{HaveOneSize, ShareOneSize};
 ghost use Rattle.cover.specs.Places.{places};
 ghost use Rattle.cover.specs.Contained.{is_within};
 ghost use Rattle.cover.specs.Outside.{AreNear};
-ghost use Rattle.cover.specs.Reduced.{HasSameCubes, IsPartlyAbsorbed, IsWithoutAbsorbed};
+ghost use Rattle.cover.specs.Reduced.{HasSameCubes, IsPartlyAbsorbed};
 ghost use Rattle.cover.specs.Containing.{Cuts, lies_in_larger as is_in_larger, largest as largest_of, sum_containing as sum_containing_of};
 
+use crate::cubes::universal_cube;
 use crate::list::Cover;
-use crate::sums::absorb::{absorb, drop_absorbed};
-use crate::tautology::universal;
+use crate::sums::absorb::{absorb, drop_absorbed_by};
 use cube::{Cube, Shape};
 use std::alloc::{AllocError, Global};
 
@@ -38,7 +38,7 @@ fn contains(cube: &Cube, region: &Cube) -> bool
 }
 
 // Those of the cubes that contain the region.
-fn containing(alloc: Global, region: &Cube, cubes: &[Cube]) -> Result<Vec<Cube>, AllocError>
+fn select_containing(alloc: Global, region: &Cube, cubes: &[Cube]) -> Result<Vec<Cube>, AllocError>
     requires { All (λ c. SameSize c region.now) cubes.now }
     ensures { IfOk result (λ kept. kept.items
         ≡ filter (is_within (size_of region.now) region.now) cubes.now) }
@@ -53,14 +53,19 @@ fn containing(alloc: Global, region: &Cube, cubes: &[Cube]) -> Result<Vec<Cube>,
 }
 
 // What is left of the cube outside the row and contains the region.
-fn pieces(alloc: Global, region: &Cube, row: &Cube, cube: &Cube) -> Result<Vec<Cube>, AllocError>
+fn pieces_containing(
+    alloc: Global,
+    region: &Cube,
+    row: &Cube,
+    cube: &Cube,
+) -> Result<Vec<Cube>, AllocError>
     requires region { SameSize cube.now region.now }
     requires row { SameSize cube.now row.now }
     ensures { IfOk result (λ v. v.items ≡ filter (is_within (size_of region.now) region.now)
         (complete_sum (size_of region.now) (difference (holds cube.now) (holds row.now)))) }
 {
     let rest = cube.sharp(row)?;
-    containing(alloc, region, &rest)
+    select_containing(alloc, region, &rest)
 }
 
 /// Whether some cube has a place of the row.
@@ -99,7 +104,7 @@ fn absorb_pieces(
 }
 
 // The list cut by a row.
-fn cut(
+fn cut_by_row(
     alloc: Global,
     shape: Shape,
     region: &Cube,
@@ -121,18 +126,18 @@ fn cut(
         if cube.disjoint(row) {
             kept.push(cube.try_clone()?)?;
         } else {
-            let mut more = pieces(alloc, region, row, cube)?;
+            let mut more = pieces_containing(alloc, region, row, cube)?;
             rest.append(&mut more)?;
         }
     }
     let rest = absorb_pieces(alloc, shape, row, rest)?;
-    let mut rest = drop_absorbed(alloc, &rest, &kept)?;
+    let mut rest = drop_absorbed_by(alloc, &rest, &kept)?;
     kept.append(&mut rest)?;
     Ok(kept)
 }
 
 // The list cut by all rows, or `None` once it is longer than `most`.
-fn cut_by_all(
+fn cut_by_rows(
     alloc: Global,
     shape: Shape,
     region: &Cube,
@@ -149,7 +154,7 @@ fn cut_by_all(
 {
     let mut left = cubes;
     for row in rows {
-        left = cut(alloc, shape, region, row, left)?;
+        left = cut_by_row(alloc, shape, region, row, left)?;
         if left.len() > most {
             return Ok(None);
         }
@@ -169,13 +174,13 @@ fn share_output(cube: &Cube, other: &Cube) -> bool {
 
 // At how many inputs the two have opposite literals, and one more if they share no output. A cut by
 // the row makes at most so many pieces that contain the region.
-fn count_partings(region: &Cube, row: &Cube) -> u32 {
+fn distance(region: &Cube, row: &Cube) -> u32 {
     let outputs = if share_output(region, row) { 0 } else { 1 };
     region.opposites(row).saturating_add(outputs)
 }
 
 // The rows that so many literals and outputs part from the region.
-fn parted_by(
+fn rows_at_distance(
     alloc: Global,
     region: &Cube,
     rows: &[Cube],
@@ -185,7 +190,7 @@ fn parted_by(
 {
     let mut kept = Vec::new(alloc);
     for row in rows {
-        if count_partings(region, row) == count {
+        if distance(region, row) == count {
             kept.push(row.try_clone()?)?;
         }
     }
@@ -194,12 +199,16 @@ fn parted_by(
 
 // The rows, some of them twice: those that few literals part from the region come first, since a
 // cut by them makes few pieces, and after it many others are done with.
-fn few_first(alloc: Global, region: &Cube, rows: Vec<Cube>) -> Result<Vec<Cube>, AllocError>
+fn near_rows_then_all(
+    alloc: Global,
+    region: &Cube,
+    rows: Vec<Cube>,
+) -> Result<Vec<Cube>, AllocError>
     ensures { IfOk result (λ all. HasSameCubes rows.items all.items) }
 {
     let mut all = Vec::new(alloc);
     for count in 2..MANY {
-        let mut some = parted_by(alloc, region, &rows, count)?;
+        let mut some = rows_at_distance(alloc, region, &rows, count)?;
         all.append(&mut some)?;
     }
     let mut rows = rows;
@@ -208,18 +217,18 @@ fn few_first(alloc: Global, region: &Cube, rows: Vec<Cube>) -> Result<Vec<Cube>,
 }
 
 // The rows that meet some cube of the list.
-fn rows_meeting(alloc: Global, cubes: &[Cube], rows: &[Cube]) -> Result<Vec<Cube>, AllocError>
+fn rows_meeting_any(alloc: Global, cubes: &[Cube], rows: &[Cube]) -> Result<Vec<Cube>, AllocError>
     requires { ShareOneSize cubes.now rows.now }
     ensures { IfOk result (λ v. (size : Size) → AreCubes size rows.now
         → AreNear size (places cubes.now) rows.now v.items) }
 {
-    let mut near = Vec::new(alloc);
+    let mut meeting = Vec::new(alloc);
     for row in rows {
         if any_meets(cubes, row) {
-            near.push(row.try_clone()?)?;
+            meeting.push(row.try_clone()?)?;
         }
     }
-    Ok(near)
+    Ok(meeting)
 }
 
 // The list cut by all rows in a good order, or `None` once it is longer than `most`.
@@ -237,13 +246,13 @@ fn cut_in_order(
     ensures { IfOk result (λ o. IfSome o (λ v.
         Cuts shape region.now (places rows.now) cubes.items v.items)) }
 {
-    let forcing = parted_by(alloc, region, rows, 1)?;
-    let Some(core) = cut_by_all(alloc, shape, region, &forcing, cubes, most)? else {
+    let at_distance_one = rows_at_distance(alloc, region, rows, 1)?;
+    let Some(core) = cut_by_rows(alloc, shape, region, &at_distance_one, cubes, most)? else {
         return Ok(None);
     };
-    let near = rows_meeting(alloc, &core, rows)?;
-    let near = few_first(alloc, region, near)?;
-    cut_by_all(alloc, shape, region, &near, core, most)
+    let meeting = rows_meeting_any(alloc, &core, rows)?;
+    let meeting = near_rows_then_all(alloc, region, meeting)?;
+    cut_by_rows(alloc, shape, region, &meeting, core, most)
 }
 
 // Whether the cube lies in one of the cubes that does not lie in it.
@@ -260,7 +269,7 @@ fn lies_in_larger(cubes: &[Cube], cube: &Cube) -> bool
 }
 
 // The cubes that lie in no larger one.
-fn largest(alloc: Global, cubes: &[Cube]) -> Result<Vec<Cube>, AllocError>
+fn largest_cubes(alloc: Global, cubes: &[Cube]) -> Result<Vec<Cube>, AllocError>
     requires { HaveOneSize cubes.now }
     ensures { IfOk result (λ v. (size : Size) → AreCubes size cubes.now
         → v.items ≡ largest_of size cubes.now) }
@@ -287,7 +296,7 @@ pub fn cubes_containing(region: &Cube, list: &Cover) -> Result<Cover, AllocError
     }) }
 {
     let shape = list.shape();
-    let kept = containing(list.allocator(), region, list.as_slice())?;
+    let kept = select_containing(list.allocator(), region, list.as_slice())?;
     Ok(Cover::from_cubes(shape, kept))
 }
 
@@ -311,12 +320,12 @@ pub fn sum_containing(region: &Cube, off: &Cover, most: usize) -> Result<Option<
     let alloc = off.allocator();
     let shape = off.shape();
     let mut cubes = Vec::new(alloc);
-    let everything = universal(alloc, shape)?;
+    let everything = universal_cube(alloc, shape)?;
     cubes.push(everything)?;
     let Some(cubes) = cut_in_order(alloc, shape, region, off.as_slice(), cubes, most)? else {
         return Ok(None);
     };
     let cubes = absorb(alloc, cubes)?;
-    let cubes = largest(alloc, &cubes)?;
+    let cubes = largest_cubes(alloc, &cubes)?;
     Ok(Some(Cover::from_cubes(shape, cubes)))
 }

@@ -10,7 +10,7 @@ ghost use Rattle.cover.specs.Cubes.{AreCubes};
 ghost use Rattle.cover.specs.Reduced.{IsMeets, IsMeetsWithBoth, IsInThirds};
 
 use crate::sums::keys::{keys_of, meets_by_keys};
-use crate::sums::parts::meets_by_pairs;
+use crate::sums::meets_by_pairs::meets_by_pairs;
 use crate::symbols::has_symbol_at;
 use cube::{Cube, Shape, Symbol};
 use std::alloc::{AllocError, Global};
@@ -27,7 +27,7 @@ struct Thirds<'a> {
 }
 
 // How many rows from the first on have this symbol at input `i`.
-fn run(rows: &[Cube], i: usize, symbol: Symbol) -> usize
+fn count_leading(rows: &[Cube], i: usize, symbol: Symbol) -> usize
     requires { All (λ c. i < length c.symbols) rows.now }
     ensures bound { result ≤ length rows.now }
     ensures symbol { All (λ c. slice_index_or c.symbols i Symbol.Dash ≡ symbol)
@@ -47,9 +47,9 @@ fn cut_in_three<'a>(rows: &'a [Cube], i: usize) -> Option<Thirds<'a>>
     ensures { IfSome result (λ t. (size : Size) → AreCubes size rows.now
         → IsInThirds size i rows.now t.dashes.now t.zeros.now t.ones.now) }
 {
-    let (dashes, rest) = rows.split_at(run(rows, i, Symbol::Dash));
-    let (zeros, ones) = rest.split_at(run(rest, i, Symbol::Zero));
-    if run(ones, i, Symbol::One) < ones.len() {
+    let (dashes, rest) = rows.split_at(count_leading(rows, i, Symbol::Dash));
+    let (zeros, ones) = rest.split_at(count_leading(rest, i, Symbol::Zero));
+    if count_leading(ones, i, Symbol::One) < ones.len() {
         return None;
     }
     Some(Thirds {

@@ -54,7 +54,7 @@ fn blocking_output(alloc: Global, off: &Cover, prime: &Cube, j: usize) -> Result
     for row in off.as_slice() {
         let _shape = row.shape();
         if row.output(j) {
-            add_meeting(&mut list, prime, row.stack(prime)?)?;
+            add_meeting(&mut list, prime, row.output_consensus(prime)?)?;
         }
     }
     Ok(Cover::from_cubes(shape, list))

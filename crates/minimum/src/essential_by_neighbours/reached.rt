@@ -34,7 +34,7 @@ pub(crate) fn outputs_at(rows: &Cover, region: Cube) -> Result<Cube, AllocError>
 {
     let mut here = region;
     for row in rows.as_slice() {
-        if let Some(both) = here.stack(row)? {
+        if let Some(both) = here.output_consensus(row)? {
             let _shape = both.shape();
             here = both;
         }

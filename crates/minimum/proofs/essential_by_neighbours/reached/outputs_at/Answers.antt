@@ -10,8 +10,8 @@ use Rattle.minimum.proofs.essential_by_neighbours.reached.outputs_at.Goals.{in-S
 pub loop-row-init : goal.loop-row-init
 loop-row-init c = reached_none c.args.region c.args.rows.now.cubes
 
-pub stack-requires : goal.stack-requires
-stack-requires c =
+pub output_consensus-requires : goal.output_consensus-requires
+output_consensus-requires c =
     let row = c.row-item.result in
     let is_cube = subst (IsCube c.args.rows.now.size) (sym c.row-item.is) (c.as_slice-row-items.ensures.cubes c.loop-row.row-index row c.loop-row-test.true) in
     let size = c.loop-row.invariant.size in
