@@ -1,4 +1,4 @@
-//! Whether two lists agree.
+//! Whether the places of a list lie in two others, and whether two lists agree outside a third.
 pub(crate) mod equal_rows;
 pub(crate) mod intersects;
 pub(crate) mod meets_within;
@@ -14,8 +14,8 @@ use crate::list::Cover;
 use crate::references::{references_to, references_to_both};
 use std::alloc::AllocError;
 
-/// Whether each place of `list` is in `other` or in `dc`. Rows that also stand in one of these, in
-/// any order, take time in the lengths of the lists.
+/// Whether each place of `list` is in `other` or in `dc`. Rows that also stand in
+/// `other` or `dc`, in any order, take time in the lengths of the lists.
 ///
 /// # Errors
 ///

@@ -18,7 +18,7 @@ use crate::symbols::{is_same_symbol, symbol_contains};
 use cube::Symbol;
 use std::alloc::{AllocError, Global};
 
-// Parts of so many cubes are not split.
+// Parts of at most this many cubes are not split: a look at their pairs costs no more.
 const SMALL: usize = 8;
 
 // Whether the cube at `k` lies in that at `j`.
@@ -41,7 +41,7 @@ fn is_absorbed_by_one(list: &Cover, k: usize, j: usize) -> bool
     is_within(list, k, j) && (j < k || (k < j && !is_within(list, j, k)))
 }
 
-// Whether the cube at `k` is absorbed by one of those.
+// Whether the cube at `k` is absorbed by the cube at one of the indices `outer`.
 fn is_absorbed_by_some(list: &Cover, k: usize, outer: &[usize]) -> bool
     requires k { k < length list.now.cubes }
     requires outer { All (λ j. j < length list.now.cubes) outer.now }
@@ -55,7 +55,8 @@ fn is_absorbed_by_some(list: &Cover, k: usize, outer: &[usize]) -> bool
     false
 }
 
-// Marks by pairs.
+// Marks the indices of `inner` whose cubes are absorbed by cubes of `outer`, by a look at each
+// pair.
 fn mark_absorbed_by_pairs(list: &Cover, inner: &[usize], outer: &[usize], marks: &mut [bool])
     requires inner { All (λ k. k < length list.now.cubes) inner.now }
     requires outer { All (λ j. j < length list.now.cubes) outer.now }
@@ -78,7 +79,7 @@ fn symbol_of_cube(list: &Cover, i: usize, k: usize) -> Symbol
     list.as_slice()[k].symbol(i)
 }
 
-// The indices of those cubes that have this symbol at input `i`.
+// Those of the indices whose cubes have this symbol at input `i`.
 fn indices_with_symbol(
     alloc: Global,
     list: &Cover,
@@ -101,7 +102,7 @@ fn indices_with_symbol(
     Ok(kept)
 }
 
-// The indices of those cubes in which one with this symbol at input `i` can lie.
+// Those of the indices whose cubes have a symbol at input `i` that contains this one.
 fn indices_with_containing_symbol(
     alloc: Global,
     list: &Cover,
@@ -124,7 +125,8 @@ fn indices_with_containing_symbol(
     Ok(kept)
 }
 
-// Marks those indices of `inner` whose cubes are absorbed by cubes of `outer`.
+// Marks the indices of `inner` whose cubes are absorbed by cubes of `outer`, by splits at the
+// inputs in this order.
 #[cycle(mark_absorbed)]
 fn mark_absorbed(
     alloc: Global,
@@ -179,8 +181,8 @@ fn mark_absorbed(
     )
 }
 
-// Marks those indices of `inner` whose cubes have the symbol at the input and are absorbed by cubes
-// of `outer`.
+// Marks the indices of `inner` whose cubes have the symbol at the input `at` and are absorbed by
+// cubes of `outer`.
 #[cycle(mark_absorbed)]
 fn mark_absorbed_at(
     alloc: Global,
@@ -205,7 +207,8 @@ fn mark_absorbed_at(
     mark_absorbed(alloc, list, order, &having, &containing, marks)
 }
 
-// The inputs that divide the cubes, each after a number that is lower the better it divides them.
+// The inputs at which a split divides the cubes, each with a rank before it: the lower, the better
+// the split.
 fn ranked_inputs(alloc: Global, list: &Cover) -> Result<Vec<(u64, usize)>, AllocError>
     ensures { IfOk result (λ weighed. All (λ p. p.1 < list.now.size.inputs) weighed.items) }
 {
@@ -223,7 +226,7 @@ fn ranked_inputs(alloc: Global, list: &Cover) -> Result<Vec<(u64, usize)>, Alloc
     Ok(weighed)
 }
 
-// The inputs that divide the cubes, those that divide them best first.
+// The inputs at which a split divides the cubes, the best first.
 fn inputs_best_first(alloc: Global, list: &Cover) -> Result<Vec<usize>, AllocError>
     ensures { IfOk result (λ order. All (λ i. i < list.now.size.inputs) order.items) }
 {
@@ -236,7 +239,7 @@ fn inputs_best_first(alloc: Global, list: &Cover) -> Result<Vec<usize>, AllocErr
     Ok(order)
 }
 
-// How well an input divides so many cubes of which so many have each literal.
+// How well a split at an input divides `all` cubes, of which `zeros` and `ones` have each literal.
 fn split_weight(zeros: u64, ones: u64, all: u64) -> u64 {
     let by_zeros = zeros.min(all.saturating_sub(zeros));
     let by_ones = ones.min(all.saturating_sub(ones));
@@ -273,8 +276,9 @@ fn indices_below(alloc: Global, count: usize) -> Result<Vec<usize>, AllocError>
     Ok(all)
 }
 
-/// The list without its contained cubes: a cube leaves if its places lie within those of an earlier
-/// cube, or within those of a later one that isn't equal to it. The others keep their order.
+/// The list without its contained cubes: a cube is dropped if its places lie within those of an
+/// earlier cube, or within those of a later one that isn't equal to it. The other cubes keep their
+/// order.
 pub fn contain(list: &Cover) -> Result<Cover, AllocError>
     ensures { IfOk result
         (λ kept. kept

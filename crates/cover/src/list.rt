@@ -2,6 +2,7 @@
 ghost use Rattle.std.specs.Prelude.{◌≡◌, ◌==◌, ◌∷◌, ◌++◌, [], length, slice_get, option_copied, IfOk, OnOk, OnErr, IfErr, IfSome};
 ghost use Rattle.cube.specs.Cube.{HasSize, IsCube};
 ghost use Rattle.cover.specs.Cubes.{AreCubes};
+ghost use Rattle.cover.specs.Places.{behind};
 
 use cube::{Cube, Shape};
 use std::alloc::{AllocError, Global};
@@ -40,7 +41,7 @@ impl Cover {
         Cover { shape, cubes }
     }
 
-    /// The cubes by themselves.
+    /// The cubes, without the shape.
     pub fn into_cubes(self) -> Vec<Cube>
         ensures value { result.items ≡ self.cubes }
         ensures cubes { AreCubes self.size result.items }
@@ -128,7 +129,7 @@ impl Cover {
     }
 }
 
-/// An equal list.
+/// Copies of the cubes, in their order.
 pub(crate) fn clone_cubes(alloc: Global, cubes: &[Cube]) -> Result<Vec<Cube>, AllocError>
     ensures { IfOk result (λ copy. copy.items ≡ cubes.now) }
 {
@@ -139,7 +140,7 @@ pub(crate) fn clone_cubes(alloc: Global, cubes: &[Cube]) -> Result<Vec<Cube>, Al
     Ok(copy)
 }
 
-/// The cubes by themselves.
+/// Copies of the cubes that the references refer to, in their order.
 pub(crate) fn clone_referents(alloc: Global, rows: &[&Cube]) -> Result<Vec<Cube>, AllocError>
     ensures { IfOk result (λ copies. copies.items ≡ behind rows.now) }
 {

@@ -1,11 +1,10 @@
 //! Some cubes for the complement (`outside`) or the difference (`subtract`) of lists, within a
-//! `Budget`; `sums` has the complete ones. Also the cube of one output.
+//! `Budget`; `sums` makes complete sums of them.
 //!
 //! A region is split at inputs while more than one row meets it. On the way back each cube loses
 //! the literal that its half gave it, if it then still meets no row. So no cube lies in another of
-//! the same region, and there are about as many as a good cover of these places has: far fewer than
-//! all of the largest cubes. There may be far too many of both, cubes and regions, so each call has
-//! a budget.
+//! its region, and there are about as many as a good cover of these places has: far fewer than the
+//! complete sum. Cubes and regions may still be far too many, so each call has a budget.
 ghost use Rattle.std.specs.Prelude.{◌≡◌, ◌<◌, ◌&&◌, IfOk, IfSome, All, length, Some, slice_get, not, false, true};
 ghost use Rattle.cube.specs.Size.{Size};
 ghost use Rattle.cube.specs.Cube.{HasSize, SameSize, IsCube, IsSubset, Place, IsPlace, holds, difference as difference_of};
@@ -25,10 +24,10 @@ use crate::sums::rows::sort_rows;
 use cube::{Cube, Shape, Symbol};
 use std::alloc::{AllocError, Global};
 
-// Lists of at most this many rows are not halved.
+// Lists of at most this many rows are not halved: each row is asked for by itself.
 const FEW: usize = 16;
 
-/// How far a call may go before it gives up.
+/// How much a call may do before it gives up.
 #[derive(Clone, Copy)]
 pub struct Budget {
     /// The most cubes that it keeps.
@@ -39,7 +38,7 @@ pub struct Budget {
 }
 
 impl Budget {
-    // Takes so many rows away, if as many are left.
+    // Takes `rows` from the rows left, or answers false if fewer are left.
     fn spend(&mut self, rows: usize) -> bool {
         match self.rows.checked_sub(rows) {
             Some(rest) => {
@@ -87,8 +86,8 @@ fn largest_cubes_outside(
     Ok(difference(&list, &rows)?.into_cubes())
 }
 
-// How many rows have each literal at the inputs of word `w` where the region has none, two numbers
-// an input.
+// How many rows have each literal that is open in the region, at the inputs of word `w`: that of
+// `1` and then that of `0` for each input.
 fn count_open_by_input(region: &Cube, rows: &[Cube], w: usize) -> [u32; 64] {
     let mut counts = [0u32; 64];
     for row in rows {
@@ -97,8 +96,8 @@ fn count_open_by_input(region: &Cube, rows: &[Cube], w: usize) -> [u32; 64] {
     counts
 }
 
-// How good it is to split at an input: how many rows have a literal there, and more than at any
-// other if some have `0` and some `1`.
+// How good a split at an input is, of which `zeros` and `ones` rows have each literal: the number
+// of these rows, and `rows` more if there are some of both.
 fn split_worth(zeros: u32, ones: u32, rows: usize) -> usize {
     let all = zeros.saturating_add(ones) as usize;
     if zeros == 0 || ones == 0 {
@@ -108,7 +107,7 @@ fn split_worth(zeros: u32, ones: u32, rows: usize) -> usize {
     }
 }
 
-// The best input of word `w` to split at, and how good it is.
+// The best input of word `w` to split at, and its worth.
 fn best_input_of_word(counts: &[u32; 64], w: usize, rows: usize) -> (usize, usize) {
     let mut best = 0;
     let mut most = 0;
@@ -122,7 +121,7 @@ fn best_input_of_word(counts: &[u32; 64], w: usize, rows: usize) -> (usize, usiz
     (best, most)
 }
 
-// The best input to split the region at, if a row has a literal where the region has none.
+// The best input to split the region at, if a row has an open literal.
 fn split_hint_of_region(shape: Shape, region: &Cube, rows: &[Cube]) -> Option<usize> {
     let mut best = None;
     let mut most = 0;
@@ -149,8 +148,8 @@ fn any_contains(region: &Cube, rows: &[Cube]) -> bool
     false
 }
 
-// An input to split the region at, with a dash, unless the rows are one or none, or one of them
-// contains the region.
+// An input to split the region at, where it has no literal. `None` if at most one row is left or a
+// row contains the region.
 fn split_input_of_region(shape: Shape, region: &Cube, rows: &[Cube]) -> Option<usize>
     requires region { HasSize region.now shape }
     requires rows { AreCubes shape rows.now }
@@ -175,7 +174,8 @@ fn is_in_region_outside_rows(region: &Cube, rows: &[Cube], cube: &Cube) -> bool
     region.contains(cube) && !any_meets(rows, cube)
 }
 
-// The cube without its literal at the input, if that leaves it in the region and outside the rows.
+// The cube without its literal at the input, if it then still lies in the region and meets no row;
+// else the cube.
 fn expand_at(region: &Cube, rows: &[Cube], i: usize, cube: &Cube) -> Result<Cube, AllocError>
     requires region { SameSize region.now cube.now }
     requires rows { All (λ c. SameSize c cube.now) rows.now }
@@ -191,7 +191,7 @@ fn expand_at(region: &Cube, rows: &[Cube], i: usize, cube: &Cube) -> Result<Cube
     cube.try_clone()
 }
 
-// The cubes without those literals at the input that are not needed.
+// Each cube without its literal at the input, if it then still lies in the region and meets no row.
 fn expand_each_at(
     alloc: Global,
     region: &Cube,
@@ -214,7 +214,8 @@ fn expand_each_at(
     Ok(larger)
 }
 
-// The halves of a region as one, or `None` where the budget is spent.
+// The cubes of both halves of a region, expanded at the input of the split, or `None` if the budget
+// is spent.
 fn merge_halves(
     alloc: Global,
     region: &Cube,
@@ -240,7 +241,7 @@ fn merge_halves(
     Ok(Some(larger))
 }
 
-// Cubes of the region's places outside the rows, or `None` where the budget is spent.
+// Cubes that together have the region's places outside the rows, or `None` if the budget is spent.
 fn outside_rows(
     alloc: Global,
     shape: Shape,
@@ -273,10 +274,10 @@ fn outside_rows(
 }
 
 /// Cubes of one output each that together have the places outside the list, and no others; `None`
-/// where the budget is spent.
+/// if the budget is spent.
 ///
-/// They need not be all of the largest ones, as those of [`Cover::complement`] are: of these there
-/// may be far more.
+/// They need not be the complete sum, which [`Cover::complement`] answers and which may be far
+/// longer.
 ///
 /// # Errors
 ///
@@ -304,7 +305,8 @@ pub fn outside(list: &Cover, budget: Budget) -> Result<Option<Cover>, AllocError
     Ok(Some(Cover::from_cubes(shape, off)))
 }
 
-// Cubes of the rows' places outside the others, row by row, or `None` where the budget is spent.
+// Cubes that together have the rows' places outside the others, row by row, or `None` if the budget
+// is spent.
 fn subtract_row_by_row(
     alloc: Global,
     shape: Shape,
@@ -327,8 +329,8 @@ fn subtract_row_by_row(
     Ok(Some(all))
 }
 
-// Cubes of the rows' places outside the others, or `None` where the budget is spent. Many rows are
-// halved, until they are few or do not meet the others.
+// Cubes that together have the rows' places outside the others, or `None` if the budget is spent.
+// The rows are halved until they are few or disjoint from the others.
 fn subtract_by_halves(
     alloc: Global,
     shape: Shape,
@@ -358,7 +360,7 @@ fn subtract_by_halves(
     Ok(Some(first))
 }
 
-// The rows of the list without those that are seen to stand in the other.
+// Copies of the rows of the list, without those that are found in the other.
 fn clone_rows_not_among(list: &Cover, other: &Cover) -> Result<Vec<Cube>, AllocError>
     ensures cubes { IfOk result (λ rows. AreCubes list.now.size rows.items) }
     ensures places { IfOk result (λ rows. (p : Place)
@@ -374,12 +376,12 @@ fn clone_rows_not_among(list: &Cover, other: &Cover) -> Result<Vec<Cube>, AllocE
 }
 
 /// Cubes that together have the places of the list that are not in the other, of one shape, and no
-/// others; `None` where the budget is spent. A row that meets none of the other list stays as it
+/// others; `None` if the budget is spent. A row that is disjoint from the other list stays as it
 /// is.
 ///
-/// They need not be the largest ones, as those of [`difference`] are. Lists that do not meet cost
-/// the question [`Cover::intersects`] and a copy; and a row that stands in both lists too costs no
-/// more than it takes to find it.
+/// They need not be the complete sum, which [`difference`] answers. Disjoint lists cost the
+/// question [`Cover::intersects`] and a copy. A row that stands in both lists costs a look into a
+/// table.
 ///
 /// # Errors
 ///

@@ -1,17 +1,20 @@
 //! Why cubes hold every place of a region: a cube that holds the region, and of which they hold
 //! each place (an implicant of the list).
 //!
-//! A region is a cube. A row that holds it is such a cube. Else the region is split at an input,
-//! and each half is asked by itself. If the cube for one half has no literal at that input, it
-//! holds the whole region, and the other half is never asked: so a split that had no part in an
+//! A region is a cube. A row that contains it is such a cube. Else the region is split at an input,
+//! and each half is asked for by itself. If the cube for one half has no literal at that input, it
+//! holds the whole region, and the other half is never asked for: so a split that had no part in an
 //! answer is undone at once, wherever it was made (Marques-Silva and Sakallah 1996). Else the
-//! consensus of both cubes is the answer, which has `-` at the input and elsewhere what either asks
-//! (Brayton et al. 1984). A row with one open literal holds one of the halves, so that the other
-//! decides (Davis, Logemann and Loveland 1962). If a row has no open literal, the rest of the
-//! outputs is asked.
+//! answer is the consensus of both cubes, which has `-` at the input and elsewhere the literals of
+//! both (Brayton et al. 1984). A row with one open literal contains one of the halves, so that the
+//! other decides (Davis, Logemann and Loveland 1962). If a row has no open literal, the region is
+//! asked for without its outputs.
 //!
 //! Each question looks at the rows once. While some rows of a region have few open literals, its
-//! parts look at those rows alone, and at all rows that meet the region only once these have more.
+//! halves look at those rows alone, and at all rows that meet the region only once these have more.
+//!
+//! Splits may look at a limited number of rows. Once that is spent, `holds_by_splits_or_search`
+//! asks a search that learns (`learned`).
 pub(crate) mod learned;
 pub(crate) mod nearest_rows;
 pub(crate) mod open_literals;
@@ -30,20 +33,20 @@ use crate::region::step_hint::{Hint, next_step_hint};
 use cube::{Cube, Symbol};
 use std::alloc::{AllocError, Global};
 
-// What a look at each row finds.
+// What one look at each row finds.
 #[derive(Drop)]
 struct Survey<'a> {
-    // A copy of a row that holds the region, and then nothing else counts.
+    // A copy of a row that contains the region. If there is one, the other fields say nothing.
     found: Option<Cube>,
     // The rows that meet the region.
     meeting: Vec<&'a Cube>,
-    // Those of them with fewest open literals, and how many these are.
+    // The rows of `meeting` with fewest open literals, and how many open literals they have.
     nearest: Vec<&'a Cube>,
     fewest: u32,
 }
 
 impl<'a> Survey<'a> {
-    // Adds a row that meets the region, with so many open literals.
+    // Adds a row that meets the region and has `open` open literals.
     fn add(&mut self, row: &'a Cube, open: u32) -> Result<(), AllocError>
         requires { AreAmong self.old.nearest.items self.old.meeting.items }
         ensures found { self.new.found ≡ self.old.found }
@@ -65,7 +68,7 @@ impl<'a> Survey<'a> {
     }
 }
 
-// Looks at each row once.
+// Looks at each row once, until a row contains the region.
 fn survey_rows<'a>(
     alloc: Global,
     rows: &[&'a Cube],
@@ -125,16 +128,17 @@ fn first_open_input(row: &Cube, region: &Cube) -> Option<usize>
     None
 }
 
-// What is next for a region.
+// The next step for a region.
 #[derive(Clone, Copy)]
 pub(crate) enum Step {
-    // The row at this index has no open literal.
+    // The row at this index has no open literal: take out its outputs.
     Row(usize),
-    // The input splits the region, and the half with this literal is asked first.
+    // Split the region at the input, and ask for the half with this literal first.
     Split(usize, Symbol),
 }
 
-// What is next for a region that all of the nearest rows meet.
+// The next step for a region that all of the rows `near` meet, where they have `fewest` open
+// literals.
 fn next_step(rows: &[&Cube], near: &[&Cube], fewest: u32, region: &Cube) -> Step
     requires sizes { All (λ d. SameSize d.now region.now) near.now }
     requires some { 1 ≤ length near.now }
@@ -161,7 +165,7 @@ fn next_step(rows: &[&Cube], near: &[&Cube], fewest: u32, region: &Cube) -> Step
     }
 }
 
-// The other literal.
+// The other literal, or `-` for `-`.
 pub(crate) fn opposite(symbol: Symbol) -> Symbol
     ensures { result ≡ opposite_of symbol }
 {
@@ -172,7 +176,8 @@ pub(crate) fn opposite(symbol: Symbol) -> Symbol
     }
 }
 
-// The cube that has `-` at the input and elsewhere what either of the two asks.
+// The consensus at the input: the cube that has `-` there, elsewhere the literals of both, and the
+// outputs that both have.
 fn consensus(i: usize, one: &Cube, other: &Cube) -> Result<Option<Cube>, AllocError>
     requires input { i < length one.now.symbols }
     requires size { SameSize other.now one.now }
@@ -188,7 +193,7 @@ fn consensus(i: usize, one: &Cube, other: &Cube) -> Result<Option<Cube>, AllocEr
     low.meet(&high)
 }
 
-/// Why splits came to no answer.
+/// Why splits gave no answer.
 #[derive(Drop)]
 pub(crate) enum Stop {
     /// A growth of memory was refused.
@@ -207,15 +212,15 @@ impl From<AllocError> for Stop {
     }
 }
 
-/// What splits may take.
+/// What splits may use.
 #[derive(Clone, Copy)]
 pub(crate) struct Allowance {
     pub(crate) alloc: Global,
-    // Whether they may look at so many rows only.
+    // Whether they have to stop once `row_budget` is spent.
     pub(crate) limited: bool,
 }
 
-// So many rows are looked at.
+// Takes `rows` from the rows that may still be looked at; `Spent` if they are limited and too few.
 fn spend(allowance: Allowance, row_budget: &mut u64, rows: usize) -> Result<(), Stop>
     ensures { IfErr result (λ _. IsTrue allowance.limited) }
 {
@@ -234,9 +239,9 @@ fn spend(allowance: Allowance, row_budget: &mut u64, rows: usize) -> Result<(), 
     }
 }
 
-// A cube that holds the region and of which the rows hold each place, or `None` if they lack a
-// place of the region. Some of the rows are near; they alone are looked at while one of them has at
-// most so many open literals.
+// An implicant of the rows that contains the region, or `None` if they lack a place of it. The rows
+// `near`, which are some of the rows, are looked at alone while one of them has at most `bound`
+// open literals.
 #[cycle(reason)]
 pub(crate) fn reason(
     allowance: Allowance,
@@ -268,7 +273,7 @@ pub(crate) fn reason(
     reason_by_all_rows(allowance, rows, region, row_budget)
 }
 
-// The reason by a look at each row.
+// The reason, found by a look at each row and the next step.
 #[cycle(reason)]
 fn reason_by_all_rows(
     allowance: Allowance,
@@ -298,7 +303,7 @@ fn reason_by_all_rows(
     )
 }
 
-// The reason by the next step, if all of the near rows meet the region.
+// The reason, found by the next step. All of the rows `near` meet the region.
 #[cycle(reason)]
 fn reason_by_step(
     allowance: Allowance,
@@ -333,7 +338,7 @@ fn reason_by_step(
     }
 }
 
-// The reason if a row has no open literal: the row has some of the outputs.
+// The reason, found from that of the region without the outputs of a row without open literals.
 #[cycle(reason)]
 fn reason_by_outputs(
     allowance: Allowance,
@@ -369,7 +374,7 @@ fn reason_by_outputs(
     Ok(row.output_consensus(&other)?)
 }
 
-// The reason by halves, that with the literal first.
+// The reason, found by the two halves of the region at an input. That with the literal is first.
 #[cycle(reason)]
 fn reason_by_split(
     allowance: Allowance,
@@ -402,7 +407,8 @@ fn reason_by_split(
     reason_by_other_half(allowance, rows, near, bound, region, row_budget, at, &one)
 }
 
-// The reason by the half with the other literal, and by the reason of the half with the literal.
+// The reason, found by the half with the other literal, where `one` is the reason of the half with
+// the literal: if it has a literal at the input too, the consensus of both reasons.
 #[cycle(reason)]
 fn reason_by_other_half(
     allowance: Allowance,
@@ -466,7 +472,8 @@ fn holds_by_splits(
     Ok(reason(allowance, rows, near, bound, region, row_budget)?.is_some())
 }
 
-/// Whether splits that look at so many rows show that the rows hold each place of the region.
+/// Whether splits that look at no more than `row_budget` rows show that the rows hold each place of
+/// the region.
 pub(crate) fn is_seen_to_hold(
     alloc: Global,
     rows: &[&Cube],
@@ -489,7 +496,7 @@ pub(crate) fn is_seen_to_hold(
     }
 }
 
-// Whether the rows hold each place of the region, by however many splits.
+// Whether the rows hold each place of the region, by as many splits as it takes.
 fn holds_by_unlimited_splits(
     alloc: Global,
     rows: &[&Cube],
@@ -514,12 +521,13 @@ fn holds_by_unlimited_splits(
     }
 }
 
-/// Whether the rows hold each place of the region. Near rows are looked at first, and they alone
-/// while one of them has at most so many open literals.
+/// Whether the rows hold each place of the region. The rows `near` are looked at alone while one of
+/// them has at most `bound` open literals.
 ///
 /// Most questions are answered by splits. Once the splits of all questions about the rows have
-/// looked at many of them, a search is asked, and what it learns of the rows is kept; if it finds
-/// no answer within its memory, or one that does not hold, splits go on for as long as they take.
+/// spent the row budget of `learned`, a search is asked, and what it learns of the rows is kept. If
+/// it finds no answer within its limits, or one that is not shown, splits begin again without
+/// limit.
 pub(crate) fn holds_by_splits_or_search(
     alloc: Global,
     rows: &[&Cube],

@@ -1,20 +1,25 @@
 //! Complete sums.
 //!
-//! The complete sum of the places of one list without those of another is found from three smaller
-//! ones. At an input, the cubes of the sum without a literal there are the complete sum of the
-//! places that are inside at both values; those with `0` are the cubes of the sum at `0` that are
-//! not among the first, and those with `1` likewise. The lists at both values are the cubes without
-//! a literal at the input with the meets of those with `0` and those with `1`, and of the list that
-//! is taken away the cubes with either. If one value has all places of the other, the places at
-//! both are the other's, and two sums are enough. The recursion over both cofactors and their
-//! product is that of Coudert and Madre (Implicit and Incremental Computation of Primes and
-//! Essential Primes of Boolean Functions, 1992); they keep the sets as decision diagrams, and here
-//! they are lists of cubes, whose sums are kept in a table to be found again. So no products of
-//! primes are formed, and no prime is compared with the others: each merge takes time in the
-//! lengths of its lists, which are in row order. The input with most literals is split at, and
-//! lists with one literal at each input are their own sum but for the cubes that lie in others
-//! (Brayton et al. 1984). The sum of rows in two parts that have no input in common is the sums of
-//! the parts side by side, so that they do not multiply each other's steps.
+//! `difference_sum` makes the complete sum of the places of one list, the minuend, that are not in
+//! another, the subtrahend. It is put together from three smaller sums at an input:
+//!
+//! - that of the consensus, the places that are there with both values of the input: its cubes have
+//!   no literal at the input;
+//! - those of the cofactors at `0` and at `1`: their cubes that are not in the first sum get that
+//!   literal.
+//!
+//! The consensus of the minuend has its cubes without a literal at the input, and the meets of its
+//! cubes with `0` and its cubes with `1`; of the subtrahend the smoothing is taken, all of its
+//! cubes without their literals there. If one cofactor has all places of the other, the consensus
+//! is the other, and two sums are enough. This recursion is that of Coudert and Madre (Implicit and
+//! Incremental Computation of Primes and Essential Primes of Boolean Functions, 1992). They keep
+//! the sets as decision diagrams; here they are lists of cubes, whose sums are kept in a table to
+//! be found again. So no products of primes are formed, and no prime is compared with the others:
+//! each merge takes time in the lengths of its lists, which are in row order.
+//!
+//! The input with most literals is split at. A unate list is its own sum but for the cubes that lie
+//! in others (Brayton et al. 1984). Of a list in two parts without a common input the sums of the
+//! parts are made one after the other, so that they do not multiply each other's steps.
 pub(crate) mod absorb;
 pub(crate) mod branch;
 pub(crate) mod by_symbol;
@@ -62,8 +67,8 @@ use crate::sums::two_rows::sum_of_two_rows;
 use cube::{Cube, Shape};
 use std::alloc::{AllocError, Global};
 
-// The complete sum of the places of the first list that are not in the second. Rows of the first
-// that lie in one of the second count for nothing.
+// The complete sum of the places of the minuend that are not in the subtrahend. Rows of the minuend
+// that lie in one of the subtrahend are left out first, if the lists are short.
 #[cycle(sum)]
 fn difference_sum(
     alloc: Global,
@@ -82,8 +87,8 @@ fn difference_sum(
     sum_by_case(alloc, shape, table, left, subtrahend)
 }
 
-// The complete sum of the places of the first list that are not in the second, if no row of the
-// first needs to be left out.
+// The complete sum of the places of the minuend that are not in the subtrahend: by one of the ends
+// of the recursion, without its constant outputs, or from the table.
 #[cycle(sum)]
 fn sum_by_case(
     alloc: Global,
@@ -126,7 +131,8 @@ fn sum_by_case(
     remembered_sum(alloc, shape, table, minuend, subtrahend)
 }
 
-// That sum, kept from before or found now.
+// The complete sum of the places of the minuend that are not in the subtrahend, from the table or
+// by a split, and then kept in the table.
 #[cycle(sum)]
 fn remembered_sum(
     alloc: Global,
@@ -150,7 +156,8 @@ fn remembered_sum(
     Ok(sum)
 }
 
-// That sum by way of the lists at the values of an input, if one has a literal.
+// The complete sum of the places of the minuend that are not in the subtrahend, by two parts
+// without a common input, or by the branches at an input, if one has a literal.
 #[cycle(sum)]
 fn sum_by_split(
     alloc: Global,
@@ -204,7 +211,7 @@ fn sum_by_split(
 }
 
 // The complete sum of the places of two parts that have no input in common: the sums of both, or
-// that of one, if it holds everything.
+// that of one part alone, if it has a row without literals. (The parts have the same outputs.)
 #[cycle(sum)]
 fn sum_by_parts(
     alloc: Global,
@@ -230,8 +237,8 @@ fn sum_by_parts(
     merge(alloc, sum, other_sum)
 }
 
-// What the places at one value of input `i` add to those at both: their complete sum, or nothing
-// if the other value has them too. `side` has the first list's places there.
+// The complete sum of the cofactor at one value of input `i`, or nothing if the other cofactor has
+// all of its places, so that the consensus has them. `cofactor` is that of the minuend.
 #[cycle(sum)]
 fn sum_at_value(
     alloc: Global,
@@ -263,7 +270,7 @@ fn sum_at_value(
     difference_sum(alloc, shape, table, minuend_at_value, subtrahend_at_value)
 }
 
-// The complete sum of the places of the first list that are not in the second. Sorts both lists
+// The complete sum of the places of the minuend that are not in the subtrahend. Sorts both lists
 // into row order first.
 fn sum_of_unsorted(
     alloc: Global,
@@ -292,10 +299,9 @@ fn sum_of_unsorted(
 /// The complete sum of the places of the list: all cubes that hold only such places and lie in no
 /// larger such cube, in row order. These are the primes of a function of several outputs.
 ///
-/// There may be exponentially many in the inputs, and time goes at least with their number. Lists
-/// on the way whose sum was found before cost a copy of it; the sums and lists that are kept for
-/// this are forgotten if they become many. Lists are joined for their meets, and looked at pair by
-/// pair for cubes that lie in others if they are short or have one literal at each input.
+/// There may be exponentially many in the inputs, and time grows at least with their number. Lists
+/// whose sum was made before in the same call cost a copy of it; the sums that are kept for this
+/// are forgotten if they become many.
 ///
 /// # Errors
 ///

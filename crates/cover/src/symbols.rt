@@ -6,7 +6,7 @@ ghost use Rattle.cover.specs.Marks.{is_symbol, is_over, is_compatible};
 use cube::{Cube, Symbol};
 use std::alloc::{AllocError, Global};
 
-/// Whether a cube with `inner` at an input can lie in one with `outer` there.
+/// Whether `outer` agrees with each bit that `inner` agrees with.
 pub(crate) fn symbol_contains(outer: Symbol, inner: Symbol) -> bool
     ensures { result ≡ is_over outer inner }
 {
@@ -18,7 +18,7 @@ pub(crate) fn symbol_contains(outer: Symbol, inner: Symbol) -> bool
     }
 }
 
-/// Whether the symbols are one.
+/// Whether the symbols are equal.
 pub(crate) fn is_same_symbol(one: Symbol, other: Symbol) -> bool
     ensures { result ≡ is_symbol one other }
 {

@@ -1,5 +1,5 @@
 //! The questions to a list: whether its cubes hold every place, or a given cube. `region` answers
-//! them; here are also the universal cube, and lists of references to cubes.
+//! them.
 ghost use Rattle.std.specs.Prelude.{◌≡◌, IfOk, All, map};
 ghost use Rattle.cube.specs.Cube.{HasSize, holds};
 ghost use Rattle.cube.specs.Sum.{is_subset};
@@ -39,9 +39,9 @@ impl Cover {
     /// Of each of the cubes, in their order, whether every place of it is in some cube of the list:
     /// what [`Cover::holds_cube`] answers for it.
     ///
-    /// What a search learns of the list serves the cubes that follow, and where list and cubes are
-    /// many, those cubes of the list that are nearest to a cube are asked first. So all of it mostly
-    /// takes less time than as many calls of `holds_cube`.
+    /// What a search learns of the list is kept for the next cubes. If the list and `cubes` both
+    /// have more than 64 cubes, the cubes of the list nearest to the asked one are tried first. So
+    /// one call mostly takes less time than a call of `holds_cube` for each cube.
     ///
     /// # Errors
     ///

@@ -380,8 +380,8 @@ impl Cube {
         })
     }
 
-    /// The consensus at the outputs: the cube with the symbols of both and the outputs of either, or
-    /// `None` if no point matches the symbols of both.
+    /// The consensus at the outputs: the cube with the symbols of both and the outputs of either,
+    /// or `None` if no point matches the symbols of both.
     pub fn output_consensus(&self, other: &Cube) -> Result<Option<Cube>, AllocError>
         requires { SameSize self.now other.now }
         ensures none { IfOk result (λ found. IfNone found ((point : List Bool)
@@ -538,7 +538,8 @@ impl Cube {
         Ok(())
     }
 
-    // Adds the pieces of this cube that opposite literals part from the other, the last input first.
+    // Adds the pieces of this cube that opposite literals part from the other, the last input
+    // first.
     fn push_pieces(&self, other: &Cube, rows: &mut Vec<Cube>) -> Result<(), AllocError>
         requires { SameSize self.now other.now }
         ensures { OnOk result (rows.new.items ≡ rows.old.items

@@ -90,8 +90,8 @@ pub(crate) fn copied_words(alloc: Global, words: &[u64]) -> Result<SmallVec<u64,
     copied_words_of_any_number(alloc, words)
 }
 
-// A copy of the words, however many. Few are put in their places one by one, which is quicker than a
-// copy by length.
+// A copy of the words, however many. Few are put in their places one by one, which is quicker than
+// a copy by length.
 #[inline(never)]
 fn copied_words_of_any_number(alloc: Global, words: &[u64]) -> Result<SmallVec<u64, 4>, AllocError>
     ensures value { IfOk result (λ v. v.items ≡ words.now) }

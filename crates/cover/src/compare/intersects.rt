@@ -1,5 +1,4 @@
-//! `Cover::intersects`: whether two lists have a place in common. (`sums/apart` parts one list by
-//! its inputs.)
+//! Whether two lists have a place in common.
 ghost use Rattle.std.specs.Prelude.{◌≡◌, ◌↔◌, IsTrue, IfOk};
 ghost use Rattle.cube.specs.Cube.{IsDisjoint};
 ghost use Rattle.cover.specs.Cubes.{AreCubes};
@@ -12,8 +11,8 @@ use cube::{Cube, Shape};
 use std::alloc::{AllocError, Global};
 
 impl Cover {
-    /// Whether some place is in both lists. Lists whose rows part at the inputs take time in their
-    /// lengths, and at worst each pair of rows is looked at.
+    /// Whether some place is in both lists. If splits at inputs soon separate the rows of the two,
+    /// this takes time in their lengths; at worst each pair of rows is looked at.
     pub fn intersects(&self, other: &Cover) -> Result<bool, AllocError>
         requires { other.now.size ≡ self.now.size }
         ensures { IfOk result
@@ -30,7 +29,7 @@ impl Cover {
     }
 }
 
-/// Whether no row has a place of the mask.
+/// Whether no place is in a row and in a cube of the mask.
 pub(crate) fn are_disjoint(
     alloc: Global,
     shape: Shape,

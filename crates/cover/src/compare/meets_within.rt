@@ -1,8 +1,8 @@
-//! Whether two lists hold what two others have in common.
+//! Whether the places that two lists have in common lie in two others.
 //!
-//! The rows are halved. A half that has no place of the mask is left out at once, as that is asked of
-//! all of its rows together; of a few rows that are left each meet with the mask is asked for. So
-//! lists without a place in common cost one question, and no more meets are formed than some rows
+//! Rows are halved while they are more than 16; a half that is disjoint from the mask is dropped
+//! after one question. Of the rows left all meets with the mask are formed and asked for. So lists
+//! without a place in common cost one question, and no more meets are kept at a time than 16 rows
 //! have with the mask.
 ghost use Rattle.std.specs.Prelude.{◌≡◌, ◌↔◌, ◌||◌, IsTrue, IfOk, All};
 ghost use Rattle.cube.specs.Cube.{HasSize, IsSubset, intersection};
@@ -18,10 +18,10 @@ use crate::sums::meets_by_pairs::meets_by_pairs;
 use cube::{Cube, Shape};
 use std::alloc::{AllocError, Global};
 
-/// So few rows are not halved.
+// Lists of at most this many rows are not halved.
 const FEW: usize = 16;
 
-// Whether the others hold each meet of a row with one of the mask.
+// Whether the others hold each meet of a row with a cube of the mask.
 fn are_meets_held(
     alloc: Global,
     shape: Shape,
@@ -42,7 +42,7 @@ fn are_meets_held(
     are_related(alloc, shape, Relation::Contained, depth, &met, others)
 }
 
-// Whether the others hold what the rows have in common with the mask, half by half.
+// Whether the others hold each meet of a row with a cube of the mask, half by half.
 fn are_meets_held_by_halves(
     alloc: Global,
     shape: Shape,
@@ -72,8 +72,8 @@ fn are_meets_held_by_halves(
 
 /// Whether each place that is both in `list` and in `mask` is in `other` or in `dc`.
 ///
-/// Rows that also stand in one of the latter, in any order, and lists that share no place with the
-/// mask take time in the lengths of the lists, as far as these part at the inputs.
+/// Rows that also stand in `other` or `dc`, in any order, take time in the lengths of the lists. So
+/// do lists that share no place with the mask, if splits at inputs soon separate the two.
 ///
 /// # Errors
 ///

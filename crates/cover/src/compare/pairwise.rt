@@ -1,9 +1,9 @@
-//! Two lists beside one another: whether all places of the one are in the other, or none is.
+//! Whether all places of a list are in another, or none is, by pairs of rows.
 //!
 //! The rows of the first list are split three ways by their symbol at an input. To those with `0`
 //! or `1` there the rows of the second list with the other literal don't count. So each pair of
 //! rows comes together once at most, and both lists get shorter. The input is taken at which most
-//! pairs have opposite literals. If few rows are left, each is asked by itself.
+//! pairs have opposite literals. Once few rows are left, each is asked for by itself.
 ghost use Rattle.std.specs.Prelude.{◌≡◌, ◌↔◌, ◌<◌, ◌≤◌, ◌∷◌, [], IsTrue, IfOk, IfSome, OnOk, All, filter, length, map, slice_index_or};
 ghost use Rattle.cube.specs.Size.{Size};
 ghost use Rattle.cube.specs.Cube.{HasSize, SameSize, IsSubset, IsDisjoint, holds, size_of};
@@ -22,17 +22,17 @@ use crate::symbols::{rows_with_compatible_symbol, rows_with_symbol};
 use cube::{Cube, Shape, Symbol};
 use std::alloc::{AllocError, Global};
 
-// Lists of so many rows are not split.
+// Lists of at most this many rows are not split: asking row by row costs no more.
 const SMALL: usize = 8;
 
-/// How the places of a list stand to those of another: all are in it, or none is.
+/// A relation of the places of a list to those of another: all are in it, or none is.
 #[derive(Clone, Copy)]
 pub(crate) enum Relation {
     Contained,
     Disjoint,
 }
 
-// Whether the row has no place of the others.
+// Whether the row has no place in common with the others.
 pub(crate) fn is_disjoint_from_all(row: &Cube, others: &[&Cube]) -> bool
     requires { All (λ d. SameSize row.now d.now) others.now }
     ensures { IsTrue result ↔ IsDisjoint (holds row.now) (places (behind others.now)) }
@@ -45,7 +45,7 @@ pub(crate) fn is_disjoint_from_all(row: &Cube, others: &[&Cube]) -> bool
     true
 }
 
-// Whether no row has a place of the others, by pairs.
+// Whether the lists have no place in common, by a look at each pair.
 fn are_disjoint_by_pairs(rows: &[&Cube], others: &[&Cube]) -> bool
     requires { (size : Size) × All (λ d. HasSize d.now size) rows.now
         × All (λ d. HasSize d.now size) others.now }
@@ -59,16 +59,15 @@ fn are_disjoint_by_pairs(rows: &[&Cube], others: &[&Cube]) -> bool
     true
 }
 
-// Of so few rows all are looked at.
+// Bits of the rows (`RowBits`) are kept only if both lists have more rows than this.
 const FEW: usize = 64;
 
-// Whether both lists are so long that it pays to keep which rows have a literal.
+// Whether both lists are so long that bits of the rows pay.
 fn are_both_long(rows: usize, others: usize) -> bool {
     rows.min(others) > FEW
 }
 
-// The rows that have a literal of the region, as it is meant: of each other row all literals are
-// open.
+// The rows that share a literal with the region. (Nothing depends on it.)
 fn rows_sharing_literal<'a>(
     alloc: Global,
     shape: Shape,
@@ -87,7 +86,7 @@ fn rows_sharing_literal<'a>(
     Ok(some)
 }
 
-// The bits of the rows, if these and the regions that are asked for are many.
+// The bits of the rows, if the rows and the regions to ask for are many.
 fn bits_if_both_long(
     alloc: Global,
     shape: Shape,
@@ -100,8 +99,9 @@ fn bits_if_both_long(
     Ok(None)
 }
 
-// Whether the rows hold the region. If they are many, those nearest to it often do so alone, which
-// takes few looks; else those that have a literal of it come first.
+// Whether the rows hold the region. With bits, the rows nearest to the region are asked first,
+// since they often hold it alone; if they do not, the rows that share a literal with it are looked
+// at before the others.
 fn holds_region_nearest_first(
     alloc: Global,
     shape: Shape,
@@ -128,7 +128,7 @@ fn holds_region_nearest_first(
     holds_by_splits_or_search(alloc, rows, &near, bits.fewest_literals(), region, learned)
 }
 
-// Whether the others hold each row, one by one.
+// Whether the others hold each row, by a question for each.
 fn are_held_one_by_one(
     alloc: Global,
     shape: Shape,
@@ -150,8 +150,8 @@ fn are_held_one_by_one(
     Ok(true)
 }
 
-/// Of each region, whether the rows hold it. What a search learns of the rows for one region serves
-/// those that follow.
+/// For each region whether the rows hold it. What a search learns of the rows is kept for the next
+/// regions.
 pub(crate) fn holds_each_region(
     alloc: Global,
     shape: Shape,
@@ -192,10 +192,11 @@ fn are_related_row_by_row(
     }
 }
 
-// At most so many rows are looked at to choose an input.
+// At most this many rows of each list are counted to choose an input, so that the choice costs less
+// than the split.
 const SAMPLE: usize = 64;
 
-// Rows from all over the list, at most [`SAMPLE`].
+// At most [`SAMPLE`] rows, evenly from the list.
 fn sample_rows<'a>(alloc: Global, rows: &[&'a Cube]) -> Result<Vec<&'a Cube>, AllocError>
     ensures { IfOk result (λ some. (size : Size) → All (λ d. HasSize d.now size) rows.now
         → All (λ d. HasSize d.now size) some.items) }
@@ -221,12 +222,12 @@ fn count_opposite_pairs(rows: &LiteralCounts, others: &LiteralCounts, i: usize) 
     low.saturating_add(high)
 }
 
-// Where both lists are long, a split pays if it parts so much of their pairs.
+// If both lists are long, a split pays if it separates more than one pair in this many.
 const SHARE: u64 = 32;
 
-// How many of some pairs have to be parted, so that it pays to go through all rows once more. A row
-// may ask for all of the others, so there have to be as many as two rows' pairs, and more where a
-// row asks for 64 of the others at once.
+// The least number of sampled pairs that a split must separate to pay for one more pass. A row left
+// is compared with all others, so that is two rows' worth of pairs, and `pairs / SHARE` where the
+// bits compare 64 at once. Disjoint lists are compared pair by pair, so each split pays.
 fn least_opposite_pairs(relation: Relation, pairs: u64, rows: usize, others: usize) -> u64 {
     match relation {
         Relation::Disjoint => 0,
@@ -240,8 +241,8 @@ fn least_opposite_pairs(relation: Relation, pairs: u64, rows: usize, others: usi
     }
 }
 
-// The input at which most pairs of counted rows have opposite literals, if these are more than so
-// many.
+// The input at which most pairs of counted rows have opposite literals, if they are more than
+// `least`.
 fn most_opposite_input(
     mine: &LiteralCounts,
     theirs: &LiteralCounts,
@@ -265,8 +266,8 @@ fn most_opposite_input(
     best
 }
 
-// The input at which most pairs of a row of each list have opposite literals, as far as some of the
-// rows show, if enough have.
+// The input to split at: that at which most pairs of a row of each list have opposite literals, by
+// a sample of the rows, if a split there pays.
 fn split_input_of_pairs(
     alloc: Global,
     shape: Shape,
@@ -289,7 +290,8 @@ fn split_input_of_pairs(
     Ok(most_opposite_input(&mine, &theirs, inputs, least))
 }
 
-/// Whether the lists are related. On the way down at most `depth` inputs are split at.
+/// Whether the relation holds between the lists. At most `depth` inputs are split at, one below the
+/// other.
 #[cycle(are_related)]
 pub(crate) fn are_related(
     alloc: Global,
@@ -336,7 +338,7 @@ pub(crate) fn are_related(
     )
 }
 
-// Whether those rows that have the symbol at the input are related to the others.
+// Whether the relation holds between the rows that have the symbol at the input and the others.
 #[cycle(are_related)]
 fn are_related_at(
     alloc: Global,

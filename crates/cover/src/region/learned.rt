@@ -1,11 +1,11 @@
-//! Implicants that a search found, with hints that show them.
+//! Questions to a search that learns, and the check of its answers.
 //!
 //! To a search the rows of one output are nogoods, and a region is a list of assumptions. It learns
-//! implicants of the rows, and says of each by which rows and earlier implicants it is seen:
-//! beginning with the implicant as a region, each of them but the last has one open literal, and so
-//! holds a half of the region that is left, and the last holds the rest (reverse unit propagation
+//! implicants of the rows, each with hints: the rows and earlier implicants that show it. The check
+//! begins with the implicant as a region. Each hint but the last has one open literal in what is
+//! left of the region, and so holds a half of it; the last holds the rest (reverse unit propagation
 //! by hints, as in Cruz-Filipe, Heule, Hunt, Kaufmann and Schneider-Kamp, Efficient certified RAT
-//! verification, 2017). The search owes nothing: what it says counts once it is looked at here.
+//! verification, 2017). The search has no contract: its answers count only if this check passes.
 ghost use Rattle.std.specs.Prelude.{◌≡◌, ◌↔◌, ◌<◌, ◌||◌, [], IsTrue, IfOk, IfSome, IfNone, OnOk, All, length};
 ghost use Rattle.std.specs.List.{list_any};
 ghost use Rattle.cube.specs.Cube.{HasSize, Place, SameSize, IsSubset, holds, size_of};
@@ -21,7 +21,8 @@ use cube::{Cube, Shape, Symbol};
 use sat_search::{Answer, Limits, Refutation, Search};
 use std::alloc::{AllocError, Global};
 
-// Takes from the region the half that the row holds, if the row is seen to hold one.
+// If the row has one open literal in the region, takes the half that the row holds from the region.
+// Answers whether it did.
 fn remove_held_half(region: &mut Cube, row: &Cube) -> bool
     requires { SameSize row.now region.old }
     ensures size { SameSize region.new region.old }
@@ -60,7 +61,8 @@ fn holds_by_hints(known: &[Cube], hints: &[u32], cube: &Cube) -> Result<bool, Al
     Ok(false)
 }
 
-// The cube of one output with these literals: twice an input for `1`, and one more for `0`.
+// The cube of one output with these literals, numbered as in `sat_search`: literal `2 i` is `1` at
+// input `i`, and `2 i + 1` is `0` there.
 fn cube_of_literals(
     alloc: Global,
     shape: Shape,
@@ -89,7 +91,7 @@ fn cube_of_literals(
     Cube::from_symbols(alloc, shape, &symbols, &outputs)
 }
 
-// Adds the cube with these literals to those that are known, if the hints show it.
+// Adds the cube with these literals to the known cubes, if the hints show that they hold it.
 fn accept_nogood(
     alloc: Global,
     shape: Shape,
@@ -113,7 +115,8 @@ fn accept_nogood(
     Ok(true)
 }
 
-// Adds the nogoods of a refutation, if their hints show all of them.
+// Adds the nogoods of a refutation to the known cubes, one by one while their hints show them.
+// Answers whether all were added.
 fn accept_refutation(
     alloc: Global,
     shape: Shape,
@@ -135,7 +138,7 @@ fn accept_refutation(
     Ok(true)
 }
 
-// Whether the known cube at a place is seen to hold the region.
+// Whether the known cube at the index contains the region.
 fn known_cube_contains(known: &[Cube], index: usize, region: &Cube) -> bool
     requires { All (λ d. SameSize d region.now) known.now }
     ensures { IsTrue result → IsSubset (holds region.now) (places known.now) }
@@ -146,7 +149,7 @@ fn known_cube_contains(known: &[Cube], index: usize, region: &Cube) -> bool
     }
 }
 
-// Whether a point is seen to lie in the region and in no row.
+// Whether the point with these literals lies in the region and in no row.
 fn is_point_outside(
     alloc: Global,
     rows: &[&Cube],
@@ -168,13 +171,13 @@ fn is_point_outside(
 ///
 /// It takes no memory before a search is asked. Then it has the rows once more, a search for each
 /// output that was asked, and the implicants that answers needed. All of it together comes to 2^27
-/// numbers of four bytes at most, half a gigabyte, and with room to grow to a gigabyte and a half. A
-/// question that would take more has no answer here.
+/// numbers of four bytes at most, half a gigabyte, and with room to grow to a gigabyte and a half.
+/// A question that would take more has no answer here.
 #[derive(Drop)]
 pub(crate) struct Learned {
     // Copies of the rows, once a search is asked, and then cubes that they hold.
     pub(crate) known: Vec<Cube>,
-    // By output: the search among the rows that have it.
+    // For each output the search among the rows that have it, once it was asked.
     searches: Vec<Option<Search>>,
     // How many rows splits may still look at before a search is asked.
     pub(crate) row_budget: u64,
@@ -182,19 +185,20 @@ pub(crate) struct Learned {
     is_asked: bool,
 }
 
-// Before a search is asked, splits look at the rows as often as some four times the root of their
-// number, and once more for each question after the first. Easy questions of many rows, such as
-// decision trees and symmetric functions, look at them twice that root at most, and a search has to
-// read all rows before it begins.
+// How many passes over `rows` rows the splits of the first question may make: about four times the
+// root of their number. Each later question allows a pass more; then a search is asked. Easy
+// questions about many rows, such as decision trees and symmetric functions, make at most half as
+// many passes, and a search has to read all rows before it begins.
 fn passes_before_search(rows: usize) -> u64 {
     let bits = usize::BITS.saturating_sub(rows.leading_zeros());
     4 << (bits / 2)
 }
 
-// So many watches are looked at for one question.
+// A search looks at no more than this many watches for one question, so that it ends.
 const STEPS: u64 = 1 << 36;
 
-// So many numbers are kept by all searches and implicants.
+// All searches and implicants of one list together keep at most this many numbers of four bytes:
+// half a gigabyte.
 const SIZE: usize = 1 << 27;
 
 impl Learned {
@@ -210,7 +214,7 @@ impl Learned {
         }
     }
 
-    /// There is one question more about so many rows.
+    /// Lets splits look at more rows, for one more question about `rows` rows.
     pub(crate) fn raise_row_budget(&mut self, rows: usize)
         ensures { self.new.known ≡ self.old.known }
     {
@@ -224,7 +228,7 @@ impl Learned {
         self.is_asked = true;
     }
 
-    // Has a search among the rows of an output.
+    // Copies the rows, and builds the search among the rows of the output, unless both are there.
     fn prepare_search(
         &mut self,
         alloc: Global,
@@ -243,7 +247,7 @@ impl Learned {
         Ok(())
     }
 
-    // How many numbers all searches and implicants keep.
+    // How many numbers of four bytes all searches and implicants keep.
     fn size(&self) -> usize {
         let each = match self.known.first() {
             Some(cube) => numbers_per_cube(cube.shape()),
@@ -258,7 +262,7 @@ impl Learned {
         size
     }
 
-    // What the search of an output finds of the region.
+    // Asks the search of the output for the region. The answer is not checked yet.
     fn ask_search(
         &mut self,
         alloc: Global,
@@ -290,7 +294,8 @@ fn numbers_per_cube(shape: Shape) -> usize {
         .saturating_add(shape.outputs() / 32)
 }
 
-// The literals of a cube.
+// The literals of a cube, numbered as in `sat_search`: `1` at input `i` is `2 i`, and `0` is `2 i +
+// 1`.
 fn literals_of(alloc: Global, cube: &Cube) -> Result<Vec<u32>, AllocError> {
     let mut literals = Vec::new(alloc);
     for i in 0..cube.shape().inputs() {
@@ -304,7 +309,7 @@ fn literals_of(alloc: Global, cube: &Cube) -> Result<Vec<u32>, AllocError> {
     Ok(literals)
 }
 
-// A search among the rows that have an output, under their places in the list.
+// A search among the rows that have the output. Each nogood has the index of its row as its name.
 fn build_search(
     alloc: Global,
     rows: &[&Cube],
@@ -322,7 +327,7 @@ fn build_search(
     Ok(search)
 }
 
-// Has a search among the rows of an output.
+// Builds a search among the rows of the output, unless there is one.
 fn build_search_if_none(
     alloc: Global,
     searches: &mut Vec<Option<Search>>,
@@ -341,7 +346,8 @@ fn build_search_if_none(
     Ok(())
 }
 
-// What an answer of a search says of the region, once it is looked at.
+// Whether the rows hold the region, by the answer of a search, which is checked; `None` if it is no
+// answer or is not shown.
 fn check_answer(
     alloc: Global,
     rows: &[&Cube],
@@ -377,7 +383,8 @@ fn check_answer(
     }
 }
 
-// Whether the rows hold each place of the region, which has this output, if a search answers that.
+// Whether the rows hold each place of the region, which has this one output, if a search answers
+// that.
 fn holds_by_search_at(
     alloc: Global,
     rows: &[&Cube],
@@ -397,7 +404,7 @@ fn holds_by_search_at(
     check_answer(alloc, rows, &mut learned.known, output, region, &answer)
 }
 
-// The part of a region at one output, if it has the output.
+// The places of a region with this output, as a cube, if the region has the output.
 fn part_at_output(alloc: Global, region: &Cube, output: usize) -> Result<Option<Cube>, AllocError>
     requires { output < length region.now.outputs }
     ensures size { IfOk result (λ found. IfSome found (λ part. SameSize part region.now)) }

@@ -6,7 +6,8 @@
 use cube::{Cube, Shape, Symbol};
 use std::alloc::{AllocError, Global};
 
-/// The open literals of a row at the 32 inputs of word `w`, as a cube's words have them.
+/// The open literals of a row at the 32 inputs of word `w`, as bits like those of
+/// `Cube::literal_bits`.
 pub(crate) fn open_bits(row: &Cube, region: &Cube, w: usize) -> u64 {
     row.literal_bits(w) & !region.literal_bits(w)
 }
@@ -21,8 +22,8 @@ pub(crate) fn lacks_output(shape: Shape, row: &Cube, region: &Cube) -> bool {
     false
 }
 
-/// How many open literals a row that meets the region has, where a lack of outputs is one more; no
-/// more are counted if there are more than `enough`.
+/// How many open literals a row that meets the region has, and one more if it lacks an output of
+/// the region. If it has more than `enough` open literals, its outputs are not looked at.
 pub(crate) fn count_open_literals(shape: Shape, row: &Cube, region: &Cube, enough: u32) -> u32 {
     let count = row.literals_beyond(region);
     if count > enough {
@@ -40,7 +41,7 @@ pub(crate) fn fewest_literals(rows: &[&Cube]) -> u32 {
     fewest
 }
 
-/// The words of the literals of a cube that has some there, with their numbers.
+/// The words of the cube's literals that are not empty, each with its index.
 pub(crate) fn literal_words(
     alloc: Global,
     shape: Shape,
@@ -56,7 +57,7 @@ pub(crate) fn literal_words(
     Ok(words)
 }
 
-/// Whether a row has one of the literals.
+/// Whether a row has one of the literals that [`literal_words`] answered.
 pub(crate) fn shares_literal(row: &Cube, words: &[(usize, u64)]) -> bool {
     for (w, bits) in words {
         if row.literal_bits(*w) & *bits != 0 {
@@ -66,7 +67,7 @@ pub(crate) fn shares_literal(row: &Cube, words: &[(usize, u64)]) -> bool {
     false
 }
 
-// The first open literal of a row, with its input.
+/// The first open literal of a row, with its input.
 pub(crate) fn first_open_literal(row: &Cube, region: &Cube) -> (usize, Symbol) {
     match row.next_beyond(region, 0) {
         Some(i) => (i, row.symbol(i)),
@@ -74,7 +75,8 @@ pub(crate) fn first_open_literal(row: &Cube, region: &Cube) -> (usize, Symbol) {
     }
 }
 
-/// Counts the literals that the bits stand for, two numbers an input, as a cube's words have them.
+/// Adds `times` to the counts of the bits that are set. As in a cube's words, there are two for
+/// each input: that of `1` and that of `0`.
 pub(crate) fn count_bits(bits: u64, times: u32, counts: &mut [u32; 64]) {
     let mut left = bits;
     for _ in 0..64 {

@@ -1,27 +1,28 @@
 //! The next step for a region: an input to split at, or a row without an open literal.
 //!
-//! A literal of a row is open where the region has none at its input. A row with one holds one half
-//! of the region (a unit, as in Davis, Logemann and Loveland 1962); else the input counts at which
-//! most of the nearest rows have an open literal, and if these are as many, most of all rows. All
-//! of this is a hint, which is checked before it is used.
+//! A row with one open literal contains one half of the region (a unit, as in Davis, Logemann and
+//! Loveland 1962). If there is no such row, the region is split at the input where most of the
+//! nearest rows have an open literal, and of several such inputs where most of all rows do. All of
+//! this is a hint, which is checked before it is used.
 
 use crate::region::open_literals::{count_bits, first_open_literal, lacks_output, open_bits};
 use cube::{Cube, Shape, Symbol};
 
-// At most so many of all rows are looked at.
+// At most this many of all rows are counted, so that the choice costs less than the split.
 const SAMPLE: usize = 64;
 
-// How often one of the nearest rows counts against one of all rows.
+// One of the nearest rows counts as much as this many of all rows.
 const NEAR: u32 = 64;
 
-// Counts the open literals of each row at the inputs of word `w`.
+// Counts the open literals of the nearest rows at the inputs of word `w`.
 fn count_open_of_nearest(near: &[&Cube], region: &Cube, w: usize, counts: &mut [u32; 64]) {
     for row in near {
         count_bits(open_bits(row, region, w), NEAR, counts);
     }
 }
 
-// Counts the open literals of some rows from all over the list.
+// Counts the open literals of at most `SAMPLE` rows, evenly from the list, at the inputs of word
+// `w`.
 fn count_open_of_sample(rows: &[&Cube], region: &Cube, w: usize, counts: &mut [u32; 64]) {
     let step = rows.len() / SAMPLE + 1;
     for k in 0..SAMPLE {
@@ -32,7 +33,8 @@ fn count_open_of_sample(rows: &[&Cube], region: &Cube, w: usize, counts: &mut [u
     }
 }
 
-// The input of word `w` with most counts, its literal that counts less, and the counts.
+// The input of word `w` with the highest count of both literals together, the literal with the
+// lower count, and the sum of both.
 fn heaviest_literal_of_word(w: usize, counts: &[u32; 64]) -> ((usize, Symbol), u64) {
     let mut best = (0usize, Symbol::Zero);
     let mut most = 0u64;
@@ -68,16 +70,16 @@ fn split_literal(shape: Shape, near: &[&Cube], rows: &[&Cube], region: &Cube) ->
     best
 }
 
-/// A hint what to do next.
+/// A hint for the next step.
 #[derive(Clone, Copy)]
 pub(crate) enum Hint {
-    // The outputs of the row at this index, which has no open literal.
+    // Take out the outputs of the row at this index, which has no open literal.
     Row(usize),
-    // The halves at this input, that with the literal first.
+    // Split at this input, and ask for the half with the literal first.
     Split(usize, Symbol),
 }
 
-// A row without an open literal, or a unit, if one is there.
+// A row without open literals, or a split at the open literal of a unit, whichever comes first.
 fn closed_row_or_unit(shape: Shape, near: &[&Cube], region: &Cube) -> Option<Hint> {
     for (k, row) in near.iter().enumerate() {
         let inputs = row.literals_beyond(region);
@@ -92,7 +94,8 @@ fn closed_row_or_unit(shape: Shape, near: &[&Cube], region: &Cube) -> Option<Hin
     None
 }
 
-/// What to do next with a region, of which the nearest rows have so many open literals.
+/// The next step for a region, where the rows `near` are those with fewest open literals, and have
+/// `fewest` of them.
 pub(crate) fn next_step_hint(
     shape: Shape,
     near: &[&Cube],

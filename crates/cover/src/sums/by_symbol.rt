@@ -1,5 +1,4 @@
-//! A list of rows split by the symbol at an input, and the meets of two lists pair by pair; `meets`
-//! chooses how two lists are met.
+//! A list of rows split by the symbol at an input.
 ghost use Rattle.std.specs.Prelude.{◌≡◌, ◌<◌, IfOk, All, length, false, true};
 ghost use Rattle.cover.specs.Parts.{part as part_of, has_symbol as has_symbol_of};
 
@@ -7,7 +6,7 @@ use crate::symbols::has_symbol_at;
 use cube::{Cube, Symbol};
 use std::alloc::{AllocError, Global};
 
-/// Rows by their symbol at an input, with `-` there.
+/// Three lists of rows, by the symbol that the rows had at an input. They have `-` there.
 #[derive(Drop)]
 pub(crate) struct BySymbol {
     pub(crate) dashes: Vec<Cube>,
@@ -15,7 +14,7 @@ pub(crate) struct BySymbol {
     pub(crate) ones: Vec<Cube>,
 }
 
-/// The rows by their symbol at input `i`.
+/// Splits the rows by their symbol at input `i`, and puts `-` there.
 pub(crate) fn split_by_symbol(
     alloc: Global,
     rows: &[Cube],

@@ -1,9 +1,9 @@
-//! Outputs that rows without a literal have.
+//! Constant outputs: those of rows without a literal.
 //!
-//! Such a row lies beside each cube of the other outputs: so each cube of the complete sum has its
-//! outputs. What is left of the sum is that of the rows at the other outputs, which many branches
-//! have in common, as the same rows come with other outputs that are done: their sum is found once,
-//! and each time costs its length.
+//! At such an output the list holds every point, so each cube of the complete sum has it. The rest
+//! of the sum is that of the rows at the other outputs. Many branches have the same rows there,
+//! with different constant outputs: so their sum is made once, and each further branch costs its
+//! length.
 ghost use Rattle.std.specs.Prelude.{◌≡◌, IfOk, IfSome, List, All, Contains};
 ghost use Rattle.cube.specs.Size.{Size};
 ghost use Rattle.cube.specs.Cube.{Cube as Row, IsCube, SameSize};
@@ -19,7 +19,7 @@ use crate::sums::rows::sort_rows;
 use cube::Cube;
 use std::alloc::{AllocError, Global};
 
-// The row, or what it has together with one that was found before, if neither has a literal.
+// The row without a literal, with the outputs of the one found before it, if there is one.
 fn join_constant_rows(constant: Option<Cube>, row: &Cube) -> Result<Option<Cube>, AllocError>
     requires { IfSome constant (λ c. SameSize c row.now) }
     ensures { IfOk result (λ found. (size : Size) → (cubes : List Row) → IsCube size row.now
@@ -33,8 +33,8 @@ fn join_constant_rows(constant: Option<Cube>, row: &Cube) -> Result<Option<Cube>
     Ok(both)
 }
 
-/// A row without a literal that has the outputs of those that stand first, if there are any. In row
-/// order these are all.
+/// A row without a literal that has all constant outputs of the rows before the first one with a
+/// literal. In row order these are all constant outputs. `None` if there are none.
 pub(crate) fn constant_row(rows: &[Cube]) -> Result<Option<Cube>, AllocError>
     requires { HaveOneSize rows.now }
     ensures { IfOk result (λ found. (size : Size) → AreCubes size rows.now
@@ -50,7 +50,7 @@ pub(crate) fn constant_row(rows: &[Cube]) -> Result<Option<Cube>, AllocError>
     Ok(constant)
 }
 
-/// The rows without the outputs of another, as far as they have more.
+/// The rows without the constant outputs. Rows that have no other outputs are dropped.
 pub(crate) fn without_constant_outputs(
     alloc: Global,
     rows: &[Cube],
@@ -69,7 +69,7 @@ pub(crate) fn without_constant_outputs(
     Ok(rest)
 }
 
-// The rows with the outputs of another beside their own.
+// The rows, each with the outputs of the constant row besides its own.
 fn with_outputs_of(alloc: Global, rows: &[Cube], constant: &Cube) -> Result<Vec<Cube>, AllocError>
     requires size { All (λ c. SameSize c constant.now) rows.now }
     requires no_literal { IsFree constant.now }
@@ -85,8 +85,8 @@ fn with_outputs_of(alloc: Global, rows: &[Cube], constant: &Cube) -> Result<Vec<
     Ok(wide)
 }
 
-/// The complete sum of a list from that of its places at other outputs than those of a row without
-/// a literal.
+/// The complete sum of a list, from the complete sum without its constant outputs and the row of
+/// these.
 pub(crate) fn with_constant_outputs(
     alloc: Global,
     sum: Vec<Cube>,

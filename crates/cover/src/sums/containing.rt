@@ -1,12 +1,14 @@
 //! The cubes of a complete sum that contain a region.
 //!
-//! They are found without the others: the one cube that holds everything is cut by each row of the
-//! places outside, and of what is left of a cube only what contains the region stays. So a place
-//! that few primes hold costs little, however many primes there are (the recursion of sharps is
-//! that of Brayton et al. 1984).
+//! They are found without the other cubes of the sum: the universal cube is cut by each row of the
+//! places outside, and only pieces that contain the region are kept. So a place that few primes
+//! hold costs little, however many primes there are (the recursion of sharps is that of Brayton et
+//! al. 1984).
 //!
-//! A row that one literal alone parts from the region gives this literal to every cube. Such rows
-//! come first: then one cube is left, which most other rows do not meet, and these are done with.
+//! The *distance* of a row from the region is the number of inputs at which they have opposite
+//! literals, and one more if they share no output. A row at distance 1 leaves one piece of a cube,
+//! with the opposite of its literal. Such rows come first: then one cube is left, and the rows that
+//! do not meet it need no cut.
 ghost use Rattle.std.specs.Prelude.{◌≡◌, false, All, IfOk, IfSome, not, filter};
 ghost use Rattle.std.specs.List.{Contains};
 ghost use Rattle.cube.specs.Size.{Size};
@@ -26,7 +28,7 @@ use crate::sums::absorb::{absorb, drop_absorbed_by};
 use cube::{Cube, Shape};
 use std::alloc::{AllocError, Global};
 
-// Rows that fewer than this many literals and outputs part from the region come first.
+// Rows at a distance less than this come before all others, as a cut by them makes few pieces.
 const MANY: u32 = 6;
 
 // Whether the cube contains the region.
@@ -37,7 +39,7 @@ fn contains(cube: &Cube, region: &Cube) -> bool
     cube.contains(region)
 }
 
-// Those of the cubes that contain the region.
+// Copies of the cubes that contain the region.
 fn select_containing(alloc: Global, region: &Cube, cubes: &[Cube]) -> Result<Vec<Cube>, AllocError>
     requires { All (λ c. SameSize c region.now) cubes.now }
     ensures { IfOk result (λ kept. kept.items
@@ -52,7 +54,7 @@ fn select_containing(alloc: Global, region: &Cube, cubes: &[Cube]) -> Result<Vec
     Ok(kept)
 }
 
-// What is left of the cube outside the row and contains the region.
+// The cubes of the sharp of the cube and the row that contain the region.
 fn pieces_containing(
     alloc: Global,
     region: &Cube,
@@ -81,13 +83,13 @@ pub(crate) fn any_meets(cubes: &[Cube], row: &Cube) -> bool
     false
 }
 
-// Whether the row has one output, as far as the first 64 show.
+// Whether the row has one output. False if the shape has more than 64.
 fn has_one_output(shape: Shape, row: &Cube) -> bool {
     shape.outputs() <= 64 && row.output_bits(0).count_ones() == 1
 }
 
-// The pieces that a cut by the row made, without some that lie in others. Where the row has one
-// output none does, if no cube of the list lies in another.
+// The pieces that a cut by the row made, without pieces that lie in earlier ones. If the row has
+// one output there are none, as long as no cube of the list lies in another.
 fn absorb_pieces(
     alloc: Global,
     shape: Shape,
@@ -103,7 +105,8 @@ fn absorb_pieces(
     absorb(alloc, pieces)
 }
 
-// The list cut by a row.
+// The list with each cube that meets the row replaced by its pieces outside the row that contain
+// the region.
 fn cut_by_row(
     alloc: Global,
     shape: Shape,
@@ -136,7 +139,7 @@ fn cut_by_row(
     Ok(kept)
 }
 
-// The list cut by all rows, or `None` once it is longer than `most`.
+// The list cut by one row after the other, or `None` once it is longer than `most`.
 fn cut_by_rows(
     alloc: Global,
     shape: Shape,
@@ -172,14 +175,15 @@ fn share_output(cube: &Cube, other: &Cube) -> bool {
     false
 }
 
-// At how many inputs the two have opposite literals, and one more if they share no output. A cut by
-// the row makes at most so many pieces that contain the region.
+// The distance of two cubes: the number of inputs at which they have opposite literals, and one
+// more if they share no output. A cut by the row makes at most this many pieces that contain the
+// region.
 fn distance(region: &Cube, row: &Cube) -> u32 {
     let outputs = if share_output(region, row) { 0 } else { 1 };
     region.opposites(row).saturating_add(outputs)
 }
 
-// The rows that so many literals and outputs part from the region.
+// The rows at this distance from the region.
 fn rows_at_distance(
     alloc: Global,
     region: &Cube,
@@ -197,8 +201,8 @@ fn rows_at_distance(
     Ok(kept)
 }
 
-// The rows, some of them twice: those that few literals part from the region come first, since a
-// cut by them makes few pieces, and after it many others are done with.
+// The rows at distances 2 to 5 from the region, the nearest first, and then all rows: some stand
+// twice. A cut by a near row makes few pieces, and many other rows do not meet those.
 fn near_rows_then_all(
     alloc: Global,
     region: &Cube,
@@ -231,7 +235,8 @@ fn rows_meeting_any(alloc: Global, cubes: &[Cube], rows: &[Cube]) -> Result<Vec<
     Ok(meeting)
 }
 
-// The list cut by all rows in a good order, or `None` once it is longer than `most`.
+// The list cut by all rows, those at distance 1 first and then by distance, or `None` once it is
+// longer than `most`.
 fn cut_in_order(
     alloc: Global,
     shape: Shape,
@@ -255,7 +260,7 @@ fn cut_in_order(
     cut_by_rows(alloc, shape, region, &meeting, core, most)
 }
 
-// Whether the cube lies in one of the cubes that does not lie in it.
+// Whether the cube lies in a larger one of the cubes.
 fn lies_in_larger(cubes: &[Cube], cube: &Cube) -> bool
     requires { All (λ c. SameSize c cube.now) cubes.now }
     ensures { result ≡ is_in_larger (size_of cube.now) cubes.now cube.now }

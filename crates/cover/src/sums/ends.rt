@@ -1,5 +1,5 @@
-//! The ends of the recursion but for that of two rows: a row that holds everything, a unate list, and
-//! lists without a literal.
+//! The ends of the recursion but for that of two rows: a row that holds everything, a unate list,
+//! and lists without a literal.
 ghost use Rattle.std.specs.Prelude.{◌≡◌, ℕ, ◌<◌, ◌&&◌, ◌||◌, IfOk, IsTrue, All, Contains, length, slice_index_or, true, false};
 ghost use Rattle.std.specs.List.{list_any};
 ghost use Rattle.cube.specs.Size.{Size};
@@ -13,7 +13,7 @@ ghost use Rattle.cover.specs.Reduced.{IsUnate, LeftOutputs};
 use cube::{Cube, Shape, Symbol};
 use std::alloc::{AllocError, Global};
 
-// Whether a place is seen that is in all rows.
+// Whether the meet of all rows is not empty, so that they have a place in common.
 fn have_common_place(first: &Cube, rows: &[Cube]) -> Result<bool, AllocError>
     requires size { All (λ d. SameSize d first.now) rows.now }
     requires output { IsTrue (list_any (λ b. b) first.now.outputs) }
@@ -58,7 +58,7 @@ pub(crate) fn have_same_outputs(shape: Shape, rows: &[Cube]) -> bool
     true
 }
 
-/// Whether a row is seen that holds every place.
+/// Whether some row holds every place.
 pub(crate) fn has_universal_row(rows: &[Cube]) -> bool
     ensures { IsTrue result → (size : Size) → AreCubes size rows.now → (p : Place)
         → IsPlace size p → IsTrue (places rows.now p) }
@@ -102,7 +102,7 @@ fn any_has_output(rows: &[Cube], j: usize) -> bool
     false
 }
 
-// The outputs that some row of the first list has, and none of the second.
+// The outputs that some row of the minuend has, and no row of the subtrahend.
 fn outputs_left_over(
     alloc: Global,
     shape: Shape,
@@ -120,7 +120,7 @@ fn outputs_left_over(
     Ok(bits)
 }
 
-/// The complete sum of the places of the first list that are not in the second, if no row has a
+/// The complete sum of the places of the minuend that are not in the subtrahend, if no row has a
 /// literal.
 pub(crate) fn sum_without_literals(
     alloc: Global,

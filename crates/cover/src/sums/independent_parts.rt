@@ -1,8 +1,9 @@
 //! Rows in two parts that have no input in common.
 //!
-//! A cube within both parts together then lies within one of them: a point of it outside the one
-//! and a point outside the other, mixed by the inputs, would be outside both. So the sum of the
-//! rows is the sums of the parts side by side, or everything, if one part holds everything.
+//! A cube of the places of both parts together lies in the places of one of them: if it had a point
+//! outside the one and a point outside the other, then the first point's values at the inputs of
+//! the one with the second's elsewhere would make a point outside both. So the complete sum of the
+//! rows has the cubes of both parts' sums, or is that of one part, if that part holds every point.
 ghost use Rattle.std.specs.Prelude.{◌≡◌, IfOk, IfSome, IsTrue, All, Contains, length, false};
 ghost use Rattle.cube.specs.Size.{Size};
 ghost use Rattle.cube.specs.Cube.{Cube as Row};
@@ -21,7 +22,7 @@ pub(crate) struct Parts {
     pub(crate) other: Vec<Cube>,
 }
 
-// Whether all literals of the row are at inputs of this side.
+// Whether all literals of the row are at inputs of the group.
 fn is_in_group(row: &Cube, groups: &[bool], group: bool) -> bool
     requires { length groups.now ≡ length row.now.symbols }
     ensures { IsTrue result → IsOnSide groups.now group row.now }
@@ -36,7 +37,8 @@ fn is_in_group(row: &Cube, groups: &[bool], group: bool) -> bool
     true
 }
 
-// The rows on the one side and those on the other, if each is on one.
+// The rows with literals in the one group of inputs and the rows with literals in the other, if
+// each row is one of these.
 fn divide_by_groups(
     alloc: Global,
     rows: &[Cube],
@@ -72,8 +74,8 @@ fn first_row_has_literal(rows: &[Cube]) -> bool
     }
 }
 
-/// Two parts of the rows that have no input in common, each with a literal, if all rows have the
-/// same outputs and such parts are found.
+/// Two parts of the rows that have no input in common, each with a literal, if there are any and
+/// all rows have the same outputs.
 pub(crate) fn independent_parts(
     alloc: Global,
     shape: Shape,

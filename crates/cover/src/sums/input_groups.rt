@@ -1,9 +1,8 @@
-//! A hint: inputs on two sides, such that no row has literals on both.
+//! A hint: the inputs in two groups, such that no row has literals in both.
 //!
-//! Inputs hang together where a row has literals at both. Rows that all hang together are told
-//! apart from others in one pass over their words, mostly; only where they fall apart are the
-//! inputs joined one by one, and whole groups are then put on one side until it has half of the
-//! rows.
+//! Two inputs are connected if a row has literals at both. Mostly all rows are connected, which
+//! some passes over their words show. Only if they are not, the connected components are found by
+//! union-find, and the first of them make one group, until it has half of the rows.
 
 use cube::{Cube, Shape};
 use std::alloc::{AllocError, Global};
@@ -11,7 +10,7 @@ use std::alloc::{AllocError, Global};
 // The most words that the inputs of a cube take.
 const WORDS: usize = 32;
 
-// So often the rows are gone through for those that hang together with the first.
+// At most this many passes over the rows look for the component of the first row.
 const PASSES: usize = 8;
 
 // Whether the row has a literal at one of these inputs.
@@ -31,7 +30,7 @@ fn add_inputs(row: &Cube, words: usize, reached: &mut [u64; WORDS]) {
     }
 }
 
-// Adds the inputs of the rows that have one of those that were reached.
+// Adds the inputs of the rows that have a literal at an input that was reached.
 fn add_reached_inputs(rows: &[Cube], words: usize, reached: &mut [u64; WORDS]) {
     for row in rows {
         if has_literal_among(row, words, reached) {
@@ -40,7 +39,7 @@ fn add_reached_inputs(rows: &[Cube], words: usize, reached: &mut [u64; WORDS]) {
     }
 }
 
-// Whether it is seen that all rows hang together.
+// Whether all rows are seen to be connected, in at most `PASSES` passes.
 fn are_connected(shape: Shape, rows: &[Cube]) -> bool {
     let words = shape.inputs() / 32 + 1;
     let mut used = [0u64; WORDS];
@@ -64,7 +63,7 @@ fn are_connected(shape: Shape, rows: &[Cube]) -> bool {
     false
 }
 
-// The input that stands for those that hang together with input `i`.
+// The input that stands for the component of input `i` (union-find).
 fn leader(leaders: &[usize], i: usize) -> usize {
     let mut at = i;
     for _ in 0..leaders.len() {
@@ -76,7 +75,7 @@ fn leader(leaders: &[usize], i: usize) -> usize {
     at
 }
 
-// Joins the inputs at which the row has literals.
+// Joins the components of the inputs at which the row has literals.
 fn join_inputs(row: &Cube, leaders: &mut [usize]) {
     let _inputs = row.shape().inputs();
     let Some(first) = row.next_literal(0) else {
@@ -92,7 +91,7 @@ fn join_inputs(row: &Cube, leaders: &mut [usize]) {
     }
 }
 
-// How many rows have literals in each group, at the input that stands for it.
+// How many rows have literals in each component, at the input that stands for it.
 fn group_sizes(alloc: Global, rows: &[Cube], leaders: &[usize]) -> Result<Vec<usize>, AllocError> {
     let mut sizes = vec![in alloc; 0usize; leaders.len()]?;
     for row in rows {
@@ -103,7 +102,8 @@ fn group_sizes(alloc: Global, rows: &[Cube], leaders: &[usize]) -> Result<Vec<us
     Ok(sizes)
 }
 
-// For each input the one that stands for its group.
+// The links of the union-find: for each input the next one on the way to that which stands for its
+// component.
 fn input_leaders(alloc: Global, shape: Shape, rows: &[Cube]) -> Result<Vec<usize>, AllocError> {
     let mut leaders = Vec::with_capacity(alloc, shape.inputs())?;
     for i in 0..shape.inputs() {
@@ -115,7 +115,7 @@ fn input_leaders(alloc: Global, shape: Shape, rows: &[Cube]) -> Result<Vec<usize
     Ok(leaders)
 }
 
-// The groups of the one side, each marked at the input that stands for it: those that come first,
+// The components of the one group, each marked at the input that stands for it: the first ones,
 // until they have half of the rows.
 fn first_half_of_groups(
     alloc: Global,
@@ -134,7 +134,7 @@ fn first_half_of_groups(
     Ok(groups)
 }
 
-// For each input whether its group is marked.
+// For each input whether its component is marked.
 fn inputs_of_groups(
     alloc: Global,
     leaders: &[usize],
@@ -147,7 +147,7 @@ fn inputs_of_groups(
     Ok(inputs)
 }
 
-/// For each input whether it is on the one side, or `None` if all rows hang together.
+/// For each input whether it is in the one group, or `None` if all rows are connected.
 pub(crate) fn groups_hint(
     alloc: Global,
     shape: Shape,

@@ -1,8 +1,8 @@
 //! The meets of two lists whose rows have literals at the same inputs, as lists of points have.
 //!
-//! Of such rows two that share a place have the same symbols. So each row has a key of its symbols at
-//! the first 32 inputs, and is met only with the others of its key. In row order the keys rise, and
-//! both lists are gone through once.
+//! Of such rows two that share a place have the same symbols. So each row has a key of its symbols
+//! at the first 32 inputs, and is met only with the others of its key. In row order the keys rise,
+//! and both lists are gone through once.
 ghost use Rattle.std.specs.Prelude.{ℕ, ◌<◌, ◌≤◌, IfOk, IfSome, length, slice_index_or};
 ghost use Rattle.cube.specs.Size.{Size};
 ghost use Rattle.cover.specs.Cubes.{AreCubes};
@@ -14,8 +14,8 @@ use crate::sums::meets_by_pairs::push_meets;
 use cube::Cube;
 use std::alloc::{AllocError, Global};
 
-/// The keys of the rows, if they do not fall and each row has literals at these inputs of the first
-/// 32.
+/// The keys of the rows, if they do not fall and, of the first 32 inputs, each row has literals at
+/// exactly `inputs`.
 pub(crate) fn keys_of(
     alloc: Global,
     rows: &[Cube],
@@ -39,7 +39,7 @@ pub(crate) fn keys_of(
     Ok(Some(keys))
 }
 
-// The first index from `from` on whose key is not below this one.
+// The first index from `from` on whose key is not below `key`.
 fn first_key_not_below(keys: &[u64], from: usize, key: u64) -> usize
     requires { from ≤ length keys.now }
     ensures from_on { from ≤ result }
@@ -54,7 +54,7 @@ fn first_key_not_below(keys: &[u64], from: usize, key: u64) -> usize
     keys.len()
 }
 
-// The first index from `from` on whose key is above this one.
+// The first index from `from` on whose key is above `key`.
 fn first_key_above(keys: &[u64], from: usize, key: u64) -> usize
     requires { from ≤ length keys.now }
     ensures from_on { from ≤ result }

@@ -2,8 +2,8 @@
 //!
 //! Of rows in row order with equal symbols at the inputs before one, those with `-`, with `0` and
 //! with `1` there stand one after the other. So both lists are cut in three at input after input,
-//! and rows with other literals never come together. Lists in another order are met pair by pair, and
-//! lists whose rows have literals at the same inputs by numbers of their symbols.
+//! and rows with other literals never come together. Lists in another order are met pair by pair,
+//! and lists whose rows have literals at the same inputs by numbers of their symbols.
 ghost use Rattle.std.specs.Prelude.{◌≡◌, ◌<◌, ◌≤◌, IfOk, IfSome, All, length, take, slice_index_or};
 ghost use Rattle.cube.specs.Size.{Size};
 ghost use Rattle.cover.specs.Cubes.{AreCubes};
@@ -15,7 +15,7 @@ use crate::symbols::has_symbol_at;
 use cube::{Cube, Shape, Symbol};
 use std::alloc::{AllocError, Global};
 
-// Lists of so few pairs are met pair by pair.
+// Lists of at most this many pairs are met pair by pair.
 const FEW: usize = 64;
 
 // The rows with `-`, with `0` and with `1` at an input.
@@ -26,7 +26,7 @@ struct Thirds<'a> {
     ones: &'a [Cube],
 }
 
-// How many rows from the first on have this symbol at input `i`.
+// How many rows at the front have this symbol at input `i`.
 fn count_leading(rows: &[Cube], i: usize, symbol: Symbol) -> usize
     requires { All (λ c. i < length c.symbols) rows.now }
     ensures bound { result ≤ length rows.now }
@@ -41,7 +41,7 @@ fn count_leading(rows: &[Cube], i: usize, symbol: Symbol) -> usize
     rows.len()
 }
 
-// The rows cut in three, if they stand in that order.
+// The rows cut in three by their symbols at input `i`, if they stand in the order `-`, `0`, `1`.
 fn cut_in_three<'a>(rows: &'a [Cube], i: usize) -> Option<Thirds<'a>>
     requires { All (λ c. i < length c.symbols) rows.now }
     ensures { IfSome result (λ t. (size : Size) → AreCubes size rows.now
@@ -119,7 +119,7 @@ fn meets_by_thirds(
     Ok(all)
 }
 
-// The meets of the rows with one list, and then those with another.
+// The meets of the rows with one list, and then their meets with another.
 #[cycle(meets_by_thirds)]
 fn meets_with_both(
     alloc: Global,

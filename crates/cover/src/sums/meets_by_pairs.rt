@@ -9,7 +9,7 @@ ghost use Rattle.cover.specs.Sizes.{ShareOneSize};
 use cube::Cube;
 use std::alloc::{AllocError, Global};
 
-/// Adds the meets of a row with the others.
+/// Adds the meets of a row with each of the others.
 pub(crate) fn push_meets(row: &Cube, others: &[Cube], all: &mut Vec<Cube>) -> Result<(), AllocError>
     requires { All (λ c. SameSize row.now c) others.now }
     ensures { OnOk result ((size : Size) → IsCube size row.now → AreCubes size others.now

@@ -1,9 +1,8 @@
 //! The complete sum of two rows with opposite literals at an input: an end of the recursion.
 //!
-//! Functions of several outputs, as products of numbers, come to such rows more often than to any
-//! other list. Each value of the input has one row, and both have the meet of the two without their
-//! literals there: so the sum is these three, in row order, but a row that is the meet without its
-//! literal.
+//! Functions of several outputs, such as products of numbers, come to such rows more often than to
+//! any other list. The sum has the two rows and their consensus, in row order, without a row that
+//! lies in the consensus.
 ghost use Rattle.std.specs.Prelude.{◌≡◌, ◌<◌, ◌∷◌, [], IfOk, IfSome, All, length, slice_index_or};
 ghost use Rattle.cube.specs.Size.{Size};
 ghost use Rattle.cube.specs.Cube.{IsCube, SameSize};
@@ -18,7 +17,7 @@ use cube::{Cube, Symbol};
 use std::alloc::{AllocError, Global};
 use std::slice::from_ref;
 
-// The rows with one more, in row order.
+// The rows with one more, in row order, if it is not there yet.
 fn insert_row(rows: Vec<Cube>, row: Cube) -> Result<Vec<Cube>, AllocError>
     requires { All (λ c. SameSize c row) rows.items }
     ensures { IfOk result (λ all. all.items ≡ merged rows.items (row ∷ [])) }
@@ -32,7 +31,8 @@ fn insert_row(rows: Vec<Cube>, row: Cube) -> Result<Vec<Cube>, AllocError>
     Ok(all)
 }
 
-// The rows with that of one value of input `i`, with its symbol there, unless both values have it.
+// The rows with the cofactor at one value of input `i`, a row that gets its symbol back there,
+// unless it is in `both`.
 fn insert_row_at_value(
     rows: Vec<Cube>,
     cofactor: Cube,

@@ -23,7 +23,7 @@ loop-i-preserved c =
     let before = c.loop-i.weighed.items in
     elim c.if-weight-gt0.branch [
       | then-weight-gt0+in_ok-push w ↦
-          let added : ℕ × ℕ = (18446744073709551615 - c.weight-weight.result, c.loop-i.i) in
+          let added : ℕ × ℕ = (18446744073709551615 - c.split_weight-weight.result, c.loop-i.i) in
           All-same within c.if-weight-gt0.weighed.items (before ++ added ∷ []) (ap (λ v. v.items) w.weighed-is ∙ w.in_ok-push.ensures.items)
           (All-push within before added c.loop-i.invariant c.loop-i-test.true)
       | else-weight-gt0 w ↦ All-same within c.if-weight-gt0.weighed.items before (ap (λ v. v.items) w.weighed-is) c.loop-i.invariant

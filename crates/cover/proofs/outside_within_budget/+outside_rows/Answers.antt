@@ -11,7 +11,7 @@ use Rattle.cover.proofs.OffSets.{IsRest-near, IsRest-near_found, IsRest-halves}
 use Rattle.cover.proofs.outside_within_budget.+outside_rows.Goals as goal
 
 pub returns-in_default : goal.returns-in_default
-returns-in_default t c = IsRest-near c.args.shape c.args.region.now c.args.rows.now c.in_ok-rows.rows.items c.in_ok-largest_cubes_outside.field-0.items (c.in_ok-rows.ensures c.args.shape c.requires.rows) c.in_ok-rest.ensures
+returns-in_default t c = IsRest-near c.args.shape c.args.region.now c.args.rows.now c.in_ok-rows.rows.items c.in_ok-largest_cubes_outside.field-0.items (c.in_ok-rows.ensures c.args.shape c.requires.rows) c.in_ok-largest_cubes_outside.ensures
 
 pub with_symbol-requires : goal.with_symbol-requires
 with_symbol-requires t c = slice_get_within c.args.region.now.symbols c.in-Some.i Dash c.in-Some.ensures

@@ -4,8 +4,8 @@ use Rattle.cover.specs.Cubes.{AreCubes}
 use Rattle.cover.proofs.Dividing.{AreCubes-one, AreCubes-other, IsInParts-divided}
 use Rattle.cover.proofs.sums.independent_parts.independent_parts.Goals as goal
 
-pub divide-requires : goal.divide-requires
-divide-requires c = λ k d lt. omega (arith, (c.requires k d lt).has_size.0)
+pub divide_by_groups-requires : goal.divide_by_groups-requires
+divide_by_groups-requires c = λ k d lt. omega (arith, (c.requires k d lt).has_size.0)
 
 pub returns : goal.returns
 returns c =
