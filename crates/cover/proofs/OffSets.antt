@@ -248,8 +248,8 @@ Extends-more s cubes i cube larger done new lt at e all one = record {
     after p = ap (λ l. places l p) e ∙ places-append done (larger ∷ []) p ∙ ap (λ b. places done p || b) (or_none (holds larger p))
 
 -- a cube without its literal
-pub holds-without_literal : (c : Cube) (i : ℕ) → i < length c.symbols → IsSubset (holds c) (holds (with_symbol c i Dash))
-holds-without_literal c i lt p h = narrowed_at c i Dash lt p h refl
+pub holds-expand_at : (c : Cube) (i : ℕ) → i < length c.symbols → IsSubset (holds c) (holds (with_symbol c i Dash))
+holds-expand_at c i lt p h = narrowed_at c i Dash lt p h refl
 
 -- a cube that meets no row
 pub outside_rows : (s : Place → Bool) (rows : List Cube) (c : Cube) → IsSubset (holds c) s → All (λ d. IsDisjoint (holds d) (holds c)) rows → IsSubset (holds c) (difference s (places rows))

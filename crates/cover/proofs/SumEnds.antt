@@ -136,12 +136,12 @@ module _ (size : Size) (minuend subtrahend : List Cube) (cubes : AreCubes size m
       ∙ ap (λ x. list_any (λ (c : Cube). get_or c.outputs p.output false) minuend && not x) (places-free size subtrahend p others (λ k lt. (each k lt).1) place)
       ∙ sym (left.each p.output place.1)
 
-  pub free_sum-none : (Contains bits true → ⊥) → [] ≡ complete_sum size (difference (places minuend) (places subtrahend))
-  free_sum-none none' = complete_sum-no_output size (difference (places minuend) (places subtrahend)) bits left_place none'
+  pub sum_without_literals-none : (Contains bits true → ⊥) → [] ≡ complete_sum size (difference (places minuend) (places subtrahend))
+  sum_without_literals-none none' = complete_sum-no_output size (difference (places minuend) (places subtrahend)) bits left_place none'
 
-  pub free_sum-one : (c : Cube) → c ≡ record { symbols = replicate size.inputs Dash; outputs = bits } → IsCube size c
+  pub sum_without_literals-one : (c : Cube) → c ≡ record { symbols = replicate size.inputs Dash; outputs = bits } → IsCube size c
       → c ∷ [] ≡ complete_sum size (difference (places minuend) (places subtrahend))
-  free_sum-one c is cube = complete_sum-outputs size (difference (places minuend) (places subtrahend)) bits left_place c is cube
+  sum_without_literals-one c is cube = complete_sum-outputs size (difference (places minuend) (places subtrahend)) bits left_place c is cube
 
 -- ---- the loop over the rows
 

@@ -451,9 +451,9 @@ module _ (size : Size) (cubes rest : List Cube) (free : Cube) (part : IsFreePart
           | inr none' ↦ absurd (not_alone m c max (alone m max none') member no_literal)
         ])
 
-    pub complete_sum-with_free : (all : List Cube) → IsStrictlySortedBy row_cmp all → HasSameCubes (free ∷ wide) all → ((c : Cube) → Contains sum c → IsFree c → ⊥)
+    pub complete_sum-with_constant_outputs : (all : List Cube) → IsStrictlySortedBy row_cmp all → HasSameCubes (free ∷ wide) all → ((c : Cube) → Contains sum c → IsFree c → ⊥)
         → all ≡ complete_sum size (places cubes)
-    complete_sum-with_free all rising same none' =
+    complete_sum-with_constant_outputs all rising same none' =
         complete_sum-from_members size (places cubes) all rising
         (λ m h. elim (Contains-cases free wide m ((same m).1 h)) [
           | inl here ↦ subst (IsMaximal size (places cubes)) here (free_maximal (λ c k. none' c (subst (λ l. Contains l c) (sym is) k)))

@@ -13,7 +13,7 @@ use Rattle.cube.specs.Pattern.{agrees, matches, is_literal}
 use Rattle.cube.specs.Literals.{has_literal}
 use Rattle.cube.specs.Cube.{Cube, Place, holds, IsCube}
 use Rattle.cube.proofs.HoldsLemmas.{agrees_at-matches}
-use Rattle.cube.proofs.LiteralMarks.{order_key-same}
+use Rattle.cube.proofs.LiteralMarks.{order_key_of_32_inputs-same}
 use Rattle.cover.specs.Cubes.{AreCubes}
 use Rattle.cover.specs.Places.{places}
 use Rattle.cover.specs.Keys.{IsKey, HasKeys}
@@ -59,7 +59,7 @@ module _ (inputs : ℕ) (c d : Cube) (n m : ℕ) (mine : IsKey inputs c n) (thei
       ]
 
   same_key : n ≡ m
-  same_key = order_key-same c d n m mine.fits theirs.fits mine.key theirs.key same_symbol
+  same_key = order_key_of_32_inputs-same c d n m mine.fits theirs.fits mine.key theirs.key same_symbol
 
 -- ---- the keys of one more row
 

@@ -1,4 +1,4 @@
-//! Whether two lists agree.
+//! Whether the places of a list lie in two others, and whether two lists agree outside a third.
 pub(crate) mod equal_rows;
 pub(crate) mod intersects;
 pub(crate) mod meets_within;
@@ -11,27 +11,27 @@ ghost use Rattle.cover.specs.Places.{places, agree_outside as agree_outside_of};
 use crate::compare::equal_rows::rows_not_among;
 use crate::compare::pairwise::{Relation, are_related};
 use crate::list::Cover;
-use crate::tautology::{references_to, references_to_both};
+use crate::references::{references_to, references_to_both};
 use std::alloc::AllocError;
 
-/// Whether each place of `list` is in `other` or in `free`. Rows that also stand in one of these, in
-/// any order, take time in the lengths of the lists.
+/// Whether each place of `list` is in `other` or in `dc`. Rows that also stand in
+/// `other` or `dc`, in any order, take time in the lengths of the lists.
 ///
 /// # Errors
 ///
 /// [`AllocError`] if memory is refused.
-pub fn is_within_either(list: &Cover, other: &Cover, free: &Cover) -> Result<bool, AllocError>
+pub fn is_within_either(list: &Cover, other: &Cover, dc: &Cover) -> Result<bool, AllocError>
     requires other { other.now.size ≡ list.now.size }
-    requires free { free.now.size ≡ list.now.size }
+    requires dc { dc.now.size ≡ list.now.size }
     ensures { IfOk result
         (λ held. IsTrue held
-        ↔ IsSubset (places list.now.cubes) (λ p. places free.now.cubes p
+        ↔ IsSubset (places list.now.cubes) (λ p. places dc.now.cubes p
         || places other.now.cubes p)) }
 {
     let alloc = list.allocator();
     let shape = list.shape();
     let rows = references_to(list)?;
-    let all = references_to_both(free, other)?;
+    let all = references_to_both(dc, other)?;
     let rest = rows_not_among(alloc, shape, &rows, &all)?;
     are_related(
         alloc,
@@ -43,20 +43,20 @@ pub fn is_within_either(list: &Cover, other: &Cover, free: &Cover) -> Result<boo
     )
 }
 
-/// Whether the lists agree outside `free`: each place that is in no cube of `free` is in both
+/// Whether the lists agree outside `dc`: each place that is in no cube of `dc` is in both
 /// lists or in neither (equivalence modulo don't-cares). Rows that both lists have, in any order,
 /// take time in the lengths of the lists.
-pub fn agree_outside(list: &Cover, other: &Cover, free: &Cover) -> Result<bool, AllocError>
+pub fn agree_outside(list: &Cover, other: &Cover, dc: &Cover) -> Result<bool, AllocError>
     requires other { other.now.size ≡ list.now.size }
-    requires free { free.now.size ≡ list.now.size }
+    requires dc { dc.now.size ≡ list.now.size }
     ensures { IfOk result
         (λ agree. agree
         ≡ agree_outside_of list.now.size (places list.now.cubes) (places other.now.cubes)
-        (places free.now.cubes)) }
+        (places dc.now.cubes)) }
 {
     let (_list, _other) = (list.shape(), other.shape());
-    if !is_within_either(list, other, free)? {
+    if !is_within_either(list, other, dc)? {
         return Ok(false);
     }
-    is_within_either(other, list, free)
+    is_within_either(other, list, dc)
 }

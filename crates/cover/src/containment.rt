@@ -13,12 +13,12 @@ ghost use Rattle.cover.specs.Marks.{cube_at, is_contained_at, is_absorbed_by, sy
 
 use crate::list::Cover;
 use crate::literal_counts::LiteralCounts;
-use crate::symbols::{fits, same};
-use crate::tautology::references;
+use crate::references::references;
+use crate::symbols::{is_same_symbol, symbol_contains};
 use cube::Symbol;
 use std::alloc::{AllocError, Global};
 
-// Parts of so many cubes are not split.
+// Parts of at most this many cubes are not split: a look at their pairs costs no more.
 const SMALL: usize = 8;
 
 // Whether the cube at `k` lies in that at `j`.
@@ -33,7 +33,7 @@ fn is_within(list: &Cover, k: usize, j: usize) -> bool
 }
 
 // Whether the cube at `k` is absorbed by that at `j`.
-fn is_absorbed(list: &Cover, k: usize, j: usize) -> bool
+fn is_absorbed_by_one(list: &Cover, k: usize, j: usize) -> bool
     requires k { k < length list.now.cubes }
     requires j { j < length list.now.cubes }
     ensures { result ≡ is_absorbed_by list.now.size list.now.cubes k j }
@@ -41,22 +41,23 @@ fn is_absorbed(list: &Cover, k: usize, j: usize) -> bool
     is_within(list, k, j) && (j < k || (k < j && !is_within(list, j, k)))
 }
 
-// Whether the cube at `k` is absorbed by one of those.
+// Whether the cube at `k` is absorbed by the cube at one of the indices `outer`.
 fn is_absorbed_by_some(list: &Cover, k: usize, outer: &[usize]) -> bool
     requires k { k < length list.now.cubes }
     requires outer { All (λ j. j < length list.now.cubes) outer.now }
     ensures { result ≡ list_any (is_absorbed_by list.now.size list.now.cubes k) outer.now }
 {
     for j in outer {
-        if is_absorbed(list, k, *j) {
+        if is_absorbed_by_one(list, k, *j) {
             return true;
         }
     }
     false
 }
 
-// Marks by pairs.
-fn mark_pairs(list: &Cover, inner: &[usize], outer: &[usize], marks: &mut [bool])
+// Marks the indices of `inner` whose cubes are absorbed by cubes of `outer`, by a look at each
+// pair.
+fn mark_absorbed_by_pairs(list: &Cover, inner: &[usize], outer: &[usize], marks: &mut [bool])
     requires inner { All (λ k. k < length list.now.cubes) inner.now }
     requires outer { All (λ j. j < length list.now.cubes) outer.now }
     requires marks { length marks.old ≡ length list.now.cubes }
@@ -70,7 +71,7 @@ fn mark_pairs(list: &Cover, inner: &[usize], outer: &[usize], marks: &mut [bool]
 }
 
 // The symbol at input `i` of the cube at `k`.
-fn symbol_of(list: &Cover, i: usize, k: usize) -> Symbol
+fn symbol_of_cube(list: &Cover, i: usize, k: usize) -> Symbol
     requires k { k < length list.now.cubes }
     requires input { i < list.now.size.inputs }
     ensures { result ≡ symbol_at list.now.cubes i k }
@@ -78,8 +79,8 @@ fn symbol_of(list: &Cover, i: usize, k: usize) -> Symbol
     list.as_slice()[k].symbol(i)
 }
 
-// The indices of those cubes that have this symbol at input `i`.
-fn having(
+// Those of the indices whose cubes have this symbol at input `i`.
+fn indices_with_symbol(
     alloc: Global,
     list: &Cover,
     indices: &[usize],
@@ -94,15 +95,15 @@ fn having(
 {
     let mut kept = Vec::new(alloc);
     for k in indices {
-        if same(symbol_of(list, i, *k), symbol) {
+        if is_same_symbol(symbol_of_cube(list, i, *k), symbol) {
             kept.push(*k)?;
         }
     }
     Ok(kept)
 }
 
-// The indices of those cubes in which one with this symbol at input `i` can lie.
-fn having_over(
+// Those of the indices whose cubes have a symbol at input `i` that contains this one.
+fn indices_with_containing_symbol(
     alloc: Global,
     list: &Cover,
     indices: &[usize],
@@ -117,16 +118,17 @@ fn having_over(
 {
     let mut kept = Vec::new(alloc);
     for k in indices {
-        if fits(symbol_of(list, i, *k), symbol) {
+        if symbol_contains(symbol_of_cube(list, i, *k), symbol) {
             kept.push(*k)?;
         }
     }
     Ok(kept)
 }
 
-// Marks those indices of `inner` whose cubes are absorbed by cubes of `outer`.
-#[cycle(mark)]
-fn mark(
+// Marks the indices of `inner` whose cubes are absorbed by cubes of `outer`, by splits at the
+// inputs in this order.
+#[cycle(mark_absorbed)]
+fn mark_absorbed(
     alloc: Global,
     list: &Cover,
     order: &[usize],
@@ -143,14 +145,14 @@ fn mark(
         (Marks list.now.size list.now.cubes inner.now outer.now marks.old marks.new) }
 {
     let [input, rest @ ..] = order else {
-        mark_pairs(list, inner, outer, marks);
+        mark_absorbed_by_pairs(list, inner, outer, marks);
         return Ok(());
     };
     if inner.len() <= SMALL || outer.len() <= SMALL {
-        mark_pairs(list, inner, outer, marks);
+        mark_absorbed_by_pairs(list, inner, outer, marks);
         return Ok(());
     }
-    mark_part(
+    mark_absorbed_at(
         alloc,
         list,
         rest,
@@ -159,7 +161,7 @@ fn mark(
         outer,
         marks,
     )?;
-    mark_part(
+    mark_absorbed_at(
         alloc,
         list,
         rest,
@@ -168,7 +170,7 @@ fn mark(
         outer,
         marks,
     )?;
-    mark_part(
+    mark_absorbed_at(
         alloc,
         list,
         rest,
@@ -179,10 +181,10 @@ fn mark(
     )
 }
 
-// Marks those indices of `inner` whose cubes have the symbol at the input and are absorbed by cubes
-// of `outer`.
-#[cycle(mark)]
-fn mark_part(
+// Marks the indices of `inner` whose cubes have the symbol at the input `at` and are absorbed by
+// cubes of `outer`.
+#[cycle(mark_absorbed)]
+fn mark_absorbed_at(
     alloc: Global,
     list: &Cover,
     order: &[usize],
@@ -200,13 +202,14 @@ fn mark_part(
     ensures { OnOk result
         (MarksPart list.now.size list.now.cubes at.0 at.1 inner.now outer.now marks.old marks.new) }
 {
-    let near = having(alloc, list, inner, at.0, at.1)?;
-    let far = having_over(alloc, list, outer, at.0, at.1)?;
-    mark(alloc, list, order, &near, &far, marks)
+    let having = indices_with_symbol(alloc, list, inner, at.0, at.1)?;
+    let containing = indices_with_containing_symbol(alloc, list, outer, at.0, at.1)?;
+    mark_absorbed(alloc, list, order, &having, &containing, marks)
 }
 
-// The inputs that divide the cubes, each after a number that is lower the better it divides them.
-fn weighed_inputs(alloc: Global, list: &Cover) -> Result<Vec<(u64, usize)>, AllocError>
+// The inputs at which a split divides the cubes, each with a rank before it: the lower, the better
+// the split.
+fn ranked_inputs(alloc: Global, list: &Cover) -> Result<Vec<(u64, usize)>, AllocError>
     ensures { IfOk result (λ weighed. All (λ p. p.1 < list.now.size.inputs) weighed.items) }
 {
     let inputs = list.shape().inputs();
@@ -215,7 +218,7 @@ fn weighed_inputs(alloc: Global, list: &Cover) -> Result<Vec<(u64, usize)>, Allo
     let all = list.len() as u64;
     let mut weighed: Vec<(u64, usize)> = Vec::new(alloc);
     for i in 0..inputs {
-        let weight = weight(counts.zeros[i] as u64, counts.ones[i] as u64, all);
+        let weight = split_weight(counts.zeros[i] as u64, counts.ones[i] as u64, all);
         if weight > 0 {
             weighed.push((u64::MAX - weight, i))?;
         }
@@ -223,11 +226,11 @@ fn weighed_inputs(alloc: Global, list: &Cover) -> Result<Vec<(u64, usize)>, Allo
     Ok(weighed)
 }
 
-// The inputs that divide the cubes, those that divide them best first.
-fn inputs_in_order(alloc: Global, list: &Cover) -> Result<Vec<usize>, AllocError>
+// The inputs at which a split divides the cubes, the best first.
+fn inputs_best_first(alloc: Global, list: &Cover) -> Result<Vec<usize>, AllocError>
     ensures { IfOk result (λ order. All (λ i. i < list.now.size.inputs) order.items) }
 {
-    let mut weighed = weighed_inputs(alloc, list)?;
+    let mut weighed = ranked_inputs(alloc, list)?;
     weighed.sort()?;
     let mut order = Vec::with_capacity(alloc, weighed.len())?;
     for (_, i) in &weighed {
@@ -236,8 +239,8 @@ fn inputs_in_order(alloc: Global, list: &Cover) -> Result<Vec<usize>, AllocError
     Ok(order)
 }
 
-// How well an input divides so many cubes of which so many have each literal.
-fn weight(zeros: u64, ones: u64, all: u64) -> u64 {
+// How well a split at an input divides `all` cubes, of which `zeros` and `ones` have each literal.
+fn split_weight(zeros: u64, ones: u64, all: u64) -> u64 {
     let by_zeros = zeros.min(all.saturating_sub(zeros));
     let by_ones = ones.min(all.saturating_sub(ones));
     by_zeros.saturating_add(by_ones)
@@ -263,7 +266,7 @@ fn unmarked_cubes(alloc: Global, list: &Cover, marks: &[bool]) -> Result<Cover, 
 }
 
 // The numbers below `count`.
-fn indices(alloc: Global, count: usize) -> Result<Vec<usize>, AllocError>
+fn indices_below(alloc: Global, count: usize) -> Result<Vec<usize>, AllocError>
     ensures { IfOk result (λ all. all.items ≡ range_with_len 0 count) }
 {
     let mut all = Vec::with_capacity(alloc, count)?;
@@ -273,18 +276,19 @@ fn indices(alloc: Global, count: usize) -> Result<Vec<usize>, AllocError>
     Ok(all)
 }
 
-/// The list without its contained cubes: a cube leaves if its places lie within those of an earlier
-/// cube, or within those of a later one that isn't equal to it. The others keep their order.
+/// The list without its contained cubes: a cube is dropped if its places lie within those of an
+/// earlier cube, or within those of a later one that isn't equal to it. The other cubes keep their
+/// order.
 pub fn contain(list: &Cover) -> Result<Cover, AllocError>
     ensures { IfOk result
         (λ kept. kept
         ≡ record { size = list.now.size; cubes = contained list.now.size list.now.cubes }) }
 {
     let alloc = list.allocator();
-    let order = inputs_in_order(alloc, list)?;
+    let order = inputs_best_first(alloc, list)?;
     let cubes = list.as_slice();
-    let all = indices(alloc, cubes.len())?;
+    let all = indices_below(alloc, cubes.len())?;
     let mut marks = vec![in alloc; false; cubes.len()]?;
-    mark(alloc, list, &order, &all, &all, &mut marks)?;
+    mark_absorbed(alloc, list, &order, &all, &all, &mut marks)?;
     unmarked_cubes(alloc, list, &marks)
 }

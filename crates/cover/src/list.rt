@@ -2,6 +2,7 @@
 ghost use Rattle.std.specs.Prelude.{◌≡◌, ◌==◌, ◌∷◌, ◌++◌, [], length, slice_get, option_copied, IfOk, OnOk, OnErr, IfErr, IfSome};
 ghost use Rattle.cube.specs.Cube.{HasSize, IsCube};
 ghost use Rattle.cover.specs.Cubes.{AreCubes};
+ghost use Rattle.cover.specs.Places.{behind};
 
 use cube::{Cube, Shape};
 use std::alloc::{AllocError, Global};
@@ -40,7 +41,7 @@ impl Cover {
         Cover { shape, cubes }
     }
 
-    /// The cubes by themselves.
+    /// The cubes, without the shape.
     pub fn into_cubes(self) -> Vec<Cube>
         ensures value { result.items ≡ self.cubes }
         ensures cubes { AreCubes self.size result.items }
@@ -123,13 +124,13 @@ impl Cover {
     pub fn try_clone(&self) -> Result<Cover, AllocError>
         ensures { IfOk result (λ c. c ≡ self.now) }
     {
-        let cubes = copy_of(self.allocator(), self.as_slice())?;
+        let cubes = clone_cubes(self.allocator(), self.as_slice())?;
         Ok(Cover::from_cubes(self.shape(), cubes))
     }
 }
 
-/// An equal list.
-pub(crate) fn copy_of(alloc: Global, cubes: &[Cube]) -> Result<Vec<Cube>, AllocError>
+/// Copies of the cubes, in their order.
+pub(crate) fn clone_cubes(alloc: Global, cubes: &[Cube]) -> Result<Vec<Cube>, AllocError>
     ensures { IfOk result (λ copy. copy.items ≡ cubes.now) }
 {
     let mut copy = Vec::with_capacity(alloc, cubes.len())?;
@@ -137,4 +138,15 @@ pub(crate) fn copy_of(alloc: Global, cubes: &[Cube]) -> Result<Vec<Cube>, AllocE
         copy.push(cube.try_clone()?)?;
     }
     Ok(copy)
+}
+
+/// Copies of the cubes that the references refer to, in their order.
+pub(crate) fn clone_referents(alloc: Global, rows: &[&Cube]) -> Result<Vec<Cube>, AllocError>
+    ensures { IfOk result (λ copies. copies.items ≡ behind rows.now) }
+{
+    let mut copies = Vec::with_capacity(alloc, rows.len())?;
+    for row in rows {
+        copies.push(row.try_clone()?)?;
+    }
+    Ok(copies)
 }

@@ -6,7 +6,7 @@ ghost use Rattle.cover.specs.Splits.{CountsLiterals, Grows};
 use cube::{Cube, Symbol};
 use std::alloc::{AllocError, Global};
 
-// How many rows have each literal.
+// By input how many rows have `0`, and how many have `1`.
 #[derive(Drop)]
 pub(crate) struct LiteralCounts {
     pub(crate) zeros: Vec<u32>,
@@ -14,7 +14,7 @@ pub(crate) struct LiteralCounts {
 }
 
 impl LiteralCounts {
-    // The literals of the rows.
+    // Counts the literals of the rows.
     pub(crate) fn of(
         alloc: Global,
         rows: &[&Cube],

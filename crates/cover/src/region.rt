@@ -1,20 +1,24 @@
 //! Why cubes hold every place of a region: a cube that holds the region, and of which they hold
 //! each place (an implicant of the list).
 //!
-//! A region is a cube. A row that holds it is such a cube. Else the region is split at an input,
-//! and each half is asked by itself. If the cube for one half has no literal at that input, it
-//! holds the whole region, and the other half is never asked: so a split that had no part in an
+//! A region is a cube. A row that contains it is such a cube. Else the region is split at an input,
+//! and each half is asked for by itself. If the cube for one half has no literal at that input, it
+//! holds the whole region, and the other half is never asked for: so a split that had no part in an
 //! answer is undone at once, wherever it was made (Marques-Silva and Sakallah 1996). Else the
-//! consensus of both cubes is the answer, which has `-` at the input and elsewhere what either asks
-//! (Brayton et al. 1984). A row with one open literal holds one of the halves, so that the other
-//! decides (Davis, Logemann and Loveland 1962). If a row has no open literal, the rest of the
-//! outputs is asked.
+//! answer is the consensus of both cubes, which has `-` at the input and elsewhere the literals of
+//! both (Brayton et al. 1984). A row with one open literal contains one of the halves, so that the
+//! other decides (Davis, Logemann and Loveland 1962). If a row has no open literal, the region is
+//! asked for without its outputs.
 //!
 //! Each question looks at the rows once. While some rows of a region have few open literals, its
-//! parts look at those rows alone, and at all rows that meet the region only once these have more.
+//! halves look at those rows alone, and at all rows that meet the region only once these have more.
+//!
+//! Splits may look at a limited number of rows. Once that is spent, `holds_by_splits_or_search`
+//! asks a search that learns (`learned`).
 pub(crate) mod learned;
 pub(crate) mod nearest_rows;
-pub(crate) mod splitting_input;
+pub(crate) mod open_literals;
+pub(crate) mod step_hint;
 
 ghost use Rattle.std.specs.Prelude.{◌≡◌, ◌≢◌, ◌↔◌, ℕ, ◌≤◌, ◌<◌, false, IsTrue, IfOk, IfErr, IfSome, IfNone, OnOk, ◌++◌, ◌∷◌, [], length, slice_get, slice_index_or, Some, Contains, All};
 ghost use Rattle.std.specs.List.{list_any};
@@ -23,25 +27,26 @@ ghost use Rattle.cube.specs.Sharp.{opposite as opposite_of};
 ghost use Rattle.cover.specs.Places.{places, meeting as meeting_of, behind};
 ghost use Rattle.cover.specs.Reason.{IsReason, Explains, Joins, IsClosed, Leads, Share, AreAmong, AreKnown};
 
-use crate::region::learned::{Learned, ask};
-use crate::region::splitting_input::{Hint, next_hint, open_literals};
+use crate::region::learned::{Learned, holds_by_search};
+use crate::region::open_literals::count_open_literals;
+use crate::region::step_hint::{Hint, next_step_hint};
 use cube::{Cube, Symbol};
 use std::alloc::{AllocError, Global};
 
-// What a look at each row finds.
+// What one look at each row finds.
 #[derive(Drop)]
 struct Survey<'a> {
-    // A copy of a row that holds the region, and then nothing else counts.
+    // A copy of a row that contains the region. If there is one, the other fields say nothing.
     found: Option<Cube>,
     // The rows that meet the region.
     meeting: Vec<&'a Cube>,
-    // Those of them with fewest open literals, and how many these are.
+    // The rows of `meeting` with fewest open literals, and how many open literals they have.
     nearest: Vec<&'a Cube>,
     fewest: u32,
 }
 
 impl<'a> Survey<'a> {
-    // Adds a row that meets the region, with so many open literals.
+    // Adds a row that meets the region and has `open` open literals.
     fn add(&mut self, row: &'a Cube, open: u32) -> Result<(), AllocError>
         requires { AreAmong self.old.nearest.items self.old.meeting.items }
         ensures found { self.new.found ≡ self.old.found }
@@ -63,7 +68,7 @@ impl<'a> Survey<'a> {
     }
 }
 
-// Looks at each row once.
+// Looks at each row once, until a row contains the region.
 fn survey_rows<'a>(
     alloc: Global,
     rows: &[&'a Cube],
@@ -88,7 +93,7 @@ fn survey_rows<'a>(
     };
     for row in rows {
         if !row.disjoint(region) {
-            let open = open_literals(shape, row, region, survey.fewest);
+            let open = count_open_literals(shape, row, region, survey.fewest);
             if open == 0 && row.contains(region) {
                 survey.found = Some(row.try_clone()?);
                 return Ok(survey);
@@ -100,7 +105,7 @@ fn survey_rows<'a>(
 }
 
 // The first input at which the row has a literal and the region has none.
-fn open_literal(row: &Cube, region: &Cube) -> Option<usize>
+fn first_open_input(row: &Cube, region: &Cube) -> Option<usize>
     requires { SameSize row.now region.now }
     ensures dash { IfSome result (λ i. slice_get region.now.symbols i ≡ Some Symbol.Dash) }
     ensures literal { IfSome result
@@ -123,24 +128,25 @@ fn open_literal(row: &Cube, region: &Cube) -> Option<usize>
     None
 }
 
-// What is next for a region.
+// The next step for a region.
 #[derive(Clone, Copy)]
 pub(crate) enum Step {
-    // The row at this index has no open literal.
+    // The row at this index has no open literal: take out its outputs.
     Row(usize),
-    // The input splits the region, and the half with this literal is asked first.
+    // Split the region at the input, and ask for the half with this literal first.
     Split(usize, Symbol),
 }
 
-// What is next for a region that all of the nearest rows meet.
+// The next step for a region that all of the rows `near` meet, where they have `fewest` open
+// literals.
 fn next_step(rows: &[&Cube], near: &[&Cube], fewest: u32, region: &Cube) -> Step
     requires sizes { All (λ d. SameSize d.now region.now) near.now }
     requires some { 1 ≤ length near.now }
     ensures { Leads region.now (behind near.now) result }
 {
-    match next_hint(region.shape(), near, rows, fewest, region) {
+    match next_step_hint(region.shape(), near, rows, fewest, region) {
         Hint::Row(k) => {
-            if k < near.len() && open_literal(near[k], region).is_none() {
+            if k < near.len() && first_open_input(near[k], region).is_none() {
                 return Step::Row(k);
             }
         }
@@ -153,13 +159,13 @@ fn next_step(rows: &[&Cube], near: &[&Cube], fewest: u32, region: &Cube) -> Step
             }
         }
     }
-    match open_literal(near[0], region) {
+    match first_open_input(near[0], region) {
         None => Step::Row(0),
         Some(i) => Step::Split(i, Symbol::Zero),
     }
 }
 
-// The other literal.
+// The other literal, or `-` for `-`.
 pub(crate) fn opposite(symbol: Symbol) -> Symbol
     ensures { result ≡ opposite_of symbol }
 {
@@ -170,7 +176,8 @@ pub(crate) fn opposite(symbol: Symbol) -> Symbol
     }
 }
 
-// The cube that has `-` at the input and elsewhere what either of the two asks.
+// The consensus at the input: the cube that has `-` there, elsewhere the literals of both, and the
+// outputs that both have.
 fn consensus(i: usize, one: &Cube, other: &Cube) -> Result<Option<Cube>, AllocError>
     requires input { i < length one.now.symbols }
     requires size { SameSize other.now one.now }
@@ -186,7 +193,7 @@ fn consensus(i: usize, one: &Cube, other: &Cube) -> Result<Option<Cube>, AllocEr
     low.meet(&high)
 }
 
-/// Why splits came to no answer.
+/// Why splits gave no answer.
 #[derive(Drop)]
 pub(crate) enum Stop {
     /// A growth of memory was refused.
@@ -205,25 +212,25 @@ impl From<AllocError> for Stop {
     }
 }
 
-/// What splits may take.
+/// What splits may use.
 #[derive(Clone, Copy)]
-pub(crate) struct Means {
+pub(crate) struct Allowance {
     pub(crate) alloc: Global,
-    // Whether they may look at so many rows only.
+    // Whether they have to stop once `row_budget` is spent.
     pub(crate) limited: bool,
 }
 
-// So many rows are looked at.
-fn spend(means: Means, looks: &mut u64, rows: usize) -> Result<(), Stop>
-    ensures { IfErr result (λ _. IsTrue means.limited) }
+// Takes `rows` from the rows that may still be looked at; `Spent` if they are limited and too few.
+fn spend(allowance: Allowance, row_budget: &mut u64, rows: usize) -> Result<(), Stop>
+    ensures { IfErr result (λ _. IsTrue allowance.limited) }
 {
-    match looks.checked_sub(rows as u64) {
+    match row_budget.checked_sub(rows as u64) {
         Some(left) => {
-            *looks = left;
+            *row_budget = left;
             Ok(())
         }
         None => {
-            if means.limited {
+            if allowance.limited {
                 Err(Stop::Spent)
             } else {
                 Ok(())
@@ -232,78 +239,80 @@ fn spend(means: Means, looks: &mut u64, rows: usize) -> Result<(), Stop>
     }
 }
 
-// A cube that holds the region and of which the rows hold each place, or `None` if they lack a
-// place of the region. Some of the rows are near; they alone are looked at while one of them has at
-// most so many open literals.
+// An implicant of the rows that contains the region, or `None` if they lack a place of it. The rows
+// `near`, which are some of the rows, are looked at alone while one of them has at most `bound`
+// open literals.
 #[cycle(reason)]
 pub(crate) fn reason(
-    means: Means,
+    allowance: Allowance,
     rows: &[&Cube],
     near: &[&Cube],
     bound: u32,
     region: &Cube,
-    looks: &mut u64,
+    row_budget: &mut u64,
 ) -> Result<Option<Cube>, Stop>
     requires sizes { All (λ d. SameSize d.now region.now) rows.now }
     requires near { AreAmong near.now rows.now }
     ensures found { IfOk result (λ found. Explains region.now (behind rows.now) found) }
-    ensures spent { IfErr result (λ stop. stop ≡ Stop.Spent → IsTrue means.limited) }
+    ensures spent { IfErr result (λ stop. stop ≡ Stop.Spent → IsTrue allowance.limited) }
 {
-    spend(means, looks, near.len())?;
+    spend(allowance, row_budget, near.len())?;
     let Survey {
         found,
         meeting,
         nearest,
         fewest,
-    } = survey_rows(means.alloc, near, region)?;
+    } = survey_rows(allowance.alloc, near, region)?;
     if let Some(cube) = found {
         return Ok(Some(cube));
     }
     if fewest <= bound && !meeting.is_empty() {
         let rest = fewest.min(bound.saturating_sub(1));
-        return by_step(means, rows, &nearest, fewest, rest, region, looks);
+        return reason_by_step(allowance, rows, &nearest, fewest, rest, region, row_budget);
     }
-    by_all_rows(means, rows, region, looks)
+    reason_by_all_rows(allowance, rows, region, row_budget)
 }
 
-// The reason by a look at each row.
+// The reason, found by a look at each row and the next step.
 #[cycle(reason)]
-fn by_all_rows(
-    means: Means,
+fn reason_by_all_rows(
+    allowance: Allowance,
     rows: &[&Cube],
     region: &Cube,
-    looks: &mut u64,
+    row_budget: &mut u64,
 ) -> Result<Option<Cube>, Stop>
     requires { All (λ d. SameSize d.now region.now) rows.now }
     ensures found { IfOk result (λ found. Explains region.now (behind rows.now) found) }
-    ensures spent { IfErr result (λ stop. stop ≡ Stop.Spent → IsTrue means.limited) }
+    ensures spent { IfErr result (λ stop. stop ≡ Stop.Spent → IsTrue allowance.limited) }
 {
-    spend(means, looks, rows.len())?;
+    spend(allowance, row_budget, rows.len())?;
     let Survey {
         found,
         meeting,
         nearest,
         fewest,
-    } = survey_rows(means.alloc, rows, region)?;
+    } = survey_rows(allowance.alloc, rows, region)?;
     if let Some(cube) = found {
         return Ok(Some(cube));
     }
     if meeting.is_empty() {
         return Ok(None);
     }
-    by_step(means, &meeting, &nearest, fewest, fewest, region, looks)
+    reason_by_step(
+        allowance, &meeting, &nearest, fewest, fewest, region, row_budget,
+    )
 }
 
-// The reason by the next step, if all of the near rows meet the region.
+// The reason, found by the next step. All of the rows `near` meet the region.
 #[cycle(reason)]
-fn by_step(
-    means: Means,
+fn reason_by_step(
+    allowance: Allowance,
     rows: &[&Cube],
     near: &[&Cube],
     fewest: u32,
     bound: u32,
     region: &Cube,
-    looks: &mut u64,
+    row_budget: &mut u64,
 ) -> Result<Option<Cube>, Stop>
     requires output { IsTrue (list_any (λ b. b) region.now.outputs) }
     requires sizes { All (λ d. SameSize d.now region.now) rows.now }
@@ -311,23 +320,33 @@ fn by_step(
     requires meets { All (λ d. IsDisjoint (holds d.now) (holds region.now) → ⊥) near.now }
     requires some { 1 ≤ length near.now }
     ensures found { IfOk result (λ found. Explains region.now (behind rows.now) found) }
-    ensures spent { IfErr result (λ stop. stop ≡ Stop.Spent → IsTrue means.limited) }
+    ensures spent { IfErr result (λ stop. stop ≡ Stop.Spent → IsTrue allowance.limited) }
 {
     match next_step(rows, near, fewest, region) {
-        Step::Row(k) => by_outputs(means, rows, near, bound, region, looks, near[k]),
-        Step::Split(i, literal) => by_input(means, rows, near, bound, region, looks, (i, literal)),
+        Step::Row(k) => reason_by_outputs(
+            allowance, rows, near, bound, region, row_budget, near[k],
+        ),
+        Step::Split(i, literal) => reason_by_split(
+            allowance,
+            rows,
+            near,
+            bound,
+            region,
+            row_budget,
+            (i, literal),
+        ),
     }
 }
 
-// The reason if a row has no open literal: the row has some of the outputs.
+// The reason, found from that of the region without the outputs of a row without open literals.
 #[cycle(reason)]
-fn by_outputs(
-    means: Means,
+fn reason_by_outputs(
+    allowance: Allowance,
     rows: &[&Cube],
     near: &[&Cube],
     bound: u32,
     region: &Cube,
-    looks: &mut u64,
+    row_budget: &mut u64,
     row: &Cube,
 ) -> Result<Option<Cube>, Stop>
     requires sizes { All (λ d. SameSize d.now region.now) rows.now }
@@ -337,14 +356,14 @@ fn by_outputs(
     requires meets { IsDisjoint (holds row.now) (holds region.now) → ⊥ }
     requires closed { IsClosed region.now row.now }
     ensures found { IfOk result (λ found. Explains region.now (behind rows.now) found) }
-    ensures spent { IfErr result (λ stop. stop ≡ Stop.Spent → IsTrue means.limited) }
+    ensures spent { IfErr result (λ stop. stop ≡ Stop.Spent → IsTrue allowance.limited) }
 {
-    if !region.has_more_outputs(row) {
+    if !region.has_outputs_beyond(row) {
         return Ok(Some(row.try_clone()?));
     }
     let found = {
         let rest = region.without_outputs(row)?;
-        reason(means, rows, near, bound, &rest, looks)?
+        reason(allowance, rows, near, bound, &rest, row_budget)?
     };
     let Some(other) = found else {
         return Ok(None);
@@ -352,18 +371,18 @@ fn by_outputs(
     if other.contains(region) {
         return Ok(Some(other));
     }
-    Ok(row.stack(&other)?)
+    Ok(row.output_consensus(&other)?)
 }
 
-// The reason by halves, that with the literal first.
+// The reason, found by the two halves of the region at an input. That with the literal is first.
 #[cycle(reason)]
-fn by_input(
-    means: Means,
+fn reason_by_split(
+    allowance: Allowance,
     rows: &[&Cube],
     near: &[&Cube],
     bound: u32,
     region: &Cube,
-    looks: &mut u64,
+    row_budget: &mut u64,
     at: (usize, Symbol),
 ) -> Result<Option<Cube>, Stop>
     requires output { IsTrue (list_any (λ b. b) region.now.outputs) }
@@ -372,12 +391,12 @@ fn by_input(
     requires dash { slice_get region.now.symbols at.0 ≡ Some Symbol.Dash }
     requires literal { at.1 ≢ Symbol.Dash }
     ensures found { IfOk result (λ found. Explains region.now (behind rows.now) found) }
-    ensures spent { IfErr result (λ stop. stop ≡ Stop.Spent → IsTrue means.limited) }
+    ensures spent { IfErr result (λ stop. stop ≡ Stop.Spent → IsTrue allowance.limited) }
 {
     let (i, literal) = at;
     let found = {
         let first = region.with_symbol(i, literal)?;
-        reason(means, rows, near, bound, &first, looks)?
+        reason(allowance, rows, near, bound, &first, row_budget)?
     };
     let Some(one) = found else {
         return Ok(None);
@@ -385,18 +404,19 @@ fn by_input(
     if one.contains(region) {
         return Ok(Some(one));
     }
-    by_other_half(means, rows, near, bound, region, looks, at, &one)
+    reason_by_other_half(allowance, rows, near, bound, region, row_budget, at, &one)
 }
 
-// The reason by the half with the other literal, and by the reason of the half with the literal.
+// The reason, found by the half with the other literal, where `one` is the reason of the half with
+// the literal: if it has a literal at the input too, the consensus of both reasons.
 #[cycle(reason)]
-fn by_other_half(
-    means: Means,
+fn reason_by_other_half(
+    allowance: Allowance,
     rows: &[&Cube],
     near: &[&Cube],
     bound: u32,
     region: &Cube,
-    looks: &mut u64,
+    row_budget: &mut u64,
     at: (usize, Symbol),
     one: &Cube,
 ) -> Result<Option<Cube>, Stop>
@@ -408,12 +428,12 @@ fn by_other_half(
     requires one_size { SameSize one.now region.now }
     requires one { IsReason (with_symbol region.now at.0 at.1) (behind rows.now) one.now }
     ensures found { IfOk result (λ found. Explains region.now (behind rows.now) found) }
-    ensures spent { IfErr result (λ stop. stop ≡ Stop.Spent → IsTrue means.limited) }
+    ensures spent { IfErr result (λ stop. stop ≡ Stop.Spent → IsTrue allowance.limited) }
 {
     let (i, literal) = at;
     let found = {
         let second = region.with_symbol(i, opposite(literal))?;
-        reason(means, rows, near, bound, &second, looks)?
+        reason(allowance, rows, near, bound, &second, row_budget)?
     };
     let Some(other) = found else {
         return Ok(None);
@@ -425,58 +445,59 @@ fn by_other_half(
 }
 
 /// Whether the rows hold each place of the region.
-pub(crate) fn covers_cube(alloc: Global, rows: &[&Cube], region: &Cube) -> Result<bool, AllocError>
+pub(crate) fn holds_region(alloc: Global, rows: &[&Cube], region: &Cube) -> Result<bool, AllocError>
     requires { All (λ d. SameSize d.now region.now) rows.now }
     ensures { IfOk result
         (λ held. IsTrue held ↔ IsSubset (holds region.now) (places (behind rows.now))) }
 {
     let mut learned = Learned::new(alloc);
-    covers_cube_near(alloc, rows, &[], 0, region, &mut learned)
+    holds_by_splits_or_search(alloc, rows, &[], 0, region, &mut learned)
 }
 
 // Whether the rows hold each place of the region, by splits alone.
-fn covers_by_splits(
-    means: Means,
+fn holds_by_splits(
+    allowance: Allowance,
     rows: &[&Cube],
     near: &[&Cube],
     bound: u32,
     region: &Cube,
-    looks: &mut u64,
+    row_budget: &mut u64,
 ) -> Result<bool, Stop>
     requires sizes { All (λ d. SameSize d.now region.now) rows.now }
     requires near { AreAmong near.now rows.now }
     ensures held { IfOk result
         (λ held. IsTrue held ↔ IsSubset (holds region.now) (places (behind rows.now))) }
-    ensures spent { IfErr result (λ stop. stop ≡ Stop.Spent → IsTrue means.limited) }
+    ensures spent { IfErr result (λ stop. stop ≡ Stop.Spent → IsTrue allowance.limited) }
 {
-    Ok(reason(means, rows, near, bound, region, looks)?.is_some())
+    Ok(reason(allowance, rows, near, bound, region, row_budget)?.is_some())
 }
 
-/// Whether splits that look at so many rows show that the rows hold each place of the region.
-pub(crate) fn is_seen_to_cover(
+/// Whether splits that look at no more than `row_budget` rows show that the rows hold each place of
+/// the region.
+pub(crate) fn is_seen_to_hold(
     alloc: Global,
     rows: &[&Cube],
     region: &Cube,
-    looks: usize,
+    row_budget: usize,
 ) -> Result<bool, AllocError>
     requires { All (λ d. SameSize d.now region.now) rows.now }
     ensures { IfOk result
         (λ held. IsTrue held → IsSubset (holds region.now) (places (behind rows.now))) }
 {
-    let means = Means {
+    let allowance = Allowance {
         alloc,
         limited: true,
     };
-    let mut left = looks as u64;
-    match covers_by_splits(means, rows, &[], 0, region, &mut left) {
+    let mut left = row_budget as u64;
+    match holds_by_splits(allowance, rows, &[], 0, region, &mut left) {
         Ok(held) => Ok(held),
         Err(Stop::Memory) => Err(AllocError),
         Err(Stop::Spent) => Ok(false),
     }
 }
 
-// Whether the rows hold each place of the region, by however many splits.
-fn covers_by_all_splits(
+// Whether the rows hold each place of the region, by as many splits as it takes.
+fn holds_by_unlimited_splits(
     alloc: Global,
     rows: &[&Cube],
     near: &[&Cube],
@@ -488,25 +509,26 @@ fn covers_by_all_splits(
     ensures { IfOk result
         (λ held. IsTrue held ↔ IsSubset (holds region.now) (places (behind rows.now))) }
 {
-    let means = Means {
+    let allowance = Allowance {
         alloc,
         limited: false,
     };
-    let mut looks = 0;
-    match covers_by_splits(means, rows, near, bound, region, &mut looks) {
+    let mut row_budget = 0;
+    match holds_by_splits(allowance, rows, near, bound, region, &mut row_budget) {
         Ok(held) => Ok(held),
         Err(Stop::Memory) => Err(AllocError),
         Err(Stop::Spent) => unreachable!(),
     }
 }
 
-/// Whether the rows hold each place of the region. Near rows are looked at first, and they alone
-/// while one of them has at most so many open literals.
+/// Whether the rows hold each place of the region. The rows `near` are looked at alone while one of
+/// them has at most `bound` open literals.
 ///
 /// Most questions are answered by splits. Once the splits of all questions about the rows have
-/// looked at many of them, a search is asked, and what it learns of the rows is kept; if it finds
-/// no answer within its memory, or one that does not hold, splits go on for as long as they take.
-pub(crate) fn covers_cube_near(
+/// spent the row budget of `learned`, a search is asked, and what it learns of the rows is kept. If
+/// it finds no answer within its limits, or one that is not shown, splits begin again without
+/// limit.
+pub(crate) fn holds_by_splits_or_search(
     alloc: Global,
     rows: &[&Cube],
     near: &[&Cube],
@@ -522,18 +544,25 @@ pub(crate) fn covers_cube_near(
     ensures held { IfOk result
         (λ held. IsTrue held ↔ IsSubset (holds region.now) (places (behind rows.now))) }
 {
-    learned.allow(rows.len());
-    let means = Means {
+    learned.raise_row_budget(rows.len());
+    let allowance = Allowance {
         alloc,
         limited: true,
     };
-    match covers_by_splits(means, rows, near, bound, region, &mut learned.looks) {
+    match holds_by_splits(
+        allowance,
+        rows,
+        near,
+        bound,
+        region,
+        &mut learned.row_budget,
+    ) {
         Ok(held) => return Ok(held),
         Err(Stop::Memory) => return Err(AllocError),
         Err(Stop::Spent) => (),
     }
-    if let Some(held) = ask(alloc, rows, learned, region)? {
+    if let Some(held) = holds_by_search(alloc, rows, learned, region)? {
         return Ok(held);
     }
-    covers_by_all_splits(alloc, rows, near, bound, region)
+    holds_by_unlimited_splits(alloc, rows, near, bound, region)
 }

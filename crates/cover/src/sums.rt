@@ -1,34 +1,40 @@
 //! Complete sums.
 //!
-//! The complete sum of the places of one list without those of another is found from three smaller
-//! ones. At an input, the cubes of the sum without a literal there are the complete sum of the
-//! places that are inside at both values; those with `0` are the cubes of the sum at `0` that are
-//! not among the first, and those with `1` likewise. The lists at both values are the cubes without
-//! a literal at the input with the meets of those with `0` and those with `1`, and of the list that
-//! is taken away the cubes with either. If one value has all places of the other, the places at
-//! both are the other's, and two sums are enough. The recursion over both cofactors and their
-//! product is that of Coudert and Madre (Implicit and Incremental Computation of Primes and
-//! Essential Primes of Boolean Functions, 1992); they keep the sets as decision diagrams, and here
-//! they are lists of cubes, whose sums are kept in a table to be found again. So no products of
-//! primes are formed, and no prime is compared with the others: each merge takes time in the
-//! lengths of its lists, which are in row order. The input with most literals is split at, and
-//! lists with one literal at each input are their own sum but for the cubes that lie in others
-//! (Brayton et al. 1984). The sum of rows in two parts that have no input in common is the sums of
-//! the parts side by side, so that they do not multiply each other's steps.
+//! `difference_sum` makes the complete sum of the places of one list, the minuend, that are not in
+//! another, the subtrahend. It is put together from three smaller sums at an input:
+//!
+//! - that of the consensus, the places that are there with both values of the input: its cubes have
+//!   no literal at the input;
+//! - those of the cofactors at `0` and at `1`: their cubes that are not in the first sum get that
+//!   literal.
+//!
+//! The consensus of the minuend has its cubes without a literal at the input, and the meets of its
+//! cubes with `0` and its cubes with `1`; of the subtrahend the smoothing is taken, all of its
+//! cubes without their literals there. If one cofactor has all places of the other, the consensus
+//! is the other, and two sums are enough. This recursion is that of Coudert and Madre (Implicit and
+//! Incremental Computation of Primes and Essential Primes of Boolean Functions, 1992). They keep
+//! the sets as decision diagrams; here they are lists of cubes, whose sums are kept in a table to
+//! be found again. So no products of primes are formed, and no prime is compared with the others:
+//! each merge takes time in the lengths of its lists, which are in row order.
+//!
+//! The input with most literals is split at. A unate list is its own sum but for the cubes that lie
+//! in others (Brayton et al. 1984). Of a list in two parts without a common input the sums of the
+//! parts are made one after the other, so that they do not multiply each other's steps.
 pub(crate) mod absorb;
-pub(crate) mod apart;
 pub(crate) mod branch;
+pub(crate) mod by_symbol;
 pub(crate) mod computed_table;
+pub(crate) mod constant_outputs;
 pub(crate) mod containing;
-pub(crate) mod free;
+pub(crate) mod ends;
+pub(crate) mod independent_parts;
+pub(crate) mod input_groups;
 pub(crate) mod keys;
-pub(crate) mod leaf;
 pub(crate) mod meets;
-pub(crate) mod parts;
+pub(crate) mod meets_by_pairs;
 pub(crate) mod rows;
-pub(crate) mod sides;
-pub(crate) mod splitting_input;
-pub(crate) mod two;
+pub(crate) mod split_input;
+pub(crate) mod two_rows;
 
 ghost use Rattle.std.specs.Prelude.{◌≡◌, ◌<◌, ◌||◌, ◌++◌, IfOk, not, true};
 ghost use Rattle.cube.specs.Cube.{intersection, difference as difference_of};
@@ -41,31 +47,33 @@ ghost use Rattle.cover.specs.Places.{places};
 ghost use Rattle.cover.specs.Reduced.{IsBranch};
 ghost use Rattle.cover.specs.Sides.{IsSide};
 
+use crate::cubes::universal_cube;
 use crate::list::Cover;
-use crate::sums::absorb::{absorb, absorb_if_short, without_absorbed};
-use crate::sums::apart::{Parts, has_free_row, parts_apart};
-use crate::sums::branch::{Branches, absorbed_cofactor_at, branches_at, literal, smoothing_at};
-use crate::sums::computed_table::{ComputedTable, hash_of};
-use crate::sums::free::{free_part, with_free, without_free};
-use crate::sums::leaf::free_sum;
-use crate::sums::meets::meets;
-use crate::sums::parts::has_symbol;
-use crate::sums::rows::{combine, merge, sort_rows};
-use crate::sums::splitting_input::{
-    has_literal_in_each, hold_everything, is_unate, order_hint, splitting_input,
+use crate::sums::absorb::{absorb, absorb_if_short, drop_absorbed_by_if_short};
+use crate::sums::branch::{
+    Branches, absorbed_cofactor_at, branches_at, literal_of_value, smoothing_at,
 };
-use crate::sums::two::sum_of_two;
-use crate::tautology::universal;
+use crate::sums::by_symbol::has_symbol;
+use crate::sums::computed_table::{ComputedTable, hash_of_lists};
+use crate::sums::constant_outputs::{
+    constant_row, with_constant_outputs, without_constant_outputs,
+};
+use crate::sums::ends::{has_universal_row, is_unate, sum_without_literals};
+use crate::sums::independent_parts::{Parts, has_row_without_literals, independent_parts};
+use crate::sums::meets::meets;
+use crate::sums::rows::{combine_branches, merge, sort_rows};
+use crate::sums::split_input::{each_has_literal, input_order_hint, split_input_of_lists};
+use crate::sums::two_rows::sum_of_two_rows;
 use cube::{Cube, Shape};
 use std::alloc::{AllocError, Global};
 
-// The complete sum of the places of the first list that are not in the second. Rows of the first
-// that lie in one of the second count for nothing.
+// The complete sum of the places of the minuend that are not in the subtrahend. Rows of the minuend
+// that lie in one of the subtrahend are left out first, if the lists are short.
 #[cycle(sum)]
-fn sum_between(
+fn difference_sum(
     alloc: Global,
     shape: Shape,
-    found: &mut ComputedTable,
+    table: &mut ComputedTable,
     minuend: Vec<Cube>,
     subtrahend: Vec<Cube>,
 ) -> Result<Vec<Cube>, AllocError>
@@ -75,17 +83,17 @@ fn sum_between(
         (λ rows. rows.items
         ≡ complete_sum_of shape (difference_of (places minuend.items) (places subtrahend.items))) }
 {
-    let left = without_absorbed(alloc, minuend, &subtrahend)?;
-    left_sum(alloc, shape, found, left, subtrahend)
+    let left = drop_absorbed_by_if_short(alloc, minuend, &subtrahend)?;
+    sum_by_case(alloc, shape, table, left, subtrahend)
 }
 
-// The complete sum of the places of the first list that are not in the second, if no row of the
-// first needs to be left out.
+// The complete sum of the places of the minuend that are not in the subtrahend: by one of the ends
+// of the recursion, without its constant outputs, or from the table.
 #[cycle(sum)]
-fn left_sum(
+fn sum_by_case(
     alloc: Global,
     shape: Shape,
-    found: &mut ComputedTable,
+    table: &mut ComputedTable,
     minuend: Vec<Cube>,
     subtrahend: Vec<Cube>,
 ) -> Result<Vec<Cube>, AllocError>
@@ -105,30 +113,31 @@ fn left_sum(
         if is_unate(shape, &minuend)? {
             return absorb(alloc, minuend);
         }
-        if let Some(sum) = sum_of_two(alloc, &minuend)? {
+        if let Some(sum) = sum_of_two_rows(alloc, &minuend)? {
             return Ok(sum);
         }
-        if let Some(free) = free_part(&minuend)? {
-            let rest = without_free(alloc, &minuend, &free)?;
-            let sum = found_sum(alloc, shape, found, rest, subtrahend)?;
-            return with_free(alloc, sum, free);
+        if let Some(constant) = constant_row(&minuend)? {
+            let rest = without_constant_outputs(alloc, &minuend, &constant)?;
+            let sum = remembered_sum(alloc, shape, table, rest, subtrahend)?;
+            return with_constant_outputs(alloc, sum, constant);
         }
     }
     if minuend.len() == 1 && subtrahend.len() == 1 {
         return minuend[0].sharp(&subtrahend[0]);
     }
-    if hold_everything(&subtrahend) {
+    if has_universal_row(&subtrahend) {
         return Ok(Vec::new(alloc));
     }
-    found_sum(alloc, shape, found, minuend, subtrahend)
+    remembered_sum(alloc, shape, table, minuend, subtrahend)
 }
 
-// That sum, kept from before or found now.
+// The complete sum of the places of the minuend that are not in the subtrahend, from the table or
+// by a split, and then kept in the table.
 #[cycle(sum)]
-fn found_sum(
+fn remembered_sum(
     alloc: Global,
     shape: Shape,
-    found: &mut ComputedTable,
+    table: &mut ComputedTable,
     minuend: Vec<Cube>,
     subtrahend: Vec<Cube>,
 ) -> Result<Vec<Cube>, AllocError>
@@ -138,21 +147,22 @@ fn found_sum(
         (λ rows. rows.items
         ≡ complete_sum_of shape (difference_of (places minuend.items) (places subtrahend.items))) }
 {
-    let hash = hash_of(shape, &minuend, &subtrahend);
-    if let Some(sum) = found.find(alloc, shape, hash, &minuend, &subtrahend)? {
+    let hash = hash_of_lists(shape, &minuend, &subtrahend);
+    if let Some(sum) = table.find(alloc, shape, hash, &minuend, &subtrahend)? {
         return Ok(sum);
     }
-    let sum = split_sum(alloc, shape, found, &minuend, &subtrahend)?;
-    found.keep(alloc, shape, hash, minuend, subtrahend, &sum)?;
+    let sum = sum_by_split(alloc, shape, table, &minuend, &subtrahend)?;
+    table.keep(alloc, shape, hash, minuend, subtrahend, &sum)?;
     Ok(sum)
 }
 
-// That sum by way of the lists at the values of an input, if one has a literal.
+// The complete sum of the places of the minuend that are not in the subtrahend, by two parts
+// without a common input, or by the branches at an input, if one has a literal.
 #[cycle(sum)]
-fn split_sum(
+fn sum_by_split(
     alloc: Global,
     shape: Shape,
-    found: &mut ComputedTable,
+    table: &mut ComputedTable,
     minuend: &[Cube],
     subtrahend: &[Cube],
 ) -> Result<Vec<Cube>, AllocError>
@@ -162,12 +172,12 @@ fn split_sum(
         (λ rows. rows.items
         ≡ complete_sum_of shape (difference_of (places minuend.now) (places subtrahend.now))) }
 {
-    let Some(i) = splitting_input(shape, minuend, subtrahend, found.order()) else {
-        return free_sum(alloc, shape, minuend, subtrahend);
+    let Some(i) = split_input_of_lists(shape, minuend, subtrahend, table.order()) else {
+        return sum_without_literals(alloc, shape, minuend, subtrahend);
     };
-    if subtrahend.is_empty() && !has_literal_in_each(minuend, i) {
-        if let Some(parts) = parts_apart(alloc, shape, minuend)? {
-            return apart_sum(alloc, shape, found, parts);
+    if subtrahend.is_empty() && !each_has_literal(minuend, i) {
+        if let Some(parts) = independent_parts(alloc, shape, minuend)? {
+            return sum_by_parts(alloc, shape, table, parts);
         }
     }
     let Branches {
@@ -176,37 +186,37 @@ fn split_sum(
         high: high_minuend,
     } = branches_at(alloc, shape, minuend, i)?;
     let both_subtrahend = smoothing_at(alloc, shape, subtrahend, i)?;
-    let both = sum_between(alloc, shape, found, both_minuend, both_subtrahend)?;
-    let low = side_sum(
+    let both = difference_sum(alloc, shape, table, both_minuend, both_subtrahend)?;
+    let low = sum_at_value(
         alloc,
         shape,
-        found,
+        table,
         i,
         false,
         minuend,
         subtrahend,
         low_minuend,
     )?;
-    let high = side_sum(
+    let high = sum_at_value(
         alloc,
         shape,
-        found,
+        table,
         i,
         true,
         minuend,
         subtrahend,
         high_minuend,
     )?;
-    combine(alloc, i, both, low, high)
+    combine_branches(alloc, i, both, low, high)
 }
 
 // The complete sum of the places of two parts that have no input in common: the sums of both, or
-// that of one, if it holds everything.
+// that of one part alone, if it has a row without literals. (The parts have the same outputs.)
 #[cycle(sum)]
-fn apart_sum(
+fn sum_by_parts(
     alloc: Global,
     shape: Shape,
-    found: &mut ComputedTable,
+    table: &mut ComputedTable,
     parts: Parts,
 ) -> Result<Vec<Cube>, AllocError>
     requires { IsInParts shape
@@ -216,33 +226,33 @@ fn apart_sum(
         ≡ complete_sum_of shape (places (parts.one.items ++ parts.other.items))) }
 {
     let Parts { one, other } = parts;
-    let sum = left_sum(alloc, shape, found, one, Vec::new(alloc))?;
-    if has_free_row(&sum) {
+    let sum = sum_by_case(alloc, shape, table, one, Vec::new(alloc))?;
+    if has_row_without_literals(&sum) {
         return Ok(sum);
     }
-    let other_sum = left_sum(alloc, shape, found, other, Vec::new(alloc))?;
-    if has_free_row(&other_sum) {
+    let other_sum = sum_by_case(alloc, shape, table, other, Vec::new(alloc))?;
+    if has_row_without_literals(&other_sum) {
         return Ok(other_sum);
     }
     merge(alloc, sum, other_sum)
 }
 
-// What the places at one value of input `i` add to those at both: their complete sum, or nothing
-// if the other value has them too. `side` has the first list's places there.
+// The complete sum of the cofactor at one value of input `i`, or nothing if the other cofactor has
+// all of its places, so that the consensus has them. `cofactor` is that of the minuend.
 #[cycle(sum)]
-fn side_sum(
+fn sum_at_value(
     alloc: Global,
     shape: Shape,
-    found: &mut ComputedTable,
+    table: &mut ComputedTable,
     i: usize,
     value: bool,
     minuend: &[Cube],
     subtrahend: &[Cube],
-    side: Vec<Cube>,
+    cofactor: Vec<Cube>,
 ) -> Result<Vec<Cube>, AllocError>
     requires input { i < shape.inputs }
-    requires side { IsBranch shape i minuend.now
-        (cofactor_at i value (places minuend.now)) side.items }
+    requires cofactor { IsBranch shape i minuend.now
+        (cofactor_at i value (places minuend.now)) cofactor.items }
     requires literal { (has_literal i minuend.now || has_literal i subtrahend.now) ≡ true }
     requires minuend { AreCubes shape minuend.now }
     requires subtrahend { AreCubes shape subtrahend.now }
@@ -250,15 +260,17 @@ fn side_sum(
         (λ rows. IsSide shape i value (difference_of (places minuend.now) (places subtrahend.now))
         rows.items) }
 {
-    if !has_symbol(minuend, i, literal(value)) && !has_symbol(subtrahend, i, literal(!value)) {
+    if !has_symbol(minuend, i, literal_of_value(value))
+        && !has_symbol(subtrahend, i, literal_of_value(!value))
+    {
         return Ok(Vec::new(alloc));
     }
-    let side_minuend = absorb_if_short(alloc, shape, side)?;
-    let side_subtrahend = absorbed_cofactor_at(alloc, shape, subtrahend, i, value)?;
-    sum_between(alloc, shape, found, side_minuend, side_subtrahend)
+    let minuend_at_value = absorb_if_short(alloc, shape, cofactor)?;
+    let subtrahend_at_value = absorbed_cofactor_at(alloc, shape, subtrahend, i, value)?;
+    difference_sum(alloc, shape, table, minuend_at_value, subtrahend_at_value)
 }
 
-// The complete sum of the places of the first list that are not in the second. Sorts both lists
+// The complete sum of the places of the minuend that are not in the subtrahend. Sorts both lists
 // into row order first.
 fn sum_of_unsorted(
     alloc: Global,
@@ -274,8 +286,8 @@ fn sum_of_unsorted(
 {
     let minuend = sort_rows(alloc, minuend)?;
     let subtrahend = sort_rows(alloc, subtrahend)?;
-    let order = order_hint(alloc, shape, &minuend, &subtrahend)?;
-    sum_between(
+    let order = input_order_hint(alloc, shape, &minuend, &subtrahend)?;
+    difference_sum(
         alloc,
         shape,
         &mut ComputedTable::new(alloc, order),
@@ -287,10 +299,9 @@ fn sum_of_unsorted(
 /// The complete sum of the places of the list: all cubes that hold only such places and lie in no
 /// larger such cube, in row order. These are the primes of a function of several outputs.
 ///
-/// There may be exponentially many in the inputs, and time goes at least with their number. Lists
-/// on the way whose sum was found before cost a copy of it; the sums and lists that are kept for
-/// this are forgotten if they become many. Lists are joined for their meets, and looked at pair by
-/// pair for cubes that lie in others if they are short or have one literal at each input.
+/// There may be exponentially many in the inputs, and time grows at least with their number. Lists
+/// whose sum was made before in the same call cost a copy of it; the sums that are kept for this
+/// are forgotten if they become many.
 ///
 /// # Errors
 ///
@@ -376,7 +387,7 @@ impl Cover {
         let alloc = self.allocator();
         let shape = self.shape();
         let mut minuend = Vec::new(alloc);
-        let everything = universal(alloc, shape)?;
+        let everything = universal_cube(alloc, shape)?;
         minuend.push(everything)?;
         let subtrahend = self.try_clone()?.into_cubes();
         let sum = sum_of_unsorted(alloc, shape, minuend, subtrahend)?;

@@ -6,8 +6,8 @@ ghost use Rattle.cover.specs.Marks.{is_symbol, is_over, is_compatible};
 use cube::{Cube, Symbol};
 use std::alloc::{AllocError, Global};
 
-/// Whether a cube with `inner` at an input can lie in one with `outer` there.
-pub(crate) fn fits(outer: Symbol, inner: Symbol) -> bool
+/// Whether `outer` agrees with each bit that `inner` agrees with.
+pub(crate) fn symbol_contains(outer: Symbol, inner: Symbol) -> bool
     ensures { result ≡ is_over outer inner }
 {
     match (outer, inner) {
@@ -18,8 +18,8 @@ pub(crate) fn fits(outer: Symbol, inner: Symbol) -> bool
     }
 }
 
-/// Whether the symbols are one.
-pub(crate) fn same(one: Symbol, other: Symbol) -> bool
+/// Whether the symbols are equal.
+pub(crate) fn is_same_symbol(one: Symbol, other: Symbol) -> bool
     ensures { result ≡ is_symbol one other }
 {
     match (one, other) {
@@ -35,7 +35,7 @@ pub(crate) fn has_symbol_at(row: &Cube, i: usize, symbol: Symbol) -> bool
     requires { i < length row.now.symbols }
     ensures { result ≡ is_symbol symbol (slice_index_or row.now.symbols i Symbol.Dash) }
 {
-    same(symbol, row.symbol(i))
+    is_same_symbol(symbol, row.symbol(i))
 }
 
 /// Whether a row's symbol at input `i` agrees with a bit.
@@ -51,16 +51,16 @@ pub(crate) fn agrees_at(row: &Cube, i: usize, bit: bool) -> bool
 }
 
 // Whether a row and one with this symbol at input `i` can have a place in common.
-fn is_open_at(row: &Cube, i: usize, symbol: Symbol) -> bool
+fn is_compatible_at(row: &Cube, i: usize, symbol: Symbol) -> bool
     requires { i < length row.now.symbols }
     ensures { result ≡ is_compatible symbol (slice_index_or row.now.symbols i Symbol.Dash) }
 {
     let own = row.symbol(i);
-    fits(symbol, own) || fits(own, symbol)
+    symbol_contains(symbol, own) || symbol_contains(own, symbol)
 }
 
 /// The rows that have this symbol at input `i`.
-pub(crate) fn having<'a>(
+pub(crate) fn rows_with_symbol<'a>(
     alloc: Global,
     rows: &[&'a Cube],
     i: usize,
@@ -81,7 +81,7 @@ pub(crate) fn having<'a>(
 }
 
 /// The rows that can have a place in common with one that has this symbol at input `i`.
-pub(crate) fn open_at<'a>(
+pub(crate) fn rows_with_compatible_symbol<'a>(
     alloc: Global,
     rows: &[&'a Cube],
     i: usize,
@@ -95,7 +95,7 @@ pub(crate) fn open_at<'a>(
 {
     let mut kept = Vec::new(alloc);
     for row in rows {
-        if is_open_at(row, i, symbol) {
+        if is_compatible_at(row, i, symbol) {
             kept.push(*row)?;
         }
     }

@@ -425,8 +425,8 @@ rank_case Dash = refl
 rank_case Zero = refl
 rank_case One = refl
 
-pub order_key-digits : (c : Cube) (word key : ℕ) → AreLiterals c 0 word → ((k : ℕ) → k < 64 → bit_at key k ≡ bit_at word (63 - k)) → IsOrderKey c key
-order_key-digits c word key is turned k lt =
+pub order_key_of_32_inputs-digits : (c : Cube) (word key : ℕ) → AreLiterals c 0 word → ((k : ℕ) → k < 64 → bit_at key k ≡ bit_at word (63 - k)) → IsOrderKey c key
+order_key_of_32_inputs-digits c word key is turned k lt =
     let low : 63 - 2 * (31 - k) ≡ 2 * k + 1 = omega arith in
     let high : 63 - (2 * (31 - k) + 1) ≡ 2 * k = omega arith in
     digit_bits key (31 - k) ∙ omega (
@@ -441,9 +441,9 @@ order_key-digits c word key is turned k lt =
     the_same k = omega arith
 
 -- cubes with the same symbols at the first 32 inputs have the same key
-pub order_key-same : (c d : Cube) (m n : ℕ) → m < 2 ^ 64 → n < 2 ^ 64 → IsOrderKey c m → IsOrderKey d n
+pub order_key_of_32_inputs-same : (c d : Cube) (m n : ℕ) → m < 2 ^ 64 → n < 2 ^ 64 → IsOrderKey c m → IsOrderKey d n
     → ((k : ℕ) → k < 32 → get_or c.symbols k Dash ≡ get_or d.symbols k Dash) → m ≡ n
-order_key-same c d m n fits_m fits_n mine theirs same = same_from_bits_below 64 m n fits_m fits_n each
+order_key_of_32_inputs-same c d m n fits_m fits_n mine theirs same = same_from_bits_below 64 m n fits_m fits_n each
   where
     digit : (j : ℕ) → j < 32 → bit_at m (2 * j) + 2 * bit_at m (2 * j + 1) ≡ bit_at n (2 * j) + 2 * bit_at n (2 * j + 1)
     digit j lt =

@@ -42,7 +42,7 @@ pub no_common_point : (a b : Cube) (size : SameSize a b) (ws vs : List ℕ) (pa 
 no_common_point a b size ws vs pa pb apart point in_a in_b =
     apart (PairsMeet-from_inputs a b size ws vs pa pb (InputsMeet-from_point a b size point in_a in_b))
 
--- what `stack` owes
+-- what `output_consensus` owes
 pub IsPacked-stacked_row : (a b : Cube) (size : SameSize a b) (n m : ℕ) (ws vs xs : List ℕ) → length a.symbols ≡ n → length a.outputs ≡ m
     → Packs a ws → Packs b vs → InputsMeet a b size → (j : ℕ) × (get_or a.outputs j false ≡ true) → length xs ≡ length ws
     → ((k : ℕ) → k < input_words (length a.symbols) → get_or xs k 0 ≡ bit_and (get_or ws k 0) (get_or vs k 0))

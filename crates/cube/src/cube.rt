@@ -380,9 +380,9 @@ impl Cube {
         })
     }
 
-    /// The cube with the symbols of both and the outputs of either, or `None` if no point matches
-    /// the symbols of both.
-    pub fn stack(&self, other: &Cube) -> Result<Option<Cube>, AllocError>
+    /// The consensus at the outputs: the cube with the symbols of both and the outputs of either,
+    /// or `None` if no point matches the symbols of both.
+    pub fn output_consensus(&self, other: &Cube) -> Result<Option<Cube>, AllocError>
         requires { SameSize self.now other.now }
         ensures none { IfOk result (λ found. IfNone found ((point : List Bool)
             → IsTrue (matches self.now.symbols point)
@@ -527,18 +527,19 @@ impl Cube {
         Ok(rows)
     }
 
-    // Adds the row with the outputs that the other lacks.
+    // Adds this cube with the outputs that the other lacks, if there are any.
     fn push_rest(&self, other: &Cube, rows: &mut Vec<Cube>) -> Result<(), AllocError>
         requires { SameSize self.now other.now }
         ensures { OnOk result (rows.new.items ≡ rows.old.items ++ rest_rows self.now other.now) }
     {
-        if self.has_more_outputs(other) {
+        if self.has_outputs_beyond(other) {
             rows.push(self.without_outputs(other)?)?;
         }
         Ok(())
     }
 
-    // Adds the pieces, the last input first.
+    // Adds the pieces of this cube that opposite literals part from the other, the last input
+    // first.
     fn push_pieces(&self, other: &Cube, rows: &mut Vec<Cube>) -> Result<(), AllocError>
         requires { SameSize self.now other.now }
         ensures { OnOk result (rows.new.items ≡ rows.old.items
@@ -568,7 +569,7 @@ impl Cube {
     }
 
     /// Whether this cube has an output that the other lacks.
-    pub fn has_more_outputs(&self, other: &Cube) -> bool
+    pub fn has_outputs_beyond(&self, other: &Cube) -> bool
         requires { SameSize self.now other.now }
         ensures { IsTrue result
             ↔ IsTrue (list_any (λ b. b) (minus self.now.outputs other.now.outputs)) }

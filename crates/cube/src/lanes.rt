@@ -11,7 +11,7 @@ use std::simd::prelude::*;
 // The lower bit of each pair.
 const LOWER_BITS: u64 = 0x5555_5555_5555_5555;
 
-// From so many words on they are taken four at a time.
+// Lists of at least this many words are taken four words at a time.
 const MANY: usize = 8;
 
 // Whether each bit of four words of `b` is in `a`.

@@ -55,7 +55,8 @@ impl Cube {
         even_bits(word | (word >> 1))
     }
 
-    /// Those of these inputs that have `1`.
+    /// The inputs from `32 w` on that have `1`, as a set of 32 like that of
+    /// [`Cube::literal_inputs`].
     pub fn one_inputs(&self, w: usize) -> u64
         ensures { IsInputSet (has_one self.now) w result }
     {
@@ -123,8 +124,9 @@ impl Cube {
         count
     }
 
-    /// A number of the symbols at the first 32 inputs: it rises with them in row order.
-    pub fn order_key(&self) -> u64
+    /// The symbols at the first 32 inputs as a number, greater for symbols that are later in row
+    /// order. Further inputs and the outputs do not count.
+    pub fn order_key_of_32_inputs(&self) -> u64
         ensures { IsOrderKey self.now result }
     {
         reversal(self.literal_bits(0))

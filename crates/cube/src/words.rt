@@ -76,7 +76,7 @@ pub(crate) fn zip_words<F: Fn(usize, u64, u64) -> u64>(
     Ok(words)
 }
 
-/// The words again. Two, as most cubes have, are put in their places without a loop or a call.
+/// A copy of the words. Two, as most cubes have, are put in their places without a loop or a call.
 pub(crate) fn copied_words(alloc: Global, words: &[u64]) -> Result<SmallVec<u64, 4>, AllocError>
     ensures value { IfOk result (λ v. v.items ≡ words.now) }
     ensures inline { length words.now ≤ 4 → IsOk result }
@@ -90,8 +90,8 @@ pub(crate) fn copied_words(alloc: Global, words: &[u64]) -> Result<SmallVec<u64,
     copied_words_of_any_number(alloc, words)
 }
 
-// The words again, however many. Few are put in their places one by one, which is quicker than a
-// copy by length.
+// A copy of the words, however many. Few are put in their places one by one, which is quicker than
+// a copy by length.
 #[inline(never)]
 fn copied_words_of_any_number(alloc: Global, words: &[u64]) -> Result<SmallVec<u64, 4>, AllocError>
     ensures value { IfOk result (λ v. v.items ≡ words.now) }
@@ -123,7 +123,7 @@ pub(crate) fn with_word(
     Ok(new)
 }
 
-/// Puts another word at its place.
+/// Replaces the word at index `at`.
 pub(crate) fn set_word(words: &mut SmallVec<u64, 4>, at: usize, word: u64)
     requires { at < length words.old.items }
     ensures { words.new.items ≡ slice_set words.old.items at word }

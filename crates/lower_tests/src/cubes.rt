@@ -90,9 +90,9 @@ fn keeps_the_limits(rt: HostRuntime) -> Result<(), Fail> {
     assert!(rt; widest.is_some() && Shape::new(0, 1).is_some() && Shape::new(1, 0).is_none());
     assert!(rt; Shape::new(1025, 1).is_none() && Shape::new(1, 1025).is_none());
     assert!(rt; limits::LINE_BYTES == 131_072 && limits::LINES == 16_777_216);
-    laws::complete_sum();
-    laws::same_places();
-    laws::limits();
+    laws::complete_sum_is_maximal_cubes();
+    laws::same_places_same_cube();
+    laws::limits_are_constants();
     Ok(())
 }
 
@@ -123,8 +123,8 @@ const PRODUCTS: [(Product, &str, &str, &[&str]); 20] = [
     (Product::By(Operation::Meet), "1- 10", "-1 01", &[]),
     (Product::By(Operation::Meet), "1- 11", "-1 01", &["11 01"]),
     (Product::By(Operation::Join), "11 10", "10 01", &["1- 11"]),
-    (Product::By(Operation::Stack), "1- 10", "-0 01", &["10 11"]),
-    (Product::By(Operation::Stack), "1- 10", "0- 11", &[]),
+    (Product::By(Operation::OutputConsensus), "1- 10", "-0 01", &["10 11"]),
+    (Product::By(Operation::OutputConsensus), "1- 10", "0- 11", &[]),
     (Product::By(Operation::Rest), "1- 11", "-0 01", &["1- 10"]),
     (Product::By(Operation::Rest), "1- 01", "-0 11", &[]),
     (
@@ -262,7 +262,7 @@ fn sets_are(alloc: Global, row: &str, literals: u64, ones: u64, key: u64) -> Res
             && cube.literal_inputs(1) == 0
             && cube.has_literal(0) == (literals & 1 == 1)
             && !cube.has_literal(32)
-            && cube.order_key() == key,
+            && cube.order_key_of_32_inputs() == key,
     )
 }
 

@@ -142,7 +142,7 @@ fn row_order(a: Row, b: Row) -> Ordering {
 pub(crate) enum Operation {
     Meet,
     Join,
-    Stack,
+    OutputConsensus,
     // The first without the outputs of the second.
     Rest,
     Cofactor,
@@ -151,7 +151,7 @@ pub(crate) enum Operation {
 const OPERATIONS: [Operation; 5] = [
     Operation::Meet,
     Operation::Join,
-    Operation::Stack,
+    Operation::OutputConsensus,
     Operation::Rest,
     Operation::Cofactor,
 ];
@@ -163,8 +163,8 @@ pub(crate) fn answer(operation: Operation, p: &Cube, q: &Cube) -> Result<Option<
     match operation {
         Operation::Meet => p.meet(q),
         Operation::Join => Ok(Some(p.join(q)?)),
-        Operation::Stack => p.stack(q),
-        Operation::Rest if !p.has_more_outputs(q) => Ok(None),
+        Operation::OutputConsensus => p.output_consensus(q),
+        Operation::Rest if !p.has_outputs_beyond(q) => Ok(None),
         Operation::Rest => Ok(Some(p.without_outputs(q)?)),
         Operation::Cofactor => p.cofactor(q),
     }
@@ -172,8 +172,8 @@ pub(crate) fn answer(operation: Operation, p: &Cube, q: &Cube) -> Result<Option<
 
 fn symbol_of(operation: Operation, s: Symbol, t: Symbol) -> Symbol {
     match operation {
-        Operation::Meet | Operation::Stack if s == Symbol::Dash => t,
-        Operation::Meet | Operation::Stack | Operation::Rest => s,
+        Operation::Meet | Operation::OutputConsensus if s == Symbol::Dash => t,
+        Operation::Meet | Operation::OutputConsensus | Operation::Rest => s,
         Operation::Join if s == t => s,
         Operation::Cofactor if t == Symbol::Dash => s,
         _ => Symbol::Dash,
@@ -183,7 +183,7 @@ fn symbol_of(operation: Operation, s: Symbol, t: Symbol) -> Symbol {
 fn output_of(operation: Operation, x: bool, y: bool) -> bool {
     match operation {
         Operation::Meet => x && y,
-        Operation::Join | Operation::Stack => x || y,
+        Operation::Join | Operation::OutputConsensus => x || y,
         Operation::Rest => x && !y,
         Operation::Cofactor => x || !y,
     }
@@ -194,7 +194,7 @@ fn has_answer(operation: Operation, a: Row, b: Row) -> bool {
     match operation {
         Operation::Meet | Operation::Cofactor => rows_meet(a, b),
         Operation::Join => true,
-        Operation::Stack => symbols_fit(a, b, true),
+        Operation::OutputConsensus => symbols_fit(a, b, true),
         Operation::Rest => has_bit_beside(a, b, false),
     }
 }

@@ -11,10 +11,10 @@ use crate::sums::computed_table::row_hash;
 use cube::{Cube, Shape};
 use std::alloc::{AllocError, Global};
 
-// How many slots are looked at for a row, from the one on that its hash picks.
+// At most this many slots are looked at for a row, from the one that its hash picks.
 const PROBES: usize = 64;
 
-// What a slot without a row has: no list is so long.
+// What a slot without a row has. No list has this many rows.
 const NO_ROW: usize = usize::MAX;
 
 // The indices of the rows of a list, in slots picked by their hashes.
@@ -24,7 +24,8 @@ struct RowTable {
 }
 
 impl RowTable {
-    // Twice as many slots as rows, so that a free one is near, and some for the last rows.
+    // The table of these rows. It has twice as many slots as rows, so that a free one is near, and
+    // `PROBES` more, so that the last hash has that many too.
     fn of(alloc: Global, shape: Shape, rows: &[&Cube]) -> Result<RowTable, AllocError> {
         let slots = rows.len().saturating_mul(2).saturating_add(PROBES);
         let mut table = RowTable {
@@ -52,13 +53,13 @@ impl RowTable {
         }
     }
 
-    // The slot that a hash picks: its higher half, as a part of the slots.
+    // The slot that a hash picks: its higher 32 bits, scaled to the number of slots.
     fn first_slot(&self, hash: u64) -> usize {
         let slots = self.slots.len().saturating_sub(PROBES) as u64;
         ((hash >> 32).wrapping_mul(slots) >> 32) as usize
     }
 
-    // Whether the row is seen to stand among the rows that the table is of.
+    // Whether the row is found in the table, which is that of `rows`. A row may be missed.
     fn has(&self, shape: Shape, rows: &[&Cube], row: &Cube) -> bool
         ensures { IsTrue result → Contains (behind rows.now) row.now }
     {
@@ -78,7 +79,7 @@ impl RowTable {
     }
 }
 
-/// The rows without those that are seen to stand among the others.
+/// The rows without those that are found among the others. Some that stand there may be missed.
 pub(crate) fn rows_not_among<'a>(
     alloc: Global,
     shape: Shape,

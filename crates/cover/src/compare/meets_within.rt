@@ -1,43 +1,27 @@
-//! Whether two lists hold what two others have in common.
+//! Whether the places that two lists have in common lie in two others.
 //!
-//! The rows are halved. A half that has no place of the mask is left out at once, as that is asked of
-//! all of its rows together; of a few rows that are left each meet with the mask is asked for. So
-//! lists without a place in common cost one question, and no more meets are formed than some rows
+//! Rows are halved while they are more than 16; a half that is disjoint from the mask is dropped
+//! after one question. Of the rows left all meets with the mask are formed and asked for. So lists
+//! without a place in common cost one question, and no more meets are kept at a time than 16 rows
 //! have with the mask.
 ghost use Rattle.std.specs.Prelude.{◌≡◌, ◌↔◌, ◌||◌, IsTrue, IfOk, All};
-ghost use Rattle.cube.specs.Cube.{HasSize, IsDisjoint, IsSubset, intersection};
+ghost use Rattle.cube.specs.Cube.{HasSize, IsSubset, intersection};
 ghost use Rattle.cover.specs.Cubes.{AreCubes};
 ghost use Rattle.cover.specs.Places.{places, behind};
 
 use crate::compare::equal_rows::rows_not_among;
+use crate::compare::intersects::are_disjoint;
 use crate::compare::pairwise::{Relation, are_related};
-use crate::list::Cover;
-use crate::sums::parts::meets_by_pairs;
-use crate::tautology::{references, references_to, references_to_both};
+use crate::list::{Cover, clone_referents};
+use crate::references::{references, references_to, references_to_both};
+use crate::sums::meets_by_pairs::meets_by_pairs;
 use cube::{Cube, Shape};
 use std::alloc::{AllocError, Global};
 
-/// So few rows are not halved.
-pub(crate) const FEW: usize = 16;
+// Lists of at most this many rows are not halved.
+const FEW: usize = 16;
 
-/// Whether no row has a place of the mask.
-pub(crate) fn are_apart(
-    alloc: Global,
-    shape: Shape,
-    rows: &[Cube],
-    mask: &[Cube],
-) -> Result<bool, AllocError>
-    requires rows { AreCubes shape rows.now }
-    requires mask { AreCubes shape mask.now }
-    ensures { IfOk result (λ apart. IsTrue apart ↔ IsDisjoint (places rows.now) (places mask.now)) }
-{
-    let mine = references(alloc, rows)?;
-    let theirs = references(alloc, mask)?;
-    let depth = shape.inputs();
-    are_related(alloc, shape, Relation::Disjoint, depth, &mine, &theirs)
-}
-
-// Whether the others hold each meet of a row with one of the mask.
+// Whether the others hold each meet of a row with a cube of the mask.
 fn are_meets_held(
     alloc: Global,
     shape: Shape,
@@ -58,8 +42,8 @@ fn are_meets_held(
     are_related(alloc, shape, Relation::Contained, depth, &met, others)
 }
 
-// Whether the others hold what the rows have in common with the mask, half by half.
-fn are_halves_held(
+// Whether the others hold each meet of a row with a cube of the mask, half by half.
+fn are_meets_held_by_halves(
     alloc: Global,
     shape: Shape,
     rows: &[Cube],
@@ -76,31 +60,20 @@ fn are_halves_held(
     if rows.len() <= FEW {
         return are_meets_held(alloc, shape, rows, mask, others);
     }
-    if are_apart(alloc, shape, rows, mask)? {
+    if are_disjoint(alloc, shape, rows, mask)? {
         return Ok(true);
     }
     let (front, back) = rows.split_at(rows.len() / 2);
-    if !are_halves_held(alloc, shape, front, mask, others)? {
+    if !are_meets_held_by_halves(alloc, shape, front, mask, others)? {
         return Ok(false);
     }
-    are_halves_held(alloc, shape, back, mask, others)
+    are_meets_held_by_halves(alloc, shape, back, mask, others)
 }
 
-/// The cubes by themselves.
-pub(crate) fn copies(alloc: Global, rows: &[&Cube]) -> Result<Vec<Cube>, AllocError>
-    ensures { IfOk result (λ copies. copies.items ≡ behind rows.now) }
-{
-    let mut copies = Vec::with_capacity(alloc, rows.len())?;
-    for row in rows {
-        copies.push(row.try_clone()?)?;
-    }
-    Ok(copies)
-}
-
-/// Whether each place that is both in `list` and in `mask` is in `other` or in `free`.
+/// Whether each place that is both in `list` and in `mask` is in `other` or in `dc`.
 ///
-/// Rows that also stand in one of the latter, in any order, and lists that share no place with the
-/// mask take time in the lengths of the lists, as far as these part at the inputs.
+/// Rows that also stand in `other` or `dc`, in any order, take time in the lengths of the lists. So
+/// do lists that share no place with the mask, if splits at inputs soon separate the two.
 ///
 /// # Errors
 ///
@@ -109,21 +82,21 @@ pub fn are_meets_within_either(
     list: &Cover,
     mask: &Cover,
     other: &Cover,
-    free: &Cover,
+    dc: &Cover,
 ) -> Result<bool, AllocError>
     requires mask { mask.now.size ≡ list.now.size }
     requires other { other.now.size ≡ list.now.size }
-    requires free { free.now.size ≡ list.now.size }
+    requires dc { dc.now.size ≡ list.now.size }
     ensures { IfOk result
         (λ held. IsTrue held
         ↔ IsSubset (intersection (places list.now.cubes) (places mask.now.cubes))
-        (λ p. places free.now.cubes p || places other.now.cubes p)) }
+        (λ p. places dc.now.cubes p || places other.now.cubes p)) }
 {
     let alloc = list.allocator();
     let shape = list.shape();
     let rows = references_to(list)?;
-    let all = references_to_both(free, other)?;
+    let all = references_to_both(dc, other)?;
     let rest = rows_not_among(alloc, shape, &rows, &all)?;
-    let copies = copies(alloc, &rest)?;
-    are_halves_held(alloc, shape, &copies, mask.as_slice(), &all)
+    let copies = clone_referents(alloc, &rest)?;
+    are_meets_held_by_halves(alloc, shape, &copies, mask.as_slice(), &all)
 }

@@ -1,9 +1,9 @@
-//! Two lists beside one another: whether all places of the one are in the other, or none is.
+//! Whether all places of a list are in another, or none is, by pairs of rows.
 //!
 //! The rows of the first list are split three ways by their symbol at an input. To those with `0`
 //! or `1` there the rows of the second list with the other literal don't count. So each pair of
 //! rows comes together once at most, and both lists get shorter. The input is taken at which most
-//! pairs have opposite literals. If few rows are left, each is asked by itself.
+//! pairs have opposite literals. Once few rows are left, each is asked for by itself.
 ghost use Rattle.std.specs.Prelude.{◌≡◌, ◌↔◌, ◌<◌, ◌≤◌, ◌∷◌, [], IsTrue, IfOk, IfSome, OnOk, All, filter, length, map, slice_index_or};
 ghost use Rattle.cube.specs.Size.{Size};
 ghost use Rattle.cube.specs.Cube.{HasSize, SameSize, IsSubset, IsDisjoint, holds, size_of};
@@ -16,24 +16,24 @@ ghost use Rattle.cover.specs.Reason.{AreAmong, AreKnown};
 use crate::literal_counts::LiteralCounts;
 use crate::region::learned::Learned;
 use crate::region::nearest_rows::RowBits;
-use crate::region::splitting_input::{literal_words, shares_literal};
-use crate::region::{covers_cube_near, is_seen_to_cover};
-use crate::symbols::{having, open_at};
+use crate::region::open_literals::{literal_words, shares_literal};
+use crate::region::{holds_by_splits_or_search, is_seen_to_hold};
+use crate::symbols::{rows_with_compatible_symbol, rows_with_symbol};
 use cube::{Cube, Shape, Symbol};
 use std::alloc::{AllocError, Global};
 
-// Lists of so many rows are not split.
+// Lists of at most this many rows are not split: asking row by row costs no more.
 const SMALL: usize = 8;
 
-/// How the places of a list stand to those of another: all are in it, or none is.
+/// A relation of the places of a list to those of another: all are in it, or none is.
 #[derive(Clone, Copy)]
 pub(crate) enum Relation {
     Contained,
     Disjoint,
 }
 
-// Whether the row has no place of the others.
-pub(crate) fn misses(row: &Cube, others: &[&Cube]) -> bool
+// Whether the row has no place in common with the others.
+pub(crate) fn is_disjoint_from_all(row: &Cube, others: &[&Cube]) -> bool
     requires { All (λ d. SameSize row.now d.now) others.now }
     ensures { IsTrue result ↔ IsDisjoint (holds row.now) (places (behind others.now)) }
 {
@@ -45,30 +45,29 @@ pub(crate) fn misses(row: &Cube, others: &[&Cube]) -> bool
     true
 }
 
-// Whether no row has a place of the others, by pairs.
-fn are_disjoint(rows: &[&Cube], others: &[&Cube]) -> bool
+// Whether the lists have no place in common, by a look at each pair.
+fn are_disjoint_by_pairs(rows: &[&Cube], others: &[&Cube]) -> bool
     requires { (size : Size) × All (λ d. HasSize d.now size) rows.now
         × All (λ d. HasSize d.now size) others.now }
     ensures { IsTrue result ↔ IsDisjoint (places (behind rows.now)) (places (behind others.now)) }
 {
     for row in rows {
-        if !misses(row, others) {
+        if !is_disjoint_from_all(row, others) {
             return false;
         }
     }
     true
 }
 
-// Of so few rows all are looked at.
+// Bits of the rows (`RowBits`) are kept only if both lists have more rows than this.
 const FEW: usize = 64;
 
-// Whether both lists are so long that it pays to keep which rows have a literal.
-fn are_many(rows: usize, others: usize) -> bool {
+// Whether both lists are so long that bits of the rows pay.
+fn are_both_long(rows: usize, others: usize) -> bool {
     rows.min(others) > FEW
 }
 
-// The rows that have a literal of the region, as it is meant: of each other row all literals are
-// open.
+// The rows that share a literal with the region. (Nothing depends on it.)
 fn rows_sharing_literal<'a>(
     alloc: Global,
     shape: Shape,
@@ -87,22 +86,23 @@ fn rows_sharing_literal<'a>(
     Ok(some)
 }
 
-// The bits of the rows, if these and the regions that are asked for are many.
-fn bits_of(
+// The bits of the rows, if the rows and the regions to ask for are many.
+fn bits_if_both_long(
     alloc: Global,
     shape: Shape,
     regions: usize,
     rows: &[&Cube],
 ) -> Result<Option<RowBits>, AllocError> {
-    if are_many(regions, rows.len()) {
+    if are_both_long(regions, rows.len()) {
         return Ok(Some(RowBits::of(alloc, shape, rows)?));
     }
     Ok(None)
 }
 
-// Whether the rows hold the region. If they are many, those nearest to it often do so alone, which
-// takes few looks; else those that have a literal of it come first.
-fn holds_region(
+// Whether the rows hold the region. With bits, the rows nearest to the region are asked first,
+// since they often hold it alone; if they do not, the rows that share a literal with it are looked
+// at before the others.
+fn holds_region_nearest_first(
     alloc: Global,
     shape: Shape,
     rows: &[&Cube],
@@ -118,18 +118,18 @@ fn holds_region(
         (λ held. IsTrue held ↔ IsSubset (holds region.now) (places (behind rows.now))) }
 {
     let Some(bits) = bits else {
-        return covers_cube_near(alloc, rows, &[], 0, region, learned);
+        return holds_by_splits_or_search(alloc, rows, &[], 0, region, learned);
     };
     let nearest = bits.nearest(alloc, rows, region)?;
-    if is_seen_to_cover(alloc, &nearest, region, rows.len())? {
+    if is_seen_to_hold(alloc, &nearest, region, rows.len())? {
         return Ok(true);
     }
     let near = rows_sharing_literal(alloc, shape, rows, region)?;
-    covers_cube_near(alloc, rows, &near, bits.fewest_literals(), region, learned)
+    holds_by_splits_or_search(alloc, rows, &near, bits.fewest_literals(), region, learned)
 }
 
-// Whether the others hold each row, one by one.
-fn are_contained(
+// Whether the others hold each row, by a question for each.
+fn are_held_one_by_one(
     alloc: Global,
     shape: Shape,
     rows: &[&Cube],
@@ -140,19 +140,19 @@ fn are_contained(
     ensures { IfOk result
         (λ held. IsTrue held ↔ IsSubset (places (behind rows.now)) (places (behind others.now))) }
 {
-    let bits = bits_of(alloc, shape, rows.len(), others)?;
+    let bits = bits_if_both_long(alloc, shape, rows.len(), others)?;
     let mut learned = Learned::new(alloc);
     for row in rows {
-        if !holds_region(alloc, shape, others, &bits, row, &mut learned)? {
+        if !holds_region_nearest_first(alloc, shape, others, &bits, row, &mut learned)? {
             return Ok(false);
         }
     }
     Ok(true)
 }
 
-/// Of each region, whether the rows hold it. What a search learns of the rows for one region serves
-/// those that follow.
-pub(crate) fn each_held(
+/// For each region whether the rows hold it. What a search learns of the rows is kept for the next
+/// regions.
+pub(crate) fn holds_each_region(
     alloc: Global,
     shape: Shape,
     rows: &[&Cube],
@@ -163,18 +163,18 @@ pub(crate) fn each_held(
     ensures { IfOk result (λ held. held.items
         ≡ map (λ d. is_subset shape (holds d) (places (behind rows.now))) regions.now) }
 {
-    let bits = bits_of(alloc, shape, regions.len(), rows)?;
+    let bits = bits_if_both_long(alloc, shape, regions.len(), rows)?;
     let mut learned = Learned::new(alloc);
     let mut held = Vec::with_capacity(alloc, regions.len())?;
     for region in regions {
-        let answer = holds_region(alloc, shape, rows, &bits, region, &mut learned)?;
+        let answer = holds_region_nearest_first(alloc, shape, rows, &bits, region, &mut learned)?;
         held.push(answer)?;
     }
     Ok(held)
 }
 
 // Whether the lists are related, row by row.
-fn row_by_row(
+fn are_related_row_by_row(
     alloc: Global,
     shape: Shape,
     relation: Relation,
@@ -187,16 +187,17 @@ fn row_by_row(
         (λ held. IsTrue held ↔ AreRelated relation (behind rows.now) (behind others.now)) }
 {
     match relation {
-        Relation::Contained => are_contained(alloc, shape, rows, others),
-        Relation::Disjoint => Ok(are_disjoint(rows, others)),
+        Relation::Contained => are_held_one_by_one(alloc, shape, rows, others),
+        Relation::Disjoint => Ok(are_disjoint_by_pairs(rows, others)),
     }
 }
 
-// At most so many rows are looked at to choose an input.
+// At most this many rows of each list are counted to choose an input, so that the choice costs less
+// than the split.
 const SAMPLE: usize = 64;
 
-// Rows from all over the list, at most [`SAMPLE`].
-fn sample<'a>(alloc: Global, rows: &[&'a Cube]) -> Result<Vec<&'a Cube>, AllocError>
+// At most [`SAMPLE`] rows, evenly from the list.
+fn sample_rows<'a>(alloc: Global, rows: &[&'a Cube]) -> Result<Vec<&'a Cube>, AllocError>
     ensures { IfOk result (λ some. (size : Size) → All (λ d. HasSize d.now size) rows.now
         → All (λ d. HasSize d.now size) some.items) }
 {
@@ -211,7 +212,7 @@ fn sample<'a>(alloc: Global, rows: &[&'a Cube]) -> Result<Vec<&'a Cube>, AllocEr
 }
 
 // How many pairs of a row of each list have opposite literals at input `i`.
-fn opposites(rows: &LiteralCounts, others: &LiteralCounts, i: usize) -> u64
+fn count_opposite_pairs(rows: &LiteralCounts, others: &LiteralCounts, i: usize) -> u64
     requires { All (λ n. i < n)
         (length rows.now.zeros.items ∷ length rows.now.ones.items ∷ length others.now.zeros.items ∷
         length others.now.ones.items ∷ []) }
@@ -221,18 +222,18 @@ fn opposites(rows: &LiteralCounts, others: &LiteralCounts, i: usize) -> u64
     low.saturating_add(high)
 }
 
-// Where both lists are long, a split pays if it parts so much of their pairs.
-const PART: u64 = 32;
+// If both lists are long, a split pays if it separates more than one pair in this many.
+const SHARE: u64 = 32;
 
-// How many of some pairs have to be parted, so that it pays to go through all rows once more. A row
-// may ask for all of the others, so there have to be as many as two rows' pairs, and more where a
-// row asks for 64 of the others at once.
-fn least_weight(relation: Relation, pairs: u64, rows: usize, others: usize) -> u64 {
+// The least number of sampled pairs that a split must separate to pay for one more pass. A row left
+// is compared with all others, so that is two rows' worth of pairs, and `pairs / SHARE` where the
+// bits compare 64 at once. Disjoint lists are compared pair by pair, so each split pays.
+fn least_opposite_pairs(relation: Relation, pairs: u64, rows: usize, others: usize) -> u64 {
     match relation {
         Relation::Disjoint => 0,
         Relation::Contained => {
-            if are_many(rows, others) {
-                pairs / PART
+            if are_both_long(rows, others) {
+                pairs / SHARE
             } else {
                 pairs.saturating_mul(2) / (rows as u64).max(1)
             }
@@ -240,9 +241,9 @@ fn least_weight(relation: Relation, pairs: u64, rows: usize, others: usize) -> u
     }
 }
 
-// The input at which most pairs of counted rows have opposite literals, if these are more than so
-// many.
-fn most_opposite(
+// The input at which most pairs of counted rows have opposite literals, if they are more than
+// `least`.
+fn most_opposite_input(
     mine: &LiteralCounts,
     theirs: &LiteralCounts,
     inputs: usize,
@@ -256,7 +257,7 @@ fn most_opposite(
     let mut best = None;
     let mut most = least;
     for i in 0..inputs {
-        let weight = opposites(mine, theirs, i);
+        let weight = count_opposite_pairs(mine, theirs, i);
         if weight > most {
             best = Some(i);
             most = weight;
@@ -265,9 +266,9 @@ fn most_opposite(
     best
 }
 
-// The input at which most pairs of a row of each list have opposite literals, as far as some of the
-// rows show, if enough have.
-fn parting_input(
+// The input to split at: that at which most pairs of a row of each list have opposite literals, by
+// a sample of the rows, if a split there pays.
+fn split_input_of_pairs(
     alloc: Global,
     shape: Shape,
     relation: Relation,
@@ -278,18 +279,19 @@ fn parting_input(
     requires others { All (λ d. HasSize d.now shape) others.now }
     ensures { IfOk result (λ found. IfSome found (λ i. i < shape.inputs)) }
 {
-    let (some, more) = (sample(alloc, rows)?, sample(alloc, others)?);
+    let (some, more) = (sample_rows(alloc, rows)?, sample_rows(alloc, others)?);
     let inputs = shape.inputs();
     let (mine, theirs) = (
         LiteralCounts::of(alloc, &some, inputs)?,
         LiteralCounts::of(alloc, &more, inputs)?,
     );
     let pairs = (some.len() as u64).saturating_mul(more.len() as u64);
-    let least = least_weight(relation, pairs, rows.len(), others.len());
-    Ok(most_opposite(&mine, &theirs, inputs, least))
+    let least = least_opposite_pairs(relation, pairs, rows.len(), others.len());
+    Ok(most_opposite_input(&mine, &theirs, inputs, least))
 }
 
-/// Whether the lists are related. On the way down at most `depth` inputs are split at.
+/// Whether the relation holds between the lists. At most `depth` inputs are split at, one below the
+/// other.
 #[cycle(are_related)]
 pub(crate) fn are_related(
     alloc: Global,
@@ -305,10 +307,10 @@ pub(crate) fn are_related(
         (λ held. IsTrue held ↔ AreRelated relation (behind rows.now) (behind others.now)) }
 {
     if depth == 0 || rows.len() <= SMALL || others.len() <= SMALL {
-        return row_by_row(alloc, shape, relation, rows, others);
+        return are_related_row_by_row(alloc, shape, relation, rows, others);
     }
-    let Some(i) = parting_input(alloc, shape, relation, rows, others)? else {
-        return row_by_row(alloc, shape, relation, rows, others);
+    let Some(i) = split_input_of_pairs(alloc, shape, relation, rows, others)? else {
+        return are_related_row_by_row(alloc, shape, relation, rows, others);
     };
     let rest = depth - 1;
     if !are_related_at(
@@ -336,7 +338,7 @@ pub(crate) fn are_related(
     )
 }
 
-// Whether those rows that have the symbol at the input are related to the others.
+// Whether the relation holds between the rows that have the symbol at the input and the others.
 #[cycle(are_related)]
 fn are_related_at(
     alloc: Global,
@@ -355,7 +357,7 @@ fn are_related_at(
         (behind (filter (λ d. is_symbol at.1 (slice_index_or d.now.symbols at.0 Symbol.Dash))
         rows.now)) (behind others.now)) }
 {
-    let near = having(alloc, rows, at.0, at.1)?;
-    let far = open_at(alloc, others, at.0, at.1)?;
-    are_related(alloc, shape, relation, depth, &near, &far)
+    let having = rows_with_symbol(alloc, rows, at.0, at.1)?;
+    let compatible = rows_with_compatible_symbol(alloc, others, at.0, at.1)?;
+    are_related(alloc, shape, relation, depth, &having, &compatible)
 }

@@ -1,34 +1,36 @@
-//! Implicants that a search found, with hints that show them.
+//! Questions to a search that learns, and the check of its answers.
 //!
 //! To a search the rows of one output are nogoods, and a region is a list of assumptions. It learns
-//! implicants of the rows, and says of each by which rows and earlier implicants it is seen:
-//! beginning with the implicant as a region, each of them but the last has one open literal, and so
-//! holds a half of the region that is left, and the last holds the rest (reverse unit propagation
+//! implicants of the rows, each with hints: the rows and earlier implicants that show it. The check
+//! begins with the implicant as a region. Each hint but the last has one open literal in what is
+//! left of the region, and so holds a half of it; the last holds the rest (reverse unit propagation
 //! by hints, as in Cruz-Filipe, Heule, Hunt, Kaufmann and Schneider-Kamp, Efficient certified RAT
-//! verification, 2017). The search owes nothing: what it says counts once it is looked at here.
+//! verification, 2017). The search has no contract: its answers count only if this check passes.
 ghost use Rattle.std.specs.Prelude.{◌≡◌, ◌↔◌, ◌<◌, ◌||◌, [], IsTrue, IfOk, IfSome, IfNone, OnOk, All, length};
 ghost use Rattle.std.specs.List.{list_any};
 ghost use Rattle.cube.specs.Cube.{HasSize, Place, SameSize, IsSubset, holds, size_of};
 ghost use Rattle.cover.specs.Places.{places, behind};
 ghost use Rattle.cover.specs.Reason.{AreKnown};
 
-use crate::compare::pairwise::misses;
-use crate::off_set::one_output;
+use crate::compare::pairwise::is_disjoint_from_all;
+use crate::cubes::cube_of_output;
+use crate::list::clone_referents;
+use crate::region::open_literals::first_open_literal;
 use crate::region::opposite;
-use crate::region::splitting_input::first_open;
 use cube::{Cube, Shape, Symbol};
 use sat_search::{Answer, Limits, Refutation, Search};
 use std::alloc::{AllocError, Global};
 
-// Takes from the region the half that the row holds, if the row is seen to hold one.
-fn take_half(region: &mut Cube, row: &Cube) -> bool
+// If the row has one open literal in the region, takes the half that the row holds from the region.
+// Answers whether it did.
+fn remove_held_half(region: &mut Cube, row: &Cube) -> bool
     requires { SameSize row.now region.old }
     ensures size { SameSize region.new region.old }
     ensures held { IsTrue result
         → IsSubset (holds region.old) (λ p. holds row.now p || holds region.new p) }
 {
     let shape = region.shape();
-    let (i, literal) = first_open(row, region);
+    let (i, literal) = first_open_literal(row, region);
     if i >= shape.inputs() || literal == Symbol::Dash {
         return false;
     }
@@ -39,7 +41,7 @@ fn take_half(region: &mut Cube, row: &Cube) -> bool
 }
 
 // Whether the hints show that the known cubes hold each place of the cube.
-fn follows(known: &[Cube], hints: &[u32], cube: &Cube) -> Result<bool, AllocError>
+fn holds_by_hints(known: &[Cube], hints: &[u32], cube: &Cube) -> Result<bool, AllocError>
     requires { All (λ d. SameSize d cube.now) known.now }
     ensures { IfOk result
         (λ held. IsTrue held → IsSubset (holds cube.now) (places known.now)) }
@@ -52,15 +54,16 @@ fn follows(known: &[Cube], hints: &[u32], cube: &Cube) -> Result<bool, AllocErro
         if row.contains(&region) {
             return Ok(true);
         }
-        if !take_half(&mut region, row) {
+        if !remove_held_half(&mut region, row) {
             return Ok(false);
         }
     }
     Ok(false)
 }
 
-// The cube of one output with these literals: twice an input for `1`, and one more for `0`.
-fn cube_of(
+// The cube of one output with these literals, numbered as in `sat_search`: literal `2 i` is `1` at
+// input `i`, and `2 i + 1` is `0` there.
+fn cube_of_literals(
     alloc: Global,
     shape: Shape,
     output: usize,
@@ -88,8 +91,8 @@ fn cube_of(
     Cube::from_symbols(alloc, shape, &symbols, &outputs)
 }
 
-// Adds the cube with these literals to those that are known, if the hints show it.
-fn accept(
+// Adds the cube with these literals to the known cubes, if the hints show that they hold it.
+fn accept_nogood(
     alloc: Global,
     shape: Shape,
     output: usize,
@@ -102,18 +105,19 @@ fn accept(
     ensures within { OnOk result
         (IsSubset (places known.new.items) (places known.old.items)) }
 {
-    let Some(cube) = cube_of(alloc, shape, output, literals)? else {
+    let Some(cube) = cube_of_literals(alloc, shape, output, literals)? else {
         return Ok(false);
     };
-    if !follows(known, hints, &cube)? {
+    if !holds_by_hints(known, hints, &cube)? {
         return Ok(false);
     }
     known.push(cube)?;
     Ok(true)
 }
 
-// Adds the nogoods of a refutation, if their hints show all of them.
-fn accept_all(
+// Adds the nogoods of a refutation to the known cubes, one by one while their hints show them.
+// Answers whether all were added.
+fn accept_refutation(
     alloc: Global,
     shape: Shape,
     output: usize,
@@ -127,26 +131,26 @@ fn accept_all(
 {
     for k in 0..refutation.len() {
         let (literals, hints) = (refutation.nogood(k), refutation.hints(k));
-        if !accept(alloc, shape, output, known, literals, hints)? {
+        if !accept_nogood(alloc, shape, output, known, literals, hints)? {
             return Ok(false);
         }
     }
     Ok(true)
 }
 
-// Whether the known cube at a place is seen to hold the region.
-fn is_held_by(known: &[Cube], place: usize, region: &Cube) -> bool
+// Whether the known cube at the index contains the region.
+fn known_cube_contains(known: &[Cube], index: usize, region: &Cube) -> bool
     requires { All (λ d. SameSize d region.now) known.now }
     ensures { IsTrue result → IsSubset (holds region.now) (places known.now) }
 {
-    match known.get(place) {
+    match known.get(index) {
         Some(cube) => cube.contains(region),
         None => false,
     }
 }
 
-// Whether a point is seen to lie in the region and in no row.
-fn is_outside(
+// Whether the point with these literals lies in the region and in no row.
+fn is_point_outside(
     alloc: Global,
     rows: &[&Cube],
     region: &Cube,
@@ -157,43 +161,44 @@ fn is_outside(
     ensures { IfOk result (λ out. IsTrue out
         → IsSubset (holds region.now) (places (behind rows.now)) → ⊥) }
 {
-    let Some(point) = cube_of(alloc, region.shape(), output, literals)? else {
+    let Some(point) = cube_of_literals(alloc, region.shape(), output, literals)? else {
         return Ok(false);
     };
-    Ok(region.contains(&point) && misses(&point, rows))
+    Ok(region.contains(&point) && is_disjoint_from_all(&point, rows))
 }
 
 /// What was learned of some rows.
 ///
 /// It takes no memory before a search is asked. Then it has the rows once more, a search for each
 /// output that was asked, and the implicants that answers needed. All of it together comes to 2^27
-/// numbers of four bytes at most, half a gigabyte, and with room to grow to a gigabyte and a half. A
-/// question that would take more has no answer here.
+/// numbers of four bytes at most, half a gigabyte, and with room to grow to a gigabyte and a half.
+/// A question that would take more has no answer here.
 #[derive(Drop)]
 pub(crate) struct Learned {
     // Copies of the rows, once a search is asked, and then cubes that they hold.
     pub(crate) known: Vec<Cube>,
-    // By output: the search among the rows that have it.
+    // For each output the search among the rows that have it, once it was asked.
     searches: Vec<Option<Search>>,
     // How many rows splits may still look at before a search is asked.
-    pub(crate) looks: u64,
+    pub(crate) row_budget: u64,
     // Whether a question was asked.
     is_asked: bool,
 }
 
-// Before a search is asked, splits look at the rows as often as some four times the root of their
-// number, and once more for each question after the first. Easy questions of many rows, such as
-// decision trees and symmetric functions, look at them twice that root at most, and a search has to
-// read all rows before it begins.
-fn passes(rows: usize) -> u64 {
+// How many passes over `rows` rows the splits of the first question may make: about four times the
+// root of their number. Each later question allows a pass more; then a search is asked. Easy
+// questions about many rows, such as decision trees and symmetric functions, make at most half as
+// many passes, and a search has to read all rows before it begins.
+fn passes_before_search(rows: usize) -> u64 {
     let bits = usize::BITS.saturating_sub(rows.leading_zeros());
     4 << (bits / 2)
 }
 
-// So many watches are looked at for one question.
+// A search looks at no more than this many watches for one question, so that it ends.
 const STEPS: u64 = 1 << 36;
 
-// So many numbers are kept by all searches and implicants.
+// All searches and implicants of one list together keep at most this many numbers of four bytes:
+// half a gigabyte.
 const SIZE: usize = 1 << 27;
 
 impl Learned {
@@ -204,23 +209,27 @@ impl Learned {
         Learned {
             known: Vec::new(alloc),
             searches: Vec::new(alloc),
-            looks: 0,
+            row_budget: 0,
             is_asked: false,
         }
     }
 
-    /// There is one question more about so many rows.
-    pub(crate) fn allow(&mut self, rows: usize)
+    /// Lets splits look at more rows, for one more question about `rows` rows.
+    pub(crate) fn raise_row_budget(&mut self, rows: usize)
         ensures { self.new.known ≡ self.old.known }
     {
-        let passes = if self.is_asked { 1 } else { passes(rows) };
+        let passes = if self.is_asked {
+            1
+        } else {
+            passes_before_search(rows)
+        };
         let more = passes.saturating_mul(rows as u64);
-        self.looks = self.looks.saturating_add(more);
+        self.row_budget = self.row_budget.saturating_add(more);
         self.is_asked = true;
     }
 
-    // Has a search among the rows of an output.
-    fn begin(
+    // Copies the rows, and builds the search among the rows of the output, unless both are there.
+    fn prepare_search(
         &mut self,
         alloc: Global,
         rows: &[&Cube],
@@ -232,16 +241,16 @@ impl Learned {
         ensures { OnOk result (AreKnown shape self.new.known.items (behind rows.now)) }
     {
         if self.known.is_empty() {
-            self.known = copies(alloc, rows)?;
+            self.known = clone_referents(alloc, rows)?;
         }
-        begin_search(alloc, &mut self.searches, rows, output, shape.inputs())?;
+        build_search_if_none(alloc, &mut self.searches, rows, output, shape.inputs())?;
         Ok(())
     }
 
-    // How many numbers all searches and implicants keep.
+    // How many numbers of four bytes all searches and implicants keep.
     fn size(&self) -> usize {
         let each = match self.known.first() {
-            Some(cube) => numbers_of(cube.shape()),
+            Some(cube) => numbers_per_cube(cube.shape()),
             None => 0,
         };
         let mut size = self.known.len().saturating_mul(each);
@@ -253,8 +262,13 @@ impl Learned {
         size
     }
 
-    // What the search of an output finds of the region.
-    fn look(&mut self, alloc: Global, output: usize, region: &Cube) -> Result<Answer, AllocError>
+    // Asks the search of the output for the region. The answer is not checked yet.
+    fn ask_search(
+        &mut self,
+        alloc: Global,
+        output: usize,
+        region: &Cube,
+    ) -> Result<Answer, AllocError>
         ensures { OnOk result (self.new.known ≡ self.old.known) }
     {
         let name = u32::try_from(self.known.len()).unwrap_or(u32::MAX);
@@ -274,13 +288,14 @@ impl Learned {
 }
 
 // How many numbers of four bytes a cube of the shape takes.
-fn numbers_of(shape: Shape) -> usize {
+fn numbers_per_cube(shape: Shape) -> usize {
     16usize
         .saturating_add(shape.inputs() / 16)
         .saturating_add(shape.outputs() / 32)
 }
 
-// The literals of a cube.
+// The literals of a cube, numbered as in `sat_search`: `1` at input `i` is `2 i`, and `0` is `2 i +
+// 1`.
 fn literals_of(alloc: Global, cube: &Cube) -> Result<Vec<u32>, AllocError> {
     let mut literals = Vec::new(alloc);
     for i in 0..cube.shape().inputs() {
@@ -294,8 +309,8 @@ fn literals_of(alloc: Global, cube: &Cube) -> Result<Vec<u32>, AllocError> {
     Ok(literals)
 }
 
-// A search among the rows that have an output, under their places in the list.
-fn search_of(
+// A search among the rows that have the output. Each nogood has the index of its row as its name.
+fn build_search(
     alloc: Global,
     rows: &[&Cube],
     output: usize,
@@ -312,8 +327,8 @@ fn search_of(
     Ok(search)
 }
 
-// Has a search among the rows of an output.
-fn begin_search(
+// Builds a search among the rows of the output, unless there is one.
+fn build_search_if_none(
     alloc: Global,
     searches: &mut Vec<Option<Search>>,
     rows: &[&Cube],
@@ -323,27 +338,17 @@ fn begin_search(
     for _ in searches.len()..=output {
         searches.push(None)?;
     }
-    if let Some(place) = searches.get_mut(output) {
-        if place.is_none() {
-            *place = Some(search_of(alloc, rows, output, inputs)?);
+    if let Some(slot) = searches.get_mut(output) {
+        if slot.is_none() {
+            *slot = Some(build_search(alloc, rows, output, inputs)?);
         }
     }
     Ok(())
 }
 
-// Copies of the rows.
-fn copies(alloc: Global, rows: &[&Cube]) -> Result<Vec<Cube>, AllocError>
-    ensures { IfOk result (λ copy. copy.items ≡ behind rows.now) }
-{
-    let mut copy = Vec::with_capacity(alloc, rows.len())?;
-    for row in rows {
-        copy.push(row.try_clone()?)?;
-    }
-    Ok(copy)
-}
-
-// What an answer of a search says of the region, once it is looked at.
-fn check(
+// Whether the rows hold the region, by the answer of a search, which is checked; `None` if it is no
+// answer or is not shown.
+fn check_answer(
     alloc: Global,
     rows: &[&Cube],
     known: &mut Vec<Cube>,
@@ -360,15 +365,15 @@ fn check(
     match answer {
         Answer::Unknown => Ok(None),
         Answer::Point(point) => {
-            if is_outside(alloc, rows, region, output, point)? {
+            if is_point_outside(alloc, rows, region, output, point)? {
                 Ok(Some(false))
             } else {
                 Ok(None)
             }
         }
         Answer::Refutation(refutation) => {
-            if accept_all(alloc, region.shape(), output, known, refutation)?
-                && is_held_by(known, refutation.last() as usize, region)
+            if accept_refutation(alloc, region.shape(), output, known, refutation)?
+                && known_cube_contains(known, refutation.last() as usize, region)
             {
                 Ok(Some(true))
             } else {
@@ -378,8 +383,9 @@ fn check(
     }
 }
 
-// Whether the rows hold each place of the region, which has this output, if a search answers that.
-fn ask_at(
+// Whether the rows hold each place of the region, which has this one output, if a search answers
+// that.
+fn holds_by_search_at(
     alloc: Global,
     rows: &[&Cube],
     learned: &mut Learned,
@@ -393,13 +399,13 @@ fn ask_at(
     ensures held { IfOk result (λ found. IfSome found (λ held. IsTrue held
         ↔ IsSubset (holds region.now) (places (behind rows.now)))) }
 {
-    learned.begin(alloc, rows, output, region.shape())?;
-    let answer = learned.look(alloc, output, region)?;
-    check(alloc, rows, &mut learned.known, output, region, &answer)
+    learned.prepare_search(alloc, rows, output, region.shape())?;
+    let answer = learned.ask_search(alloc, output, region)?;
+    check_answer(alloc, rows, &mut learned.known, output, region, &answer)
 }
 
-// The part of a region at one output, if it has the output.
-fn part_at(alloc: Global, region: &Cube, output: usize) -> Result<Option<Cube>, AllocError>
+// The places of a region with this output, as a cube, if the region has the output.
+fn part_at_output(alloc: Global, region: &Cube, output: usize) -> Result<Option<Cube>, AllocError>
     requires { output < length region.now.outputs }
     ensures size { IfOk result (λ found. IfSome found (λ part. SameSize part region.now)) }
     ensures within { IfOk result
@@ -413,12 +419,12 @@ fn part_at(alloc: Global, region: &Cube, output: usize) -> Result<Option<Cube>, 
     if !region.output(output) {
         return Ok(None);
     }
-    let all = one_output(alloc, shape, output)?;
+    let all = cube_of_output(alloc, shape, output)?;
     region.meet(&all)
 }
 
 /// Whether the rows hold each place of the region, if searches answer that, output by output.
-pub(crate) fn ask(
+pub(crate) fn holds_by_search(
     alloc: Global,
     rows: &[&Cube],
     learned: &mut Learned,
@@ -432,10 +438,10 @@ pub(crate) fn ask(
         ↔ IsSubset (holds region.now) (places (behind rows.now)))) }
 {
     for output in 0..region.shape().outputs() {
-        let Some(part) = part_at(alloc, region, output)? else {
+        let Some(part) = part_at_output(alloc, region, output)? else {
             continue;
         };
-        let Some(held) = ask_at(alloc, rows, learned, output, &part)? else {
+        let Some(held) = holds_by_search_at(alloc, rows, learned, output, &part)? else {
             return Ok(None);
         };
         if !held {

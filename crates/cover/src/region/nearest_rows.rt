@@ -1,38 +1,38 @@
 //! The rows with fewest open literals in a region, found 64 at a time.
 //!
 //! A literal of a row is open where the region has none at its input. For each literal and for each
-//! output it is kept which rows have it, and for each row its number of literals in binary digits:
-//! a bit a row, 64 rows a word. The literals of a region are taken from these numbers one after the
-//! other, with borrows from digit to digit, for 64 rows at once. So a question costs a few steps a
-//! literal of the region for each 64 rows, where a look at each row costs as many for each row. The
-//! bits take no more memory than the rows.
+//! output a column has which rows have it, and further columns have the binary digits of each row's
+//! number of literals: a bit a row, 64 rows a word. The literals of a region are subtracted from
+//! these numbers one after the other, with borrows from digit to digit, for 64 rows at once. So a
+//! question costs a few steps a literal of the region for each 64 rows, where a look at each row
+//! costs as many for each row. The bits take no more memory than the rows.
 //!
 //! The rows that are found are a hint: they are some of the rows, and no contract says more.
 ghost use Rattle.std.specs.Prelude.{IfOk, OnOk};
 ghost use Rattle.cover.specs.Reason.{AreAmong};
 
-use crate::region::splitting_input::fewest_literals;
+use crate::region::open_literals::fewest_literals;
 use cube::{Cube, Shape, Symbol};
 use std::alloc::{AllocError, Global};
 
-// So many binary digits have the numbers of literals, 1024 at most.
+// A row has at most 1024 literals, a number of this many binary digits.
 const DIGITS: usize = 11;
 
 /// Which rows of a list have each literal and each output, and how many literals each row has.
 #[derive(Drop)]
 pub(crate) struct RowBits {
-    // Of each input those with `1`, and then those with `0`.
+    // For each input the rows with `1`, and then the rows with `0`.
     literals: Vec<Vec<u64>>,
     outputs: Vec<Vec<u64>>,
     // The digits of the numbers of literals, the lowest first.
     digits: Vec<Vec<u64>>,
-    // How many words there are for the rows.
+    // How many words a column has.
     words: usize,
     // The fewest literals of a row.
     fewest: u32,
 }
 
-// So many columns without a row.
+// `count` columns without a row, of `words` words each.
 fn empty_columns(alloc: Global, count: usize, words: usize) -> Result<Vec<Vec<u64>>, AllocError> {
     let mut columns = Vec::new(alloc);
     for _ in 0..count {
@@ -50,7 +50,7 @@ fn put_row(columns: &mut Vec<Vec<u64>>, at: usize, k: usize) {
     }
 }
 
-// Puts row `k` into the columns that the bits stand for, counted from `first` on.
+// Puts row `k` into the columns of the bits that are set, where bit 0 is column `first`.
 fn put_row_at_bits(columns: &mut Vec<Vec<u64>>, first: usize, bits: u64, k: usize) {
     let mut left = bits;
     for _ in 0..64 {
@@ -63,7 +63,7 @@ fn put_row_at_bits(columns: &mut Vec<Vec<u64>>, first: usize, bits: u64, k: usiz
     }
 }
 
-// The word at a place, without a bit past the end.
+// Word `w` of a column, or no bits past its end.
 fn word_at(column: &[u64], w: usize) -> u64 {
     match column.get(w) {
         Some(word) => *word,
@@ -71,7 +71,7 @@ fn word_at(column: &[u64], w: usize) -> u64 {
     }
 }
 
-// The rows of word `w` that all columns have.
+// The rows of word `w` that are in all columns.
 fn rows_in_all(columns: &[&[u64]], w: usize) -> u64 {
     let mut rows = u64::MAX;
     for column in columns {
@@ -80,8 +80,8 @@ fn rows_in_all(columns: &[&[u64]], w: usize) -> u64 {
     rows
 }
 
-// Takes one from the numbers of the rows, unless they are 0.
-fn take_one(numbers: &mut [u64; DIGITS], rows: u64) {
+// Subtracts one from the numbers of the rows whose bits are set, which are not 0.
+fn decrement_numbers(numbers: &mut [u64; DIGITS], rows: u64) {
     let mut borrow = rows;
     for digit in 0..DIGITS {
         if borrow == 0 {
@@ -93,8 +93,8 @@ fn take_one(numbers: &mut [u64; DIGITS], rows: u64) {
     }
 }
 
-// Those of the rows whose number is least, and the number, which has so many digits.
-fn least(numbers: &[u64; DIGITS], digits: usize, rows: u64) -> (u64, u32) {
+// The rows, among these, whose number is least, and that number. The numbers have `digits` digits.
+fn rows_with_least(numbers: &[u64; DIGITS], digits: usize, rows: u64) -> (u64, u32) {
     let mut rows = rows;
     let mut number = 0u32;
     for digit in (0..digits.min(DIGITS)).rev() {
@@ -108,8 +108,8 @@ fn least(numbers: &[u64; DIGITS], digits: usize, rows: u64) -> (u64, u32) {
     (rows, number)
 }
 
-// Adds the rows of word `w` that the bits stand for.
-fn push_rows<'a>(
+// Adds the rows of word `w` whose bits are set.
+fn push_rows_at_bits<'a>(
     rows: &[&'a Cube],
     w: usize,
     bits: u64,
@@ -134,7 +134,7 @@ fn push_rows<'a>(
     Ok(())
 }
 
-// The rows with fewest open literals so far, and how many these are.
+// The rows with fewest open literals so far, and how many open literals they have.
 #[derive(Drop)]
 struct Nearest<'a> {
     rows: Vec<&'a Cube>,
@@ -142,8 +142,8 @@ struct Nearest<'a> {
 }
 
 impl<'a> Nearest<'a> {
-    // Adds the rows of word `w` that the bits stand for, which have so many open literals, unless
-    // others have fewer.
+    // Adds the rows of word `w` whose bits are set, which have `open` open literals, unless rows
+    // with fewer were added.
     fn add(&mut self, rows: &[&'a Cube], w: usize, bits: u64, open: u32) -> Result<(), AllocError>
         requires { AreAmong self.old.rows.items rows.now }
         ensures { OnOk result (AreAmong self.new.rows.items rows.now) }
@@ -155,16 +155,16 @@ impl<'a> Nearest<'a> {
             self.rows.clear();
         }
         self.fewest = open;
-        push_rows(rows, w, bits, &mut self.rows)
+        push_rows_at_bits(rows, w, bits, &mut self.rows)
     }
 }
 
 // The columns that a question looks at.
 #[derive(Drop)]
 struct Columns<'a> {
-    // The rows that have a literal of the region, and those that have the opposite one.
+    // For each literal of the region the rows that have it, and the rows that have its opposite.
     literals: Vec<(&'a [u64], &'a [u64])>,
-    // The rows that have an output of the region.
+    // For each output of the region the rows that have it.
     outputs: Vec<&'a [u64]>,
 }
 
@@ -218,7 +218,7 @@ impl RowBits {
         }
     }
 
-    // The columns of a region's literals.
+    // For each literal of the region its column, and that of its opposite.
     fn literal_columns(
         &self,
         alloc: Global,
@@ -245,7 +245,7 @@ impl RowBits {
         Ok(columns)
     }
 
-    // The columns of a region's outputs.
+    // For each output of the region its column.
     fn output_columns(&self, alloc: Global, region: &Cube) -> Result<Vec<&[u64]>, AllocError> {
         let mut columns = Vec::new(alloc);
         for (j, column) in self.outputs.iter().enumerate() {
@@ -256,8 +256,8 @@ impl RowBits {
         Ok(columns)
     }
 
-    // Of the rows of word `w` that meet the region and have its outputs, those with fewest open
-    // literals, and how many these are.
+    // The rows with fewest open literals among the rows of word `w` that meet the region and have
+    // all of its outputs, and how many open literals they have.
     fn nearest_in_word(&self, columns: &Columns, w: usize) -> (u64, u32) {
         let mut numbers = [0u64; DIGITS];
         for (digit, column) in self.digits.iter().enumerate() {
@@ -268,13 +268,13 @@ impl RowBits {
         let mut rows = rows_in_all(&columns.outputs, w);
         for (own, opposite) in &columns.literals {
             rows &= !word_at(opposite, w);
-            take_one(&mut numbers, word_at(own, w));
+            decrement_numbers(&mut numbers, word_at(own, w));
         }
-        least(&numbers, self.digits.len(), rows)
+        rows_with_least(&numbers, self.digits.len(), rows)
     }
 
-    /// Of the rows that the bits are of, those with fewest open literals, as far as they meet the
-    /// region and have all of its outputs. Once a row contains the region, the search ends.
+    /// The rows with fewest open literals among the rows, whose bits these are, that meet the
+    /// region and have all of its outputs. It stops at a row that contains the region.
     pub(crate) fn nearest<'a>(
         &self,
         alloc: Global,

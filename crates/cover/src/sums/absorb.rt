@@ -1,4 +1,4 @@
-//! Rows that lie in other rows, left out.
+//! Absorption: rows that lie in other rows are dropped.
 ghost use Rattle.std.specs.Prelude.{◌≡◌, IfOk, IsTrue, All, Contains, false};
 ghost use Rattle.std.specs.List.Sorted.{IsStrictlySortedBy};
 ghost use Rattle.cube.specs.Cube.{SameSize, IsSubset, holds, Cube as Row};
@@ -11,14 +11,14 @@ use crate::sums::rows::sort_rows;
 use cube::{Cube, Shape};
 use std::alloc::{AllocError, Global};
 
-// So many rows are not looked at pair by pair for a smaller list alone.
+// Lists of more rows than this are not looked at pair by pair only to make them shorter.
 const MANY: usize = 32;
 
-// Nor are rows of two lists of so many pairs.
+// Two lists of more pairs than this are not looked at pair by pair only to make one shorter.
 const PAIRS: usize = 1024;
 
 // Whether the row lies in one of the kept rows.
-fn is_absorbed(kept: &[Cube], row: &Cube) -> bool
+fn lies_in_some(kept: &[Cube], row: &Cube) -> bool
     requires { All (λ d. SameSize d row.now) kept.now }
     ensures absorbed { IsTrue result → (d : Row) × Contains kept.now d
         × IsSubset (holds row.now) (holds d) }
@@ -41,16 +41,17 @@ fn absorb_sorted(alloc: Global, rows: &[Cube]) -> Result<Vec<Cube>, AllocError>
 {
     let mut kept = Vec::new(alloc);
     for row in rows {
-        if !is_absorbed(&kept, row) {
+        if !lies_in_some(&kept, row) {
             kept.push(row.try_clone()?)?;
         }
     }
     Ok(kept)
 }
 
-// Whether all rows have as many literals. Of such rows in row order none lies in one before it: it
-// would have the same symbols, and then the one with more outputs comes later.
-fn have_one_size(rows: &[Cube]) -> bool {
+// Whether all rows have the same number of literals. In row order none of them then lies in an
+// earlier one: it would have the symbols of that one, and of such rows the one with more outputs is
+// later.
+fn have_equal_literal_counts(rows: &[Cube]) -> bool {
     let Some(first) = rows.first() else {
         return true;
     };
@@ -63,9 +64,9 @@ fn have_one_size(rows: &[Cube]) -> bool {
     true
 }
 
-// Whether the rows are seen to rise and to have literals at the same inputs, as points do that a
-// longer list was split into. So none lies in another.
-fn rise_alike(shape: Shape, rows: &[Cube]) -> bool {
+// Whether the rows rise in row order and all have literals at the same inputs, as points have. Then
+// none lies in another. Shapes of more than 32 inputs are not looked at.
+fn rise_with_literals_at_same_inputs(shape: Shape, rows: &[Cube]) -> bool {
     if shape.inputs() > 32 {
         return false;
     }
@@ -78,7 +79,7 @@ fn rise_alike(shape: Shape, rows: &[Cube]) -> bool {
         if row.literal_inputs(0) != inputs {
             return false;
         }
-        let key = row.order_key();
+        let key = row.order_key_of_32_inputs();
         if key <= last {
             return false;
         }
@@ -87,16 +88,16 @@ fn rise_alike(shape: Shape, rows: &[Cube]) -> bool {
     true
 }
 
-// Whether some row lies in one before it, in row order.
-fn has_absorbed(rows: &[Cube]) -> bool
+// Whether some row lies in an earlier one. The rows are in row order.
+fn has_absorbed_by_earlier(rows: &[Cube]) -> bool
     requires { HaveOneSize rows.now }
 {
-    if have_one_size(rows) {
+    if have_equal_literal_counts(rows) {
         return false;
     }
     for at in 0..rows.len() {
         let (before, _) = rows.split_at(at);
-        if is_absorbed(before, &rows[at]) {
+        if lies_in_some(before, &rows[at]) {
             return true;
         }
     }
@@ -108,15 +109,15 @@ fn has_absorbed_by(rows: &[Cube], others: &[Cube]) -> bool
     requires { ShareOneSize rows.now others.now }
 {
     for row in rows {
-        if is_absorbed(others, row) {
+        if lies_in_some(others, row) {
             return true;
         }
     }
     false
 }
 
-// The rows that lie in none of the others.
-pub(crate) fn drop_absorbed(
+// The rows without those that lie in one of the others.
+pub(crate) fn drop_absorbed_by(
     alloc: Global,
     rows: &[Cube],
     others: &[Cube],
@@ -126,15 +127,16 @@ pub(crate) fn drop_absorbed(
 {
     let mut kept = Vec::new(alloc);
     for row in rows {
-        if !is_absorbed(others, row) {
+        if !lies_in_some(others, row) {
             kept.push(row.try_clone()?)?;
         }
     }
     Ok(kept)
 }
 
-/// The rows without those that lie in one of the others, or all of them, if the pairs are many.
-pub(crate) fn without_absorbed(
+/// The rows without those that lie in one of the others, or all of the rows, if there are more
+/// pairs than `PAIRS`.
+pub(crate) fn drop_absorbed_by_if_short(
     alloc: Global,
     rows: Vec<Cube>,
     others: &[Cube],
@@ -149,11 +151,11 @@ pub(crate) fn without_absorbed(
     if !has_absorbed_by(&rows, others) {
         return Ok(rows);
     }
-    drop_absorbed(alloc, &rows, others)
+    drop_absorbed_by(alloc, &rows, others)
 }
 
-/// The rows without some of those that lie in others: of few rows none is left that lies in one
-/// before it in row order, of many only the repeated ones leave, since each pair is looked at.
+/// The rows, without the rows that lie in an earlier one in row order, if they are few: each pair
+/// is looked at. Of more than `MANY` rows only repetitions are dropped.
 pub(crate) fn absorb_if_short(
     alloc: Global,
     shape: Shape,
@@ -162,20 +164,20 @@ pub(crate) fn absorb_if_short(
     requires { AreCubes shape rows.items }
     ensures { IfOk result (λ kept. IsPartlyAbsorbed rows.items kept.items) }
 {
-    if rows.len() < 2 || rise_alike(shape, &rows) {
+    if rows.len() < 2 || rise_with_literals_at_same_inputs(shape, &rows) {
         return Ok(rows);
     }
     let rows = sort_rows(alloc, rows)?;
     if rows.len() > MANY {
         return Ok(rows);
     }
-    if !has_absorbed(&rows) {
+    if !has_absorbed_by_earlier(&rows) {
         return Ok(rows);
     }
     absorb_sorted(alloc, &rows)
 }
 
-/// The rows in row order, without those that lie in one before them.
+/// The rows in row order, without the rows that lie in an earlier one.
 pub(crate) fn absorb(alloc: Global, rows: Vec<Cube>) -> Result<Vec<Cube>, AllocError>
     requires { HaveOneSize rows.items }
     ensures { IfOk result (λ kept. IsAbsorbed rows.items kept.items) }

@@ -1,26 +1,27 @@
-//! Complete sums that were found, kept to be found again.
+//! Complete sums that were made, kept to be found again.
 //!
-//! If inputs are alike, as in symmetric functions and in adders, the lists at values of some come
-//! to those at other values of others. So the two lists of a step are kept with their sum, in a
-//! slot that their hash picks, the newer in place of the older. Packages for decision diagrams keep
-//! such a computed table (Brace, Rudell and Bryant, Efficient Implementation of a BDD Package,
-//! 1990).
+//! If inputs are alike, as in symmetric functions and in adders, cofactors by different literals
+//! are often equal. So the two lists of a step are kept with their sum, in a slot that their hash
+//! picks, the newer in place of the older. Packages for decision diagrams keep such a computed
+//! table (Brace, Rudell and Bryant, Efficient Implementation of a BDD Package, 1990).
 ghost use Rattle.std.specs.Prelude.{◌≡◌, IsTrue, IfOk, IfSome};
 ghost use Rattle.cube.specs.Cube.{difference as difference_of};
 ghost use Rattle.cube.specs.Sum.{complete_sum as complete_sum_of};
 ghost use Rattle.cover.specs.Places.{places};
 
-use crate::list::copy_of;
+use crate::list::clone_cubes;
 use cube::{Cube, Shape};
 use std::alloc::{AllocError, Global};
 use std::mem;
 
-// How many slots there are at first, and at most: they are doubled if half of them may be taken.
+// The first table has this many slots. The number is doubled when half of them may be taken.
 const FIRST_SLOTS: usize = 1024;
 
+// There are never more slots than this.
 const SLOTS: usize = 16384;
 
-// If the rows that are kept would come to more than this with one more sum, all are forgotten.
+// The entries together have at most this many rows. If one more would make them too many, all are
+// forgotten.
 const ROWS: usize = 1 << 18;
 
 // Two lists, and the complete sum of the places of the first that are not in the second.
@@ -57,11 +58,11 @@ impl Entry {
     }
 }
 
-/// Sums that were found, and the order in which inputs are split at, where they weigh as much. No
+/// Sums that were made, and the order in which ties between inputs to split at are broken. No
 /// answer depends on the order or on how many sums are kept, and no contract speaks of them.
 #[derive(Drop)]
 pub(crate) struct ComputedTable {
-    // A power of two of them, or none yet.
+    // The number of slots is a power of two, or 0 at first.
     slots: Vec<Option<Entry>>,
     // How many sums were put since the slots were made, overwritten ones too.
     kept: usize,
@@ -106,7 +107,7 @@ impl ComputedTable {
         if !known.is_of(shape, hash, minuend, subtrahend) {
             return Ok(None);
         }
-        Ok(Some(copy_of(alloc, &known.sum)?))
+        Ok(Some(clone_cubes(alloc, &known.sum)?))
     }
 
     /// Keeps a sum with its lists, unless it is longer than all that may be kept.
@@ -126,7 +127,7 @@ impl ComputedTable {
         if sum.len() > ROWS {
             return Ok(());
         }
-        let sum = copy_of(alloc, sum)?;
+        let sum = clone_cubes(alloc, sum)?;
         let known = Entry {
             hash,
             shape,
@@ -139,8 +140,8 @@ impl ComputedTable {
         Ok(())
     }
 
-    // Makes more slots if these may be too few, and forgets all sums if so many rows more are too
-    // many.
+    // Forgets all sums if `rows` more rows would be too many, and doubles the slots if half of them
+    // may be taken.
     fn make_room(&mut self, alloc: Global, rows: usize) -> Result<(), AllocError> {
         if self.rows.saturating_add(rows) > ROWS {
             self.slots.clear();
@@ -153,7 +154,7 @@ impl ComputedTable {
         Ok(())
     }
 
-    // Makes twice as many slots, and puts all sums into them.
+    // Doubles the number of slots, and puts all sums into the new ones.
     fn double_slots(&mut self, alloc: Global) -> Result<(), AllocError> {
         let len = self.slots.len().saturating_mul(2).max(FIRST_SLOTS);
         let mut slots = Vec::with_capacity(alloc, len)?;
@@ -194,13 +195,13 @@ impl ComputedTable {
     }
 }
 
-/// A number of two lists, by which their sum is kept.
-pub(crate) fn hash_of(shape: Shape, minuend: &[Cube], subtrahend: &[Cube]) -> u64 {
+/// The hash of two lists.
+pub(crate) fn hash_of_lists(shape: Shape, minuend: &[Cube], subtrahend: &[Cube]) -> u64 {
     let seed = minuend.len() as u64;
     list_hash(shape, subtrahend, list_hash(shape, minuend, seed))
 }
 
-// A number of a list and a seed.
+// The hash of a list, from a seed.
 fn list_hash(shape: Shape, rows: &[Cube], seed: u64) -> u64 {
     let mut hash = seed;
     for row in rows {
@@ -209,7 +210,8 @@ fn list_hash(shape: Shape, rows: &[Cube], seed: u64) -> u64 {
     hash
 }
 
-/// A number of a row and a seed: for one seed equal rows give equal numbers, and others hardly ever.
+/// The hash of a row, from a seed. With one seed equal rows have equal hashes, and other rows hardly
+/// ever do.
 pub(crate) fn row_hash(shape: Shape, row: &Cube, seed: u64) -> u64 {
     let mut hash = seed;
     for w in 0..(shape.inputs() / 32).max(shape.outputs() / 64) + 1 {

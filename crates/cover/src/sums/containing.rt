@@ -1,32 +1,34 @@
 //! The cubes of a complete sum that contain a region.
 //!
-//! They are found without the others: the one cube that holds everything is cut by each row of the
-//! places outside, and of what is left of a cube only what contains the region stays. So a place
-//! that few primes hold costs little, however many primes there are (the recursion of sharps is
-//! that of Brayton et al. 1984).
+//! They are found without the other cubes of the sum: the universal cube is cut by each row of the
+//! places outside, and only pieces that contain the region are kept. So a place that few primes
+//! hold costs little, however many primes there are (the recursion of sharps is that of Brayton et
+//! al. 1984).
 //!
-//! A row that one literal alone parts from the region gives this literal to every cube. Such rows
-//! come first: then one cube is left, which most other rows do not meet, and these are done with.
-ghost use Rattle.std.specs.Prelude.{◌≡◌, ◌⊎◌, false, All, IfOk, IfSome, not, filter};
+//! The *distance* of a row from the region is the number of inputs at which they have opposite
+//! literals, and one more if they share no output. A row at distance 1 leaves one piece of a cube,
+//! with the opposite of its literal. Such rows come first: then one cube is left, and the rows that
+//! do not meet it need no cut.
+ghost use Rattle.std.specs.Prelude.{◌≡◌, false, All, IfOk, IfSome, not, filter};
 ghost use Rattle.std.specs.List.{Contains};
 ghost use Rattle.cube.specs.Size.{Size};
-ghost use Rattle.cube.specs.Cube.{HasSize, SameSize, IsDisjoint, IsSubset, Cube as Row, holds, difference, size_of};
+ghost use Rattle.cube.specs.Cube.{HasSize, SameSize, IsDisjoint, Cube as Row, holds, difference, size_of};
 ghost use Rattle.cube.specs.Sum.{complete_sum};
 ghost use Rattle.cover.specs.Cubes.{AreCubes};
 ghost use Rattle.cover.specs.Sizes.{HaveOneSize, ShareOneSize};
 ghost use Rattle.cover.specs.Places.{places};
 ghost use Rattle.cover.specs.Contained.{is_within};
 ghost use Rattle.cover.specs.Outside.{AreNear};
-ghost use Rattle.cover.specs.Reduced.{HasSameCubes, IsPartlyAbsorbed, IsWithoutAbsorbed};
+ghost use Rattle.cover.specs.Reduced.{HasSameCubes, IsPartlyAbsorbed};
 ghost use Rattle.cover.specs.Containing.{Cuts, lies_in_larger as is_in_larger, largest as largest_of, sum_containing as sum_containing_of};
 
+use crate::cubes::universal_cube;
 use crate::list::Cover;
-use crate::sums::absorb::{absorb, drop_absorbed};
-use crate::tautology::universal;
+use crate::sums::absorb::{absorb, drop_absorbed_by};
 use cube::{Cube, Shape};
 use std::alloc::{AllocError, Global};
 
-// Rows that fewer than this many literals and outputs part from the region come first.
+// Rows at a distance less than this come before all others, as a cut by them makes few pieces.
 const MANY: u32 = 6;
 
 // Whether the cube contains the region.
@@ -37,8 +39,8 @@ fn contains(cube: &Cube, region: &Cube) -> bool
     cube.contains(region)
 }
 
-// Those of the cubes that contain the region.
-fn containing(alloc: Global, region: &Cube, cubes: &[Cube]) -> Result<Vec<Cube>, AllocError>
+// Copies of the cubes that contain the region.
+fn select_containing(alloc: Global, region: &Cube, cubes: &[Cube]) -> Result<Vec<Cube>, AllocError>
     requires { All (λ c. SameSize c region.now) cubes.now }
     ensures { IfOk result (λ kept. kept.items
         ≡ filter (is_within (size_of region.now) region.now) cubes.now) }
@@ -52,15 +54,20 @@ fn containing(alloc: Global, region: &Cube, cubes: &[Cube]) -> Result<Vec<Cube>,
     Ok(kept)
 }
 
-// What is left of the cube outside the row and contains the region.
-fn pieces(alloc: Global, region: &Cube, row: &Cube, cube: &Cube) -> Result<Vec<Cube>, AllocError>
+// The cubes of the sharp of the cube and the row that contain the region.
+fn pieces_containing(
+    alloc: Global,
+    region: &Cube,
+    row: &Cube,
+    cube: &Cube,
+) -> Result<Vec<Cube>, AllocError>
     requires region { SameSize cube.now region.now }
     requires row { SameSize cube.now row.now }
     ensures { IfOk result (λ v. v.items ≡ filter (is_within (size_of region.now) region.now)
         (complete_sum (size_of region.now) (difference (holds cube.now) (holds row.now)))) }
 {
     let rest = cube.sharp(row)?;
-    containing(alloc, region, &rest)
+    select_containing(alloc, region, &rest)
 }
 
 /// Whether some cube has a place of the row.
@@ -76,13 +83,13 @@ pub(crate) fn any_meets(cubes: &[Cube], row: &Cube) -> bool
     false
 }
 
-// Whether the row has one output, as far as the first 64 show.
+// Whether the row has one output. False if the shape has more than 64.
 fn has_one_output(shape: Shape, row: &Cube) -> bool {
     shape.outputs() <= 64 && row.output_bits(0).count_ones() == 1
 }
 
-// The pieces that a cut by the row made, without some that lie in others. Where the row has one
-// output none does, if no cube of the list lies in another.
+// The pieces that a cut by the row made, without pieces that lie in earlier ones. If the row has
+// one output there are none, as long as no cube of the list lies in another.
 fn absorb_pieces(
     alloc: Global,
     shape: Shape,
@@ -98,8 +105,9 @@ fn absorb_pieces(
     absorb(alloc, pieces)
 }
 
-// The list cut by a row.
-fn cut(
+// The list with each cube that meets the row replaced by its pieces outside the row that contain
+// the region.
+fn cut_by_row(
     alloc: Global,
     shape: Shape,
     region: &Cube,
@@ -121,18 +129,18 @@ fn cut(
         if cube.disjoint(row) {
             kept.push(cube.try_clone()?)?;
         } else {
-            let mut more = pieces(alloc, region, row, cube)?;
+            let mut more = pieces_containing(alloc, region, row, cube)?;
             rest.append(&mut more)?;
         }
     }
     let rest = absorb_pieces(alloc, shape, row, rest)?;
-    let mut rest = drop_absorbed(alloc, &rest, &kept)?;
+    let mut rest = drop_absorbed_by(alloc, &rest, &kept)?;
     kept.append(&mut rest)?;
     Ok(kept)
 }
 
-// The list cut by all rows, or `None` once it is longer than `most`.
-fn cut_by_all(
+// The list cut by one row after the other, or `None` once it is longer than `most`.
+fn cut_by_rows(
     alloc: Global,
     shape: Shape,
     region: &Cube,
@@ -149,7 +157,7 @@ fn cut_by_all(
 {
     let mut left = cubes;
     for row in rows {
-        left = cut(alloc, shape, region, row, left)?;
+        left = cut_by_row(alloc, shape, region, row, left)?;
         if left.len() > most {
             return Ok(None);
         }
@@ -167,15 +175,16 @@ fn share_output(cube: &Cube, other: &Cube) -> bool {
     false
 }
 
-// At how many inputs the two have opposite literals, and one more if they share no output. A cut by
-// the row makes at most so many pieces that contain the region.
-fn count_partings(region: &Cube, row: &Cube) -> u32 {
+// The distance of two cubes: the number of inputs at which they have opposite literals, and one
+// more if they share no output. A cut by the row makes at most this many pieces that contain the
+// region.
+fn distance(region: &Cube, row: &Cube) -> u32 {
     let outputs = if share_output(region, row) { 0 } else { 1 };
     region.opposites(row).saturating_add(outputs)
 }
 
-// The rows that so many literals and outputs part from the region.
-fn parted_by(
+// The rows at this distance from the region.
+fn rows_at_distance(
     alloc: Global,
     region: &Cube,
     rows: &[Cube],
@@ -185,21 +194,25 @@ fn parted_by(
 {
     let mut kept = Vec::new(alloc);
     for row in rows {
-        if count_partings(region, row) == count {
+        if distance(region, row) == count {
             kept.push(row.try_clone()?)?;
         }
     }
     Ok(kept)
 }
 
-// The rows, some of them twice: those that few literals part from the region come first, since a
-// cut by them makes few pieces, and after it many others are done with.
-fn few_first(alloc: Global, region: &Cube, rows: Vec<Cube>) -> Result<Vec<Cube>, AllocError>
+// The rows at distances 2 to 5 from the region, the nearest first, and then all rows: some stand
+// twice. A cut by a near row makes few pieces, and many other rows do not meet those.
+fn near_rows_then_all(
+    alloc: Global,
+    region: &Cube,
+    rows: Vec<Cube>,
+) -> Result<Vec<Cube>, AllocError>
     ensures { IfOk result (λ all. HasSameCubes rows.items all.items) }
 {
     let mut all = Vec::new(alloc);
     for count in 2..MANY {
-        let mut some = parted_by(alloc, region, &rows, count)?;
+        let mut some = rows_at_distance(alloc, region, &rows, count)?;
         all.append(&mut some)?;
     }
     let mut rows = rows;
@@ -208,21 +221,22 @@ fn few_first(alloc: Global, region: &Cube, rows: Vec<Cube>) -> Result<Vec<Cube>,
 }
 
 // The rows that meet some cube of the list.
-fn rows_meeting(alloc: Global, cubes: &[Cube], rows: &[Cube]) -> Result<Vec<Cube>, AllocError>
+fn rows_meeting_any(alloc: Global, cubes: &[Cube], rows: &[Cube]) -> Result<Vec<Cube>, AllocError>
     requires { ShareOneSize cubes.now rows.now }
     ensures { IfOk result (λ v. (size : Size) → AreCubes size rows.now
         → AreNear size (places cubes.now) rows.now v.items) }
 {
-    let mut near = Vec::new(alloc);
+    let mut meeting = Vec::new(alloc);
     for row in rows {
         if any_meets(cubes, row) {
-            near.push(row.try_clone()?)?;
+            meeting.push(row.try_clone()?)?;
         }
     }
-    Ok(near)
+    Ok(meeting)
 }
 
-// The list cut by all rows in a good order, or `None` once it is longer than `most`.
+// The list cut by all rows, those at distance 1 first and then by distance, or `None` once it is
+// longer than `most`.
 fn cut_in_order(
     alloc: Global,
     shape: Shape,
@@ -237,16 +251,16 @@ fn cut_in_order(
     ensures { IfOk result (λ o. IfSome o (λ v.
         Cuts shape region.now (places rows.now) cubes.items v.items)) }
 {
-    let forcing = parted_by(alloc, region, rows, 1)?;
-    let Some(core) = cut_by_all(alloc, shape, region, &forcing, cubes, most)? else {
+    let at_distance_one = rows_at_distance(alloc, region, rows, 1)?;
+    let Some(core) = cut_by_rows(alloc, shape, region, &at_distance_one, cubes, most)? else {
         return Ok(None);
     };
-    let near = rows_meeting(alloc, &core, rows)?;
-    let near = few_first(alloc, region, near)?;
-    cut_by_all(alloc, shape, region, &near, core, most)
+    let meeting = rows_meeting_any(alloc, &core, rows)?;
+    let meeting = near_rows_then_all(alloc, region, meeting)?;
+    cut_by_rows(alloc, shape, region, &meeting, core, most)
 }
 
-// Whether the cube lies in one of the cubes that does not lie in it.
+// Whether the cube lies in a larger one of the cubes.
 fn lies_in_larger(cubes: &[Cube], cube: &Cube) -> bool
     requires { All (λ c. SameSize c cube.now) cubes.now }
     ensures { result ≡ is_in_larger (size_of cube.now) cubes.now cube.now }
@@ -260,7 +274,7 @@ fn lies_in_larger(cubes: &[Cube], cube: &Cube) -> bool
 }
 
 // The cubes that lie in no larger one.
-fn largest(alloc: Global, cubes: &[Cube]) -> Result<Vec<Cube>, AllocError>
+fn largest_cubes(alloc: Global, cubes: &[Cube]) -> Result<Vec<Cube>, AllocError>
     requires { HaveOneSize cubes.now }
     ensures { IfOk result (λ v. (size : Size) → AreCubes size cubes.now
         → v.items ≡ largest_of size cubes.now) }
@@ -287,7 +301,7 @@ pub fn cubes_containing(region: &Cube, list: &Cover) -> Result<Cover, AllocError
     }) }
 {
     let shape = list.shape();
-    let kept = containing(list.allocator(), region, list.as_slice())?;
+    let kept = select_containing(list.allocator(), region, list.as_slice())?;
     Ok(Cover::from_cubes(shape, kept))
 }
 
@@ -311,12 +325,12 @@ pub fn sum_containing(region: &Cube, off: &Cover, most: usize) -> Result<Option<
     let alloc = off.allocator();
     let shape = off.shape();
     let mut cubes = Vec::new(alloc);
-    let everything = universal(alloc, shape)?;
+    let everything = universal_cube(alloc, shape)?;
     cubes.push(everything)?;
     let Some(cubes) = cut_in_order(alloc, shape, region, off.as_slice(), cubes, most)? else {
         return Ok(None);
     };
     let cubes = absorb(alloc, cubes)?;
-    let cubes = largest(alloc, &cubes)?;
+    let cubes = largest_cubes(alloc, &cubes)?;
     Ok(Some(Cover::from_cubes(shape, cubes)))
 }

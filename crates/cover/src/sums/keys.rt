@@ -1,21 +1,21 @@
 //! The meets of two lists whose rows have literals at the same inputs, as lists of points have.
 //!
-//! Of such rows two that share a place have the same symbols. So each row has a key of its symbols at
-//! the first 32 inputs, and is met only with the others of its key. In row order the keys rise, and
-//! both lists are gone through once.
-ghost use Rattle.std.specs.Prelude.{◌≡◌, ℕ, ◌<◌, ◌≤◌, IfOk, IfSome, length, slice_index_or};
+//! Of such rows two that share a place have the same symbols. So each row has a key of its symbols
+//! at the first 32 inputs, and is met only with the others of its key. In row order the keys rise,
+//! and both lists are gone through once.
+ghost use Rattle.std.specs.Prelude.{ℕ, ◌<◌, ◌≤◌, IfOk, IfSome, length, slice_index_or};
 ghost use Rattle.cube.specs.Size.{Size};
 ghost use Rattle.cover.specs.Cubes.{AreCubes};
 ghost use Rattle.cover.specs.Keys.{HasKeys};
 ghost use Rattle.cover.specs.Reduced.{IsMeets};
 ghost use Rattle.cover.specs.Sizes.{ShareOneSize};
 
-use crate::sums::parts::push_meets;
+use crate::sums::meets_by_pairs::push_meets;
 use cube::Cube;
 use std::alloc::{AllocError, Global};
 
-/// The keys of the rows, if they do not fall and each row has literals at these inputs of the first
-/// 32.
+/// The keys of the rows, if they do not fall and, of the first 32 inputs, each row has literals at
+/// exactly `inputs`.
 pub(crate) fn keys_of(
     alloc: Global,
     rows: &[Cube],
@@ -29,7 +29,7 @@ pub(crate) fn keys_of(
         if row.literal_inputs(0) != inputs {
             return Ok(None);
         }
-        let key = row.order_key();
+        let key = row.order_key_of_32_inputs();
         if key < last {
             return Ok(None);
         }
@@ -39,8 +39,8 @@ pub(crate) fn keys_of(
     Ok(Some(keys))
 }
 
-// The first index from `from` on whose key is not below this one.
-fn skip_below(keys: &[u64], from: usize, key: u64) -> usize
+// The first index from `from` on whose key is not below `key`.
+fn first_key_not_below(keys: &[u64], from: usize, key: u64) -> usize
     requires { from ≤ length keys.now }
     ensures from_on { from ≤ result }
     ensures bound { result ≤ length keys.now }
@@ -54,8 +54,8 @@ fn skip_below(keys: &[u64], from: usize, key: u64) -> usize
     keys.len()
 }
 
-// The first index from `from` on whose key is above this one.
-fn skip_equal(keys: &[u64], from: usize, key: u64) -> usize
+// The first index from `from` on whose key is above `key`.
+fn first_key_above(keys: &[u64], from: usize, key: u64) -> usize
     requires { from ≤ length keys.now }
     ensures from_on { from ≤ result }
     ensures bound { result ≤ length keys.now }
@@ -86,8 +86,8 @@ pub(crate) fn meets_by_keys(
     let mut all = Vec::new(alloc);
     let mut from = 0;
     for k in 0..rows.len() {
-        let start = skip_below(other_keys, from, keys[k]);
-        let end = skip_equal(other_keys, start, keys[k]);
+        let start = first_key_not_below(other_keys, from, keys[k]);
+        let end = first_key_above(other_keys, start, keys[k]);
         let (front, _) = others.split_at(end);
         let (_, equal) = front.split_at(start);
         push_meets(&rows[k], equal, &mut all)?;

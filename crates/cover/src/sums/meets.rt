@@ -2,20 +2,20 @@
 //!
 //! Of rows in row order with equal symbols at the inputs before one, those with `-`, with `0` and
 //! with `1` there stand one after the other. So both lists are cut in three at input after input,
-//! and rows with other literals never come together. Lists in another order are met pair by pair, and
-//! lists whose rows have literals at the same inputs by numbers of their symbols.
+//! and rows with other literals never come together. Lists in another order are met pair by pair,
+//! and lists whose rows have literals at the same inputs by numbers of their symbols.
 ghost use Rattle.std.specs.Prelude.{◌≡◌, ◌<◌, ◌≤◌, IfOk, IfSome, All, length, take, slice_index_or};
 ghost use Rattle.cube.specs.Size.{Size};
 ghost use Rattle.cover.specs.Cubes.{AreCubes};
 ghost use Rattle.cover.specs.Reduced.{IsMeets, IsMeetsWithBoth, IsInThirds};
 
 use crate::sums::keys::{keys_of, meets_by_keys};
-use crate::sums::parts::meets_by_pairs;
+use crate::sums::meets_by_pairs::meets_by_pairs;
 use crate::symbols::has_symbol_at;
 use cube::{Cube, Shape, Symbol};
 use std::alloc::{AllocError, Global};
 
-// Lists of so few pairs are met pair by pair.
+// Lists of at most this many pairs are met pair by pair.
 const FEW: usize = 64;
 
 // The rows with `-`, with `0` and with `1` at an input.
@@ -26,8 +26,8 @@ struct Thirds<'a> {
     ones: &'a [Cube],
 }
 
-// How many rows from the first on have this symbol at input `i`.
-fn run(rows: &[Cube], i: usize, symbol: Symbol) -> usize
+// How many rows at the front have this symbol at input `i`.
+fn count_leading(rows: &[Cube], i: usize, symbol: Symbol) -> usize
     requires { All (λ c. i < length c.symbols) rows.now }
     ensures bound { result ≤ length rows.now }
     ensures symbol { All (λ c. slice_index_or c.symbols i Symbol.Dash ≡ symbol)
@@ -41,15 +41,15 @@ fn run(rows: &[Cube], i: usize, symbol: Symbol) -> usize
     rows.len()
 }
 
-// The rows cut in three, if they stand in that order.
+// The rows cut in three by their symbols at input `i`, if they stand in the order `-`, `0`, `1`.
 fn cut_in_three<'a>(rows: &'a [Cube], i: usize) -> Option<Thirds<'a>>
     requires { All (λ c. i < length c.symbols) rows.now }
     ensures { IfSome result (λ t. (size : Size) → AreCubes size rows.now
         → IsInThirds size i rows.now t.dashes.now t.zeros.now t.ones.now) }
 {
-    let (dashes, rest) = rows.split_at(run(rows, i, Symbol::Dash));
-    let (zeros, ones) = rest.split_at(run(rest, i, Symbol::Zero));
-    if run(ones, i, Symbol::One) < ones.len() {
+    let (dashes, rest) = rows.split_at(count_leading(rows, i, Symbol::Dash));
+    let (zeros, ones) = rest.split_at(count_leading(rest, i, Symbol::Zero));
+    if count_leading(ones, i, Symbol::One) < ones.len() {
         return None;
     }
     Some(Thirds {
@@ -119,7 +119,7 @@ fn meets_by_thirds(
     Ok(all)
 }
 
-// The meets of the rows with one list, and then those with another.
+// The meets of the rows with one list, and then their meets with another.
 #[cycle(meets_by_thirds)]
 fn meets_with_both(
     alloc: Global,

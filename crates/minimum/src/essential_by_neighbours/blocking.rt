@@ -53,7 +53,7 @@ fn blocking_output(alloc: Global, off: &Cover, prime: &Cube, j: usize) -> Result
     let mut list = Vec::new(alloc);
     for row in off.as_slice() {
         if row.output(j) {
-            add_meeting(&mut list, prime, row.stack(prime)?)?;
+            add_meeting(&mut list, prime, row.output_consensus(prime)?)?;
         }
     }
     Ok(Cover::from_cubes(shape, list))

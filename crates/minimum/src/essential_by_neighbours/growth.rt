@@ -135,7 +135,7 @@ fn widened(
         return Ok(Growth { cube, near });
     }
     let output = one_output(alloc, rows.shape(), j)?;
-    let Some(wide) = cube.stack(&output)? else {
+    let Some(wide) = cube.output_consensus(&output)? else {
         unreachable!()
     };
     let rest = wide.without_outputs(&cube)?;

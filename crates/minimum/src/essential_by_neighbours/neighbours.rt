@@ -44,10 +44,10 @@ fn back_by_outputs(prime: &Cube, row: &Cube) -> Result<Option<Cube>, AllocError>
     ensures some { IfOk result (λ found. (p : Place) → holds prime.now p ≡ true
         → held_by found p ≡ true → IsAloneByOutputs (holds row.now) prime.now p → ⊥) }
 {
-    if !row.has_more_outputs(prime) {
+    if !row.has_outputs_beyond(prime) {
         return Ok(None);
     }
-    row.stack(prime)
+    row.output_consensus(prime)
 }
 
 /// Adds the cube, if there is one that meets the prime.

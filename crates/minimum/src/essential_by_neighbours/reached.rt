@@ -35,8 +35,8 @@ pub(crate) fn outputs_at(rows: &Cover, region: Cube) -> Result<Cube, AllocError>
 {
     let mut here = region;
     for row in rows.as_slice() {
-        if let Some(both) = here.stack(row)? {
-            if both.has_more_outputs(&here) {
+        if let Some(both) = here.output_consensus(row)? {
+            if both.has_outputs_beyond(&here) {
                 here = both;
             }
         }

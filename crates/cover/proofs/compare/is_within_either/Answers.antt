@@ -21,22 +21,22 @@ pub are_related-requires-clause-others : goal.are_related-requires-clause-others
 are_related-requires-clause-others c =
     let sized : Bor Cube → Type 0 = λ d. HasSize d.now c.shape-shape.result in
     subst (All sized) (sym c.deref-4.ensures.value)
-    (subst (λ z. All (λ d. HasSize d.now z) c.in_ok-all.all.items) (c.requires.free ∙ sym c.shape-shape.ensures.size) c.in_ok-all.ensures.sizes)
+    (subst (λ z. All (λ d. HasSize d.now z) c.in_ok-all.all.items) (c.requires.dc ∙ sym c.shape-shape.ensures.size) c.in_ok-all.ensures.sizes)
 
 pub returns : goal.returns
 returns c =
     let list = c.args.list.now.cubes in
     let other = c.args.other.now.cubes in
-    let free = c.args.free.now.cubes in
+    let dc = c.args.dc.now.cubes in
     let held_by = c.deref-2.result.now in
     let rows : behind c.deref.result.now ≡ list = ap behind c.deref.ensures.value ∙ c.in_ok-rows.ensures.cubes in
-    let all : behind held_by ≡ free ++ other = ap behind c.deref-2.ensures.value ∙ c.in_ok-all.ensures.cubes in
+    let all : behind held_by ≡ dc ++ other = ap behind c.deref-2.ensures.value ∙ c.in_ok-all.ensures.cubes in
     IfOk-weaker c.are_related.result _ _
     (λ held h.
     let left : IsTrue held ↔ IsSubset (places (behind c.in_ok-rest.rest.items)) (places (behind held_by)) =
     subst (λ l. IsTrue held ↔ IsSubset (places (behind c.in_ok-rest.rest.items)) (places (behind l))) (c.deref-4.ensures.value ∙ sym c.deref-2.ensures.value)
     (subst (λ l. IsTrue held ↔ IsSubset (places (behind l)) (places (behind c.deref-4.result.now))) c.deref-3.ensures.value h) in
-    IsSubset-either (places list) free other (behind held_by) all held
+    IsSubset-either (places list) dc other (behind held_by) all held
     (subst (λ l. IsTrue held ↔ IsSubset (places l) (places (behind held_by))) rows
     (IsSubset-rest c.deref.result.now c.in_ok-rest.rest.items held_by c.in_ok-rest.ensures.some c.in_ok-rest.ensures.all held left)))
     c.are_related.ensures

@@ -10,63 +10,63 @@ use Rattle.cover.specs.declared.region.Step.TheVariants.{Row}
 use Rattle.cover.proofs.Reasons.{freed_half, share_sides, opposite_literal, sizes_part, SameSize-part, reason_of_more, reason_joined, within_rows, reason_of_row, unexplained_half, extent_half, row_inputs, row_above, size_rest, extent_rest, unexplained_rest, joined_stack, other_inputs, either_output, explains_lent, unexplained_none, row_leads, reason_of_some, sizes_among, meets_among, among_lent, none_left, some_left}
 use Rattle.cover.proofs.region.+reason.Goals as goal
 
-pub by_input-reason-requires : goal.by_input-reason-requires
-by_input-reason-requires t c =
+pub reason_by_split-reason-requires : goal.reason_by_split-reason-requires
+reason_by_split-reason-requires t c =
     let less = extent_half c.args.region.now c.in_ok-first.first c.args.at.0 c.args.at.1 c.requires.dash c.requires.literal c.in_ok-first.ensures.value in
     (omega (arith, less), (sizes_part c.args.rows.now c.args.region.now c.in_ok-first.first c.requires.sizes c.in_ok-first.ensures.size, c.requires.near))
 
-pub by_input-returns-in_default : goal.by_input-returns-in_default
-by_input-returns-in_default t c =
+pub reason_by_split-returns-in_default : goal.reason_by_split-returns-in_default
+reason_by_split-returns-in_default t c =
     record {
       found = unexplained_half (behind c.args.rows.now) c.args.region.now c.in_ok-first.first c.args.at.0 c.args.at.1 c.requires.dash c.in_ok-first.ensures.value
           (subst (λ o. Explains c.in_ok-first.first (behind c.args.rows.now) o) c.in_default.is c.in_ok-found.ensures.found);
       spent = tt;
     }
 
-pub by_input-by_other_half-requires : goal.by_input-by_other_half-requires
-by_input-by_other_half-requires t c =
+pub reason_by_split-reason_by_other_half-requires : goal.reason_by_split-reason_by_other_half-requires
+reason_by_split-reason_by_other_half-requires t c =
     let r : IsReason c.in_ok-first.first (behind c.args.rows.now) c.in-Some.one =
     subst (λ o. Explains c.in_ok-first.first (behind c.args.rows.now) o) c.in-Some.is c.in_ok-found.ensures.found in
     let size = SameSize-part c.in-Some.one c.in_ok-first.first c.args.region.now r.size c.in_ok-first.ensures.size in
     let half = subst (λ h. IsReason h (behind c.args.rows.now) c.in-Some.one) c.in_ok-first.ensures.value r in
     (omega arith, (c.requires.output, (c.requires.sizes, (c.requires.near, (c.requires.dash, (c.requires.literal, (size, half)))))))
 
-pub by_other_half-reason-requires : goal.by_other_half-reason-requires
-by_other_half-reason-requires t c =
+pub reason_by_other_half-reason-requires : goal.reason_by_other_half-reason-requires
+reason_by_other_half-reason-requires t c =
     let less = extent_half c.args.region.now c.in_ok-second.second c.args.at.0 c.opposite.result c.requires.dash
     (subst (λ s. s ≡ Dash → ⊥) (sym c.opposite.ensures) (opposite_literal c.args.at.1 c.requires.literal)) c.in_ok-second.ensures.value in
     (omega (arith, less), (sizes_part c.args.rows.now c.args.region.now c.in_ok-second.second c.requires.sizes c.in_ok-second.ensures.size, c.requires.near))
 
-pub by_other_half-returns-in_default : goal.by_other_half-returns-in_default
-by_other_half-returns-in_default t c =
+pub reason_by_other_half-returns-in_default : goal.reason_by_other_half-returns-in_default
+reason_by_other_half-returns-in_default t c =
     record {
       found = unexplained_half (behind c.args.rows.now) c.args.region.now c.in_ok-second.second c.args.at.0 c.opposite.result c.requires.dash c.in_ok-second.ensures.value
           (subst (λ o. Explains c.in_ok-second.second (behind c.args.rows.now) o) c.in_default.is c.in_ok-found.ensures.found);
       spent = tt;
     }
 
-pub by_other_half-consensus-requires-clause-input : goal.by_other_half-consensus-requires-clause-input
-by_other_half-consensus-requires-clause-input t c =
+pub reason_by_other_half-consensus-requires-clause-input : goal.reason_by_other_half-consensus-requires-clause-input
+reason_by_other_half-consensus-requires-clause-input t c =
     let lt = slice_get_within c.args.region.now.symbols c.args.at.0 Dash c.requires.dash in
     omega (arith, lt, c.requires.one_size.0)
 
-pub by_other_half-consensus-requires-clause-size : goal.by_other_half-consensus-requires-clause-size
-by_other_half-consensus-requires-clause-size t c =
+pub reason_by_other_half-consensus-requires-clause-size : goal.reason_by_other_half-consensus-requires-clause-size
+reason_by_other_half-consensus-requires-clause-size t c =
     let r : IsReason c.in_ok-second.second (behind c.args.rows.now) c.in-Some.other =
     subst (λ o. Explains c.in_ok-second.second (behind c.args.rows.now) o) c.in-Some.is c.in_ok-found.ensures.found in
     let size = SameSize-part c.in-Some.other c.in_ok-second.second c.args.region.now r.size c.in_ok-second.ensures.size in
     (size.0 ∙ sym c.requires.one_size.0, size.1 ∙ sym c.requires.one_size.1)
 
-pub by_other_half-consensus-requires-clause-sides : goal.by_other_half-consensus-requires-clause-sides
-by_other_half-consensus-requires-clause-sides t c =
+pub reason_by_other_half-consensus-requires-clause-sides : goal.reason_by_other_half-consensus-requires-clause-sides
+reason_by_other_half-consensus-requires-clause-sides t c =
     let q : IsReason c.in_ok-second.second (behind c.args.rows.now) c.in-Some.other =
     subst (λ o. Explains c.in_ok-second.second (behind c.args.rows.now) o) c.in-Some.is c.in_ok-found.ensures.found in
     share_sides c.args.region.now (with_symbol c.args.region.now c.args.at.0 c.args.at.1) c.in_ok-second.second c.args.one.now c.in-Some.other c.args.at.0 c.args.at.1
     c.requires.output c.requires.dash refl
     (c.in_ok-second.ensures.value ∙ ap (λ s. with_symbol c.args.region.now c.args.at.0 s) c.opposite.ensures) c.requires.one.size q.size c.requires.one.above q.above
 
-pub by_other_half-returns : goal.by_other_half-returns
-by_other_half-returns t c =
+pub reason_by_other_half-returns : goal.reason_by_other_half-returns
+reason_by_other_half-returns t c =
     let rows = behind c.args.rows.now in
     let region = c.args.region.now in
     let one = c.args.one.now in
@@ -84,17 +84,17 @@ by_other_half-returns t c =
       spent = tt;
     }
 
-pub by_outputs-returns-then-not-has_more_outputs : goal.by_outputs-returns-then-not-has_more_outputs
-by_outputs-returns-then-not-has_more_outputs t c =
+pub reason_by_outputs-returns-then-not-has_outputs_beyond : goal.reason_by_outputs-returns-then-not-has_outputs_beyond
+reason_by_outputs-returns-then-not-has_outputs_beyond t c =
     record {
       found = reason_of_row (behind c.args.rows.now) c.args.region.now c.args.row.now c.in_ok-try_clone.field-0 c.requires.member c.requires.size c.in_ok-try_clone.ensures.value
           (row_above (behind c.args.rows.now) c.args.region.now c.args.row.now c.args.row.now c.requires.size c.requires.meets c.requires.closed
-          c.has_more_outputs.result c.has_more_outputs.ensures c.if-not-has_more_outputs.true);
+          c.has_outputs_beyond.result c.has_outputs_beyond.ensures c.if-not-has_outputs_beyond.true);
       spent = tt;
     }
 
-pub by_outputs-reason-requires : goal.by_outputs-reason-requires
-by_outputs-reason-requires t c =
+pub reason_by_outputs-reason-requires : goal.reason_by_outputs-reason-requires
+reason_by_outputs-reason-requires t c =
     let less = extent_rest (behind c.args.rows.now) c.args.region.now c.args.row.now c.in_ok-rest.rest c.requires.size c.requires.meets c.requires.closed c.in_ok-rest.ensures.value in (
       omega (arith, less),
       (
@@ -104,23 +104,23 @@ by_outputs-reason-requires t c =
       ),
     )
 
-pub by_outputs-returns-in_default : goal.by_outputs-returns-in_default
-by_outputs-returns-in_default t c =
+pub reason_by_outputs-returns-in_default : goal.reason_by_outputs-returns-in_default
+reason_by_outputs-returns-in_default t c =
     record {
       found = unexplained_rest (behind c.args.rows.now) c.args.region.now c.args.row.now c.in_ok-rest.rest c.requires.size c.requires.meets c.requires.closed c.in_ok-rest.ensures.value
           (subst (λ o. Explains c.in_ok-rest.rest (behind c.args.rows.now) o) c.in_default.is c.in_ok-found.ensures.found);
       spent = tt;
     }
 
-pub by_outputs-contains-requires : goal.by_outputs-contains-requires
-by_outputs-contains-requires t c =
+pub reason_by_outputs-contains-requires : goal.reason_by_outputs-contains-requires
+reason_by_outputs-contains-requires t c =
     let r : IsReason c.in_ok-rest.rest (behind c.args.rows.now) c.in-Some.other =
     subst (λ o. Explains c.in_ok-rest.rest (behind c.args.rows.now) o) c.in-Some.is c.in_ok-found.ensures.found in
     SameSize-part c.in-Some.other c.in_ok-rest.rest c.args.region.now r.size
     (size_rest (behind c.args.rows.now) c.args.region.now c.args.row.now c.in_ok-rest.rest c.requires.size c.requires.meets c.requires.closed c.in_ok-rest.ensures.value)
 
-pub by_outputs-returns-then-contains : goal.by_outputs-returns-then-contains
-by_outputs-returns-then-contains t c =
+pub reason_by_outputs-returns-then-contains : goal.reason_by_outputs-returns-then-contains
+reason_by_outputs-returns-then-contains t c =
     let r : IsReason c.in_ok-rest.rest (behind c.args.rows.now) c.in-Some.other =
     subst (λ o. Explains c.in_ok-rest.rest (behind c.args.rows.now) o) c.in-Some.is c.in_ok-found.ensures.found in
     record {
@@ -130,16 +130,16 @@ by_outputs-returns-then-contains t c =
       spent = tt;
     }
 
-pub by_outputs-stack-requires : goal.by_outputs-stack-requires
-by_outputs-stack-requires t c =
+pub reason_by_outputs-output_consensus-requires : goal.reason_by_outputs-output_consensus-requires
+reason_by_outputs-output_consensus-requires t c =
     let r : IsReason c.in_ok-rest.rest (behind c.args.rows.now) c.in-Some.other =
     subst (λ o. Explains c.in_ok-rest.rest (behind c.args.rows.now) o) c.in-Some.is c.in_ok-found.ensures.found in
     let size = SameSize-part c.in-Some.other c.in_ok-rest.rest c.args.region.now r.size
     (size_rest (behind c.args.rows.now) c.args.region.now c.args.row.now c.in_ok-rest.rest c.requires.size c.requires.meets c.requires.closed c.in_ok-rest.ensures.value) in
     (c.requires.size.0 ∙ sym size.0, c.requires.size.1 ∙ sym size.1)
 
-pub by_outputs-returns : goal.by_outputs-returns
-by_outputs-returns t c =
+pub reason_by_outputs-returns : goal.reason_by_outputs-returns
+reason_by_outputs-returns t c =
     let rows = behind c.args.rows.now in
     let region = c.args.region.now in
     let row = c.args.row.now in
@@ -147,20 +147,20 @@ by_outputs-returns t c =
     let other = c.in-Some.other in
     let r : IsReason rest rows other = subst (λ o. Explains rest rows o) c.in-Some.is c.in_ok-found.ensures.found in
     let joins = joined_stack region row other c.requires.size (row_inputs rows region row rest c.requires.size c.requires.meets c.requires.closed)
-    (other_inputs rows region row rest c.requires.size c.requires.meets c.requires.closed c.in_ok-rest.ensures.value other r.above (c.has_more_outputs.ensures.0 c.if-not-has_more_outputs.false))
+    (other_inputs rows region row rest c.requires.size c.requires.meets c.requires.closed c.in_ok-rest.ensures.value other r.above (c.has_outputs_beyond.ensures.0 c.if-not-has_outputs_beyond.false))
     (either_output rows region row rest c.requires.size c.requires.meets c.requires.closed c.in_ok-rest.ensures.value other r.above)
-    c.stack.result c.stack.ensures.none c.stack.ensures.size c.stack.ensures.places in
+    c.output_consensus.result c.output_consensus.ensures.none c.output_consensus.ensures.size c.output_consensus.ensures.places in
     record {
       found = reason_joined rows region row other (within_rows rows row c.requires.member) r.within
-          c.in_ok-stack.field-0 (MatchResult-at_ok _ _ c.in_ok-stack.field-0 c.in_ok-stack.was joins);
+          c.in_ok-output_consensus.field-0 (MatchResult-at_ok _ _ c.in_ok-output_consensus.field-0 c.in_ok-output_consensus.was joins);
       spent = tt;
     }
 
-pub by_step-next_step-requires-clause-sizes : goal.by_step-next_step-requires-clause-sizes
-by_step-next_step-requires-clause-sizes t c = sizes_among c.args.near.now c.args.rows.now c.args.region.now c.requires.sizes c.requires.near
+pub reason_by_step-next_step-requires-clause-sizes : goal.reason_by_step-next_step-requires-clause-sizes
+reason_by_step-next_step-requires-clause-sizes t c = sizes_among c.args.near.now c.args.rows.now c.args.region.now c.requires.sizes c.requires.near
 
-pub by_step-by_outputs-requires : goal.by_step-by_outputs-requires
-by_step-by_outputs-requires t c =
+pub reason_by_step-reason_by_outputs-requires : goal.reason_by_step-reason_by_outputs-requires
+reason_by_step-reason_by_outputs-requires t c =
     let h : Leads c.args.region.now (behind c.args.near.now) (Row c.in-Row.k) =
     subst (Leads c.args.region.now (behind c.args.near.now)) c.in-Row.is c.next_step.ensures in
     let r = row_leads c.args.rows.now c.args.near.now c.args.region.now c.requires.sizes c.requires.near c.requires.meets c.in-Row.k c.index-near-k.result h c.index-near-k.is in
@@ -177,8 +177,8 @@ reason-returns-in-Some t c =
       spent = tt;
     }
 
-pub reason-by_step-requires : goal.reason-by_step-requires
-reason-by_step-requires t c =
+pub reason-reason_by_step-requires : goal.reason-reason_by_step-requires
+reason-reason_by_step-requires t c =
     let region = c.args.region.now in
     let near = c.args.near.now in
     let met = c.in_ok-found.field-0.meeting.items in
@@ -201,8 +201,8 @@ reason-by_step-requires t c =
       ),
     )
 
-pub by_all_rows-returns-then-is_empty : goal.by_all_rows-returns-then-is_empty
-by_all_rows-returns-then-is_empty t c =
+pub reason_by_all_rows-returns-then-is_empty : goal.reason_by_all_rows-returns-then-is_empty
+reason_by_all_rows-returns-then-is_empty t c =
     let region = c.args.region.now in
     let rows = c.args.rows.now in
     let met = c.in_ok-found.field-0.meeting.items in
@@ -215,8 +215,8 @@ by_all_rows-returns-then-is_empty t c =
       spent = tt;
     }
 
-pub by_all_rows-by_step-requires : goal.by_all_rows-by_step-requires
-by_all_rows-by_step-requires t c =
+pub reason_by_all_rows-reason_by_step-requires : goal.reason_by_all_rows-reason_by_step-requires
+reason_by_all_rows-reason_by_step-requires t c =
     let region = c.args.region.now in
     let rows = c.args.rows.now in
     let met = c.in_ok-found.field-0.meeting.items in
@@ -240,8 +240,8 @@ by_all_rows-by_step-requires t c =
       ),
     )
 
-pub by_all_rows-returns : goal.by_all_rows-returns
-by_all_rows-returns t c =
+pub reason_by_all_rows-returns : goal.reason_by_all_rows-returns
+reason_by_all_rows-returns t c =
     let region = c.args.region.now in
     let rows = c.args.rows.now in
     let met = c.in_ok-found.field-0.meeting.items in
@@ -249,8 +249,8 @@ by_all_rows-returns t c =
     subst (λ o. IfNone o (behind met ≡ meeting (size_of region) region (behind rows))) c.in_default.is
     c.in_ok-found.ensures.meeting in
     record {
-      found = IfOk-weaker c.by_step.result _ _
+      found = IfOk-weaker c.reason_by_step.result _ _
           (explains_lent rows c.deref.result.now region c.requires (ap behind c.deref.ensures.value ∙ inside))
-          c.by_step.ensures.found;
-      spent = c.by_step.ensures.spent;
+          c.reason_by_step.ensures.found;
+      spent = c.reason_by_step.ensures.spent;
     }

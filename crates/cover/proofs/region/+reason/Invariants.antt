@@ -5,17 +5,17 @@ use Rattle.cover.proofs.region.+reason.Given as goal
 abbrev pub decreases-reason : goal.decreases-reason
 decreases-reason l = 5 * extent l.region.now + 4
 
-abbrev pub decreases-by_all_rows : goal.decreases-by_all_rows
-decreases-by_all_rows l = 5 * extent l.region.now + 3
+abbrev pub decreases-reason_by_all_rows : goal.decreases-reason_by_all_rows
+decreases-reason_by_all_rows l = 5 * extent l.region.now + 3
 
-abbrev pub decreases-by_step : goal.decreases-by_step
-decreases-by_step l = 5 * extent l.region.now + 2
+abbrev pub decreases-reason_by_step : goal.decreases-reason_by_step
+decreases-reason_by_step l = 5 * extent l.region.now + 2
 
-abbrev pub decreases-by_input : goal.decreases-by_input
-decreases-by_input l = 5 * extent l.region.now + 1
+abbrev pub decreases-reason_by_split : goal.decreases-reason_by_split
+decreases-reason_by_split l = 5 * extent l.region.now + 1
 
-abbrev pub decreases-by_outputs : goal.decreases-by_outputs
-decreases-by_outputs l = 5 * extent l.region.now
+abbrev pub decreases-reason_by_outputs : goal.decreases-reason_by_outputs
+decreases-reason_by_outputs l = 5 * extent l.region.now
 
-abbrev pub decreases-by_other_half : goal.decreases-by_other_half
-decreases-by_other_half l = 5 * extent l.region.now
+abbrev pub decreases-reason_by_other_half : goal.decreases-reason_by_other_half
+decreases-reason_by_other_half l = 5 * extent l.region.now

@@ -2,20 +2,20 @@ use Rattle.std.proofs.Common.{◌+◌, ◌*◌}
 use Rattle.cover.specs.Parts.{live}
 use Rattle.cover.proofs.sums.+sum.Given as goal
 
-abbrev pub decreases-sum_between : goal.decreases-sum_between
-decreases-sum_between l = 6 * live l.shape.inputs l.minuend.items l.subtrahend.items + 5
+abbrev pub decreases-difference_sum : goal.decreases-difference_sum
+decreases-difference_sum l = 6 * live l.shape.inputs l.minuend.items l.subtrahend.items + 5
 
-abbrev pub decreases-left_sum : goal.decreases-left_sum
-decreases-left_sum l = 6 * live l.shape.inputs l.minuend.items l.subtrahend.items + 4
+abbrev pub decreases-sum_by_case : goal.decreases-sum_by_case
+decreases-sum_by_case l = 6 * live l.shape.inputs l.minuend.items l.subtrahend.items + 4
 
-abbrev pub decreases-found_sum : goal.decreases-found_sum
-decreases-found_sum l = 6 * live l.shape.inputs l.minuend.items l.subtrahend.items + 3
+abbrev pub decreases-remembered_sum : goal.decreases-remembered_sum
+decreases-remembered_sum l = 6 * live l.shape.inputs l.minuend.items l.subtrahend.items + 3
 
-abbrev pub decreases-split_sum : goal.decreases-split_sum
-decreases-split_sum l = 6 * live l.shape.inputs l.minuend.now l.subtrahend.now + 2
+abbrev pub decreases-sum_by_split : goal.decreases-sum_by_split
+decreases-sum_by_split l = 6 * live l.shape.inputs l.minuend.now l.subtrahend.now + 2
 
-abbrev pub decreases-side_sum : goal.decreases-side_sum
-decreases-side_sum l = 6 * live l.shape.inputs l.minuend.now l.subtrahend.now
+abbrev pub decreases-sum_at_value : goal.decreases-sum_at_value
+decreases-sum_at_value l = 6 * live l.shape.inputs l.minuend.now l.subtrahend.now
 
-abbrev pub decreases-apart_sum : goal.decreases-apart_sum
-decreases-apart_sum l = 6 * live l.shape.inputs l.parts.one.items l.parts.other.items + 1
+abbrev pub decreases-sum_by_parts : goal.decreases-sum_by_parts
+decreases-sum_by_parts l = 6 * live l.shape.inputs l.parts.one.items l.parts.other.items + 1

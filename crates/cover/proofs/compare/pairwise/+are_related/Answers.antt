@@ -13,8 +13,8 @@ are_related_at-are_related-requires t c =
     let P : Bor Cube → Type 0 = λ d. HasSize d.now c.args.shape in (
       omega arith,
       (
-        subst (All P) (sym (c.deref.ensures.value ∙ c.in_ok-near.ensures)) (All-filter (λ d. at_symbol c.args.at.0 c.args.at.1 d.now) P c.args.rows.now c.requires.rows),
-        subst (All P) (sym (c.deref-2.ensures.value ∙ c.in_ok-far.ensures)) (All-filter (λ d. open_to c.args.at.0 c.args.at.1 d.now) P c.args.others.now c.requires.others),
+        subst (All P) (sym (c.deref.ensures.value ∙ c.in_ok-having.ensures)) (All-filter (λ d. at_symbol c.args.at.0 c.args.at.1 d.now) P c.args.rows.now c.requires.rows),
+        subst (All P) (sym (c.deref-2.ensures.value ∙ c.in_ok-compatible.ensures)) (All-filter (λ d. open_to c.args.at.0 c.args.at.1 d.now) P c.args.others.now c.requires.others),
       ),
     )
 
@@ -22,7 +22,7 @@ pub are_related_at-returns : goal.are_related_at-returns
 are_related_at-returns t c =
     IfOk-weaker c.are_related.result _ _
     (λ r h. AreRelated-open c.args.shape c.args.at.0 c.requires.input c.args.relation c.args.at.1 c.args.rows.now c.args.others.now c.deref.result.now c.deref-2.result.now
-    c.requires.rows c.requires.others (c.deref.ensures.value ∙ c.in_ok-near.ensures) (c.deref-2.ensures.value ∙ c.in_ok-far.ensures) r h)
+    c.requires.rows c.requires.others (c.deref.ensures.value ∙ c.in_ok-having.ensures) (c.deref-2.ensures.value ∙ c.in_ok-compatible.ensures) r h)
     c.are_related.ensures
 
 pub are_related-returns-then-not-branch : goal.are_related-returns-then-not-branch

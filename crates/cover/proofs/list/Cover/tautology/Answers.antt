@@ -7,8 +7,8 @@ use Rattle.cover.proofs.Everywhere.{same_test, holds_all-universal, HasSize-univ
 use Rattle.cover.proofs.Lists.{sizes_of_cubes}
 use Rattle.cover.proofs.list.Cover.tautology.Goals as goal
 
-pub covers_cube-requires : goal.covers_cube-requires
-covers_cube-requires c =
+pub holds_region-requires : goal.holds_region-requires
+holds_region-requires c =
     sizes_of_cubes c.args.self.now.size c.args.self.now.cubes (subst (λ l. AreCubes c.args.self.now.size l) c.as_slice.ensures.value c.as_slice.ensures.cubes) c.deref.result.now
     (ap behind c.deref.ensures.value ∙ c.in_ok-rows.ensures ∙ c.as_slice.ensures.value) c.in_ok-region.region
     (subst (λ r. HasSize r c.args.self.now.size) (ap universal (sym c.shape.ensures.size) ∙ sym c.in_ok-region.ensures.value) (HasSize-universal c.args.self.now.size))
@@ -16,9 +16,9 @@ covers_cube-requires c =
 pub returns : goal.returns
 returns c =
     let same : behind c.deref.result.now ≡ c.args.self.now.cubes = ap behind c.deref.ensures.value ∙ c.in_ok-rows.ensures ∙ c.as_slice.ensures.value in
-    IfOk-weaker c.covers_cube.result _ _
+    IfOk-weaker c.holds_region.result _ _
     (λ all h. same_test all (holds_all c.args.self.now.size (places c.args.self.now.cubes))
     (subst (λ l. IsTrue all ↔ IsSubset (holds c.in_ok-region.region) (places l)) same h)
     (subst (λ r. IsTrue (holds_all c.args.self.now.size (places c.args.self.now.cubes)) ↔ IsSubset (holds r) (places c.args.self.now.cubes))
     (ap universal (sym c.shape.ensures.size) ∙ sym c.in_ok-region.ensures.value) (holds_all-universal c.args.self.now.size (places c.args.self.now.cubes))))
-    c.covers_cube.ensures
+    c.holds_region.ensures

@@ -14,11 +14,11 @@ returns-then-len-lt2 c = IsPartlyAbsorbed-same c.args.rows.items c.args.rows.ite
 pub returns-then-len-gt-MANY : goal.returns-then-len-gt-MANY
 returns-then-len-gt-MANY c = IsPartlyAbsorbed-same c.args.rows.items c.in_ok-rows.rows.items c.in_ok-rows.ensures.cubes
 
-pub returns-then-not-has_absorbed : goal.returns-then-not-has_absorbed
-returns-then-not-has_absorbed c = IsPartlyAbsorbed-same c.args.rows.items c.in_ok-rows.rows.items c.in_ok-rows.ensures.cubes
+pub returns-then-not-has_absorbed_by_earlier : goal.returns-then-not-has_absorbed_by_earlier
+returns-then-not-has_absorbed_by_earlier c = IsPartlyAbsorbed-same c.args.rows.items c.in_ok-rows.rows.items c.in_ok-rows.ensures.cubes
 
-pub has_absorbed-requires : goal.has_absorbed-requires
-has_absorbed-requires c =
+pub has_absorbed_by_earlier-requires : goal.has_absorbed_by_earlier-requires
+has_absorbed_by_earlier-requires c =
     record {
       size = c.args.shape;
       are_cubes = All-same (IsCube c.args.shape) c.deref-2.result.now c.in_ok-rows.rows.items c.deref-2.ensures.value

@@ -3,28 +3,28 @@ use Rattle.cube.specs.Cube.{Cube, SameSize, IsSubset, holds}
 use Rattle.cover.specs.Reduced.{IsAbsorbed}
 use Rattle.cover.proofs.SumAbsorb.{IsAbsorbed-none, IsAbsorbed-kept, IsAbsorbed-left_out, kept_sizes}
 use Rattle.cover.proofs.sums.absorb.absorb_sorted.Goals as goal
-use Rattle.cover.proofs.sums.absorb.absorb_sorted.Goals.{then-not-is_absorbed+in_ok-try_clone+in_ok-push, else-not-is_absorbed}
+use Rattle.cover.proofs.sums.absorb.absorb_sorted.Goals.{then-not-lies_in_some+in_ok-try_clone+in_ok-push, else-not-lies_in_some}
 
 pub loop-row-init : goal.loop-row-init
 loop-row-init c = subst (IsAbsorbed []) (sym c.new-kept.ensures.items) IsAbsorbed-none
 
-pub is_absorbed-requires : goal.is_absorbed-requires
-is_absorbed-requires c =
+pub lies_in_some-requires : goal.lies_in_some-requires
+lies_in_some-requires c =
     subst (All (λ d. SameSize d c.row-item.result)) (sym c.deref.ensures.value)
     (kept_sizes c.requires.cubes.size c.args.rows.now c.loop-row.row-index c.row-item.result c.loop-row.kept.items c.requires.cubes.are_cubes c.loop-row-test.true c.row-item.is c.loop-row.invariant)
 
 pub loop-row-preserved : goal.loop-row-preserved
 loop-row-preserved c =
     let rows = c.args.rows.now in
-    elim c.if-not-is_absorbed.branch [
-      | then-not-is_absorbed+in_ok-try_clone+in_ok-push w ↦
+    elim c.if-not-lies_in_some.branch [
+      | then-not-lies_in_some+in_ok-try_clone+in_ok-push w ↦
           let P : Cube → Type 0 = λ d. IsSubset (holds c.row-item.result) (holds d) → ⊥ in
           subst (λ v. IsAbsorbed (take (c.loop-row.row-index + 1) rows) v.items) (sym w.kept-is)
           (IsAbsorbed-kept rows c.loop-row.row-index c.row-item.result c.loop-row.kept.items c.requires.rising c.loop-row-test.true c.row-item.is c.loop-row.invariant
-          w.push.new.self.items (subst (All P) c.deref.ensures.value (c.is_absorbed.ensures.open w.if-not-is_absorbed.true))
+          w.push.new.self.items (subst (All P) c.deref.ensures.value (c.lies_in_some.ensures.open w.if-not-lies_in_some.true))
           (w.in_ok-push.ensures.items ∙ ap (λ d. c.loop-row.kept.items ++ d ∷ []) w.in_ok-try_clone.ensures.value))
-      | else-not-is_absorbed w ↦
-          let r = c.is_absorbed.ensures.absorbed w.if-not-is_absorbed.false in
+      | else-not-lies_in_some w ↦
+          let r = c.lies_in_some.ensures.absorbed w.if-not-lies_in_some.false in
           subst (λ v. IsAbsorbed (take (c.loop-row.row-index + 1) rows) v.items) (sym w.kept-is)
           (IsAbsorbed-left_out rows c.loop-row.row-index c.row-item.result c.loop-row.kept.items c.requires.rising c.loop-row-test.true c.row-item.is c.loop-row.invariant
           (r.0, subst (λ l. Contains l r.0) c.deref.ensures.value r.1, r.2))

@@ -7,8 +7,8 @@ use Rattle.cover.specs.Contained.{is_within}
 use Rattle.cover.proofs.OverRegion.{size_of-is}
 use Rattle.cover.proofs.sums.containing.cubes_containing.Goals as goal
 
-pub containing-requires : goal.containing-requires
-containing-requires c = λ k d lt.
+pub select_containing-requires : goal.select_containing-requires
+select_containing-requires c = λ k d lt.
     let cube = c.as_slice.ensures.cubes k d lt in
     (cube.has_size.0 ∙ sym c.requires.0, cube.has_size.1 ∙ sym c.requires.1)
 

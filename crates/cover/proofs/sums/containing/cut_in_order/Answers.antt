@@ -11,23 +11,23 @@ use Rattle.cover.proofs.SumSorted.{AreCubes-same}
 use Rattle.cover.proofs.OverRegion.{Cuts-in_order}
 use Rattle.cover.proofs.sums.containing.cut_in_order.Goals as goal
 
-pub cut_by_all-requires-clause-rows : goal.cut_by_all-requires-clause-rows
-cut_by_all-requires-clause-rows c =
-    let forcing = c.in_ok-forcing.forcing.items in
+pub cut_by_rows-requires-clause-rows : goal.cut_by_rows-requires-clause-rows
+cut_by_rows-requires-clause-rows c =
+    let at_distance_one = c.in_ok-at_distance_one.at_distance_one.items in
     subst (AreCubes c.args.shape) (sym c.deref.ensures.value)
-    (members_all (IsCube c.args.shape) forcing (λ d k. all_members (IsCube c.args.shape) c.args.rows.now c.requires.rows d (c.in_ok-forcing.ensures d k)))
+    (members_all (IsCube c.args.shape) at_distance_one (λ d k. all_members (IsCube c.args.shape) c.args.rows.now c.requires.rows d (c.in_ok-at_distance_one.ensures d k)))
 
-pub rows_meeting-requires : goal.rows_meeting-requires
-rows_meeting-requires c = record {
+pub rows_meeting_any-requires : goal.rows_meeting_any-requires
+rows_meeting_any-requires c = record {
   size = c.args.shape;
   are_cubes = subst (AreCubes c.args.shape) (sym c.deref-2.ensures.value) (rw c.in-Some.is at c.in_ok-core.ensures.cubes);
   are_others = c.requires.rows;
 }
 
-pub cut_by_all-requires-2-clause-rows : goal.cut_by_all-requires-2-clause-rows
-cut_by_all-requires-2-clause-rows c =
+pub cut_by_rows-requires-2-clause-rows : goal.cut_by_rows-requires-2-clause-rows
+cut_by_rows-requires-2-clause-rows c =
     subst (AreCubes c.args.shape) (sym c.deref-3.ensures.value)
-    (AreCubes-same c.args.shape c.in_ok-near.near.items c.in_ok-near-2.near.items c.in_ok-near-2.ensures (c.in_ok-near.ensures c.args.shape c.requires.rows).are_cubes)
+    (AreCubes-same c.args.shape c.in_ok-meeting.meeting.items c.in_ok-meeting-2.meeting.items c.in_ok-meeting-2.ensures (c.in_ok-meeting.ensures c.args.shape c.requires.rows).are_cubes)
 
 pub returns : goal.returns
 returns c =
@@ -35,12 +35,12 @@ returns c =
     let region = c.args.region.now in
     let core = c.in-Some.core.items in
     let one = rw c.in-Some.is at c.in_ok-core.ensures.cuts in
-    IfOk-weaker c.cut_by_all-2.result _ _
+    IfOk-weaker c.cut_by_rows-2.result _ _
     (λ o k. IfSome_then o k (λ v two.
-    Cuts-in_order size region c.args.rows.now c.in_ok-forcing.forcing.items c.in_ok-near.near.items c.in_ok-near-2.near.items c.args.cubes.items core v.items
-    c.in_ok-forcing.ensures
-    (subst (λ l. AreNear size (places l) c.args.rows.now c.in_ok-near.near.items) c.deref-2.ensures.value (c.in_ok-near.ensures size c.requires.rows))
-    c.in_ok-near-2.ensures
+    Cuts-in_order size region c.args.rows.now c.in_ok-at_distance_one.at_distance_one.items c.in_ok-meeting.meeting.items c.in_ok-meeting-2.meeting.items c.args.cubes.items core v.items
+    c.in_ok-at_distance_one.ensures
+    (subst (λ l. AreNear size (places l) c.args.rows.now c.in_ok-meeting.meeting.items) c.deref-2.ensures.value (c.in_ok-meeting.ensures size c.requires.rows))
+    c.in_ok-meeting-2.ensures
     (subst (λ l. Cuts size region (places l) c.args.cubes.items core) c.deref.ensures.value one)
     (subst (λ l. Cuts size region (places l) core v.items) c.deref-3.ensures.value two)))
-    c.cut_by_all-2.ensures.cuts
+    c.cut_by_rows-2.ensures.cuts

@@ -19,8 +19,8 @@ absorb-requires c =
       are_cubes = (IsOver-whole size c.args.region.now all c.push.new.self.items c.as_slice.result.now c.in-Some.cubes.items c.in_ok-everything.ensures.value c.in_ok-everything.ensures.is_cube.some_output sized is cuts).are_cubes;
     }
 
-pub largest-requires : goal.largest-requires
-largest-requires c =
+pub largest_cubes-requires : goal.largest_cubes-requires
+largest_cubes-requires c =
     let size = c.shape-shape.result in
     let all = c.in_ok-everything.everything in
     let is : c.push.new.self.items ≡ all ∷ [] = c.in_ok-push.ensures.items ∙ ap (λ l. l ++ all ∷ []) c.new-cubes.ensures.items in

@@ -13,12 +13,12 @@ loop-row-init c = record {
 
 pub loop-row-preserved : goal.loop-row-preserved
 loop-row-preserved c =
-    let own : IsKey c.args.inputs c.row-item.result c.order_key-key.result = record {
+    let own : IsKey c.args.inputs c.row-item.result c.order_key_of_32_inputs-key.result = record {
       literals = subst (IsInputSet (has_literal c.row-item.result) 0) c.if-literal_inputs-inputs.false c.literal_inputs.ensures;
-      key = c.order_key-key.ensures;
+      key = c.order_key_of_32_inputs-key.ensures;
       fits = omega arith;
     } in
-    let more = HasKeys-more c.args.inputs c.args.rows.now c.loop-row.row-index c.row-item.result c.loop-row.keys.items c.loop-row.last c.order_key-key.result
+    let more = HasKeys-more c.args.inputs c.args.rows.now c.loop-row.row-index c.row-item.result c.loop-row.keys.items c.loop-row.last c.order_key_of_32_inputs-key.result
     c.loop-row-test.true c.row-item.is c.loop-row.invariant.keys c.loop-row.invariant.last (omega (arith, c.if-key-last.false)) own
     c.push.new.self.items c.in_ok-push.ensures.items in
     record { keys = more.0; last = more.1 }

@@ -15,26 +15,26 @@ loop-k-init c = record {
   meets = λ size cubes others. subst (IsMeets size [] c.args.others.now) (sym c.new-all.ensures.items) (IsMeets-none size c.args.others.now);
 }
 
-pub skip_below-start-requires : goal.skip_below-start-requires
-skip_below-start-requires c = c.loop-k.invariant.from
+pub first_key_not_below-start-requires : goal.first_key_not_below-start-requires
+first_key_not_below-start-requires c = c.loop-k.invariant.from
 
 pub loop-k-preserved : goal.loop-k-preserved
 loop-k-preserved c =
     let keys = c.args.keys.now in
     let other_keys = c.args.other_keys.now in
     let k = c.loop-k.k in
-    let start = c.skip_below-start.result in
-    let end = c.skip_equal-end.result in
+    let start = c.first_key_not_below-start.result in
+    let end = c.first_key_above-end.result in
     let key = get_or keys k 0 in
     let inside : k < length keys = omega (arith, c.loop-k-test.true, c.requires.keys.1.len) in
     let less : (j : ℕ) → j < start → get_or other_keys j 0 < key = λ j lt. elim (cases_lt j c.loop-k.from) [
       | inl old ↦ c.loop-k.invariant.below j k old (omega arith) inside
-      | inr late ↦ c.skip_below-start.ensures.below j late lt
+      | inr late ↦ c.first_key_not_below-start.ensures.below j late lt
     ] in
     let more : (j : ℕ) → end ≤ j → j < length other_keys → key < get_or other_keys j 0 = λ j le lt.
-    omega (arith, c.skip_equal-end.ensures.above (omega (arith, le, lt)), c.requires.keys.2.rising end j le lt) in
+    omega (arith, c.first_key_above-end.ensures.above (omega (arith, le, lt)), c.requires.keys.2.rising end j le lt) in
     record {
-      from = c.skip_below-start.ensures.bound;
+      from = c.first_key_not_below-start.ensures.bound;
       below = λ j i lt le small. omega (arith, less j lt, c.requires.keys.1.rising k i (omega (arith, le)) small);
       meets = λ known own their.
           IsMeets-more_rows known c.args.rows.now c.args.others.now k c.index-rows-k.result own their c.loop-k-test.true c.index-rows-k.is
@@ -46,7 +46,7 @@ loop-k-preserved c =
             r.0,
             r.1,
             IsMeets-middle size c.requires.keys.0 c.index-rows-k.result key cube (c.requires.keys.1.each k c.index-rows-k.result c.loop-k-test.true c.index-rows-k.is)
-                c.args.others.now other_keys cubes c.requires.keys.2 start end c.skip_equal-end.ensures.from_on c.skip_equal-end.ensures.bound less more
+                c.args.others.now other_keys cubes c.requires.keys.2 start end c.first_key_above-end.ensures.from_on c.first_key_above-end.ensures.bound less more
                 r.0 (subst (λ l. IsMeets size (c.index-rows-k.result ∷ []) l r.0) equal r.2),
           ));
     }

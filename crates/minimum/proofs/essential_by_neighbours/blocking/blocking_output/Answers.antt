@@ -6,7 +6,7 @@ use Rattle.cover.specs.Places.{places}
 use Rattle.minimum.specs.Neighbours.{under, held_by}
 use Rattle.minimum.proofs.Blocking.{row_added, row_left, stacked_row, other_output}
 use Rattle.minimum.proofs.essential_by_neighbours.blocking.blocking_output.Goals as goal
-use Rattle.minimum.proofs.essential_by_neighbours.blocking.blocking_output.Goals.{then-output+in_ok-stack+in_ok-add_meeting, else-output}
+use Rattle.minimum.proofs.essential_by_neighbours.blocking.blocking_output.Goals.{then-output+in_ok-output_consensus+in_ok-add_meeting, else-output}
 
 pub loop-row-preserved : goal.loop-row-preserved
 loop-row-preserved c =
@@ -20,13 +20,13 @@ loop-row-preserved c =
     let old = c.loop-row.list.items in
     let has = get_or_from_slice_get row.outputs j c.output.result false c.output.ensures in
     elim c.if-output.branch [
-      | then-output+in_ok-stack+in_ok-add_meeting w ↦ (
+      | then-output+in_ok-output_consensus+in_ok-add_meeting w ↦ (
           let is = ap (λ z. z.items) w.list-is in
           record {
             cubes = subst (AreCubes (size_of prime)) (sym is) (w.in_ok-add_meeting.ensures.size c.loop-row.invariant.cubes);
             same = λ p in_c. ap (λ l. places l p) is
-                ∙ row_added rows k row lt at p (under j p) old w.add_meeting.new.near.items (c.loop-row.invariant.same p in_c) (held_by w.in_ok-stack.field-0 p)
-                (stacked_row prime row j p in_c (has ∙ w.if-output.true) w.in_ok-stack.field-0 w.in_ok-stack.ensures.none w.in_ok-stack.ensures.places)
+                ∙ row_added rows k row lt at p (under j p) old w.add_meeting.new.near.items (c.loop-row.invariant.same p in_c) (held_by w.in_ok-output_consensus.field-0 p)
+                (stacked_row prime row j p in_c (has ∙ w.if-output.true) w.in_ok-output_consensus.field-0 w.in_ok-output_consensus.ensures.none w.in_ok-output_consensus.ensures.places)
                 (w.in_ok-add_meeting.ensures.places p in_c);
           })
       | else-output w ↦ (

@@ -11,14 +11,14 @@ use Rattle.minimum.proofs.Growth.{not_apart, stacked_cube, rest_output, beside_w
 use Rattle.minimum.proofs.Reached.{off_settles}
 use Rattle.minimum.proofs.Near.{near_to_all, all_to_near, near_fewer}
 use Rattle.minimum.proofs.essential_by_neighbours.growth.widened.Goals as goal
-use Rattle.minimum.proofs.essential_by_neighbours.growth.widened.Goals.{After-stack, In-Some}
+use Rattle.minimum.proofs.essential_by_neighbours.growth.widened.Goals.{After-output_consensus, In-Some}
 
-is_output : (c : After-stack) → c.in_ok-output.output ≡ record { symbols = replicate c.args.rows.now.size.inputs Dash; outputs = set (replicate c.args.rows.now.size.outputs false) c.args.j true }
+is_output : (c : After-output_consensus) → c.in_ok-output.output ≡ record { symbols = replicate c.args.rows.now.size.inputs Dash; outputs = set (replicate c.args.rows.now.size.outputs false) c.args.j true }
 is_output c =
     let region : Size → Cube = λ z. record { symbols = replicate z.inputs Dash; outputs = set (replicate z.outputs false) c.args.j true } in
     c.in_ok-output.ensures ∙ ap region c.shape.ensures.size
 
-lacks : (c : After-stack) → get_or c.args.grown.cube.outputs c.args.j false ≡ false
+lacks : (c : After-output_consensus) → get_or c.args.grown.cube.outputs c.args.j false ≡ false
 lacks c = get_or_from_slice_get c.args.grown.cube.outputs c.args.j c.output.result false c.output.ensures ∙ c.if-output.false
 
 stacked : (c : In-Some) → (p : Place) → holds c.in-Some.wide p ≡ ((matches c.args.grown.cube.symbols p.point && matches c.in_ok-output.output.symbols p.point)
@@ -37,14 +37,14 @@ wide_cube c =
 pub unreachable-requires : goal.unreachable-requires
 unreachable-requires c =
     let rows = c.args.rows.now in
-    let s = (goal.at.unreachable-requires c).After-stack in
+    let s = (goal.at.unreachable-requires c).After-output_consensus in
     not_apart rows.size (on_side c.args.side rows.cubes) c.args.grown.cube c.requires.is_cube c.args.j c.requires.output c.in_ok-output.output (is_output s)
     (rw c.in_default.is at c.in_ok-wide.ensures.none)
 
 pub without_outputs-requires-clause-some : goal.without_outputs-requires-clause-some
 without_outputs-requires-clause-some c =
     let rows = c.args.rows.now in
-    let s = (goal.at.without_outputs-requires-clause-some c).After-stack in
+    let s = (goal.at.without_outputs-requires-clause-some c).After-output_consensus in
     let t = (goal.at.without_outputs-requires-clause-some c).In-Some in
     rest_output rows.size (on_side c.args.side rows.cubes) c.args.grown.cube c.requires.is_cube c.args.j c.requires.output c.in_ok-output.output (is_output s) c.in-Some.wide (wide_cube t) (stacked t) (lacks s)
 
@@ -61,7 +61,7 @@ is_implicant-requires c =
 pub returns-then-branch-clause-near : goal.returns-then-branch-clause-near
 returns-then-branch-clause-near c =
     let rows = c.args.rows.now in
-    let s = (goal.at.returns-then-branch-clause-near c).After-stack in
+    let s = (goal.at.returns-then-branch-clause-near c).After-output_consensus in
     let t = (goal.at.returns-then-branch-clause-near c).In-Some in
     near_fewer c.args.grown.cube rows (near_or rows c.args.grown.near) c.requires.near c.in-Some.wide
     (beside_wide rows.size (on_side c.args.side rows.cubes) c.args.grown.cube c.requires.is_cube c.args.j c.requires.output c.in_ok-output.output (is_output s) c.in-Some.wide (wide_cube t) (stacked t))
@@ -69,7 +69,7 @@ returns-then-branch-clause-near c =
 pub returns-then-branch-clause-grows : goal.returns-then-branch-clause-grows
 returns-then-branch-clause-grows c =
     let rows = c.args.rows.now in
-    let s = (goal.at.returns-then-branch-clause-grows c).After-stack in
+    let s = (goal.at.returns-then-branch-clause-grows c).After-output_consensus in
     let t = (goal.at.returns-then-branch-clause-grows c).In-Some in
     widened_grows rows.size (on_side c.args.side rows.cubes) c.args.grown.cube c.requires.is_cube c.args.j c.requires.output c.in_ok-output.output (is_output s) c.in-Some.wide (wide_cube t) (stacked t)
     c.in_ok-rest.rest c.in_ok-rest.ensures.value
@@ -79,7 +79,7 @@ returns-then-branch-clause-grows c =
 pub returns-then-branch-clause-settled : goal.returns-then-branch-clause-settled
 returns-then-branch-clause-settled c =
     let rows = c.args.rows.now in
-    let s = (goal.at.returns-then-branch-clause-settled c).After-stack in
+    let s = (goal.at.returns-then-branch-clause-settled c).After-output_consensus in
     let t = (goal.at.returns-then-branch-clause-settled c).In-Some in
     widened_settles rows.size (on_side c.args.side rows.cubes) c.args.grown.cube c.requires.is_cube c.args.j c.requires.output c.in_ok-output.output (is_output s) c.in-Some.wide (wide_cube t) (stacked t)
     c.in_ok-rest.rest c.in_ok-rest.ensures.value
@@ -87,7 +87,7 @@ returns-then-branch-clause-settled c =
 pub returns-clause-settled : goal.returns-clause-settled
 returns-clause-settled c =
     let rows = c.args.rows.now in
-    let s = (goal.at.returns-clause-settled c).After-stack in
+    let s = (goal.at.returns-clause-settled c).After-output_consensus in
     let t = (goal.at.returns-clause-settled c).In-Some in
     unwidened_settles rows.size (on_side c.args.side rows.cubes) c.args.grown.cube c.requires.is_cube c.args.j c.requires.output c.in_ok-output.output (is_output s) c.in-Some.wide (wide_cube t) (stacked t)
     c.in_ok-rest.rest c.in_ok-rest.ensures.value (λ sub. false≢true (sym c.if-branch.false ∙ c.in_ok-is_implicant.ensures.1

@@ -6,13 +6,13 @@ use Rattle.cube.specs.Cube.{Cube, Place, IsCube, SameSize, holds}
 use Rattle.minimum.specs.Neighbours.{AreReached}
 use Rattle.minimum.proofs.Reached.{reached_none, reached_left, reached_already, reached_stacked, more_output}
 use Rattle.minimum.proofs.essential_by_neighbours.reached.outputs_at.Goals as goal
-use Rattle.minimum.proofs.essential_by_neighbours.reached.outputs_at.Goals.{in-Some+then-has_more_outputs, in-Some+else-has_more_outputs+in-Heap-1, in-Some+else-has_more_outputs+in-Inline-1, in_default}
+use Rattle.minimum.proofs.essential_by_neighbours.reached.outputs_at.Goals.{in-Some+then-has_outputs_beyond, in-Some+else-has_outputs_beyond+in-Heap-1, in-Some+else-has_outputs_beyond+in-Inline-1, in_default}
 
 pub loop-row-init : goal.loop-row-init
 loop-row-init c = reached_none c.args.region c.args.rows.now.cubes
 
-pub stack-requires : goal.stack-requires
-stack-requires c =
+pub output_consensus-requires : goal.output_consensus-requires
+output_consensus-requires c =
     let row = c.row-item.result in
     let is_cube = subst (IsCube c.args.rows.now.size) (sym c.row-item.is) (c.as_slice-row-items.ensures.cubes c.loop-row.row-index row c.loop-row-test.true) in
     let size = c.loop-row.invariant.size in
@@ -33,19 +33,19 @@ loop-row-preserved c =
     λ both is. subst (λ o. IfSome o (λ d. (p : Place) → holds d p ≡ ((matches here.symbols p.point && matches row.symbols p.point)
     && (get_or here.outputs p.output false || get_or row.outputs p.output false)))) is c.in_ok-both.ensures.places in
     elim c.match-branch-2.branch [
-      | in-Some+then-has_more_outputs w ↦ (
+      | in-Some+then-has_outputs_beyond w ↦ (
           let both = w.in-Some.both in
           let size = long both w.in-Some.is in
           subst (AreReached region _) (sym w.here-is) (reached_stacked region here rows k row lt at c.loop-row.invariant both size
-          (more_output both here size (w.has_more_outputs.ensures.0 w.if-has_more_outputs.true)) (stacked both w.in-Some.is)))
-      | in-Some+else-has_more_outputs+in-Heap-1 w ↦ (
+          (more_output both here size (w.has_outputs_beyond.ensures.0 w.if-has_outputs_beyond.true)) (stacked both w.in-Some.is)))
+      | in-Some+else-has_outputs_beyond+in-Heap-1 w ↦ (
           let both = w.in-Some.both in
           subst (AreReached region _) (sym w.here-is) (reached_already region here rows k row lt at c.loop-row.invariant both (long both w.in-Some.is) (stacked both w.in-Some.is)
-          (λ more. false≢true (sym w.if-has_more_outputs.false ∙ w.has_more_outputs.ensures.1 more))))
-      | in-Some+else-has_more_outputs+in-Inline-1 w ↦ (
+          (λ more. false≢true (sym w.if-has_outputs_beyond.false ∙ w.has_outputs_beyond.ensures.1 more))))
+      | in-Some+else-has_outputs_beyond+in-Inline-1 w ↦ (
           let both = w.in-Some.both in
           subst (AreReached region _) (sym w.here-is) (reached_already region here rows k row lt at c.loop-row.invariant both (long both w.in-Some.is) (stacked both w.in-Some.is)
-          (λ more. false≢true (sym w.if-has_more_outputs.false ∙ w.has_more_outputs.ensures.1 more))))
+          (λ more. false≢true (sym w.if-has_outputs_beyond.false ∙ w.has_outputs_beyond.ensures.1 more))))
       | in_default w ↦
           subst (AreReached region _) (sym w.here-is) (reached_left region here rows k row lt at c.loop-row.invariant (rw w.in_default.is at c.in_ok-both.ensures.none))
     ]

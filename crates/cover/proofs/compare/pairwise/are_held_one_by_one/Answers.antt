@@ -1,0 +1,35 @@
+use Rattle.std.proofs.Common.{◌∙◌, sym, subst, refl, All, arith}
+use Rattle.std.specs.Borrow.{Bor}
+use Rattle.std.proofs.lemmas.Bool.{false≢true}
+use Rattle.std.proofs.lemmas.List.{take_all}
+use Rattle.std.proofs.lemmas.List.Elements.{All-more}
+use Rattle.cube.specs.Cube.{Cube, HasSize, IsSubset, holds, size_of}
+use Rattle.cover.specs.Places.{places, behind}
+use Rattle.cover.proofs.Halves.{known_at}
+use Rattle.cover.proofs.Agreement.{IsSubset-row, IsSubset-rows}
+use Rattle.cover.proofs.compare.pairwise.are_held_one_by_one.Goals as goal
+
+pub returns-then-not-branch : goal.returns-then-not-branch
+returns-then-not-branch c = (
+  λ on. absurd (false≢true on),
+  λ h. absurd (false≢true (sym c.if-not-branch.true ∙ c.in_ok-holds_region_nearest_first.ensures.held.1
+      (IsSubset-row (places (behind c.args.others.now)) c.args.rows.now c.loop-row.row-index c.row-item.result c.loop-row-test.true c.row-item.is h))),
+)
+
+pub loop-row-preserved : goal.loop-row-preserved
+loop-row-preserved c =
+    let P : Bor Cube → Type 0 = λ d. IsSubset (holds d.now) (places (behind c.args.others.now)) in
+    let size = subst (λ d. HasSize d.now c.args.shape) (sym c.row-item.is) (c.requires.rows c.loop-row.row-index c.row-item.result c.loop-row-test.true) in (
+      All-more P c.args.rows.now c.loop-row.row-index c.row-item.result c.loop-row-test.true c.loop-row.invariant.0
+          (subst P c.row-item.is (c.in_ok-holds_region_nearest_first.ensures.held.0 c.if-not-branch.false)),
+      known_at (size_of c.row-item.result.now) c.args.shape c.holds_region_nearest_first.new.learned.known.items (behind c.args.others.now)
+          size.0 size.1 c.in_ok-holds_region_nearest_first.ensures.known,
+    )
+
+pub returns : goal.returns
+returns c =
+    let P : Bor Cube → Type 0 = λ d. IsSubset (holds d.now) (places (behind c.args.others.now)) in (
+      λ _. IsSubset-rows (places (behind c.args.others.now)) c.args.rows.now
+          (subst (All P) (take_all c.loop-row.row-index c.args.rows.now (omega arith)) c.loop-row.invariant.0),
+      λ _. refl,
+    )

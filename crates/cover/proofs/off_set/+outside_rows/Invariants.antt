@@ -1,5 +1,0 @@
-use Rattle.cover.specs.Splits.{dashes}
-use Rattle.cover.proofs.off_set.+outside_rows.Given as goal
-
-abbrev pub decreases-outside_rows : goal.decreases-outside_rows
-decreases-outside_rows l = dashes l.region.now.symbols

@@ -1,7 +1,0 @@
-use Rattle.std.proofs.Common.{take}
-use Rattle.cover.specs.Places.{places}
-use Rattle.cover.specs.Outside.{IsRest}
-use Rattle.cover.proofs.off_set.left_of_each.Given as goal
-
-abbrev pub invariant-loop-row : goal.invariant-loop-row
-invariant-loop-row l = IsRest l.fn.shape (places (take l.row-index l.rows)) l.others l.all.items

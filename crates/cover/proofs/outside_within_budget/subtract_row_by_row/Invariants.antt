@@ -1,0 +1,7 @@
+use Rattle.std.proofs.Common.{take}
+use Rattle.cover.specs.Places.{places}
+use Rattle.cover.specs.Outside.{IsRest}
+use Rattle.cover.proofs.outside_within_budget.subtract_row_by_row.Given as goal
+
+abbrev pub invariant-loop-row : goal.invariant-loop-row
+invariant-loop-row l = IsRest l.fn.shape (places (take l.row-index l.rows)) l.others l.all.items

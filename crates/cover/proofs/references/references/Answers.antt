@@ -1,0 +1,14 @@
+use Rattle.std.proofs.Common.{◌∙◌, ◌++◌, ◌∷◌, [], ap, sym, take}
+use Rattle.std.proofs.lemmas.List.{map-append, take_more, take_all}
+use Rattle.cover.specs.Places.{behind}
+use Rattle.cover.proofs.references.references.Goals as goal
+
+pub loop-cube-preserved : goal.loop-cube-preserved
+loop-cube-preserved c =
+    let cubes = c.args.cubes.now in
+    let at = c.loop-cube.cube-index in
+    ap behind c.in_ok-push.ensures.items ∙ map-append (λ r. r.now) c.loop-cube.refs.items _ ∙ ap (λ l. l ++ c.cube-item.result ∷ []) c.loop-cube.invariant
+    ∙ ap (λ d. take at cubes ++ d ∷ []) c.cube-item.is ∙ sym (take_more cubes at c.cube-item.result c.loop-cube-test.true)
+
+pub returns : goal.returns
+returns c = c.loop-cube.invariant ∙ take_all c.loop-cube.cube-index c.args.cubes.now c.loop-cube-test.false

@@ -1,0 +1,82 @@
+use Rattle.std.proofs.Common.{◌≡◌, ◌∙◌, ◌+◌, ◌++◌, ◌∷◌, [], ap, sym, subst, take, filter, All}
+use Rattle.std.proofs.lemmas.List.{take_all}
+use Rattle.std.proofs.lemmas.List.Elements.{All-same}
+use Rattle.cube.specs.Cube.{IsCube, IsDisjoint, holds, difference}
+use Rattle.cube.specs.Sum.{complete_sum}
+use Rattle.cover.specs.Contained.{is_within}
+use Rattle.cover.specs.Cubes.{AreCubes}
+use Rattle.cover.specs.Reduced.{IsWithoutAbsorbed}
+use Rattle.cover.specs.Containing.{IsCut}
+use Rattle.cover.proofs.Lists.{all_members, members_all}
+use Rattle.cover.proofs.OverRegion.{size_of-is, IsCut-none, IsCut-kept, IsCut-pieces, IsCut-absorbed, AreCubes-cut, Cuts-none, Cuts-all}
+use Rattle.cover.proofs.sums.containing.cut_by_row.Goals as goal
+use Rattle.cover.proofs.sums.containing.cut_by_row.Goals.{then-disjoint+in_ok-try_clone+in_ok-push, else-disjoint+in_ok-more+in_ok-append}
+
+pub returns-then-not-any_meets-clause-cuts : goal.returns-then-not-any_meets-clause-cuts
+returns-then-not-any_meets-clause-cuts c =
+    Cuts-none c.args.shape c.args.region.now c.args.row.now c.args.cubes.items
+    (subst (All (λ d. IsDisjoint (holds d) (holds c.args.row.now))) c.deref.ensures.value (c.any_meets.ensures c.if-not-any_meets.true))
+
+pub loop-cube-init : goal.loop-cube-init
+loop-cube-init c =
+    subst (λ l. IsCut c.args.shape c.args.region.now c.args.row.now [] l c.new-rest.result.items) (sym c.new-kept.ensures.items)
+    (subst (λ l. IsCut c.args.shape c.args.region.now c.args.row.now [] [] l) (sym c.new-rest.ensures.items) (IsCut-none c.args.shape c.args.region.now c.args.row.now))
+
+pub loop-cube-preserved : goal.loop-cube-preserved
+loop-cube-preserved c =
+    let size = c.args.shape in
+    let region = c.args.region.now in
+    let row = c.args.row.now in
+    let cubes = c.deref-cube-items.result.now in
+    let at = c.loop-cube.cube-index in
+    let cube = c.cube-item.result in
+    let kept = c.loop-cube.kept.items in
+    let rest = c.loop-cube.rest.items in
+    let are : AreCubes size cubes = All-same (IsCube size) cubes c.args.cubes.items c.deref-cube-items.ensures.value c.requires.cubes in
+    elim c.if-disjoint.branch [
+      | then-disjoint+in_ok-try_clone+in_ok-push w ↦
+          subst (λ v. IsCut size region row (take (at + 1) cubes) v.items c.if-disjoint.rest.items) (sym w.kept-is)
+          (subst (λ v. IsCut size region row (take (at + 1) cubes) w.push.new.self.items v.items) (sym w.rest-is)
+          (IsCut-kept size region row cubes at cube kept rest are c.loop-cube-test.true c.cube-item.is c.loop-cube.invariant w.push.new.self.items
+          (w.in_ok-push.ensures.items ∙ ap (λ d. kept ++ d ∷ []) w.in_ok-try_clone.ensures.value) (c.disjoint.ensures.0 w.if-disjoint.true)))
+      | else-disjoint+in_ok-more+in_ok-append w ↦
+          subst (λ v. IsCut size region row (take (at + 1) cubes) v.items c.if-disjoint.rest.items) (sym w.kept-is)
+          (subst (λ v. IsCut size region row (take (at + 1) cubes) kept v.items) (sym w.rest-is)
+          (IsCut-pieces size region row cubes at cube kept rest are c.loop-cube-test.true c.cube-item.is c.loop-cube.invariant w.append.new.self.items
+          (w.in_ok-append.ensures.items ∙ ap (λ l. rest ++ l) (w.in_ok-more.ensures
+          ∙ ap (λ z. filter (is_within z region) (complete_sum z (difference (holds cube) (holds row)))) (size_of-is region size c.requires.region))) c.requires.region))
+    ]
+
+pub drop_absorbed_by-requires : goal.drop_absorbed_by-requires
+drop_absorbed_by-requires c =
+    let size = c.args.shape in
+    record {
+      size = size;
+      are_cubes = All-same (IsCube size) c.deref-2.result.now c.in_ok-rest.rest.items c.deref-2.ensures.value
+          (members_all (IsCube size) c.in_ok-rest.rest.items (λ d h. all_members (IsCube size) c.loop-cube.rest.items c.loop-cube.invariant.piece_cubes d (c.in_ok-rest.ensures.within d h)));
+      are_others = All-same (IsCube size) c.deref-3.result.now c.loop-cube.kept.items c.deref-3.ensures.value c.loop-cube.invariant.kept_cubes;
+    }
+
+pub returns-clause-cubes : goal.returns-clause-cubes
+returns-clause-cubes c =
+    let size = c.args.shape in
+    let region = c.args.region.now in
+    let row = c.args.row.now in
+    let kept = c.loop-cube.kept.items in
+    let seen = take c.loop-cube.cube-index c.deref-cube-items.result.now in
+    AreCubes-cut size region row seen kept c.in_ok-rest-2.rest.items c.append-2.new.self.items c.in_ok-append-2.ensures.items
+    (IsCut-absorbed size region row seen kept c.loop-cube.rest.items c.in_ok-rest.rest.items c.in_ok-rest-2.rest.items c.in_ok-rest.ensures
+    (subst (λ l. IsWithoutAbsorbed l kept c.in_ok-rest-2.rest.items) c.deref-2.ensures.value (subst (λ l. IsWithoutAbsorbed c.deref-2.result.now l c.in_ok-rest-2.rest.items) c.deref-3.ensures.value c.in_ok-rest-2.ensures))
+    c.loop-cube.invariant)
+
+pub returns-clause-cuts : goal.returns-clause-cuts
+returns-clause-cuts c =
+    let size = c.args.shape in
+    let region = c.args.region.now in
+    let row = c.args.row.now in
+    let kept = c.loop-cube.kept.items in
+    let whole : take c.loop-cube.cube-index c.deref-cube-items.result.now ≡ c.args.cubes.items = take_all c.loop-cube.cube-index c.deref-cube-items.result.now c.loop-cube-test.false ∙ c.deref-cube-items.ensures.value in
+    Cuts-all size region row c.args.cubes.items kept c.in_ok-rest-2.rest.items c.append-2.new.self.items c.in_ok-append-2.ensures.items
+    (IsCut-absorbed size region row c.args.cubes.items kept c.loop-cube.rest.items c.in_ok-rest.rest.items c.in_ok-rest-2.rest.items c.in_ok-rest.ensures
+    (subst (λ l. IsWithoutAbsorbed l kept c.in_ok-rest-2.rest.items) c.deref-2.ensures.value (subst (λ l. IsWithoutAbsorbed c.deref-2.result.now l c.in_ok-rest-2.rest.items) c.deref-3.ensures.value c.in_ok-rest-2.ensures))
+    (subst (λ l. IsCut size region row l kept c.loop-cube.rest.items) whole c.loop-cube.invariant))

@@ -1,0 +1,25 @@
+use Rattle.std.proofs.Common.{◌∙◌, ◌+◌, ◌++◌, ◌∷◌, [], ap, sym, subst, take}
+use Rattle.cover.specs.Apart.{IsDivided}
+use Rattle.cover.proofs.Dividing.{IsDivided-one, IsDivided-other}
+use Rattle.cover.proofs.sums.independent_parts.divide_by_groups.Goals as goal
+use Rattle.cover.proofs.sums.independent_parts.divide_by_groups.Goals.{then-is_in_group+in_ok-try_clone+in_ok-push, else-is_in_group+then-is_in_group-2+in_ok-try_clone-2+in_ok-push-2}
+
+pub loop-row-preserved : goal.loop-row-preserved
+loop-row-preserved c =
+    let rows = c.args.rows.now in
+    let i = c.loop-row.row-index in
+    let one = c.loop-row.one.items in
+    let other = c.loop-row.other.items in
+    elim c.if-is_in_group.branch [
+      | then-is_in_group+in_ok-try_clone+in_ok-push w ↦
+          subst (λ v. IsDivided c.args.groups.now (take (i + 1) rows) v.items c.if-is_in_group.other.items) (sym w.one-is)
+          (subst (λ v. IsDivided c.args.groups.now (take (i + 1) rows) w.push.new.self.items v.items) (sym w.other-is)
+          (IsDivided-one c.args.groups.now rows i c.row-item.result one other c.loop-row-test.true c.row-item.is c.loop-row.invariant
+          w.push.new.self.items (w.in_ok-push.ensures.items ∙ ap (λ d. one ++ d ∷ []) w.in_ok-try_clone.ensures.value) (c.is_in_group.ensures w.if-is_in_group.true)))
+      | else-is_in_group+then-is_in_group-2+in_ok-try_clone-2+in_ok-push-2 w ↦
+          subst (λ v. IsDivided c.args.groups.now (take (i + 1) rows) v.items c.if-is_in_group.other.items) (sym w.one-is)
+          (subst (λ v. IsDivided c.args.groups.now (take (i + 1) rows) one v.items) (sym w.other-is)
+          (IsDivided-other c.args.groups.now rows i c.row-item.result one other c.loop-row-test.true c.row-item.is c.loop-row.invariant
+          w.push-then-is_in_group-2.new.self.items (w.in_ok-push-2.ensures.items ∙ ap (λ d. other ++ d ∷ []) w.in_ok-try_clone-2.ensures.value)
+          (w.is_in_group-else-is_in_group.ensures w.if-is_in_group-2.true)))
+    ]

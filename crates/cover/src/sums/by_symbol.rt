@@ -1,0 +1,58 @@
+//! A list of rows split by the symbol at an input.
+ghost use Rattle.std.specs.Prelude.{◌≡◌, ◌<◌, IfOk, All, length, false, true};
+ghost use Rattle.cover.specs.Parts.{part as part_of, has_symbol as has_symbol_of};
+
+use crate::symbols::has_symbol_at;
+use cube::{Cube, Symbol};
+use std::alloc::{AllocError, Global};
+
+/// Three lists of rows, by the symbol that the rows had at an input. They have `-` there.
+#[derive(Drop)]
+pub(crate) struct BySymbol {
+    pub(crate) dashes: Vec<Cube>,
+    pub(crate) zeros: Vec<Cube>,
+    pub(crate) ones: Vec<Cube>,
+}
+
+/// Splits the rows by their symbol at input `i`, and puts `-` there.
+pub(crate) fn split_by_symbol(
+    alloc: Global,
+    rows: &[Cube],
+    i: usize,
+) -> Result<BySymbol, AllocError>
+    requires { All (λ c. i < length c.symbols) rows.now }
+    ensures dashes { IfOk result (λ b. b.dashes.items ≡ part_of i Symbol.Dash rows.now) }
+    ensures zeros { IfOk result (λ b. b.zeros.items ≡ part_of i Symbol.Zero rows.now) }
+    ensures ones { IfOk result (λ b. b.ones.items ≡ part_of i Symbol.One rows.now) }
+{
+    let mut dashes = Vec::new(alloc);
+    let mut zeros = Vec::with_capacity(alloc, rows.len() / 2)?;
+    let mut ones = Vec::with_capacity(alloc, rows.len() / 2)?;
+    for row in rows {
+        let mut freed = row.try_clone()?;
+        freed.set_symbol(i, Symbol::Dash);
+        match row.symbol(i) {
+            Symbol::Dash => dashes.push(freed)?,
+            Symbol::Zero => zeros.push(freed)?,
+            Symbol::One => ones.push(freed)?,
+        }
+    }
+    Ok(BySymbol {
+        dashes,
+        zeros,
+        ones,
+    })
+}
+
+/// Whether some row has this symbol at input `i`.
+pub(crate) fn has_symbol(rows: &[Cube], i: usize, symbol: Symbol) -> bool
+    requires { All (λ c. i < length c.symbols) rows.now }
+    ensures { result ≡ has_symbol_of i symbol rows.now }
+{
+    for row in rows {
+        if has_symbol_at(row, i, symbol) {
+            return true;
+        }
+    }
+    false
+}

@@ -1,9 +1,0 @@
-use Rattle.cube.proofs.LiteralMarks.{order_key-digits}
-use Rattle.cube.proofs.cube.Cube.order_key.Goals as goal
-
-pub returns : goal.returns
-returns c =
-    order_key-digits c.args.self.now c.literal_bits.result c.reversal.result (record {
-      zeros = c.literal_bits.ensures.zeros;
-      ones = c.literal_bits.ensures.ones;
-    }) c.reversal.ensures

@@ -1,5 +1,0 @@
-use Rattle.cube.proofs.SharpLemmas.{same_from_places}
-use Rattle.cube.proofs.laws.same_places.Goals as goal
-
-pub returns : goal.returns
-returns c = same_from_places
