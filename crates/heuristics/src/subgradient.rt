@@ -2,7 +2,7 @@
 //!
 //! Whole-number subgradient steps with momentum (Held and Karp, The traveling-salesman problem and
 //! minimum spanning trees, 1970 and 1971). A column has a scaled cost: a multiplier for itself, and
-//! one for each thing that it counts. Its load is the sum of its rows' weights. A step lowers the
+//! one for each unit of its cost. Its load is the sum of its rows' weights. A step lowers the
 //! weights of rows whose columns are overloaded, which have more load than scaled cost, and raises
 //! the others. From time to time the weights are polished: lowered where more than one column of a
 //! row is overloaded, and raised by the least slack of the row's columns. If the steps end just
@@ -29,30 +29,31 @@ pub(crate) const PACE: i64 = 4096;
 /// The first length where the steps continue from another table's and columns cost alike.
 pub(crate) const NEAR_PACE: i64 = 2048;
 
-/// After so many steps the weights are polished, and it is tested whether the goal is within reach.
+/// Once in this many steps the weights are polished, and it is tested whether the goal is within
+/// reach.
 const SPAN: u32 = 25;
 
-/// The steps are given up if so many times the last gain would not reach the goal.
+/// The steps are given up if this many times the last gain would not reach the goal.
 pub(crate) const REACH: i64 = 20;
 
-/// The same where the steps continue from another table's and columns cost alike.
+/// The same number as `REACH`, where the steps continue from another table's and columns cost alike.
 pub(crate) const NEAR_REACH: i64 = 4;
 
 /// The least length of a step; shorter ones gain nothing.
 const LAST_PACE: i64 = 16;
 
-/// After so many steps without a gain they become shorter.
+/// After this many steps without a gain the steps become shorter.
 const PATIENCE: u32 = 10;
 
-/// The multipliers of the relaxation: weights of rows, and the parts of a column's scaled cost, for
-/// itself and for each thing that it counts.
+/// The multipliers of the relaxation: weights of rows, and the two parts of a column's scaled cost,
+/// one for the column itself and one for each unit of its cost.
 #[derive(Drop)]
 pub struct Multipliers {
     /// The weight of each row.
     pub weights: Vec<u64>,
     /// What a column costs for itself.
     pub column: u32,
-    /// What it costs for each thing that it counts.
+    /// What a column costs for each unit of its cost.
     pub count: u32,
 }
 
@@ -73,19 +74,19 @@ pub(crate) struct Ascent {
     pub(crate) loads: Vec<i64>,
     /// How many overloaded columns each row has.
     held: Vec<i64>,
-    /// The multiplier of each thing that a column counts; 0 where columns cost alike.
+    /// The multiplier of a column's cost; 0 where columns cost alike.
     pub(crate) count: i64,
     /// The best value of a step.
     top: i64,
-    /// The weights of that step.
+    /// The weights of the step with the best value.
     pub(crate) top_weights: Vec<i64>,
-    /// Its multiplier of a column.
+    /// The multiplier of a column of the step with the best value.
     pub(crate) top_column: i64,
     /// The best value of polished weights.
     pub(crate) best_value: i64,
-    /// Those weights.
+    /// The polished weights with the best value.
     pub(crate) best_weights: Vec<i64>,
-    /// Their multiplier of a column.
+    /// The multiplier of a column of the polished weights with the best value.
     best_column: i64,
     /// The length of a step.
     pace: i64,
@@ -100,7 +101,7 @@ pub(crate) struct Course {
     last: u32,
     /// How many steps there are before a restart.
     steps: u32,
-    /// The steps are given up if so many times the last gain would not reach the goal.
+    /// The steps are given up if this many times the last gain would not reach the goal.
     reach: i64,
     /// Whether they were restarted, or may not be.
     again: bool,
@@ -183,7 +184,7 @@ fn by_weight(alloc: Global, weights: &[i64]) -> Result<Vec<(i64, usize)>, AllocE
     Ok(order)
 }
 
-/// The multiplier of each thing that a column counts, by which columns cost a unit on average.
+/// The multiplier of a column's cost by which the scaled costs are `UNIT` on average.
 fn count_multiplier(table: &Compact) -> i64 {
     let number = i64::try_from(table.costs.len()).unwrap_or(i64::MAX);
     UNIT.wrapping_mul(number)
