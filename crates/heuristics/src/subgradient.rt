@@ -29,10 +29,11 @@ pub(crate) const PACE: i64 = 4096;
 /// The first length where the steps continue from another table's and columns cost the same.
 pub(crate) const NEAR_PACE: i64 = 2048;
 
-/// After so many steps the weights are polished, and it is tested whether the goal is within reach.
+/// Once in this many steps the weights are polished, and it is tested whether the goal is within
+/// reach.
 const SPAN: u32 = 25;
 
-/// The steps are given up if so many times the last gain would not reach the goal.
+/// The steps are given up if this many times the last gain would not reach the goal.
 pub(crate) const REACH: i64 = 20;
 
 /// The same where the steps continue from another table's and columns cost the same.
@@ -41,7 +42,7 @@ pub(crate) const NEAR_REACH: i64 = 4;
 /// The least length of a step; shorter ones gain nothing.
 const LAST_PACE: i64 = 16;
 
-/// After so many steps without a gain they become shorter.
+/// After this many steps without a gain the steps become shorter.
 const PATIENCE: u32 = 10;
 
 /// The multipliers of the relaxation: weights of rows, and the parts of a column's scaled cost, for
@@ -77,15 +78,15 @@ pub(crate) struct Ascent {
     pub(crate) cost: i64,
     /// The best value of a step.
     top: i64,
-    /// The weights of that step.
+    /// The weights of the step with the best value.
     pub(crate) top_weights: Vec<i64>,
-    /// Its multiplier of a column.
+    /// The multiplier of a column of the step with the best value.
     pub(crate) top_column: i64,
     /// The best value of polished weights.
     pub(crate) best_value: i64,
-    /// Those weights.
+    /// The polished weights with the best value.
     pub(crate) best_weights: Vec<i64>,
-    /// Their multiplier of a column.
+    /// The multiplier of a column of the polished weights with the best value.
     best_column: i64,
     /// The length of a step.
     pace: i64,
@@ -100,7 +101,7 @@ pub(crate) struct Course {
     last: u32,
     /// How many steps there are before a restart.
     steps: u32,
-    /// The steps are given up if so many times the last gain would not reach the goal.
+    /// The steps are given up if this many times the last gain would not reach the goal.
     reach: i64,
     /// Whether they were restarted, or may not be.
     again: bool,

@@ -18,7 +18,7 @@ struct LocalSearch {
     weights: Vec<i64>,
     /// How many chosen columns each row has.
     held: Vec<usize>,
-    /// The sum of those columns' numbers: the column itself where there is one.
+    /// The sum of the numbers of each row's chosen columns: the column itself where there is one.
     holders: Vec<usize>,
     /// The rows without a chosen column.
     open: Vec<usize>,
@@ -304,7 +304,7 @@ impl LocalSearch {
         Ok(())
     }
 
-    /// The best list of so many steps; it stops where one reaches the goal.
+    /// The best list of a search of `steps` steps; it stops once a list reaches the goal.
     fn best_list(
         &mut self,
         alloc: Global,
@@ -341,8 +341,8 @@ impl LocalSearch {
     }
 }
 
-/// The best list of columns that a search of so many steps finds, as indices of `live`; it stops
-/// where one reaches the goal. It starts with the live columns of the hint; columns are below
+/// The best list of columns that a search of `steps` steps finds, as indices of `live`; it stops once
+/// a list reaches the goal. It starts with the live columns of the hint; columns are below
 /// `columns`. A step reads some rows of two columns.
 pub fn local_search(
     alloc: Global,

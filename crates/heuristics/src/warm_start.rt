@@ -69,7 +69,7 @@ fn first_weights(alloc: Global, table: &Compact) -> Result<Vec<i64>, AllocError>
 pub struct WarmStart {
     /// The rows of the last bound, if there was one.
     rows: Option<Lists>,
-    /// The number of each of those rows.
+    /// The number of each row of the last bound, by which its weight is remembered.
     numbers: Vec<usize>,
     /// The weight of each row, by its number.
     weights: Vec<i64>,
@@ -115,7 +115,7 @@ impl WarmStart {
         Ok(())
     }
 
-    /// That cover; empty if there is none yet.
+    /// The cover near which the next one is looked for; empty if there is none yet.
     pub fn hint(&self) -> &[usize] {
         &self.hint
     }

@@ -44,7 +44,7 @@ fn takes_up_to_its_room(rt: HostRuntime) -> Result<(), Fail> {
 #[test]
 fn one_read_fails_alone(rt: HostRuntime) -> Result<(), Fail> {
     let bytes = Vec::from_slice(rt.alloc(), b"abcde")?;
-    let mut given = Given::new(bytes, 2, Ending::End).failing_after(1);
+    let mut given = Given::new(bytes, 2, Ending::End).failing_once_after(1);
     assert!(rt; delivers(&mut given, b"ab\0", 2) && given.read(&mut [0; 3]).is_err());
     assert!(rt; given.delivered() == 2);
     assert!(rt; delivers(&mut given, b"cd\0", 2) && delivers(&mut given, b"e\0\0", 1));
@@ -54,7 +54,7 @@ fn one_read_fails_alone(rt: HostRuntime) -> Result<(), Fail> {
 
 #[test]
 fn one_write_fails_alone(rt: HostRuntime) -> Result<(), Fail> {
-    let mut taken = Taken::new(rt.alloc(), 5, 3, false)?.failing_after(1);
+    let mut taken = Taken::new(rt.alloc(), 5, 3, false)?.failing_once_after(1);
     assert!(rt; taken.write(b"ab")? == 2);
     assert!(rt; taken.write(b"cd").is_err());
     assert!(rt; taken.calls().broken);

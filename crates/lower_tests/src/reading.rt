@@ -131,7 +131,7 @@ const FOUR_LINES: &[u8] = b"# a\n.i 1\n.o 1\n.e\n";
 /// pieces of one byte.
 fn read_failing_after(alloc: Global, reads: u64) -> Result<(Option<ReadFault>, usize), Fail> {
     let input = Given::new(FOUR_LINES.to_vec(alloc)?, 1, Ending::End);
-    let mut input = input.failing_after(reads);
+    let mut input = input.failing_once_after(reads);
     let mut output = Taken::new(alloc, 100, 100, false)?;
     let read = read_pla(alloc, &mut input, &mut output, Echo::Keep);
     Ok((read.err(), input.delivered()))
@@ -160,7 +160,7 @@ fn a_read_that_fails_alone_is_the_last(rt: HostRuntime) -> Result<(), Fail> {
 fn ends_at_write(alloc: Global, writes: u64) -> Result<bool, Fail> {
     let mut input = Given::new(FOUR_LINES.to_vec(alloc)?, 1, Ending::End);
     let output = Taken::new(alloc, 100, 1, false)?;
-    let mut output = output.failing_after(writes);
+    let mut output = output.failing_once_after(writes);
     let read = read_pla(alloc, &mut input, &mut output, Echo::Keep);
     let kind = ReadKind::WriteFailed;
     let is_told = read.err() == Some(ReadFault { line: 0, kind });

@@ -1,7 +1,7 @@
 //! The lists of the four types, asked for and not.
 use crate::reading::read;
 use cover::Cover;
-use pla::{OutType, Pla, Sets, Taken, open_dc, open_off, write_pla};
+use pla::{OutType, Pla, Sets, Taken, dc_unless_given, off_unless_given, write_pla};
 use std::alloc::Global;
 use std::test::Fail;
 
@@ -49,9 +49,9 @@ pub(crate) fn are_open(
     off: Option<usize>,
 ) -> Result<bool, Fail> {
     let pla = read(alloc, text)?;
-    let open_dc = open_dc(alloc, &pla, true)?;
-    let open_off = open_off(alloc, &pla, true)?;
-    Ok(row_count(&open_dc) == dc && row_count(&open_off) == off)
+    let dc_list = dc_unless_given(alloc, &pla, true)?;
+    let off_list = off_unless_given(alloc, &pla, true)?;
+    Ok(row_count(&dc_list) == dc && row_count(&off_list) == off)
 }
 
 #[test]

@@ -7,7 +7,7 @@ use Rattle.cover.specs.Places.{places}
 use Rattle.cover.proofs.OffSets.{places-sum}
 use Rattle.cover.proofs.SumEnds.{complete_sum-agree}
 use Rattle.cover.proofs.SumMeets.{places-append}
-use Rattle.pla.specs.declared.fault.FileType.TheVariants.{Fr}
+use Rattle.pla.specs.declared.file_type.FileType.TheVariants.{Fr}
 use Rattle.pla.specs.Completed.{dc_list, off_list, outside, sets_of}
 use Rattle.pla.specs.Description.{Description}
 use Rattle.pla.specs.Sets.{SetLists}

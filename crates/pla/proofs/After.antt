@@ -7,7 +7,7 @@ use Rattle.std.proofs.lemmas.List.Folds.{list_any-append}
 use Rattle.std.proofs.lemmas.List.Concat.{flat_map-append}
 use Rattle.std.proofs.Math.Nat.{add-mod-mod, add_comm}
 use Rattle.cube.specs.Limits.{Limits}
-use Rattle.pla.specs.declared.fault.FileType.{FileType}
+use Rattle.pla.specs.declared.file_type.FileType.{FileType}
 use Rattle.pla.specs.Lines.{symbols, all_symbols}
 use Rattle.pla.specs.Keywords.{first_given, inputs_on, outputs_on, names_on, type_on, size_by, size_given, is_ending}
 use Rattle.pla.specs.Symbols.{left_over}

@@ -8,7 +8,7 @@ use Rattle.pla.specs.declared.ending.Ending.{Ending}
 use Rattle.pla.specs.declared.fault.ReadKind.{ReadKind}
 use Rattle.pla.specs.declared.fault.ReadKind.TheVariants.{WriteFailed, OutOfMemory}
 use Rattle.pla.specs.declared.fault.ReadFault.{ReadFault}
-use Rattle.pla.specs.declared.fault.Echo.{Echo}
+use Rattle.pla.specs.declared.echo.Echo.{Echo}
 use Rattle.pla.specs.declared.calls.WriteCalls.{WriteCalls}
 use Rattle.pla.specs.Device.{AllWritten, AppendsFront, LastUnwritten}
 use Rattle.pla.specs.Keywords.{looked_at}

@@ -11,7 +11,7 @@ use Rattle.cube.specs.declared.symbol.Symbol.{Symbol}
 use Rattle.cube.specs.declared.symbol.Symbol.TheVariants.{Dash, Zero, One}
 use Rattle.cube.specs.Size.{Size}
 use Rattle.cube.specs.Cube.{Cube, HasSize, IsCube}
-use Rattle.pla.specs.declared.fault.FileType.TheVariants.{Fdr}
+use Rattle.pla.specs.declared.file_type.FileType.TheVariants.{Fdr}
 use Rattle.pla.specs.declared.rows.Part.{Part}
 use Rattle.pla.specs.declared.rows.Part.TheVariants.{On, DontCare, Off}
 use Rattle.std.specs.Option.{option_map_or}

@@ -6,8 +6,8 @@ use Rattle.std.proofs.Math.Nat.{zero-mod, mod_self}
 use Rattle.cube.specs.Limits.{format_limits}
 use Rattle.cube.specs.Size.{Size}
 use Rattle.cube.specs.Cube.{Cube, IsCube}
-use Rattle.pla.specs.declared.fault.FileType.{FileType}
-use Rattle.pla.specs.declared.fault.FileType.TheVariants.{Fdr}
+use Rattle.pla.specs.declared.file_type.FileType.{FileType}
+use Rattle.pla.specs.declared.file_type.FileType.TheVariants.{Fdr}
 use Rattle.pla.specs.declared.rows.Part.{Part}
 use Rattle.pla.specs.Lines.{is_empty, keyword_words, symbols}
 use Rattle.pla.specs.Symbols.{width, left_over}

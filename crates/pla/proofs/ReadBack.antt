@@ -10,7 +10,7 @@ use Rattle.std.proofs.lemmas.List.Concat.{flat_map-append}
 use Rattle.cube.specs.Limits.{format_limits, IsWithinLimits}
 use Rattle.cube.specs.Size.{Size}
 use Rattle.cube.specs.Cube.{Cube}
-use Rattle.pla.specs.declared.fault.FileType.TheVariants.{Fdr}
+use Rattle.pla.specs.declared.file_type.FileType.TheVariants.{Fdr}
 use Rattle.pla.specs.declared.out_type.OutType.TheVariants.{Fdr as out_fdr}
 use Rattle.pla.specs.declared.rows.Part.TheVariants.{On, DontCare, Off}
 use Rattle.pla.specs.Lines.{symbols, all_symbols, pieces, ended_lines}

@@ -9,7 +9,7 @@ use Rattle.pla.specs.declared.ending.Ending.TheVariants.{End}
 use Rattle.pla.specs.declared.fault.ReadKind.{ReadKind}
 use Rattle.pla.specs.declared.fault.ReadKind.TheVariants.{WriteFailed, OutOfMemory}
 use Rattle.pla.specs.declared.fault.ReadFault.{ReadFault}
-use Rattle.pla.specs.declared.fault.Echo.{Echo}
+use Rattle.pla.specs.declared.echo.Echo.{Echo}
 use Rattle.pla.specs.declared.calls.Counts.{Counts}
 use Rattle.pla.specs.declared.calls.ReadCalls.{ReadCalls}
 use Rattle.pla.specs.declared.calls.WriteCalls.{WriteCalls}

@@ -17,8 +17,8 @@ use Rattle.cover.specs.Places.{places}
 use Rattle.cover.proofs.Lists.{members_all}
 use Rattle.pla.specs.declared.ending.Ending.{Ending}
 use Rattle.pla.specs.declared.ending.Ending.TheVariants.{End, Failed}
-use Rattle.pla.specs.declared.fault.FileType.{FileType}
-use Rattle.pla.specs.declared.fault.FileType.TheVariants.{F, Fd, Fr, Fdr}
+use Rattle.pla.specs.declared.file_type.FileType.{FileType}
+use Rattle.pla.specs.declared.file_type.FileType.TheVariants.{F, Fd, Fr, Fdr}
 use Rattle.pla.specs.declared.rows.Part.{Part}
 use Rattle.pla.specs.declared.rows.Part.TheVariants.{On, DontCare, Off}
 use Rattle.pla.specs.declared.fault.ReadFault.{ReadFault}

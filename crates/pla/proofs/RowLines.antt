@@ -4,7 +4,7 @@ use Rattle.std.specs.Prelude.{◌||◌}
 use Rattle.std.specs.List.{list_any, enumerate_from}
 use Rattle.std.proofs.Math.Nat.{add-mod-mod, add_comm}
 use Rattle.cube.specs.Size.{Size}
-use Rattle.pla.specs.declared.fault.FileType.{FileType}
+use Rattle.pla.specs.declared.file_type.FileType.{FileType}
 use Rattle.pla.specs.Lines.{is_row_blank}
 use Rattle.pla.specs.Symbols.{width, is_symbol_at, any_bad}
 use Rattle.pla.specs.Reading.{RowsRead, rows_of, with_symbol, read_symbols, read_code}

@@ -4,7 +4,7 @@ use Rattle.std.specs.Prelude.{◌&&◌, ◌||◌, ◌==◌, nat_lt, is_none}
 use Rattle.std.specs.Option.{option_or}
 use Rattle.cube.specs.Limits.{Limits}
 use Rattle.cube.specs.Size.{Size}
-use Rattle.pla.specs.declared.fault.FileType.{FileType}
+use Rattle.pla.specs.declared.file_type.FileType.{FileType}
 use Rattle.pla.specs.declared.fault.ReadKind.{ReadKind}
 use Rattle.pla.specs.declared.fault.ReadKind.TheVariants.{RowBeforeShape, BadSymbol}
 use Rattle.pla.specs.declared.header.Head.{Head}

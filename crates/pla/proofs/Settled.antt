@@ -5,7 +5,7 @@ use Rattle.std.specs.Option.{option_or}
 use Rattle.cube.specs.Limits.{Limits}
 use Rattle.pla.specs.declared.fault.ReadKind.TheVariants.{ReadFailed}
 use Rattle.pla.specs.declared.fault.ReadFault.{ReadFault}
-use Rattle.pla.specs.declared.fault.Echo.{Echo}
+use Rattle.pla.specs.declared.echo.Echo.{Echo}
 use Rattle.pla.specs.declared.ending.Ending.{Ending}
 use Rattle.pla.specs.declared.ending.Ending.TheVariants.{End, Failed}
 use Rattle.pla.specs.Lines.{pieces, ended_lines, open_rest, is_empty, lines_of}

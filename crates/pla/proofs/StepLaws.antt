@@ -9,7 +9,7 @@ use Rattle.cube.specs.Limits.{Limits}
 use Rattle.pla.specs.declared.fault.ReadKind.{ReadKind}
 use Rattle.pla.specs.declared.fault.ReadKind.TheVariants.{LineTooLong}
 use Rattle.pla.specs.declared.fault.ReadFault.{ReadFault}
-use Rattle.pla.specs.declared.fault.Echo.{Echo}
+use Rattle.pla.specs.declared.echo.Echo.{Echo}
 use Rattle.pla.specs.Lines.{ended_lines, open_rest}
 use Rattle.pla.specs.Keywords.{looked_at, is_ending}
 use Rattle.pla.specs.Fault.{sound, fault_on, line_fault, rest_fault, rest_kind, has_ending, at_line, open_fault}

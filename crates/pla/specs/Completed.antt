@@ -5,8 +5,8 @@ use Rattle.cube.specs.Size.{Size}
 use Rattle.cube.specs.Cube.{Cube}
 use Rattle.cube.specs.Sum.{complete_sum}
 use Rattle.cover.specs.Places.{places}
-use Rattle.pla.specs.declared.fault.FileType.{FileType}
-use Rattle.pla.specs.declared.fault.FileType.TheVariants.{F, Fd, Fr, Fdr}
+use Rattle.pla.specs.declared.file_type.FileType.{FileType}
+use Rattle.pla.specs.declared.file_type.FileType.TheVariants.{F, Fd, Fr, Fdr}
 use Rattle.pla.specs.Description.{Description}
 use Rattle.pla.specs.Sets.{SetLists}
 

@@ -4,7 +4,7 @@ use Rattle.cube.specs.Limits.{Limits}
 use Rattle.cube.specs.Size.{Size}
 use Rattle.cube.specs.Cube.{Cube}
 use Rattle.pla.specs.declared.ending.Ending.{Ending}
-use Rattle.pla.specs.declared.fault.FileType.{FileType}
+use Rattle.pla.specs.declared.file_type.FileType.{FileType}
 use Rattle.pla.specs.Lines.{all_symbols, lines_of}
 use Rattle.pla.specs.Keywords.{looked_at}
 use Rattle.pla.specs.Header.{header_of, size_in, type_in}

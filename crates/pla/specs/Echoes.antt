@@ -2,8 +2,8 @@
 use Rattle.std.specs.Prelude.{ℕ, List, [], ◌∷◌, ◌++◌, if◌then◌else◌, flat_map, Option, Some, None}
 use Rattle.cube.specs.Limits.{Limits}
 use Rattle.pla.specs.declared.ending.Ending.{Ending}
-use Rattle.pla.specs.declared.fault.Echo.{Echo}
-use Rattle.pla.specs.declared.fault.Echo.TheVariants.{Keep, Eat}
+use Rattle.pla.specs.declared.echo.Echo.{Echo}
+use Rattle.pla.specs.declared.echo.Echo.TheVariants.{Keep, Eat}
 use Rattle.pla.specs.Lines.{is_empty, comment, ended_lines, lines_of}
 use Rattle.pla.specs.Keywords.{is_unknown, looked_at}
 use Rattle.pla.specs.Fault.{sound}

@@ -3,8 +3,8 @@ use Rattle.std.specs.Prelude.{ℕ, Bool, List, length, nat_lt, Option, codes, un
 use Rattle.std.specs.List.{list_any}
 use Rattle.cube.specs.Limits.{Limits}
 use Rattle.cube.specs.Size.{Size}
-use Rattle.pla.specs.declared.fault.FileType.{FileType}
-use Rattle.pla.specs.declared.fault.FileType.TheVariants.{Fd}
+use Rattle.pla.specs.declared.file_type.FileType.{FileType}
+use Rattle.pla.specs.declared.file_type.FileType.TheVariants.{Fd}
 use Rattle.pla.specs.Lines.{all_symbols}
 use Rattle.pla.specs.Keywords.{inputs_on, outputs_on, names_on, type_on, first_given, size_by, size_given, is_ending}
 use Rattle.pla.specs.Symbols.{left_over}

@@ -7,7 +7,7 @@ use Rattle.cube.specs.declared.symbol.Symbol.TheVariants.{Dash, Zero, One}
 use Rattle.cube.specs.Cube.{Cube}
 use Rattle.pla.specs.declared.ending.Ending.TheVariants.{End}
 use Rattle.pla.specs.declared.fault.ReadKind.TheVariants.{TooManyLines, LineTooLong, BadNumber, WrongNumberOfNames}
-use Rattle.pla.specs.declared.fault.FileType.TheVariants.{Fdr as file_fdr}
+use Rattle.pla.specs.declared.file_type.FileType.TheVariants.{Fdr as file_fdr}
 use Rattle.pla.specs.declared.out_type.OutType.TheVariants.{Fdr}
 use Rattle.pla.specs.Fault.{fault_of, at_line, fault_in, is_past_limit, is_too_long, is_refused, is_inside_row, is_repeated, is_bad_number, is_name_too_early, is_wrong_count, is_type_too_late, is_bad_type, is_row_too_early, is_bad_symbol}
 use Rattle.pla.specs.Description.{Description, described}

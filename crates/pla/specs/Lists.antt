@@ -5,8 +5,8 @@ use Rattle.cube.specs.declared.symbol.Symbol.{Symbol}
 use Rattle.cube.specs.declared.symbol.Symbol.TheVariants.{Dash, Zero, One}
 use Rattle.cube.specs.Cube.{Cube}
 use Rattle.cube.specs.Size.{Size}
-use Rattle.pla.specs.declared.fault.FileType.{FileType}
-use Rattle.pla.specs.declared.fault.FileType.TheVariants.{Fd, Fr, Fdr}
+use Rattle.pla.specs.declared.file_type.FileType.{FileType}
+use Rattle.pla.specs.declared.file_type.FileType.TheVariants.{Fd, Fr, Fdr}
 use Rattle.pla.specs.declared.rows.Part.{Part}
 use Rattle.pla.specs.declared.rows.Part.TheVariants.{On, DontCare, Off}
 use Rattle.pla.specs.Symbols.{is_byte_of, rows}

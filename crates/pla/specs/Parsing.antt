@@ -4,8 +4,8 @@ use Rattle.std.specs.List.{list_any}
 use Rattle.std.specs.Option.{option_or}
 use Rattle.cube.specs.Limits.{Limits}
 use Rattle.cube.specs.Size.{Size}
-use Rattle.pla.specs.declared.fault.FileType.{FileType}
-use Rattle.pla.specs.declared.fault.FileType.TheVariants.{Fd}
+use Rattle.pla.specs.declared.file_type.FileType.{FileType}
+use Rattle.pla.specs.declared.file_type.FileType.TheVariants.{Fd}
 use Rattle.pla.specs.declared.fault.LineError.{LineError}
 use Rattle.pla.specs.declared.fault.LineError.TheVariants.{Memory, Fault}
 use Rattle.pla.specs.declared.fault.ReadKind.{ReadKind}

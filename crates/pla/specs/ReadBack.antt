@@ -4,7 +4,7 @@ use Rattle.std.specs.Option.{ForSome}
 use Rattle.cube.specs.Limits.{format_limits, IsWithinLimits}
 use Rattle.cube.specs.Cube.{IsCube}
 use Rattle.pla.specs.declared.ending.Ending.{Ending}
-use Rattle.pla.specs.declared.fault.FileType.TheVariants.{Fdr as file_fdr}
+use Rattle.pla.specs.declared.file_type.FileType.TheVariants.{Fdr as file_fdr}
 use Rattle.pla.specs.declared.out_type.OutType.TheVariants.{Fdr}
 use Rattle.pla.specs.Lines.{is_blank, ended_lines}
 use Rattle.pla.specs.Steps.{NoFeed}

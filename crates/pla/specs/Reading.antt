@@ -3,7 +3,7 @@ use Rattle.std.specs.Prelude.{◌≡◌, ⊤, ℕ, ◌+◌, ◌<◌, ◌≤◌, 
 use Rattle.std.specs.List.{list_all}
 use Rattle.cube.specs.Cube.{Cube}
 use Rattle.cube.specs.Size.{Size}
-use Rattle.pla.specs.declared.fault.FileType.{FileType}
+use Rattle.pla.specs.declared.file_type.FileType.{FileType}
 use Rattle.pla.specs.declared.fault.LineError.{LineError}
 use Rattle.pla.specs.declared.fault.LineError.TheVariants.{Memory, Fault}
 use Rattle.pla.specs.declared.fault.ReadKind.TheVariants.{BadSymbol}

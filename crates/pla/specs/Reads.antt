@@ -4,7 +4,7 @@ use Rattle.std.specs.Io.KnownBytes.{Appends, Consumes, IsAtEnd}
 use Rattle.cube.specs.Limits.{format_limits}
 use Rattle.pla.specs.declared.ending.Ending.{Ending}
 use Rattle.pla.specs.declared.ending.Ending.TheVariants.{End, Failed}
-use Rattle.pla.specs.declared.fault.Echo.{Echo}
+use Rattle.pla.specs.declared.echo.Echo.{Echo}
 use Rattle.pla.specs.declared.fault.ReadKind.{ReadKind}
 use Rattle.pla.specs.declared.fault.ReadKind.TheVariants.{WriteFailed, OutOfMemory}
 use Rattle.pla.specs.declared.fault.ReadFault.{ReadFault}

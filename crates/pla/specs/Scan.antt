@@ -2,7 +2,7 @@
 use Rattle.std.specs.Prelude.{◌≡◌, ⊤, ℕ, List, [], if◌then◌else◌, Some, None}
 use Rattle.cube.specs.Limits.{Limits}
 use Rattle.cube.specs.Cube.{Cube}
-use Rattle.pla.specs.declared.fault.Echo.{Echo}
+use Rattle.pla.specs.declared.echo.Echo.{Echo}
 use Rattle.pla.specs.declared.fault.LineError.{LineError}
 use Rattle.pla.specs.declared.fault.LineError.TheVariants.{Memory, Fault}
 use Rattle.pla.specs.Lines.{all_symbols, ended_lines, open_rest}

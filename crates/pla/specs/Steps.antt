@@ -2,7 +2,7 @@
 use Rattle.std.specs.Prelude.{◌≡◌, ℕ, ◌+◌, ◌-◌, ◌*◌, ◌==◌, if◌then◌else◌, false, List, [], ◌∷◌, ◌++◌, length, All, None, Some, Option, Result, Ok, Err, MatchResult, option_map}
 use Rattle.std.specs.Io.KnownBytes.{Appends}
 use Rattle.cube.specs.Limits.{Limits}
-use Rattle.pla.specs.declared.fault.Echo.{Echo}
+use Rattle.pla.specs.declared.echo.Echo.{Echo}
 use Rattle.pla.specs.declared.fault.ReadFault.{ReadFault}
 use Rattle.pla.specs.declared.fault.ReadKind.{ReadKind}
 use Rattle.pla.specs.declared.fault.ReadKind.TheVariants.{WriteFailed, OutOfMemory}

@@ -5,9 +5,9 @@ use Rattle.cube.specs.declared.symbol.Symbol.TheVariants.{Dash, One}
 use Rattle.pla.specs.declared.ending.Ending.TheVariants.{End, Failed}
 use Rattle.pla.specs.declared.fault.ReadKind.{ReadKind}
 use Rattle.pla.specs.declared.fault.ReadKind.TheVariants.{RefusedKeyword, KeywordInsideRow, KeywordRepeated, BadNumber, NamesBeforeShape, WrongNumberOfNames, TypeAfterRow, BadType, RowBeforeShape, BadSymbol, ShapeMissing, UnfinishedRow, ReadFailed}
-use Rattle.pla.specs.declared.fault.Echo.{Echo}
-use Rattle.pla.specs.declared.fault.Echo.TheVariants.{Keep, Eat}
-use Rattle.pla.specs.declared.fault.FileType.TheVariants.{Fd}
+use Rattle.pla.specs.declared.echo.Echo.{Echo}
+use Rattle.pla.specs.declared.echo.Echo.TheVariants.{Keep, Eat}
+use Rattle.pla.specs.declared.file_type.FileType.TheVariants.{Fd}
 use Rattle.pla.specs.Fault.{fault_of, at_line, fault_in, is_past_limit, is_too_long, is_refused, is_inside_row, is_repeated, is_bad_number, is_name_too_early, is_wrong_count, is_type_too_late, is_bad_type, is_row_too_early, is_bad_symbol}
 use Rattle.pla.specs.Echoes.{due}
 use Rattle.pla.specs.Description.{Description, described}

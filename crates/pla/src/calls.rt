@@ -7,7 +7,7 @@ ghost use Rattle.pla.specs.Device.{after_flush, after_read, after_write};
 pub struct ReadCalls {
     /// How many failed, up to the last value of a u64, at which it stays.
     pub failures: u64,
-    /// The last one failed.
+    /// Whether the last read failed.
     pub broken: bool,
 }
 
@@ -26,16 +26,16 @@ pub struct Counts {
 /// The writes and flushes of an output.
 #[derive(Clone, Copy, Debug, PartialEq, Eq)]
 pub struct WriteCalls {
-    /// How many there were, by what came of them.
+    /// How many of them failed, and how many flushes there were.
     pub counts: Counts,
-    /// The last write failed.
+    /// Whether the last write failed.
     pub broken: bool,
-    /// The last call was a flush.
+    /// Whether the last call was a flush.
     pub flushed: bool,
 }
 
 impl ReadCalls {
-    /// None so far.
+    /// No read so far.
     pub fn new() -> ReadCalls
         ensures { result ≡ record { failures = 0; broken = false } }
     {
@@ -45,7 +45,7 @@ impl ReadCalls {
         }
     }
 
-    /// One more read, which went well.
+    /// The calls with one more read, which succeeded.
     pub fn after_read(self) -> ReadCalls
         ensures { result ≡ after_read false self }
     {
@@ -55,7 +55,7 @@ impl ReadCalls {
         }
     }
 
-    /// One more read, which failed.
+    /// The calls with one more read, which failed.
     pub fn after_broken_read(self) -> ReadCalls
         ensures { result ≡ after_read true self }
     {
@@ -67,7 +67,7 @@ impl ReadCalls {
 }
 
 impl WriteCalls {
-    /// None so far.
+    /// No write or flush so far.
     pub fn new() -> WriteCalls
         ensures counts { result.counts ≡ record { failures = 0; flushes = 0; failed_flushes = 0 } }
         ensures broken { result.broken ≡ false }
@@ -84,7 +84,7 @@ impl WriteCalls {
         }
     }
 
-    /// One more write, which went well.
+    /// The calls with one more write, which succeeded.
     pub fn after_write(self) -> WriteCalls
         ensures { result ≡ after_write false self }
     {
@@ -95,7 +95,7 @@ impl WriteCalls {
         }
     }
 
-    /// One more write, which failed.
+    /// The calls with one more write, which failed.
     pub fn after_broken_write(self) -> WriteCalls
         ensures { result ≡ after_write true self }
     {
@@ -110,7 +110,7 @@ impl WriteCalls {
         }
     }
 
-    /// One more flush, which went well.
+    /// The calls with one more flush, which succeeded.
     pub fn after_flush(self) -> WriteCalls
         ensures { result ≡ after_flush false self }
     {
@@ -125,7 +125,7 @@ impl WriteCalls {
         }
     }
 
-    /// One more flush, which failed.
+    /// The calls with one more flush, which failed.
     pub fn after_broken_flush(self) -> WriteCalls
         ensures { result ≡ after_flush true self }
     {

@@ -2,7 +2,7 @@
 ghost use Rattle.std.specs.Prelude.{◌≡◌};
 ghost use Rattle.pla.specs.Names.{lent_names, owned_names};
 
-use crate::fault::FileType;
+use crate::file_type::FileType;
 use cover::Cover;
 use cube::Shape;
 use std::marker::Model;
@@ -91,7 +91,8 @@ impl Pla {
         lend(&self.input_names)
     }
 
-    /// The names of the outputs, likewise.
+    /// The names of the outputs, in their order, if the file gives them. They are bytes, and may
+    /// repeat.
     pub fn output_names(&self) -> Option<&[Vec<u8>]>
         ensures { lent_names result ≡ self.now.output_names }
     {
@@ -127,7 +128,7 @@ impl Pla {
     }
 }
 
-// The names in an option, lent.
+// The names, borrowed.
 fn lend(names: &Option<Vec<Vec<u8>>>) -> Option<&[Vec<u8>]>
     ensures { lent_names result ≡ owned_names names.now }
 {

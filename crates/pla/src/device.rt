@@ -1,4 +1,5 @@
-//! What a reader reads from and a writer writes to.
+//! What a reader reads from and a writer writes to. (`over_std` makes devices of std's readers and
+//! writers, `memory` has devices for tests.)
 ghost use Rattle.std.specs.Prelude.{ℕ, List, Option, ◌≤◌, ◌<◌, length, IfOk};
 ghost use Rattle.std.specs.Io.KnownBytes.{Keeps, ReadConsumes, WriteAppends};
 ghost use Rattle.pla.specs.declared.calls.ReadCalls.{ReadCalls};

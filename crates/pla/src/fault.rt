@@ -1,5 +1,4 @@
-//! The faults of a file; also `FileType`, the type of its rows, and `Echo`, whether comments are
-//! passed on.
+//! The faults of a file.
 ghost use Rattle.std.specs.Prelude.{◌≡◌};
 
 use std::alloc::AllocError;
@@ -51,7 +50,7 @@ pub struct ReadFault {
     pub kind: ReadKind,
 }
 
-/// Why a line was refused.
+/// Why a line was not taken.
 #[derive(Debug, Drop)]
 pub enum LineError {
     /// A growth of memory was refused.
@@ -68,21 +67,4 @@ impl From<AllocError> for LineError {
     fn from(_: AllocError) -> LineError {
         LineError::Memory
     }
-}
-
-/// Whether comments are passed on.
-#[derive(Clone, Copy, Debug, PartialEq, Eq)]
-pub enum Echo {
-    Keep,
-    Eat,
-}
-
-/// Which lists the rows of a file give: the ON list always, the DC list with `d`, the OFF list with
-/// `r`.
-#[derive(Clone, Copy, Debug, PartialEq, Eq)]
-pub enum FileType {
-    F,
-    Fd,
-    Fr,
-    Fdr,
 }

@@ -9,13 +9,14 @@ ghost use Rattle.pla.specs.Fault.{differs_count, is_too_long, is_inside_row, is_
 ghost use Rattle.pla.specs.Header.{Header};
 ghost use Rattle.pla.specs.Names.{name_bytes};
 
-use crate::fault::{FileType, ReadKind};
+use crate::fault::ReadKind;
+use crate::file_type::FileType;
 use crate::line::number_in;
 use cube::Shape;
 use cube::limits::{INPUTS, LINE_BYTES, LINES, OUTPUTS};
 use std::alloc::{AllocError, Global};
 
-/// What lines without a fault have given.
+/// What the lines so far have set; none of them had a fault.
 #[derive(Drop)]
 pub struct Head {
     pub lines: u64,
@@ -32,7 +33,7 @@ pub struct Head {
 }
 
 /// The keyword of a keyword line's words.
-pub fn first<'a>(words: &[&'a [u8]]) -> &'a [u8]
+fn keyword_in<'a>(words: &[&'a [u8]]) -> &'a [u8]
     ensures { result.now ≡ slice_index_or (texts words.now) 0 [] }
 {
     match words.first() {
@@ -42,13 +43,14 @@ pub fn first<'a>(words: &[&'a [u8]]) -> &'a [u8]
 }
 
 /// The words after the keyword.
-fn rest<'a, 'b>(words: &'b [&'a [u8]]) -> &'b [&'a [u8]]
+fn arguments_in<'a, 'b>(words: &'b [&'a [u8]]) -> &'b [&'a [u8]]
     ensures { texts result.now ≡ drop 1 (texts words.now) }
 {
     if words.is_empty() { words } else { &words[1..] }
 }
 
-fn is_other(count: usize, wanted: Option<usize>) -> bool
+/// Whether the count differs from the number wanted; `false` if none is wanted.
+fn is_other_count(count: usize, wanted: Option<usize>) -> bool
     ensures { result ≡ differs_count count wanted }
 {
     match wanted {
@@ -64,8 +66,8 @@ pub(crate) fn is(word: &[u8], text: &[u8]) -> bool
     word == text
 }
 
-/// The type of this name.
-fn named_type(word: &[u8]) -> Option<FileType>
+/// The type that a word names, if it names one.
+fn file_type_named(word: &[u8]) -> Option<FileType>
     ensures { result ≡ type_by (word.now ∷ []) }
 {
     if is(word, b"f") {
@@ -81,17 +83,17 @@ fn named_type(word: &[u8]) -> Option<FileType>
     }
 }
 
-/// The type that one word names.
-fn type_of(words: &[&[u8]]) -> Option<FileType>
+/// The type that the words name: one word that names one.
+fn file_type_of(words: &[&[u8]]) -> Option<FileType>
     ensures { result ≡ type_by (texts words.now) }
 {
     let [word] = words else {
         return None;
     };
-    named_type(word)
+    file_type_named(word)
 }
 
-/// A copy of the words.
+/// The words as names: copies of them.
 fn names_of(alloc: Global, words: &[&[u8]]) -> Result<Vec<Vec<u8>>, AllocError>
     ensures { IfOk result (λ names. name_bytes names.items ≡ texts words.now) }
 {
@@ -110,7 +112,7 @@ pub fn is_end(keyword: &[u8]) -> bool
 }
 
 /// Whether the keyword is one that this format refuses.
-pub(crate) fn is_outside_profile(keyword: &[u8]) -> bool
+pub(crate) fn is_refused_keyword(keyword: &[u8]) -> bool
     ensures { result ≡ is_one_of refused_keywords keyword.now }
 {
     is(keyword, b".mv")
@@ -139,7 +141,7 @@ fn inside_row(unfinished: usize, keyword: &[u8]) -> bool
     !keyword.is_empty() && !is_end(keyword) && unfinished > 0
 }
 
-/// Whether it is .i or .o without exactly one number in its range.
+/// Whether the keyword is .i or .o without exactly one number in its range.
 #[tactic(auto, unfolding(crate::specs::Fault::is_bad_number))]
 fn bad_number(keyword: &[u8], arguments: &[&[u8]]) -> bool
     ensures { (header : Header) → (line : List ℕ) → keyword.now ≡ keyword_on line
@@ -150,14 +152,14 @@ fn bad_number(keyword: &[u8], arguments: &[&[u8]]) -> bool
         || is(keyword, b".o") && number_in(1, OUTPUTS, arguments).is_none()
 }
 
-/// Whether it is .type without exactly one name of a type.
+/// Whether the keyword is .type without exactly one name of a type.
 #[tactic(auto, unfolding(crate::specs::Fault::is_bad_type))]
 fn bad_type(keyword: &[u8], arguments: &[&[u8]]) -> bool
     ensures { (header : Header) → (line : List ℕ) → keyword.now ≡ keyword_on line
         → texts arguments.now ≡ arguments_on line
         → result ≡ is_bad_type header line }
 {
-    is(keyword, b".type") && type_of(arguments).is_none()
+    is(keyword, b".type") && file_type_of(arguments).is_none()
 }
 
 impl Head {
@@ -192,8 +194,8 @@ impl Head {
         }
     }
 
-    /// The type of the rows: fd if none is given.
-    pub fn rows_type(&self) -> FileType
+    /// The type of the file's rows: fd if no line has given one.
+    pub fn file_type_or_fd(&self) -> FileType
         ensures { (unfinished : ℕ) → result ≡ type_in (seen self.now unfinished) }
     {
         self.file_type.unwrap_or(FileType::Fd)
@@ -240,8 +242,8 @@ impl Head {
             → result ≡ is_wrong_count (seen self.now unfinished) line }
     {
         let count = arguments.len();
-        is(keyword, b".ilb") && is_other(count, self.inputs)
-            || is(keyword, b".ob") && is_other(count, self.outputs)
+        is(keyword, b".ilb") && is_other_count(count, self.inputs)
+            || is(keyword, b".ob") && is_other_count(count, self.outputs)
     }
 
     /// Whether a type comes after a row has begun.
@@ -259,9 +261,9 @@ impl Head {
         ensures { (line : List ℕ) → texts words.now ≡ keyword_words line
             → result ≡ keyword_fault format_limits (seen self.now unfinished) line }
     {
-        let keyword = first(words);
-        let arguments = rest(words);
-        if is_outside_profile(keyword) {
+        let keyword = keyword_in(words);
+        let arguments = arguments_in(words);
+        if is_refused_keyword(keyword) {
             return Some(ReadKind::RefusedKeyword);
         }
         if inside_row(unfinished, keyword) {
@@ -288,7 +290,7 @@ impl Head {
         None
     }
 
-    /// Takes what a keyword line of these words gives.
+    /// Sets what a keyword line of these words gives; it has no fault.
     pub fn set(&mut self, alloc: Global, words: &[&[u8]]) -> Result<(), AllocError>
         ensures ok { OnOk result
             ((unfinished : ℕ) → (line : List ℕ) → texts words.now ≡ keyword_words line
@@ -298,8 +300,8 @@ impl Head {
             ((unfinished : ℕ) → seen self.new unfinished ≡ seen self.old unfinished) }
         ensures lines { self.new.lines ≡ self.old.lines }
     {
-        let keyword = first(words);
-        let arguments = rest(words);
+        let keyword = keyword_in(words);
+        let arguments = arguments_in(words);
         if is(keyword, b".i") {
             self.inputs = number_in(0, INPUTS, arguments);
         } else if is(keyword, b".o") {
@@ -309,7 +311,7 @@ impl Head {
         } else if is(keyword, b".ob") {
             self.output_names = Some(names_of(alloc, arguments)?);
         } else if is(keyword, b".type") {
-            self.file_type = type_of(arguments);
+            self.file_type = file_type_of(arguments);
         } else {
             self.ended = is_end(keyword);
         }

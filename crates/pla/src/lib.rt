@@ -2,13 +2,14 @@
 //! them.
 //!
 //! - [`read_pla`] reads a description through a fixed buffer, in one pass, and passes comments and
-//!   unknown keywords on; what is wrong with a file it reports with the line. [`Scan`] does so for
-//!   bytes that come in pieces from elsewhere.
-//! - [`Sets::of`] gives the lists of a description's three sets, and computes those that its type
-//!   leaves open; [`open_dc`] and [`open_off`] give those alone, and copy none.
+//!   unknown keywords on; it reports a fault with its line. [`Scan`] does so for bytes that come in
+//!   pieces from elsewhere.
+//! - [`Sets::of`] gives the lists of a description's three sets, and computes lists that its type does
+//!   not give; [`dc_unless_given`] and [`off_unless_given`] give such lists alone, and copy none.
 //! - [`write_pla`] prints a description with such lists.
 //! - [`Input`] and [`Output`] are what is read from and written to; [`Reading`] and [`Writing`]
-//!   make them of std's readers and writers, [`Given`] and [`Taken`] are such in memory, for tests.
+//!   make them of std's readers and writers; [`Given`] and [`Taken`] are an input and an output in
+//!   memory, for tests.
 //!
 //! The text
 //!
@@ -38,6 +39,7 @@ mod echo;
 mod echo_buffer;
 mod ending;
 mod fault;
+mod file_type;
 mod header;
 pub mod laws;
 mod line;
@@ -57,13 +59,15 @@ mod writing;
 pub use calls::{Counts, ReadCalls, WriteCalls};
 pub use description::Pla;
 pub use device::{Broken, Input, Output};
+pub use echo::Echo;
 pub use ending::Ending;
-pub use fault::{Echo, FileType, ReadFault, ReadKind};
+pub use fault::{ReadFault, ReadKind};
+pub use file_type::FileType;
 pub use memory::{Given, Taken};
 pub use out_type::OutType;
 pub use over_std::{Reading, Writing};
 pub use reading::read_pla;
 pub use scan::Scan;
-pub use sets::{Sets, open_dc, open_off};
+pub use sets::{Sets, dc_unless_given, off_unless_given};
 pub use text::{write_covers, write_pla};
 pub use writing::{WriteFault, write_bytes, write_next};

@@ -7,25 +7,28 @@ ghost use Rattle.pla.specs.Keywords.{texts, number_within};
 use memchr::memchr;
 use std::alloc::{AllocError, Global};
 
+/// Whether the byte is a blank, in any line.
 pub fn blank(b: u8) -> bool
     ensures { result ≡ is_blank b }
 {
     matches!(b, b' ' | b'\t' | 11 | 12 | b'\r')
 }
 
+/// Whether the byte is a blank in a row line, where a bar is one too.
 pub fn row_blank(b: u8) -> bool
     ensures { result ≡ is_row_blank b }
 {
     blank(b) || b == b'|'
 }
 
+/// The first byte that is no blank.
 pub fn first_not_blank(line: &[u8]) -> Option<u8>
     ensures { result ≡ find (λ b. not (is_blank b)) line.now }
 {
     line.iter().copied().find(|b| !blank(*b))
 }
 
-/// Whether it is a keyword line: its first byte that is no blank is a dot.
+/// Whether the line is a keyword line: its first byte that is no blank is a dot.
 pub fn begins_keyword(line: &[u8]) -> bool
     ensures { result ≡ is_keyword_line line.now }
 {
@@ -35,6 +38,7 @@ pub fn begins_keyword(line: &[u8]) -> bool
     }
 }
 
+/// The words of a line: what stands between blanks.
 pub fn words_of(alloc: Global, line: &[u8]) -> Result<Vec<&[u8]>, AllocError>
     ensures { IfOk result (λ v. texts v.items ≡ words line.now) }
 {
@@ -50,6 +54,8 @@ pub fn has_symbol(code: &[u8]) -> bool
     code.iter().any(|b| !row_blank(*b))
 }
 
+/// The decimal number that the words are, if they are one word of digits alone and the number is in
+/// the range; it may have leading zeros.
 pub fn number_in(low: usize, high: usize, words: &[&[u8]]) -> Option<usize>
     requires { high < 2 ^ 32 }
     ensures { result ≡ number_within low high (texts words.now) }
@@ -73,12 +79,14 @@ pub fn number_in(low: usize, high: usize, words: &[&[u8]]) -> Option<usize>
     }
 }
 
+/// Where the first `#` stands.
 fn comment_at(line: &[u8]) -> Option<usize>
     ensures { result ≡ position (λ b. b == 35) line.now }
 {
     memchr(b'#', line)
 }
 
+/// The code of a row line: what stands before the first `#`.
 pub fn row_code_of(line: &[u8]) -> &[u8]
     ensures { result.now ≡ row_code line.now }
 {
@@ -88,6 +96,7 @@ pub fn row_code_of(line: &[u8]) -> &[u8]
     }
 }
 
+/// The code of a keyword line: what stands before the first `#` that follows a blank.
 pub fn keyword_code_of(line: &[u8]) -> &[u8]
     ensures { result.now ≡ keyword_code line.now }
 {
@@ -99,7 +108,7 @@ pub fn keyword_code_of(line: &[u8]) -> &[u8]
     line
 }
 
-/// The first word, or nothing if there is none.
+/// The first word of a code; empty if it has none.
 fn first_word(code: &[u8]) -> &[u8]
     ensures { result.now ≡ slice_index_or (words code.now) 0 [] }
 {

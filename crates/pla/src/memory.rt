@@ -10,8 +10,8 @@ use crate::ending::Ending;
 use std::alloc::{AllocError, Global};
 use std::marker::Model;
 
-/// An input that delivers stored bytes, at most so many a read, and then ends or fails. One read
-/// may fail alone, before and after which it works.
+/// An input that delivers stored bytes, at most a given number a read, and then ends or fails. One
+/// read may be made to fail by itself: reads before and after it succeed.
 #[derive(Drop)]
 pub struct Given {
     bytes: Vec<u8>,
@@ -64,8 +64,8 @@ impl Given {
         }
     }
 
-    /// This input, but that one read fails alone: the first from here on if `reads` is 0.
-    pub fn failing_after(self, reads: u64) -> Given
+    /// This input, but one read fails: the one after this many further reads. Later ones succeed.
+    pub fn failing_once_after(self, reads: u64) -> Given
         ensures { result ≡ record self { until_failure = Some reads } }
     {
         Given {
@@ -122,7 +122,7 @@ impl Input for Given {
     }
 }
 
-// One call nearer to the one that fails alone.
+// How many calls come before the one that is to fail, after one more call; `None` if it has failed.
 fn nearer(until_failure: Option<u64>) -> Option<u64>
     ensures { result ≡ one_nearer until_failure }
 {
@@ -132,8 +132,8 @@ fn nearer(until_failure: Option<u64>) -> Option<u64>
     }
 }
 
-/// An output that takes bytes up to its room, at most so many a write, and then breaks. One write
-/// may fail alone, before and after which it works.
+/// An output that takes bytes up to its room, at most a given number a write, and then fails. One
+/// write may be made to fail by itself: writes before and after it succeed.
 #[derive(Drop)]
 pub struct Taken {
     bytes: Vec<u8>,
@@ -163,8 +163,8 @@ impl Model for Taken {
 }
 
 impl Taken {
-    /// Nothing taken, and room for so many bytes, at most `most` of them a write. Each flush fails
-    /// if `flush_fails` says so.
+    /// Nothing taken, and room for `room` bytes, at most `most` of them a write. Each flush fails if
+    /// `flush_fails` is set.
     pub fn new(
         alloc: Global,
         room: usize,
@@ -196,8 +196,8 @@ impl Taken {
         })
     }
 
-    /// This output, but that one write fails alone: the first from here on if `writes` is 0.
-    pub fn failing_after(self, writes: u64) -> Taken
+    /// This output, but one write fails: the one after this many further writes. Later ones succeed.
+    pub fn failing_once_after(self, writes: u64) -> Taken
         ensures { result ≡ record self { until_failure = Some writes } }
     {
         Taken {

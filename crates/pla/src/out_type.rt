@@ -1,6 +1,6 @@
 //! The type of a printed file.
 
-/// Which lists are printed, as the type of rows in the file: the ON-set alone (`f`), with the
+/// Which lists are printed, which is also the type of the printed file: the ON-set alone (`f`), with the
 /// DC-set (`fd`), with the OFF-set (`fr`), or all three (`fdr`).
 #[derive(Clone, Copy, Debug, PartialEq, Eq)]
 pub enum OutType {

@@ -1,4 +1,4 @@
-//! Readers and writers of std as devices.
+//! Readers and writers of std as devices: [`Reading`] and [`Writing`].
 ghost use Rattle.std.specs.Prelude.{◌≡◌, false};
 
 use crate::calls::{ReadCalls, WriteCalls};

@@ -12,7 +12,8 @@ ghost use Rattle.pla.specs.Fault.{end_kind};
 ghost use Rattle.pla.specs.Description.{description_of};
 
 use crate::description::Pla;
-use crate::fault::{FileType, LineError, ReadKind};
+use crate::fault::{LineError, ReadKind};
+use crate::file_type::FileType;
 use crate::header::{Head, too_long};
 use crate::line::{begins_keyword, has_symbol, keyword_code_of, words_of};
 use crate::rows::Rows;
@@ -41,8 +42,8 @@ impl Model for Parser {
     ghost invariant = { λ p. IsTied (seen p.head 0) p.rows };
 }
 
-/// Takes a keyword line.
-fn take_keyword(
+/// Takes a keyword line: sets what it gives, if it has no fault.
+fn take_keyword_line(
     head: &mut Head,
     rows: &mut Option<Rows>,
     alloc: Global,
@@ -71,12 +72,12 @@ fn take_keyword(
     Ok(())
 }
 
-/// How many symbols stand in an unfinished row.
+/// How many symbols an unfinished row has so far; 0 if none is begun.
 fn unfinished_in(rows: &Option<Rows>) -> usize
     ensures { result ≡ unfinished_of rows.now }
 {
     match rows {
-        Some(rows) => rows.unfinished(),
+        Some(rows) => rows.pending_count(),
         None => 0,
     }
 }
@@ -91,8 +92,8 @@ fn open_rows(rows: &mut Option<Rows>, alloc: Global, shape: Option<Shape>)
     }
 }
 
-/// Takes a row line of this code.
-fn take_row(head: &mut Head, rows: &mut Option<Rows>, code: &[u8]) -> Result<(), LineError>
+/// Takes a row line, of which this is the code: adds its symbols to the rows.
+fn take_row_line(head: &mut Head, rows: &mut Option<Rows>, code: &[u8]) -> Result<(), LineError>
     ensures lines { head.new.lines ≡ head.old.lines }
     ensures tied { IsTied (seen head.old 0) rows.old → IsTied (seen head.new 0) rows.new }
     ensures head { OnOk result
@@ -104,7 +105,7 @@ fn take_row(head: &mut Head, rows: &mut Option<Rows>, code: &[u8]) -> Result<(),
 {
     let has_symbols = has_symbol(code);
     match rows {
-        Some(rows) => rows.take(head.rows_type(), code)?,
+        Some(rows) => rows.take(head.file_type_or_fd(), code)?,
         None if has_symbols => return Err(LineError::Fault(ReadKind::RowBeforeShape)),
         None => {}
     }
@@ -131,7 +132,7 @@ impl Parser {
         self.head.ended
     }
 
-    /// How many lines there were.
+    /// How many lines were taken.
     pub fn lines(&self) -> u64
         ensures value { result ≡ self.now.header.lines }
         ensures fits { result ≤ 16777216 }
@@ -139,7 +140,7 @@ impl Parser {
         self.head.lines
     }
 
-    /// Takes the next line, whose code this is if it is a row line.
+    /// Takes the next line. `code` is its code if it is a row line, and is not used otherwise.
     pub fn take(&mut self, line: &[u8], code: &[u8]) -> Result<(), LineError>
         requires open { self.old.header.ended ≡ false }
         requires code { code.now ≡ row_code line.now }
@@ -158,9 +159,9 @@ impl Parser {
             return Err(LineError::Fault(ReadKind::LineTooLong));
         }
         if begins_keyword(line) {
-            take_keyword(&mut self.head, &mut self.rows, self.alloc, line)?;
+            take_keyword_line(&mut self.head, &mut self.rows, self.alloc, line)?;
         } else {
-            take_row(&mut self.head, &mut self.rows, code)?;
+            take_row_line(&mut self.head, &mut self.rows, code)?;
         }
         self.head.lines += 1;
         Ok(())

@@ -1,4 +1,5 @@
-//! A text that is put together before it is written, so that few and large writes are made.
+//! A buffer in which a text is put together before it is written, so that few and large writes are
+//! made.
 ghost use Rattle.std.specs.Prelude.{◌≡◌, ◌+◌, ◌-◌, ◌≤◌, ◌++◌, [], length, min};
 ghost use Rattle.pla.specs.Device.{CountsOn, PutsOn};
 ghost use Rattle.pla.specs.Text.{row_text};
@@ -9,7 +10,7 @@ use crate::writing::{WriteFault, write_next};
 use cube::Cube;
 use std::marker::Model;
 
-// How many bytes are put together at most.
+// At most this many bytes are put together.
 const BUFFER_BYTES: usize = 32768;
 
 /// Bytes that are due to an output and pending, in one buffer on the stack. Takes no memory.
@@ -63,7 +64,7 @@ impl PrintBuffer {
         done
     }
 
-    // Writes what is pending if so many bytes have no room after it.
+    // Writes what is pending if it leaves no room for this many bytes.
     fn make_room<W: Output>(
         &mut self,
         count: usize,
@@ -101,12 +102,12 @@ impl PrintBuffer {
         if bytes.len() > BUFFER_BYTES {
             return write_next(out, done, bytes);
         }
-        self.keep(bytes);
+        self.append(bytes);
         done
     }
 
-    // Adds bytes for which there is room.
-    fn keep(&mut self, bytes: &[u8])
+    // Appends bytes for which there is room.
+    fn append(&mut self, bytes: &[u8])
         requires { length self.old + length bytes.now ≤ 32768 }
         ensures { self.new ≡ self.old ++ bytes.now }
     {
@@ -134,12 +135,12 @@ impl PrintBuffer {
         ensures count { CountsOn (W.calls out.old) done (W.calls out.new) result }
     {
         let done = self.make_room(ROW_BYTES, out, done);
-        self.keep_row(cube, mark, other);
+        self.append_row(cube, mark, other);
         done
     }
 
-    // Adds a row for which there is room.
-    fn keep_row(&mut self, cube: &Cube, mark: u8, other: u8)
+    // Appends a row for which there is room.
+    fn append_row(&mut self, cube: &Cube, mark: u8, other: u8)
         requires { length self.old + ROW_BYTES ≤ 32768 }
         ensures { self.new ≡ self.old ++ row_text mark other cube.now }
     {

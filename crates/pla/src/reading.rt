@@ -1,4 +1,5 @@
-//! `read_pla`: a whole input, read piece by piece. (The device `Reading` is in `over_std`.)
+//! `read_pla`: a whole input, read piece by piece. (`Reading`, a reader of std as an input device,
+//! stands in `over_std`, with `Writing`.)
 ghost use Rattle.std.specs.Prelude.{◌≡◌, ◌++◌, ◌+◌, ◌≤◌, [], List, ℕ, Some, None, false, IfOk, IfErr, length};
 ghost use Rattle.cube.specs.Limits.{format_limits};
 ghost use Rattle.pla.specs.Description.{described};
@@ -10,9 +11,10 @@ ghost use Rattle.pla.specs.Steps.{with_flush as with_flush_of, buffered_kind as 
 
 use crate::description::Pla;
 use crate::device::{Broken, Input, Output};
+use crate::echo::Echo;
 use crate::echo_buffer::EchoBuffer;
 use crate::ending::Ending;
-use crate::fault::{Echo, ReadFault, ReadKind};
+use crate::fault::{ReadFault, ReadKind};
 use crate::scan::Scan;
 use crate::writing::WriteFault;
 use std::alloc::Global;
@@ -98,7 +100,8 @@ fn finish<W: Output>(
     with_flush(finished, flushed)
 }
 
-/// What a step answers whose echoes were buffered, once the flush of these has answered.
+/// The answer of a step whose echoes were put in the buffer, `done`, once the buffer was flushed: a
+/// failed flush comes first.
 fn with_flush<T: Drop>(
     done: Result<T, ReadFault>,
     flushed: Result<(), WriteFault>,
@@ -114,14 +117,15 @@ fn with_flush<T: Drop>(
             Ok(value) => Ok(value),
             Err(fault) => Err(ReadFault {
                 line: fault.line,
-                kind: buffered_kind(fault.kind),
+                kind: out_of_memory_if_write_failed(fault.kind),
             }),
         },
     }
 }
 
-/// What a fault says of a write to the buffer of echoes: it fails only if out of memory.
-fn buffered_kind(kind: ReadKind) -> ReadKind
+/// The kind of fault to report. A write to the echo buffer fails only for want of memory, so a failed
+/// one is reported as that.
+fn out_of_memory_if_write_failed(kind: ReadKind) -> ReadKind
     ensures { result ≡ buffered_kind_of kind }
 {
     match kind {

@@ -8,8 +8,8 @@ use cube::limits::{INPUTS, OUTPUTS};
 /// The longest row: the inputs, a space, the outputs and a line feed.
 pub const ROW_BYTES: usize = INPUTS + 1 + OUTPUTS + 1;
 
-/// Puts a cube's row at the front, and answers how long it is: `mark` for an output in the cube,
-/// `other` for any other output.
+/// Writes a cube's row at the front of the bytes, and answers how long it is. `mark` is written for
+/// an output in the cube, `other` for any other.
 pub fn put_row(row: &mut [u8], cube: &Cube, mark: u8, other: u8) -> usize
     requires { ROW_BYTES ≤ length row.old }
     ensures fits { result ≤ length row.new }

@@ -10,7 +10,8 @@ ghost use Rattle.pla.specs.HeadView.{seen};
 ghost use Rattle.pla.specs.Reading.{rows_of, with_row, with_run, read_code, BeginsRow, IsRun, IsBadCode};
 
 use crate::description::Pla;
-use crate::fault::{FileType, LineError, ReadKind};
+use crate::fault::{LineError, ReadKind};
+use crate::file_type::FileType;
 use crate::header::Head;
 use crate::line::row_blank;
 use cover::Cover;
@@ -27,9 +28,9 @@ pub enum Part {
     Off,
 }
 
-// What each byte is in a row: bit 4 if it is a symbol of an input, bit 5 if it is one of an output,
-// and then the list that it puts the output into: bit 0 the OFF list, bit 1 the ON list, bit 2 the
-// DC list, bit 3 none.
+// What each byte is in a row. Bit 4: a symbol of an input. Bit 5: a symbol of an output. Then one bit
+// for the list that it puts the output into: bit 0 for OFF, bit 1 for ON, bit 2 for DC, bit 3 for
+// none.
 static MARKS: [u8; 256] = [
     0, 0, 0, 0, 0, 0, 0, 0, 0, 0, 0, 0, 0, 0, 0, 0, 0, 0, 0, 0, 0, 0, 0, 0, 0, 0, 0, 0, 0, 0, 0, 0,
     0, 0, 0, 0, 0, 0, 0, 0, 0, 0, 0, 0, 0, 52, 0, 0, 49, 50, 52, 40, 34, 0, 0, 0, 0, 0, 0, 0, 0, 0,
@@ -42,11 +43,14 @@ static MARKS: [u8; 256] = [
     0, 0, 0,
 ];
 
+// The mark of symbols of inputs.
 const INPUT_MARK: u8 = 16;
 
+// The mark of symbols of outputs.
 const OUTPUT_MARK: u8 = 32;
 
-/// The marks of the bytes that put an output into a list, under the type of the rows.
+/// The mark of the bytes that put an output into a list, under the type of the rows; 0 if the type
+/// does not give the list.
 fn marks_of(file_type: FileType, part: Part) -> u8
     ensures { (b : ℕ) → b < 256
         → has_mark MARKS result b ≡ is_byte_of (part_symbols file_type part) b }
@@ -68,8 +72,8 @@ fn is_marked(mask: u8, b: u8) -> bool
     MARKS[b as usize] & mask != 0
 }
 
-/// Whether a byte is a symbol of this place of a row, whose first `n` places are inputs.
-fn symbol_at(n: usize, place: usize, b: u8) -> bool
+/// Whether a byte is a symbol at this index of a row, which begins with `n` inputs.
+fn is_symbol(n: usize, place: usize, b: u8) -> bool
     ensures { result ≡ is_symbol_at n place b }
 {
     if place < n {
@@ -91,7 +95,8 @@ fn shared_marks(bytes: &[u8]) -> u8
     shared
 }
 
-/// Whether all of the bytes are symbols of the part of a row that has this place. May miss it.
+/// Whether all of the bytes are seen to be symbols of the part of a row that has this index: its
+/// first `n` are inputs. It may answer `false` for symbols.
 fn are_symbols(n: usize, place: usize, bytes: &[u8]) -> bool
     ensures { result ≡ true → list_all (λ b. is_symbol_at n place b) bytes.now ≡ true }
 {
@@ -103,7 +108,7 @@ fn are_symbols(n: usize, place: usize, bytes: &[u8]) -> bool
     }
 }
 
-/// Where symbols from a place on end that are of one part: at the end of the inputs, or of the row.
+/// Where the part of a row ends that has this index: at the end of the inputs, or of the row.
 fn run_end(shape: Shape, place: usize) -> usize
     requires { place < 2 ^ 63 }
     ensures some { place < result }
@@ -117,7 +122,8 @@ fn run_end(shape: Shape, place: usize) -> usize
     }
 }
 
-/// The rows read so far: the symbols since the last whole row, and the cubes of the whole rows.
+/// The rows read so far: the symbols since the last whole row (the pending ones), and the cubes of
+/// the whole rows.
 #[derive(Drop)]
 pub struct Rows {
     shape: Shape,
@@ -145,7 +151,7 @@ impl Model for Rows {
         × (r.off.size ≡ r.shape) };
 }
 
-/// Adds the cube that a row's bytes put into a list, if it has an output.
+/// Adds the cube that a row's bytes put into a list, if it has an output there.
 fn push_cube(
     list: &mut Cover,
     alloc: Global,
@@ -246,8 +252,9 @@ impl Rows {
         Ok(())
     }
 
-    /// Adds symbols that stand within a row.
-    fn push(&mut self, file_type: FileType, run: &[u8]) -> Result<(), AllocError>
+    /// Adds a run of symbols to the pending ones, and ends the row if it is whole then. The run lies in
+    /// one row.
+    fn push_run(&mut self, file_type: FileType, run: &[u8]) -> Result<(), AllocError>
         ensures size { self.new.size ≡ self.old.size }
         ensures ok { OnOk result (self.new ≡ with_run file_type self.old run.now) }
     {
@@ -258,8 +265,9 @@ impl Rows {
         Ok(())
     }
 
-    /// How many symbols the code begins with, up to the end of the inputs or of the row.
-    fn run(&self, code: &[u8]) -> usize
+    /// The length of the run that the code begins with: symbols up to the end of the inputs or of the
+    /// row.
+    fn run_length(&self, code: &[u8]) -> usize
         ensures fits { result ≤ length code.now }
         ensures run { IsRun self.now (take result code.now) }
         ensures none { result ≡ 0 → 0 < length code.now
@@ -269,15 +277,15 @@ impl Rows {
         let (inputs, place) = (self.shape.inputs(), self.pending.len());
         let most = (run_end(self.shape, place) - place).min(code.len());
         for k in 0..most {
-            if !symbol_at(inputs, place, code[k]) {
+            if !is_symbol(inputs, place, code[k]) {
                 return k;
             }
         }
         most
     }
 
-    /// Whether the code begins with a whole row, whose inputs and outputs stand apart by a blank. May
-    /// miss it.
+    /// Whether the code is seen to begin with a whole row, with a blank between inputs and outputs. It
+    /// may answer `false` for such a row.
     fn begins_row(&self, code: &[u8]) -> bool
         ensures { result ≡ true → BeginsRow self.now code.now }
     {
@@ -291,9 +299,13 @@ impl Rows {
         are_symbols(n, n, &code[n + 1..n + 1 + m])
     }
 
-    /// Takes the whole row that the code begins with, if it does, and answers what follows it. No
-    /// byte of such a row is kept apart.
-    fn take_row<'a>(&mut self, file_type: FileType, code: &'a [u8]) -> Result<&'a [u8], AllocError>
+    /// Takes the whole row that the code begins with, if it does, straight from the code, and answers
+    /// what follows it.
+    fn take_whole_row<'a>(
+        &mut self,
+        file_type: FileType,
+        code: &'a [u8],
+    ) -> Result<&'a [u8], AllocError>
         ensures size { self.new.size ≡ self.old.size }
         ensures read { IfOk result (λ rest. read_code file_type self.old code.now
             ≡ read_code file_type self.new rest.now) }
@@ -321,11 +333,11 @@ impl Rows {
         ensures ok { OnOk result (read_code file_type self.old code.now ≡ Some self.new) }
         ensures err { IfErr result (IsBadCode file_type self.old code.now) }
     {
-        let mut rest = self.take_row(file_type, code)?;
+        let mut rest = self.take_whole_row(file_type, code)?;
         while !rest.is_empty() {
-            let count = self.run(rest);
+            let count = self.run_length(rest);
             if count > 0 {
-                self.push(file_type, &rest[..count])?;
+                self.push_run(file_type, &rest[..count])?;
                 rest = &rest[count..];
             } else if row_blank(rest[0]) {
                 rest = &rest[1..];
@@ -343,8 +355,8 @@ impl Rows {
         !self.pending.is_empty()
     }
 
-    /// How many symbols stand in a row that isn't whole yet.
-    pub fn unfinished(&self) -> usize
+    /// How many symbols are pending: those of a row that is not whole yet.
+    pub fn pending_count(&self) -> usize
         ensures { result ≡ length self.now.pending }
     {
         self.pending.len()
@@ -362,7 +374,7 @@ impl Rows {
           off = self.off;
         } }
     {
-        let file_type = head.rows_type();
+        let file_type = head.file_type_or_fd();
         Pla::new(
             self.shape,
             head.input_names,

@@ -15,9 +15,9 @@ ghost use Rattle.pla.specs.Description.{described, description_of};
 
 use crate::description::Pla;
 use crate::device::Output;
-use crate::echo::write_echo;
+use crate::echo::{Echo, write_echo};
 use crate::ending::Ending;
-use crate::fault::{Echo, LineError, ReadFault, ReadKind};
+use crate::fault::{LineError, ReadFault, ReadKind};
 use crate::line::row_code_of;
 use crate::parser::Parser;
 use crate::writing::WriteFault;
@@ -54,8 +54,9 @@ fn line_end(bytes: &[u8]) -> Option<LineEnd>
     }
 }
 
-/// What is wrong with so many bytes after so many lines, whatever they are.
-fn rest_kind(lines: u64, size: usize) -> Option<ReadKind>
+/// The kind of fault that a line has by its number and size alone: it comes after `lines` lines, and
+/// has `size` bytes so far.
+fn size_fault(lines: u64, size: usize) -> Option<ReadKind>
     ensures { (rest : List ℕ) → size ≡ length rest
         → result ≡ kind_of_rest format_limits lines rest }
 {
@@ -68,8 +69,9 @@ fn rest_kind(lines: u64, size: usize) -> Option<ReadKind>
     None
 }
 
-/// Takes a line, whose code this is if it is a row line, and writes its echo.
-fn take_with_code<W: Output>(
+/// Takes a line and writes its echo. `code` is its code if it is a row line, and is not used
+/// otherwise.
+fn take_line_with_code<W: Output>(
     parser: &mut Parser,
     echo: Echo,
     line: &[u8],
@@ -101,7 +103,7 @@ fn take_with_code<W: Output>(
     }
 }
 
-/// Takes a line and writes its echo.
+/// Takes a line and writes its echo; finds the code of a row line.
 fn take_line<W: Output>(
     parser: &mut Parser,
     echo: Echo,
@@ -115,7 +117,7 @@ fn take_line<W: Output>(
     ensures count { (before : List (List ℕ)) → StandsForLines format_limits parser.old before →
         CountsWrites (W.calls output.old) (W.calls output.new) result }
 {
-    take_with_code(parser, echo, line, row_code_of(line), output)
+    take_line_with_code(parser, echo, line, row_code_of(line), output)
 }
 
 /// Reading of a text that comes in pieces: what is kept between them.
@@ -160,8 +162,8 @@ impl Scan {
         self.parser.is_ended()
     }
 
-    /// Keeps bytes of a line that no line feed has ended yet.
-    fn hold(&mut self, bytes: &[u8]) -> Result<(), ReadFault>
+    /// Keeps bytes of a line that no line feed has ended yet, after the rest that was kept.
+    fn keep_rest(&mut self, bytes: &[u8]) -> Result<(), ReadFault>
         ensures kept { OnOk result
             (self.new ≡ record self.old { rest = self.old.rest ++ bytes.now }) }
         ensures fits { OnOk result
@@ -173,7 +175,7 @@ impl Scan {
             (self.old.rest ++ bytes.now)) ≡ Some fault)) }
     {
         let lines = self.parser.lines();
-        if let Some(kind) = rest_kind(lines, self.rest.len() + bytes.len()) {
+        if let Some(kind) = size_fault(lines, self.rest.len() + bytes.len()) {
             return Err(ReadFault {
                 line: lines + 1,
                 kind,
@@ -188,8 +190,8 @@ impl Scan {
         }
     }
 
-    /// Takes the bytes that end a line: the line is what was kept and these, whose code this is if
-    /// they are a row line.
+    /// Takes the line that these bytes end: they come after the rest that was kept. `code` is their
+    /// code if they are a row line, and is used only if nothing was kept.
     fn end_line<W: Output>(
         &mut self,
         bytes: &[u8],
@@ -214,9 +216,9 @@ impl Scan {
             OnOk result (position_in self.old + length bytes.now + 1 ≤ position_in self.new) }
     {
         if self.rest.is_empty() {
-            return take_with_code(&mut self.parser, self.echo, bytes, code, output);
+            return take_line_with_code(&mut self.parser, self.echo, bytes, code, output);
         }
-        self.hold(bytes)?;
+        self.keep_rest(bytes)?;
         take_line(&mut self.parser, self.echo, &self.rest, output)?;
         self.rest.clear();
         Ok(())
@@ -254,7 +256,7 @@ impl Scan {
                     rest = &rest[end.line + 1..];
                 }
                 None => {
-                    self.hold(rest)?;
+                    self.keep_rest(rest)?;
                     return Ok(self);
                 }
             }
@@ -263,7 +265,7 @@ impl Scan {
     }
 
     /// Takes a last line that no line feed ended, if there is one.
-    fn last_line<W: Output>(&mut self, output: &mut W) -> Result<(), ReadFault>
+    fn take_last_line<W: Output>(&mut self, output: &mut W) -> Result<(), ReadFault>
         requires { self.old.parsed.header.ended ≡ false }
         ensures takes { (text : List ℕ) → StandsFor format_limits self.old text →
             OnOk result (StandsForLines format_limits self.new.parsed (lines_of Ending.End text)) }
@@ -282,7 +284,7 @@ impl Scan {
         take_line(&mut self.parser, self.echo, &self.rest, output)
     }
 
-    /// What the lines describe.
+    /// The description that the lines give.
     fn describe(self) -> Result<Pla, ReadFault>
         ensures { (lines : List (List ℕ)) → StandsForLines format_limits self.parsed lines →
             Describes result (end_fault format_limits lines) (description_of format_limits lines) }
@@ -317,7 +319,7 @@ impl Scan {
                 kind: ReadKind::ReadFailed,
             }),
             Ending::End => {
-                self.last_line(output)?;
+                self.take_last_line(output)?;
                 self.describe()
             }
         }

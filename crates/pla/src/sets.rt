@@ -4,7 +4,7 @@ ghost use Rattle.pla.specs.Completed.{dc_list, gives_dc, gives_off, off_list, ou
 ghost use Rattle.pla.specs.Sets.{lists_of};
 
 use crate::description::Pla;
-use crate::fault::FileType;
+use crate::file_type::FileType;
 use cover::Cover;
 use std::alloc::{AllocError, Global};
 use std::marker::Model;
@@ -38,8 +38,8 @@ impl Sets {
         Sets { on, dc, off }
     }
 
-    /// The lists of a description's three sets. Those that its type gives are copied as they stand.
-    /// Of the others, `dc` asks under fr for what neither ON nor OFF holds, and `off` under f and
+    /// The lists of a description's three sets. Lists that its type gives are copied as they stand. Of
+    /// the others, `dc` asks under fr for what neither ON nor OFF holds, and `off` under f and
     /// fd for what neither ON nor DC holds; they are empty if not asked for, and DC is empty under
     /// f.
     ///
@@ -53,8 +53,8 @@ impl Sets {
         ensures { IfOk result (λ sets. sets ≡ sets_of pla.now dc off) }
     {
         let on = pla.on().try_clone()?;
-        let dc = dc_of(alloc, pla, dc)?;
-        let off = off_of(alloc, pla, off)?;
+        let dc = dc_list_of(alloc, pla, dc)?;
+        let off = off_list_of(alloc, pla, off)?;
         Ok(Sets::new(on, dc, off))
     }
 
@@ -92,67 +92,74 @@ impl Sets {
     }
 }
 
-// A copy of the DC list of a description; one that its type leaves open is computed if asked for.
-fn dc_of(alloc: Global, pla: &Pla, asked: bool) -> Result<Cover, AllocError>
+// The DC list that [`Sets::of`] gives: a copy, or computed if the type does not give it and `compute`
+// asks for it.
+fn dc_list_of(alloc: Global, pla: &Pla, compute: bool) -> Result<Cover, AllocError>
     ensures { IfOk result (λ list. list ≡ record {
       size = pla.now.size;
-      cubes = dc_list pla.now.file_type asked pla.now;
+      cubes = dc_list pla.now.file_type compute pla.now;
     }) }
 {
-    match open_dc(alloc, pla, asked)? {
+    match dc_unless_given(alloc, pla, compute)? {
         Some(list) => Ok(list),
         None => pla.dc().try_clone(),
     }
 }
 
-// A copy of the OFF list of a description, likewise.
-fn off_of(alloc: Global, pla: &Pla, asked: bool) -> Result<Cover, AllocError>
+// The OFF list that [`Sets::of`] gives: a copy, or computed if the type does not give it and
+// `compute` asks for it.
+fn off_list_of(alloc: Global, pla: &Pla, compute: bool) -> Result<Cover, AllocError>
     ensures { IfOk result (λ list. list ≡ record {
       size = pla.now.size;
-      cubes = off_list pla.now.file_type asked pla.now;
+      cubes = off_list pla.now.file_type compute pla.now;
     }) }
 {
-    match open_off(alloc, pla, asked)? {
+    match off_unless_given(alloc, pla, compute)? {
         Some(list) => Ok(list),
         None => pla.off().try_clone(),
     }
 }
 
-/// The DC list that [`Sets::of`] gives, if it is not the description's own; `None` if it is, under
-/// fd and fdr. Under fr it is computed if asked for.
+/// The DC list that [`Sets::of`] gives, unless it is the description's own: `None` under fd and fdr,
+/// whose rows give it. Under fr it is computed if `compute` asks for it, and else empty; under f it
+/// is empty.
 ///
 /// # Errors
 ///
 /// `AllocError` if memory was refused.
-pub fn open_dc(alloc: Global, pla: &Pla, asked: bool) -> Result<Option<Cover>, AllocError>
+pub fn dc_unless_given(alloc: Global, pla: &Pla, compute: bool) -> Result<Option<Cover>, AllocError>
     ensures own { IfOk result (λ list. is_some list ≡ not (gives_dc pla.now.file_type)) }
     ensures list { IfOk result
         (λ list. unwrap_or list (record { size = pla.now.size; cubes = pla.now.dc })
-        ≡ record { size = pla.now.size; cubes = dc_list pla.now.file_type asked pla.now }) }
+        ≡ record { size = pla.now.size; cubes = dc_list pla.now.file_type compute pla.now }) }
 {
     match pla.file_type() {
         FileType::Fd | FileType::Fdr => Ok(None),
-        FileType::Fr if asked => Ok(Some(outside_both(pla.on(), pla.off())?)),
+        FileType::Fr if compute => Ok(Some(outside_both(pla.on(), pla.off())?)),
         FileType::F | FileType::Fr => Ok(Some(Cover::new(alloc, pla.shape()))),
     }
 }
 
-/// The OFF list that [`Sets::of`] gives, if it is not the description's own; `None` if it is, under
-/// fr and fdr. Under f and fd it is computed if asked for.
+/// The OFF list that [`Sets::of`] gives, unless it is the description's own: `None` under fr and fdr,
+/// whose rows give it. Under f and fd it is computed if `compute` asks for it, and else empty.
 ///
 /// # Errors
 ///
 /// `AllocError` if memory was refused.
-pub fn open_off(alloc: Global, pla: &Pla, asked: bool) -> Result<Option<Cover>, AllocError>
+pub fn off_unless_given(
+    alloc: Global,
+    pla: &Pla,
+    compute: bool,
+) -> Result<Option<Cover>, AllocError>
     ensures own { IfOk result (λ list. is_some list ≡ not (gives_off pla.now.file_type)) }
     ensures list { IfOk result
         (λ list. unwrap_or list (record { size = pla.now.size; cubes = pla.now.off })
-        ≡ record { size = pla.now.size; cubes = off_list pla.now.file_type asked pla.now }) }
+        ≡ record { size = pla.now.size; cubes = off_list pla.now.file_type compute pla.now }) }
 {
     match pla.file_type() {
         FileType::Fr | FileType::Fdr => Ok(None),
-        FileType::F if asked => Ok(Some(pla.on().complement()?)),
-        FileType::Fd if asked => Ok(Some(outside_both(pla.on(), pla.dc())?)),
+        FileType::F if compute => Ok(Some(pla.on().complement()?)),
+        FileType::Fd if compute => Ok(Some(outside_both(pla.on(), pla.dc())?)),
         FileType::F | FileType::Fd => Ok(Some(Cover::new(alloc, pla.shape()))),
     }
 }

@@ -38,8 +38,8 @@ pub fn write_pla<W: Output>(
     write_covers(pla, out_type, sets.on(), sets.dc(), sets.off(), out)
 }
 
-/// Writes what [`write_pla`] does, with lists that stand apart: an echo lends the description's
-/// own, and so holds its rows once.
+/// Writes what [`write_pla`] does, with each list by itself: so a caller can lend the lists of the
+/// description, and need not copy them.
 ///
 /// # Errors
 ///
@@ -79,7 +79,7 @@ pub fn write_covers<W: Output>(
     buffer.flush_to(out, done)
 }
 
-// The line that says the type, if there is one.
+// The line that says the type; empty under f, which has none.
 fn type_line(out_type: OutType) -> &'static [u8]
     ensures { result.now ≡ type_text out_type }
 {
@@ -108,7 +108,7 @@ fn row_count(out_type: OutType, on: &Cover, dc: &Cover, off: &Cover) -> u128
     }
 }
 
-// The keyword, and each name after a space, if there are names.
+// Writes the keyword and each name after a space, if there are names.
 fn write_names<W: Output>(
     buffer: &mut PrintBuffer,
     out: &mut W,
@@ -123,15 +123,15 @@ fn write_names<W: Output>(
     match names {
         Some(names) => {
             let done = buffer.write_next(out, done, keyword);
-            let done = write_each(buffer, out, done, names);
+            let done = write_each_name(buffer, out, done, names);
             buffer.write_next(out, done, b"\n")
         }
         None => done,
     }
 }
 
-// Each name after a space.
-fn write_each<W: Output>(
+// Writes each name after a space.
+fn write_each_name<W: Output>(
     buffer: &mut PrintBuffer,
     out: &mut W,
     done: Result<(), WriteFault>,
@@ -149,7 +149,7 @@ fn write_each<W: Output>(
     done
 }
 
-// The rows of each list that the type prints.
+// Writes the rows of each list that the type prints.
 fn write_sections<W: Output>(
     buffer: &mut PrintBuffer,
     out: &mut W,
@@ -182,7 +182,7 @@ fn write_sections<W: Output>(
     }
 }
 
-// The rows of a list: `mark` for an output in the cube, `other` for any other output.
+// Writes the rows of a list: `mark` for an output in the cube, `other` for any other output.
 fn write_rows<W: Output>(
     buffer: &mut PrintBuffer,
     out: &mut W,

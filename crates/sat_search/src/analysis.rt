@@ -1,7 +1,7 @@
-//! Analysis of conflicts: from a clause that is false, the clause at the first point through which
-//! all of the last level goes (Marques-Silva and Sakallah 1996).
+//! Analysis of conflicts: from a clause that is false, the clause at the first unique implication
+//! point (UIP) of the current decision level (Marques-Silva and Sakallah 1996).
 
-use crate::numbers::{NONE, at, put, small};
+use crate::numbers::{NONE, at, put, saturating_u32};
 use crate::search::Search;
 use std::alloc::{AllocError, Global};
 
@@ -16,27 +16,28 @@ pub(crate) enum Mark {
     Resolved,
     /// Its literal follows from others that are kept.
     Redundant,
-    /// Its literal does not follow from those.
+    /// Its literal does not follow from the kept ones.
     Needed,
-    /// It was set at the first level.
+    /// It was set at level 0.
     Unit,
 }
 
-/// The clause that is learned now.
+/// The clause that is being learned.
 #[derive(Drop)]
 pub(crate) struct Analysis {
     /// Its literals, first the one that it will set.
     pub(crate) learned: Vec<u32>,
     /// The clauses that show it.
     pub(crate) hints: Vec<u32>,
-    // By variable, and the variables that have a mark.
+    // By variable: what is known of it.
     marks: Vec<Mark>,
-    pub(crate) touched: Vec<u32>,
-    /// Variables whose reasons are looked at, each with the next place of its reason.
+    /// The variables that have a mark.
+    pub(crate) marked: Vec<u32>,
+    /// The variables whose reasons are being read, each with the offset of the next literal to read.
     pub(crate) stack: Vec<(u32, u32)>,
-    // By level: at which count it was counted.
-    counted: Vec<u32>,
-    count: u32,
+    // By level: the stamp of the last clause for which it was counted.
+    level_stamps: Vec<u32>,
+    stamp: u32,
 }
 
 impl Analysis {
@@ -45,62 +46,62 @@ impl Analysis {
             learned: Vec::new(alloc),
             hints: Vec::new(alloc),
             marks: vec![in alloc; Mark::Unseen; variables]?,
-            touched: Vec::new(alloc),
+            marked: Vec::new(alloc),
             stack: Vec::new(alloc),
-            counted: vec![in alloc; 0; variables.saturating_mul(2).saturating_add(1)]?,
-            count: 0,
+            level_stamps: vec![in alloc; 0; variables.saturating_mul(2).saturating_add(1)]?,
+            stamp: 0,
         })
     }
 
     /// What is known of a variable.
     pub(crate) fn mark_of(&self, variable: u32) -> Mark {
-        let place = variable as usize;
-        if place < self.marks.len() {
-            self.marks[place]
+        let index = variable as usize;
+        if index < self.marks.len() {
+            self.marks[index]
         } else {
             Mark::Unseen
         }
     }
 
-    /// Notes what is known of a variable.
+    /// Sets the mark of a variable, which may have none yet.
     pub(crate) fn put_mark(&mut self, variable: u32, mark: Mark) -> Result<(), AllocError> {
         if self.mark_of(variable) == Mark::Unseen {
-            self.touched.push(variable)?;
+            self.marked.push(variable)?;
         }
         self.change_mark(variable, mark);
         Ok(())
     }
 
-    /// Notes what is known of a variable that has a mark.
+    /// Sets the mark of a variable that has one already.
     pub(crate) fn change_mark(&mut self, variable: u32, mark: Mark) {
-        let place = variable as usize;
-        if place < self.marks.len() {
-            self.marks[place] = mark;
+        let index = variable as usize;
+        if index < self.marks.len() {
+            self.marks[index] = mark;
         }
     }
 
     /// Forgets all marks.
-    pub(crate) fn unmark(&mut self) {
-        for variable in &self.touched {
-            let place = *variable as usize;
-            if place < self.marks.len() {
-                self.marks[place] = Mark::Unseen;
+    pub(crate) fn clear_marks(&mut self) {
+        for variable in &self.marked {
+            let index = *variable as usize;
+            if index < self.marks.len() {
+                self.marks[index] = Mark::Unseen;
             }
         }
-        self.touched.clear();
+        self.marked.clear();
     }
 
-    // Whether a level was not counted yet.
+    // Counts a level under the present stamp; `false` if it was counted before.
     fn count_level(&mut self, level: u32) -> bool {
-        if at(&self.counted, level) == self.count {
+        if at(&self.level_stamps, level) == self.stamp {
             return false;
         }
-        put(&mut self.counted, level, self.count);
+        put(&mut self.level_stamps, level, self.stamp);
         true
     }
 
-    // Puts two literals of the clause into each other's place.
-    fn swap(&mut self, one: u32, other: u32) {
+    // Exchanges two literals of the learned clause.
+    fn swap_learned(&mut self, one: u32, other: u32) {
         let mine = at(&self.learned, one);
         let theirs = at(&self.learned, other);
         put(&mut self.learned, one, theirs);
@@ -109,76 +110,82 @@ impl Analysis {
 }
 
 impl Search {
-    /// Learns from a clause that is false, goes back, and sets what follows.
-    pub(crate) fn learn(&mut self, conflict: u32) -> Result<(), AllocError> {
-        self.first_unique_point(conflict)?;
+    /// Learns a clause from one that is false, goes back to an earlier level, and sets the literal
+    /// that the learned clause leaves.
+    pub(crate) fn learn_from_conflict(&mut self, conflict: u32) -> Result<(), AllocError> {
+        self.resolve_to_first_uip(conflict)?;
         self.minimise()?;
-        self.link(conflict)?;
-        self.analysis.unmark();
-        let level = self.level_to_return_to();
+        self.collect_hints(conflict)?;
+        self.analysis.clear_marks();
+        let level = self.put_backjump_literal_second();
         let clause = self.add_learned()?;
         let distance = self.literal_block_distance(clause);
         put(&mut self.clauses.distances, clause, distance);
         self.backjump(level as usize)?;
         if self.analysis.learned.len() > 1 {
-            let place = self.clauses.place_of(clause);
-            self.watches.watch(place, &self.analysis.learned)?;
-            self.clauses.keep(clause)?;
+            let offset = self.clauses.offset_of(clause);
+            self.watches
+                .watch_first_two(offset, &self.analysis.learned)?;
+            self.clauses.allow_dropping(clause)?;
         }
-        self.now.set(at(&self.analysis.learned, 0), clause)?;
-        self.order.age();
+        self.assignment.set(at(&self.analysis.learned, 0), clause)?;
+        self.order.decay();
         Ok(())
     }
 
     // Resolves a clause that is false with reasons of its literals, the last one first, until it
-    // has one literal of the last level.
-    fn first_unique_point(&mut self, conflict: u32) -> Result<(), AllocError> {
+    // has one literal of the current level.
+    fn resolve_to_first_uip(&mut self, conflict: u32) -> Result<(), AllocError> {
         self.analysis.learned.clear();
         self.analysis.learned.push(NONE)?;
-        let mut open: u32 = 0;
+        let mut unresolved: u32 = 0;
         let mut clause = conflict;
-        let mut place = self.now.trail.len();
-        for _ in 0..=self.now.trail.len() {
-            self.refresh(clause);
-            open = open.saturating_add(self.resolve(clause)?);
-            place = self.resolved_before(place);
-            let Some(found) = self.now.trail.get(place) else {
+        let mut position = self.assignment.trail.len();
+        for _ in 0..=self.assignment.trail.len() {
+            self.note_use(clause);
+            unresolved = unresolved.saturating_add(self.resolve_with(clause)?);
+            position = self.last_resolved_before(position);
+            let Some(found) = self.assignment.trail.get(position) else {
                 break;
             };
             let literal = *found;
-            open = open.saturating_sub(1);
-            if open == 0 {
+            unresolved = unresolved.saturating_sub(1);
+            if unresolved == 0 {
                 self.analysis.change_mark(literal / 2, Mark::Kept);
                 put(&mut self.analysis.learned, 0, literal ^ 1);
                 break;
             }
-            clause = self.now.reason_of(literal / 2);
+            clause = self.assignment.reason_of(literal / 2);
         }
         Ok(())
     }
 
-    // Takes the literals of a clause in, and answers how many of them were set at the last level.
-    fn resolve(&mut self, clause: u32) -> Result<u32, AllocError> {
+    // Adds the literals of a clause to the resolvent, and answers how many new ones were set at the
+    // current level.
+    fn resolve_with(&mut self, clause: u32) -> Result<u32, AllocError> {
         let mut count: u32 = 0;
-        for place in self.clauses.begin(clause)..self.clauses.end(clause) {
-            let literal = self.clauses.literal(place);
-            if self.analysis.mark_of(literal / 2) == Mark::Unseen && self.take_in(literal)? {
+        for offset in self.clauses.literals_begin(clause)..self.clauses.literals_end(clause) {
+            let literal = self.clauses.literal_at(offset);
+            if self.analysis.mark_of(literal / 2) == Mark::Unseen
+                && self.add_to_resolvent(literal)?
+            {
                 count = count.saturating_add(1);
             }
         }
         Ok(count)
     }
 
-    // Takes a literal in that has no mark. Whether it was set at the last level.
-    fn take_in(&mut self, literal: u32) -> Result<bool, AllocError> {
+    // Adds a literal without a mark to the resolvent. Whether it was set at the current level, and
+    // so will be resolved on, unless it is the last.
+    fn add_to_resolvent(&mut self, literal: u32) -> Result<bool, AllocError> {
         let variable = literal / 2;
-        let level = self.now.level_of(variable);
+        let level = self.assignment.level_of(variable);
         if level == 0 {
             self.analysis.put_mark(variable, Mark::Unit)?;
             return Ok(false);
         }
         self.order.bump(variable);
-        if level == small(self.now.level()) {
+        if level == saturating_u32(self.assignment.current_level()) {
             self.analysis.put_mark(variable, Mark::Resolved)?;
             return Ok(true);
         }
@@ -187,12 +194,12 @@ impl Search {
         Ok(false)
     }
 
-    // The last place of the trail before this one that is to be resolved on.
-    fn resolved_before(&self, place: usize) -> usize {
-        let mut before = place;
-        for _ in 0..place {
+    // The position of the last literal of the trail before this position that is to be resolved on.
+    fn last_resolved_before(&self, position: usize) -> usize {
+        let mut before = position;
+        for _ in 0..position {
             before = before.saturating_sub(1);
-            if let Some(literal) = self.now.trail.get(before) {
+            if let Some(literal) = self.assignment.trail.get(before) {
                 if self.analysis.mark_of(*literal / 2) == Mark::Resolved {
                     return before;
                 }
@@ -201,10 +208,11 @@ impl Search {
         before
     }
 
-    // A clause had a part in a conflict: its literals may be at fewer levels than before.
-    fn refresh(&mut self, clause: u32) {
+    // Notes that a clause had a part in a conflict. Its literals may be at fewer levels than before:
+    // then its distance is lowered.
+    fn note_use(&mut self, clause: u32) {
         let conflicts = self.pace.conflict_count();
-        self.clauses.use_now(clause, conflicts);
+        self.clauses.set_last_use(clause, conflicts);
         let before = at(&self.clauses.distances, clause);
         if clause >= self.clauses.given && before > 2 {
             let distance = self.literal_block_distance(clause);
@@ -214,11 +222,11 @@ impl Search {
 
     // The literal block distance of a clause: at how many levels its literals were set.
     fn literal_block_distance(&mut self, clause: u32) -> u32 {
-        self.analysis.count = self.analysis.count.wrapping_add(1);
+        self.analysis.stamp = self.analysis.stamp.wrapping_add(1);
         let mut distance: u32 = 0;
-        for place in self.clauses.begin(clause)..self.clauses.end(clause) {
-            let literal = self.clauses.literal(place);
-            let level = self.now.level_of(literal / 2);
+        for offset in self.clauses.literals_begin(clause)..self.clauses.literals_end(clause) {
+            let literal = self.clauses.literal_at(offset);
+            let level = self.assignment.level_of(literal / 2);
             if self.analysis.count_level(level) {
                 distance = distance.saturating_add(1);
             }
@@ -226,15 +234,16 @@ impl Search {
         distance
     }
 
-    // Puts a literal of the highest level but the last at the second place, and answers its level.
-    fn level_to_return_to(&mut self) -> u32 {
+    // Puts a literal of the highest level below the current one at index 1 of the learned clause,
+    // where it is watched, and answers its level: the one to go back to.
+    fn put_backjump_literal_second(&mut self) -> u32 {
         let mut highest: u32 = 0;
-        for k in 1..small(self.analysis.learned.len()) {
+        for k in 1..saturating_u32(self.analysis.learned.len()) {
             let literal = at(&self.analysis.learned, k);
-            let level = self.now.level_of(literal / 2);
+            let level = self.assignment.level_of(literal / 2);
             if level > highest {
                 highest = level;
-                self.analysis.swap(1, k);
+                self.analysis.swap_learned(1, k);
             }
         }
         highest

@@ -1,12 +1,12 @@
 //! The trail: literals that are set, in the order in which they were set, with levels and reasons.
 
-use crate::numbers::{NONE, at, put, small};
+use crate::numbers::{NONE, at, put, saturating_u32};
 use std::alloc::{AllocError, Global};
 
-/// What a literal is.
+/// The value of a literal.
 #[derive(Clone, Copy, PartialEq)]
 pub(crate) enum Value {
-    Open,
+    Unset,
     True,
     False,
 }
@@ -16,39 +16,39 @@ pub(crate) enum Value {
 pub(crate) struct Assignment {
     // By literal.
     values: Vec<Value>,
-    // By variable: the level at which it was set, the clause that set it, and its place in the
+    // By variable: the level at which it was set, the clause that set it, and its index in the
     // trail.
     levels: Vec<u32>,
     reasons: Vec<u32>,
-    places: Vec<u32>,
+    positions: Vec<u32>,
     /// The literals in their order.
     pub(crate) trail: Vec<u32>,
-    // Where each level but the first begins.
-    limits: Vec<u32>,
-    /// How many literals of the trail were propagated.
-    pub(crate) head: usize,
+    // By decision level, from level 1 on: the index in the trail at which it begins.
+    level_begins: Vec<u32>,
+    /// How many literals of the trail were propagated; the next to propagate has this index.
+    pub(crate) propagated: usize,
 }
 
 impl Assignment {
     pub(crate) fn new(alloc: Global, variables: usize) -> Result<Assignment, AllocError> {
         Ok(Assignment {
-            values: vec![in alloc; Value::Open; variables.saturating_mul(2)]?,
+            values: vec![in alloc; Value::Unset; variables.saturating_mul(2)]?,
             levels: vec![in alloc; 0; variables]?,
             reasons: vec![in alloc; NONE; variables]?,
-            places: vec![in alloc; 0; variables]?,
+            positions: vec![in alloc; 0; variables]?,
             trail: Vec::with_capacity(alloc, variables)?,
-            limits: Vec::new(alloc),
-            head: 0,
+            level_begins: Vec::new(alloc),
+            propagated: 0,
         })
     }
 
-    /// What a literal is.
+    /// The value of a literal; a literal that is not there is unset.
     pub(crate) fn value(&self, literal: u32) -> Value {
-        let place = literal as usize;
-        if place < self.values.len() {
-            self.values[place]
+        let index = literal as usize;
+        if index < self.values.len() {
+            self.values[index]
         } else {
-            Value::Open
+            Value::Unset
         }
     }
 
@@ -62,56 +62,67 @@ impl Assignment {
         at(&self.reasons, variable)
     }
 
-    /// The place of a variable in the trail.
-    pub(crate) fn place_of(&self, variable: u32) -> u32 {
-        at(&self.places, variable)
+    /// The index of a variable's literal in the trail.
+    pub(crate) fn position_of(&self, variable: u32) -> u32 {
+        at(&self.positions, variable)
     }
 
-    /// The last level.
-    pub(crate) fn level(&self) -> usize {
-        self.limits.len()
+    /// The current decision level; 0 before the first decision.
+    pub(crate) fn current_level(&self) -> usize {
+        self.level_begins.len()
     }
 
-    /// Sets a literal, for a clause or by a decision.
+    /// Makes a literal true at the current level, for a clause, or by a decision if the reason is
+    /// [`NONE`].
     pub(crate) fn set(&mut self, literal: u32, reason: u32) -> Result<(), AllocError> {
         self.put_value(literal, Value::True);
         self.put_value(literal ^ 1, Value::False);
-        put(&mut self.levels, literal / 2, small(self.limits.len()));
+        put(
+            &mut self.levels,
+            literal / 2,
+            saturating_u32(self.level_begins.len()),
+        );
         put(&mut self.reasons, literal / 2, reason);
-        put(&mut self.places, literal / 2, small(self.trail.len()));
+        put(
+            &mut self.positions,
+            literal / 2,
+            saturating_u32(self.trail.len()),
+        );
         self.trail.push(literal)?;
         Ok(())
     }
 
     fn put_value(&mut self, literal: u32, value: Value) {
-        let place = literal as usize;
-        if place < self.values.len() {
-            self.values[place] = value;
+        let index = literal as usize;
+        if index < self.values.len() {
+            self.values[index] = value;
         }
     }
 
-    /// Begins a level.
-    pub(crate) fn open_level(&mut self) -> Result<(), AllocError> {
-        self.limits.push(small(self.trail.len()))?;
+    /// Begins the next decision level.
+    pub(crate) fn begin_level(&mut self) -> Result<(), AllocError> {
+        self.level_begins.push(saturating_u32(self.trail.len()))?;
         Ok(())
     }
 
-    /// Takes back the last literal if it was set above the level.
-    pub(crate) fn take_back(&mut self, level: usize) -> Option<u32> {
-        if level >= self.limits.len() || self.trail.len() <= self.limits[level] as usize {
+    /// Unsets the last literal of the trail, if it was set above the level, and answers it.
+    pub(crate) fn unset_last_above(&mut self, level: usize) -> Option<u32> {
+        if level >= self.level_begins.len()
+            || self.trail.len() <= self.level_begins[level] as usize
+        {
             return None;
         }
         let literal = self.trail.pop()?;
-        self.put_value(literal, Value::Open);
-        self.put_value(literal ^ 1, Value::Open);
+        self.put_value(literal, Value::Unset);
+        self.put_value(literal ^ 1, Value::Unset);
         Some(literal)
     }
 
-    /// Ends the levels above this one, whose literals were taken back.
-    pub(crate) fn end_levels(&mut self, level: usize) {
-        if level < self.limits.len() {
-            self.limits.truncate(level);
-            self.head = self.trail.len();
+    /// Ends the levels above this one, whose literals were unset before.
+    pub(crate) fn end_levels_above(&mut self, level: usize) {
+        if level < self.level_begins.len() {
+            self.level_begins.truncate(level);
+            self.propagated = self.trail.len();
         }
     }
 }

@@ -1,23 +1,24 @@
 //! The clauses, given and learned.
 //!
 //! A clause is never taken out, as the learned ones are the proof: one that is dropped is no longer
-//! watched. Those are dropped first whose literals were set at many levels, their literal block
-//! distance (Audemard and Simon, Predicting learnt clauses quality in modern SAT solvers, 2009).
+//! watched. Clauses whose literals were set at many levels are dropped first: their literal block
+//! distance is large (Audemard and Simon, Predicting learnt clauses quality in modern SAT solvers, 2009).
 
 use crate::lists::Lists;
-use crate::numbers::{NONE, at, put, small};
+use crate::numbers::{NONE, at, put, saturating_u32};
 use std::alloc::{AllocError, Global};
 
-// So many numbers are kept of a clause beside its number, its literals and its hints: where the
-// literals begin and end and where the hints end, its distance, its last use, its place among the
-// watched ones, its name, and two watches of two numbers.
+// The numbers that are kept of a clause beside its number, its literals and its hints: where the
+// literals begin and end and where the hints end, its distance, its last use, its entry among those
+// that may be dropped, its name, and two watches of two numbers.
 const BY_CLAUSE: usize = 11;
 
 /// The clauses. The search watches the first two literals of each.
 #[derive(Drop)]
 pub(crate) struct Clauses {
-    // Of each clause its number, how many literals it has, and these.
-    numbers: Vec<u32>,
+    // Of each clause, one after the other, its number, how many literals it has, and the literals. An
+    // offset is an index here: of a clause, that of its number.
+    arena: Vec<u32>,
     // By clause: where its literals begin, and where they end.
     begins: Vec<u32>,
     ends: Vec<u32>,
@@ -28,120 +29,121 @@ pub(crate) struct Clauses {
     /// By clause: its literal block distance, and 0 once it is dropped.
     pub(crate) distances: Vec<u32>,
     // By clause: after how many conflicts it last had a part in one.
-    uses: Vec<u32>,
-    // The learned clauses that are watched.
+    last_uses: Vec<u32>,
+    // The learned clauses that are watched: they may be dropped.
     watched: Vec<u32>,
 }
 
 impl Clauses {
     pub(crate) fn new(alloc: Global) -> Clauses {
         Clauses {
-            numbers: Vec::new(alloc),
+            arena: Vec::new(alloc),
             begins: Vec::new(alloc),
             ends: Vec::new(alloc),
             given: 0,
             hints: Lists::new(alloc),
             distances: Vec::new(alloc),
-            uses: Vec::new(alloc),
+            last_uses: Vec::new(alloc),
             watched: Vec::new(alloc),
         }
     }
 
-    /// How many there are.
+    /// How many clauses there are, dropped ones too.
     pub(crate) fn len(&self) -> u32 {
-        small(self.begins.len())
+        saturating_u32(self.begins.len())
     }
 
-    /// How many numbers the search keeps of them, in all its lists.
+    /// How many numbers the search keeps of all clauses, in all its lists.
     pub(crate) fn size(&self) -> usize {
-        let numbers = self.numbers.len().saturating_add(self.hints.size());
+        let numbers = self.arena.len().saturating_add(self.hints.size());
         numbers.saturating_add(self.begins.len().saturating_mul(BY_CLAUSE))
     }
 
     /// The literals of a clause.
-    pub(crate) fn of(&self, clause: u32) -> &[u32] {
-        let begin = self.begin(clause) as usize;
-        let end = self.end(clause) as usize;
-        if begin <= end && end <= self.numbers.len() {
-            &self.numbers[begin..end]
+    pub(crate) fn literals_of(&self, clause: u32) -> &[u32] {
+        let begin = self.literals_begin(clause) as usize;
+        let end = self.literals_end(clause) as usize;
+        if begin <= end && end <= self.arena.len() {
+            &self.arena[begin..end]
         } else {
             &[]
         }
     }
 
-    /// The literals of the clause at a place.
-    pub(crate) fn at_place(&mut self, place: u32) -> &mut [u32] {
-        let begin = place as usize;
-        if begin < self.numbers.len() && self.numbers.len() - begin > 1 {
-            let count = self.numbers[begin + 1] as usize;
-            if count <= self.numbers.len() - begin - 2 {
-                return &mut self.numbers[begin + 2..begin + 2 + count];
+    /// The literals of the clause at an offset.
+    pub(crate) fn literals_at(&mut self, offset: u32) -> &mut [u32] {
+        let begin = offset as usize;
+        if begin < self.arena.len() && self.arena.len() - begin > 1 {
+            let count = self.arena[begin + 1] as usize;
+            if count <= self.arena.len() - begin - 2 {
+                return &mut self.arena[begin + 2..begin + 2 + count];
             }
         }
         &mut []
     }
 
-    /// The clause at a place.
-    pub(crate) fn number_at(&self, place: u32) -> u32 {
-        at(&self.numbers, place)
+    /// The number of the clause at an offset.
+    pub(crate) fn clause_at(&self, offset: u32) -> u32 {
+        at(&self.arena, offset)
     }
 
-    /// The place of a clause.
-    pub(crate) fn place_of(&self, clause: u32) -> u32 {
-        self.begin(clause).saturating_sub(2)
+    /// The offset of a clause.
+    pub(crate) fn offset_of(&self, clause: u32) -> u32 {
+        self.literals_begin(clause).saturating_sub(2)
     }
 
-    /// Where the literals of a clause begin.
-    pub(crate) fn begin(&self, clause: u32) -> u32 {
+    /// The offset at which the literals of a clause begin.
+    pub(crate) fn literals_begin(&self, clause: u32) -> u32 {
         at(&self.begins, clause)
     }
 
-    /// Where they end.
-    pub(crate) fn end(&self, clause: u32) -> u32 {
+    /// The offset at which the literals of a clause end.
+    pub(crate) fn literals_end(&self, clause: u32) -> u32 {
         at(&self.ends, clause)
     }
 
-    /// The literal at a place.
-    pub(crate) fn literal(&self, place: u32) -> u32 {
-        at(&self.numbers, place)
+    /// The literal at an offset.
+    pub(crate) fn literal_at(&self, offset: u32) -> u32 {
+        at(&self.arena, offset)
     }
 
     // Adds a clause, and answers its number.
-    fn add(&mut self, literals: &[u32], conflicts: u32) -> Result<u32, AllocError> {
+    fn push(&mut self, literals: &[u32], conflicts: u32) -> Result<u32, AllocError> {
         let clause = self.len();
-        self.numbers.push(clause)?;
-        self.numbers.push(small(literals.len()))?;
-        self.begins.push(small(self.numbers.len()))?;
+        self.arena.push(clause)?;
+        self.arena.push(saturating_u32(literals.len()))?;
+        self.begins.push(saturating_u32(self.arena.len()))?;
         for literal in literals {
-            self.numbers.push(*literal)?;
+            self.arena.push(*literal)?;
         }
-        self.ends.push(small(self.numbers.len()))?;
+        self.ends.push(saturating_u32(self.arena.len()))?;
         self.distances.push(1)?;
-        self.uses.push(conflicts)?;
+        self.last_uses.push(conflicts)?;
         Ok(clause)
     }
 
     /// Adds a clause that is given, before any is learned.
-    pub(crate) fn give(&mut self, literals: &[u32]) -> Result<u32, AllocError> {
-        let clause = self.add(literals, 0)?;
+    pub(crate) fn push_given(&mut self, literals: &[u32]) -> Result<u32, AllocError> {
+        let clause = self.push(literals, 0)?;
         self.given = self.len();
         Ok(clause)
     }
 
-    /// Adds a learned clause with its hints after so many conflicts, and answers its number.
-    pub(crate) fn learn(
+    /// Adds a clause that is learned after this many conflicts, with its hints, and answers its
+    /// number.
+    pub(crate) fn push_learned(
         &mut self,
         literals: &[u32],
         hints: &[u32],
         conflicts: u32,
     ) -> Result<u32, AllocError> {
-        let clause = self.add(literals, conflicts)?;
+        let clause = self.push(literals, conflicts)?;
         self.hints.push_list(hints)?;
         Ok(clause)
     }
 
-    /// A learned clause is watched now, so it may be dropped.
-    pub(crate) fn keep(&mut self, clause: u32) -> Result<(), AllocError> {
+    /// Lets a learned clause, which is watched now, be dropped.
+    pub(crate) fn allow_dropping(&mut self, clause: u32) -> Result<(), AllocError> {
         self.watched.push(clause)?;
         Ok(())
     }
@@ -154,41 +156,41 @@ impl Clauses {
     /// The hints of a learned clause.
     pub(crate) fn hints_of(&self, clause: u32) -> &[u32] {
         match clause.checked_sub(self.given) {
-            Some(place) => self.hints.list(place),
+            Some(index) => self.hints.list(index),
             None => &[],
         }
     }
 
-    /// Whether the clause at a place is not dropped.
-    pub(crate) fn is_kept_at(&self, place: u32) -> bool {
-        at(&self.distances, self.number_at(place)) != 0
+    /// Whether the clause at an offset was dropped.
+    pub(crate) fn is_dropped_at(&self, offset: u32) -> bool {
+        at(&self.distances, self.clause_at(offset)) == 0
     }
 
-    /// A clause had a part in a conflict.
-    pub(crate) fn use_now(&mut self, clause: u32, conflicts: u32) {
-        put(&mut self.uses, clause, conflicts);
+    /// Notes that a clause had a part in a conflict, after this many of them.
+    pub(crate) fn set_last_use(&mut self, clause: u32, conflicts: u32) {
+        put(&mut self.last_uses, clause, conflicts);
     }
 
     /// Drops the half of the watched clauses with the largest distances, and among equal ones those
-    /// that had no part in a conflict for long. Those of distance two are kept.
+    /// that had no part in a conflict for long. Clauses of distance two or less are kept.
     pub(crate) fn drop_half(&mut self, alloc: Global) -> Result<(), AllocError> {
         let mut order: Vec<(u32, u32, u32)> = Vec::new(alloc);
         for clause in &self.watched {
             let distance = at(&self.distances, *clause);
             if distance > 2 && distance != NONE {
-                let rest = u32::MAX - at(&self.uses, *clause);
+                let rest = u32::MAX - at(&self.last_uses, *clause);
                 order.push((distance, rest, *clause))?;
             }
         }
         order.sort()?;
-        self.drop_last(&order);
+        self.drop_second_half(&order);
         let distances = &self.distances;
         self.watched.retain(|clause| at(distances, *clause) != 0);
         Ok(())
     }
 
-    // Drops the second half of these.
-    fn drop_last(&mut self, order: &[(u32, u32, u32)]) {
+    // Drops the second half of the clauses in this order.
+    fn drop_second_half(&mut self, order: &[(u32, u32, u32)]) {
         let half = order.len() / 2;
         for (k, (_, _, clause)) in order.iter().enumerate() {
             if k >= half {

@@ -1,20 +1,20 @@
 //! A search for a point that none of many sets of literals forbids: conflict-driven clause
-//! learning. It owes nothing, and whatever it answers can be looked at.
+//! learning. Its answers have no contract; the caller checks them.
 //!
 //! A variable is a number from 0 on. A literal is twice its variable, and one more if it says that
 //! the variable is false. A nogood is a set of literals that must not all be true; inside, it is
 //! the clause of their negations. [`Search::ask`] answers a [`Answer::Point`] at which all
 //! assumptions are true and no nogood is, or a [`Refutation`]: further nogoods, each with those
-//! that show it, the last of which has literals of the assumptions alone. Who asks looks at the
-//! answer before it is used: a poor one costs time alone. All places are looked at before they are
-//! read and no sum wraps, so no call has a precondition. The crate is proved to be safe and to
-//! end, and nothing more.
+//! that show it, the last of which has literals of the assumptions alone. The caller checks the
+//! answer before it uses it: a poor one costs time alone. Each index is checked before it is used
+//! and no sum overflows, so no call has a precondition. The crate is proved to be safe and to end,
+//! and nothing more.
 //!
 //! 1. Propagation: a clause with one literal left that is not false sets it. It watches two of its
 //!    literals (Moskewicz, Madigan, Zhao, Zhang and Malik, Chaff: engineering an efficient SAT
 //!    solver, 2001).
-//! 2. Analysis: from a clause that is false a new one is learned, at the first point through which
-//!    all of the last level goes (Marques-Silva and Sakallah, GRASP: a new search algorithm for
+//! 2. Analysis: from a clause that is false a new one is learned, at the first unique implication
+//!    point of the current decision level (Marques-Silva and Sakallah, GRASP: a new search algorithm for
 //!    satisfiability, 1996). It is made smaller by what follows from the rest of it (Soerensson and
 //!    Biere, Minimizing learned clauses, 2009).
 //! 3. Hints: the clauses by which the new one is seen, in the order in which they set literals
@@ -44,6 +44,7 @@ mod propagation;
 mod refutation;
 mod restarts;
 mod search;
+mod units;
 mod walk;
 mod watches;
 

@@ -1,6 +1,6 @@
 //! Lists of numbers, in one piece of memory.
 
-use crate::numbers::{at, small};
+use crate::numbers::{at, saturating_u32};
 use std::alloc::{AllocError, Global};
 
 /// Lists of numbers, one after the other: where each ends, and all numbers.
@@ -27,7 +27,7 @@ impl Lists {
 
     /// Ends the list; the next number begins another one.
     pub(crate) fn end(&mut self) -> Result<(), AllocError> {
-        self.ends.push(small(self.numbers.len()))?;
+        self.ends.push(saturating_u32(self.numbers.len()))?;
         Ok(())
     }
 
@@ -44,12 +44,12 @@ impl Lists {
         self.ends.len()
     }
 
-    /// How many numbers they have.
+    /// How many numbers all lists have.
     pub(crate) fn size(&self) -> usize {
         self.numbers.len()
     }
 
-    // The place at which a list begins.
+    // The index at which a list begins.
     fn begin_of(&self, list: u32) -> u32 {
         match list.checked_sub(1) {
             Some(before) => at(&self.ends, before),
@@ -57,7 +57,7 @@ impl Lists {
         }
     }
 
-    // The place at which it ends.
+    // The index at which a list ends.
     fn end_of(&self, list: u32) -> u32 {
         at(&self.ends, list)
     }
@@ -73,13 +73,13 @@ impl Lists {
         }
     }
 
-    /// Where a list begins and ends among the numbers.
+    /// The indices at which a list begins and ends.
     pub(crate) fn bounds(&self, list: u32) -> (u32, u32) {
         (self.begin_of(list), self.end_of(list))
     }
 
-    /// The number at a place.
-    pub(crate) fn number(&self, place: u32) -> u32 {
-        at(&self.numbers, place)
+    /// The number at an index.
+    pub(crate) fn number(&self, index: u32) -> u32 {
+        at(&self.numbers, index)
     }
 }

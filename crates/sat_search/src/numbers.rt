@@ -1,27 +1,27 @@
-//! Numbers at places that may not be there.
+//! Reads and writes at indices that may be out of range.
 
 /// No number.
 pub(crate) const NONE: u32 = u32::MAX;
 
-/// A number that is kept as a small one; those past all small ones are kept as the largest.
-pub(crate) fn small(number: usize) -> u32 {
+/// The number in 32 bits; a larger one becomes the largest of these.
+pub(crate) fn saturating_u32(number: usize) -> u32 {
     u32::try_from(number).unwrap_or(u32::MAX)
 }
 
-/// The number at a place, and [`NONE`] where there is none.
-pub(crate) fn at(numbers: &[u32], place: u32) -> u32 {
-    let place = place as usize;
-    if place < numbers.len() {
-        numbers[place]
+/// The number at the index, or [`NONE`] past the end.
+pub(crate) fn at(numbers: &[u32], index: u32) -> u32 {
+    let index = index as usize;
+    if index < numbers.len() {
+        numbers[index]
     } else {
         NONE
     }
 }
 
-/// Puts a number at a place, where there is one.
-pub(crate) fn put(numbers: &mut Vec<u32>, place: u32, number: u32) {
-    let place = place as usize;
-    if place < numbers.len() {
-        numbers[place] = number;
+/// Sets the number at the index; does nothing past the end.
+pub(crate) fn put(numbers: &mut Vec<u32>, index: u32, number: u32) {
+    let index = index as usize;
+    if index < numbers.len() {
+        numbers[index] = number;
     }
 }

@@ -10,21 +10,21 @@ use crate::search::Search;
 use crate::watches::Watch;
 use std::alloc::AllocError;
 
-// What a look at a clause finds. Each has its first literal, which is watched and not the one that
-// is false now.
+// What a look at a clause finds. Each has the literal that is watched and not the one that is false
+// now: the first of the clause.
 #[derive(Clone, Copy)]
 enum Finding {
-    // It is true.
+    // That literal is true.
     True(u32),
-    // Another literal is watched now, the second here.
+    // The second literal here is watched now instead of the false one.
     Moved(u32, u32),
     // All other literals are false.
     Last(u32),
 }
 
-// Looks at the literals of a clause that watches one that is false now. That one becomes the second
-// of them, or its place is taken by one that is not false.
-fn look(now: &Assignment, literals: &mut [u32], failed: u32) -> Finding {
+// Finds a clause another literal to watch instead of one that is false now, unless its other watched
+// literal is true. The watched literals are the first two.
+fn find_watch(assignment: &Assignment, literals: &mut [u32], failed: u32) -> Finding {
     if literals.len() < 2 {
         return Finding::True(NONE);
     }
@@ -33,12 +33,12 @@ fn look(now: &Assignment, literals: &mut [u32], failed: u32) -> Finding {
         literals[1] = failed;
     }
     let first = literals[0];
-    if now.value(first) == Value::True {
+    if assignment.value(first) == Value::True {
         return Finding::True(first);
     }
     for k in 2..literals.len() {
         let literal = literals[k];
-        if now.value(literal) != Value::False {
+        if assignment.value(literal) != Value::False {
             literals[1] = literal;
             literals[k] = failed;
             return Finding::Moved(first, literal);
@@ -47,26 +47,28 @@ fn look(now: &Assignment, literals: &mut [u32], failed: u32) -> Finding {
     Finding::Last(first)
 }
 
-// Puts a watch at a place of a list.
-fn put_watch(watches: &mut Vec<Watch>, place: usize, watch: Watch) {
-    if place < watches.len() {
-        watches[place] = watch;
+// Puts a watch at an index of a list.
+fn put_watch(watches: &mut Vec<Watch>, index: usize, watch: Watch) {
+    if index < watches.len() {
+        watches[index] = watch;
     }
 }
 
 impl Search {
-    // Sets the one literal of a clause that is not false, or answers the clause if it is false too.
-    fn follow(&mut self, literal: u32, place: u32) -> Result<u32, AllocError> {
-        let clause = self.clauses.number_at(place);
-        if self.now.value(literal) == Value::False {
+    // Sets a literal, as all others of the clause at this offset are false; answers the clause if the
+    // literal is false too, and [`NONE`] else.
+    fn set_or_conflict(&mut self, literal: u32, offset: u32) -> Result<u32, AllocError> {
+        let clause = self.clauses.clause_at(offset);
+        if self.assignment.value(literal) == Value::False {
             return Ok(clause);
         }
-        self.now.set(literal, clause)?;
+        self.assignment.set(literal, clause)?;
         Ok(NONE)
     }
 
-    // Looks at the clauses that watch a literal that is false now, and answers one that is false.
-    fn visit(&mut self, failed: u32, watches: &mut Vec<Watch>) -> Result<u32, AllocError> {
+    // Looks at the clauses that watch a literal that is false now, sets what follows, and answers a
+    // clause that is false, or [`NONE`]. Of the watches those stay that were not moved.
+    fn visit_watches(&mut self, failed: u32, watches: &mut Vec<Watch>) -> Result<u32, AllocError> {
         let mut conflict = NONE;
         let mut kept: usize = 0;
         for k in 0..watches.len() {
@@ -74,18 +76,18 @@ impl Search {
                 break;
             };
             let mut watch = *found;
-            if conflict == NONE && self.now.value(watch.other) != Value::True {
-                let literals = self.clauses.at_place(watch.place);
-                match look(&self.now, literals, failed) {
-                    Finding::True(first) => watch.other = first,
+            if conflict == NONE && self.assignment.value(watch.blocker) != Value::True {
+                let literals = self.clauses.literals_at(watch.offset);
+                match find_watch(&self.assignment, literals, failed) {
+                    Finding::True(first) => watch.blocker = first,
                     Finding::Moved(first, second) => {
-                        watch.other = first;
+                        watch.blocker = first;
                         self.watches.push(second, watch)?;
                         continue;
                     }
                     Finding::Last(first) => {
-                        watch.other = first;
-                        conflict = self.follow(first, watch.place)?;
+                        watch.blocker = first;
+                        conflict = self.set_or_conflict(first, watch.offset)?;
                     }
                 }
             }
@@ -96,18 +98,19 @@ impl Search {
         Ok(conflict)
     }
 
-    /// Sets what follows, and answers a clause that is false, or [`NONE`].
+    /// Sets all literals that follow from those set by unit clauses, and answers a clause that is
+    /// false, or [`NONE`].
     pub(crate) fn propagate(&mut self) -> Result<u32, AllocError> {
         for _ in 0..=self.phases.len() {
-            let Some(found) = self.now.trail.get(self.now.head) else {
+            let Some(found) = self.assignment.trail.get(self.assignment.propagated) else {
                 return Ok(NONE);
             };
             let failed = *found ^ 1;
-            self.now.head = self.now.head.wrapping_add(1);
-            let mut watches = self.watches.take(self.alloc, failed);
+            self.assignment.propagated = self.assignment.propagated.wrapping_add(1);
+            let mut watches = self.watches.take_list(self.alloc, failed);
             self.steps = self.steps.saturating_add(watches.len() as u64);
-            let conflict = self.visit(failed, &mut watches)?;
-            self.watches.put(failed, watches);
+            let conflict = self.visit_watches(failed, &mut watches)?;
+            self.watches.put_list(failed, watches);
             if conflict != NONE {
                 return Ok(conflict);
             }
@@ -115,18 +118,18 @@ impl Search {
         Ok(NONE)
     }
 
-    /// Goes back to a level.
+    /// Goes back to a level: unsets the literals of later ones.
     pub(crate) fn backjump(&mut self, level: usize) -> Result<(), AllocError> {
         for _ in 0..=self.phases.len() {
-            match self.now.take_back(level) {
+            match self.assignment.unset_last_above(level) {
                 Some(literal) => {
                     self.put_phase(literal / 2, literal % 2 == 1);
-                    self.order.add(literal / 2)?;
+                    self.order.insert(literal / 2)?;
                 }
                 None => break,
             }
         }
-        self.now.end_levels(level);
+        self.assignment.end_levels_above(level);
         Ok(())
     }
 }

@@ -1,11 +1,11 @@
-//! What shows that no point is left: the learned clauses that have a part in it, and no other.
+//! What shows that no point is left: the learned clauses that have a part in that, and no others.
 
 use crate::lists::Lists;
-use crate::numbers::{NONE, at, small};
+use crate::numbers::{NONE, at, saturating_u32};
 use crate::search::{Answer, Search};
 use std::alloc::AllocError;
 
-// The name of a clause that will get one.
+// The name of a clause until it gets one in the refutation.
 const PENDING: u32 = u32::MAX - 1;
 
 /// Nogoods that follow from those that are known, each with the names of those that show it.
@@ -31,13 +31,13 @@ impl Refutation {
     }
 
     /// The literals of a nogood.
-    pub fn nogood(&self, place: usize) -> &[u32] {
-        self.nogoods.list(small(place))
+    pub fn nogood(&self, index: usize) -> &[u32] {
+        self.nogoods.list(saturating_u32(index))
     }
 
-    /// The names of those that show it.
-    pub fn hints(&self, place: usize) -> &[u32] {
-        self.hints.list(small(place))
+    /// The names of the nogoods that show this one, in their order.
+    pub fn hints(&self, index: usize) -> &[u32] {
+        self.hints.list(saturating_u32(index))
     }
 
     /// The name of the nogood whose literals are all assumptions.
@@ -63,7 +63,8 @@ impl Refutation {
 }
 
 impl Search {
-    /// What shows a clause, beyond what has a name.
+    /// The refutation that ends with this clause: it, and all that show it and have no name yet. They
+    /// get names from this one on.
     pub(crate) fn refutation_of(&mut self, goal: u32, name: u32) -> Result<Answer, AllocError> {
         let mut refutation = Refutation {
             nogoods: Lists::new(self.alloc),
@@ -71,8 +72,8 @@ impl Search {
             last: NONE,
         };
         let mut next = name;
-        for clause in &self.unnamed(goal)? {
-            refutation.push_nogood(self.clauses.of(*clause))?;
+        for clause in &self.unnamed_clauses_for(goal)? {
+            refutation.push_nogood(self.clauses.literals_of(*clause))?;
             refutation.push_hints(self.clauses.hints_of(*clause), &self.names)?;
             self.put_name(*clause, next);
             next = next.saturating_add(1);
@@ -81,8 +82,9 @@ impl Search {
         Ok(Answer::Refutation(refutation))
     }
 
-    // The clauses that show a clause and have no name yet, in the order in which they were learned.
-    fn unnamed(&mut self, goal: u32) -> Result<Vec<u32>, AllocError> {
+    // The clauses without a name by which a clause is shown, itself too, in the order in which they
+    // were learned.
+    fn unnamed_clauses_for(&mut self, goal: u32) -> Result<Vec<u32>, AllocError> {
         let mut found: Vec<u32> = Vec::new(self.alloc);
         self.push_unnamed(goal, &mut found)?;
         for k in 0..self.names.len() {
@@ -96,6 +98,7 @@ impl Search {
         Ok(found)
     }
 
+    // Adds the hints of a clause that have no name yet.
     fn push_unnamed_hints(&mut self, clause: u32, found: &mut Vec<u32>) -> Result<(), AllocError> {
         for k in 0..self.clauses.hints_of(clause).len() {
             let hint = match self.clauses.hints_of(clause).get(k) {
@@ -107,6 +110,7 @@ impl Search {
         Ok(())
     }
 
+    // Adds a clause, if it has no name yet.
     fn push_unnamed(&mut self, clause: u32, found: &mut Vec<u32>) -> Result<(), AllocError> {
         if at(&self.names, clause) == NONE && (clause as usize) < self.names.len() {
             self.put_name(clause, PENDING);

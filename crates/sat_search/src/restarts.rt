@@ -3,13 +3,15 @@
 use crate::search::Search;
 use std::alloc::AllocError;
 
-// So many conflicts come between two restarts, or a small multiple of it.
-const RESTART: u64 = 100;
+// The number of conflicts between two restarts is this one times a member of Luby's sequence.
+const RESTART_UNIT: u64 = 100;
 
-// After so many conflicts half of the learned clauses is dropped, and later the more there are.
-const DROP: u64 = 2000;
+// After this many conflicts half of the learned clauses is dropped for the first time; later the
+// time between is longer by a quarter of the clauses that are left.
+const FIRST_DROP: u64 = 2000;
 
-/// How many conflicts there were, and when the next restart is due.
+/// How many conflicts there were, and at which numbers of conflicts the next restart and the next
+/// dropping of clauses are due.
 #[derive(Clone, Copy)]
 pub(crate) struct Pace {
     conflicts: u64,
@@ -23,39 +25,39 @@ impl Pace {
         Pace {
             conflicts: 0,
             restarts: 0,
-            next_restart: RESTART,
-            next_drop: DROP,
+            next_restart: RESTART_UNIT,
+            next_drop: FIRST_DROP,
         }
     }
 
-    /// There was a conflict.
+    /// Counts a conflict.
     pub(crate) fn count_conflict(&mut self) {
         self.conflicts = self.conflicts.saturating_add(1);
     }
 
-    /// How many there were.
+    /// How many conflicts there were.
     pub(crate) fn conflict_count(&self) -> u32 {
         u32::try_from(self.conflicts).unwrap_or(u32::MAX)
     }
 
-    // There is a restart now.
-    fn restart(&mut self) {
+    // Counts a restart, and sets when the next is due.
+    fn schedule_restart(&mut self) {
         self.restarts = self.restarts.saturating_add(1);
-        let more = RESTART.saturating_mul(luby(self.restarts));
+        let more = RESTART_UNIT.saturating_mul(luby(self.restarts));
         self.next_restart = self.conflicts.saturating_add(more);
     }
 
-    // Clauses were dropped, and so many are left.
-    fn drop_later(&mut self, left: usize) {
-        let more = DROP.saturating_add(left as u64 / 4);
+    // Sets when clauses are dropped next, if this many are left now.
+    fn schedule_drop(&mut self, left: usize) {
+        let more = FIRST_DROP.saturating_add(left as u64 / 4);
         self.next_drop = self.conflicts.saturating_add(more);
     }
 }
 
 // The sequence 1 1 2 1 1 2 4 .. (Luby, Sinclair and Zuckerman, Optimal speedup of Las Vegas
 // algorithms, 1993).
-fn luby(place: u64) -> u64 {
-    let mut rest = place;
+fn luby(index: u64) -> u64 {
+    let mut rest = index;
     let mut size: u64 = u64::MAX;
     for _ in 0..64 {
         if size <= rest {
@@ -70,13 +72,14 @@ fn luby(place: u64) -> u64 {
 }
 
 impl Search {
-    /// Restarts if that is due, and drops clauses if that is; else changes nothing.
+    /// Restarts if that is due, and then drops clauses if that is due too. At level 0 each literal
+    /// gets a clause of its own before.
     pub(crate) fn restart_if_due(&mut self) -> Result<(), AllocError> {
-        if self.now.level() == 0 {
-            self.settle()?;
+        if self.assignment.current_level() == 0 {
+            self.learn_units()?;
         }
         if self.pace.conflicts >= self.pace.next_restart {
-            self.pace.restart();
+            self.pace.schedule_restart();
             self.backjump(0)?;
             if self.pace.conflicts >= self.pace.next_drop {
                 self.drop_clauses()?;
@@ -85,10 +88,11 @@ impl Search {
         Ok(())
     }
 
+    // Drops half of the learned clauses, and takes out their watches.
     fn drop_clauses(&mut self) -> Result<(), AllocError> {
         self.clauses.drop_half(self.alloc)?;
-        self.watches.forget(&self.clauses);
-        self.pace.drop_later(self.clauses.watched_count());
+        self.watches.remove_dropped(&self.clauses);
+        self.pace.schedule_drop(self.clauses.watched_count());
         Ok(())
     }
 }

@@ -4,7 +4,7 @@
 use crate::analysis::Analysis;
 use crate::assignment::{Assignment, Value};
 use crate::clauses::Clauses;
-use crate::numbers::{NONE, at, put, small};
+use crate::numbers::{NONE, at, put, saturating_u32};
 use crate::order::Order;
 use crate::refutation::Refutation;
 use crate::restarts::Pace;
@@ -23,12 +23,12 @@ pub enum Answer {
     Unknown,
 }
 
-/// How much a question may take.
+/// How much a question may cost.
 #[derive(Clone, Copy)]
 pub struct Limits {
-    /// How many watches are looked at, and clauses in walks.
+    /// How many watches may be looked at, and clauses in walks.
     pub steps: u64,
-    /// How many numbers the search keeps of all clauses, with those of earlier questions.
+    /// How many numbers the search may keep of all clauses, with those of earlier questions.
     pub size: usize,
 }
 
@@ -55,15 +55,15 @@ pub struct Search {
     pub(crate) alloc: Global,
     pub(crate) clauses: Clauses,
     pub(crate) watches: Watches,
-    pub(crate) now: Assignment,
+    pub(crate) assignment: Assignment,
     pub(crate) order: Order,
     // By variable: whether it was false when it was set last.
     pub(crate) phases: Vec<bool>,
     // By variable: the clause of one literal that sets it.
     pub(crate) units: Vec<u32>,
-    // How many literals of the trail have such a clause.
-    pub(crate) settled: usize,
-    // By clause: under which name it is known to who asks.
+    // How many literals of the trail have such a clause: the first ones.
+    pub(crate) unit_count: usize,
+    // By clause: the name by which the caller knows it, or [`NONE`].
     pub(crate) names: Vec<u32>,
     pub(crate) analysis: Analysis,
     // The clause without a literal, once there is one.
@@ -76,17 +76,17 @@ pub struct Search {
 }
 
 impl Search {
-    /// A search over so many variables, without nogoods.
+    /// A search over this many variables, without nogoods.
     pub fn new(alloc: Global, variables: usize) -> Result<Search, AllocError> {
         Ok(Search {
             alloc,
             clauses: Clauses::new(alloc),
             watches: Watches::new(alloc, variables)?,
-            now: Assignment::new(alloc, variables)?,
+            assignment: Assignment::new(alloc, variables)?,
             order: Order::new(alloc, variables)?,
             phases: vec![in alloc; false; variables]?,
             units: vec![in alloc; NONE; variables]?,
-            settled: 0,
+            unit_count: 0,
             names: Vec::new(alloc),
             analysis: Analysis::new(alloc, variables)?,
             contradiction: NONE,
@@ -96,81 +96,83 @@ impl Search {
         })
     }
 
-    /// Adds a nogood under a name, before the first question. Each of its variables is there, and
-    /// stands there once.
+    /// Adds a nogood under a name, before the first question. Its variables are below the number of
+    /// variables, and no two of them are equal.
     pub fn add_nogood(&mut self, literals: &[u32], name: u32) -> Result<(), AllocError> {
         self.analysis.learned.clear();
         for literal in literals {
-            self.order.weigh(*literal / 2);
+            self.order.count_occurrence(*literal / 2);
             self.analysis.learned.push(*literal ^ 1)?;
         }
-        let clause = self.clauses.give(&self.analysis.learned)?;
-        let place = self.clauses.place_of(clause);
-        self.watches.watch(place, &self.analysis.learned)?;
+        let clause = self.clauses.push_given(&self.analysis.learned)?;
+        let offset = self.clauses.offset_of(clause);
+        self.watches
+            .watch_first_two(offset, &self.analysis.learned)?;
         self.names.push(name)?;
         Ok(())
     }
 
-    /// Begins, once all nogoods are there.
+    /// Prepares the first question, once all nogoods are there.
     pub fn begin(&mut self) -> Result<(), AllocError> {
-        for variable in 0..small(self.phases.len()) {
-            self.order.add(variable)?;
-            self.begin_phase(variable);
+        for variable in 0..saturating_u32(self.phases.len()) {
+            self.order.insert(variable)?;
+            self.choose_first_phase(variable);
         }
         for clause in 0..self.clauses.given {
-            let count = self.clauses.of(clause).len();
+            let count = self.clauses.literals_of(clause).len();
             if count == 0 {
                 self.contradiction = clause;
             }
             if count == 1 {
-                self.begin_unit(clause)?;
+                self.set_given_unit(clause)?;
             }
         }
         Ok(())
     }
 
-    // The literal of a variable that stands in more clauses is tried first. The other one came to
-    // fewer conflicts on pigeonholes, and took twenty times as long to find one place where two
+    // The literal of a variable that is in more clauses is tried first. The other one came to
+    // fewer conflicts on pigeonholes, and took twenty times as long to find one point at which two
     // lists of 300 inputs differ.
-    fn begin_phase(&mut self, variable: u32) {
+    fn choose_first_phase(&mut self, variable: u32) {
         let literal = variable.saturating_mul(2);
-        let negated = self.watches.count(literal) < self.watches.count(literal ^ 1);
+        let negated = self.watches.count_of(literal) < self.watches.count_of(literal ^ 1);
         self.put_phase(variable, negated);
     }
 
+    // Notes whether a variable was false when it was set last.
     pub(crate) fn put_phase(&mut self, variable: u32, negated: bool) {
-        let place = variable as usize;
-        if place < self.phases.len() {
-            self.phases[place] = negated;
+        let index = variable as usize;
+        if index < self.phases.len() {
+            self.phases[index] = negated;
         }
     }
 
-    // Sets the literal of a clause that has no other.
-    fn begin_unit(&mut self, clause: u32) -> Result<(), AllocError> {
-        let literal = at(self.clauses.of(clause), 0);
-        match self.now.value(literal) {
+    // Sets the literal of a given clause that has no other.
+    fn set_given_unit(&mut self, clause: u32) -> Result<(), AllocError> {
+        let literal = at(self.clauses.literals_of(clause), 0);
+        match self.assignment.value(literal) {
             Value::True => (),
             Value::False => {
                 if self.contradiction == NONE {
-                    self.contradict(clause)?;
+                    self.learn_contradiction(clause)?;
                 }
             }
-            Value::Open => {
-                self.now.set(literal, clause)?;
-                self.settle()?;
+            Value::Unset => {
+                self.assignment.set(literal, clause)?;
+                self.learn_units()?;
             }
         }
         Ok(())
     }
 
-    /// How many numbers it keeps of all clauses: their literals, hints and watches, and what else is
-    /// kept of each.
+    /// How many numbers the search keeps of all clauses: their literals, hints and watches, and what
+    /// else is kept of each. [`Limits::size`] bounds it.
     pub fn size(&self) -> usize {
         self.clauses.size()
     }
 
     /// Looks for a point at which all assumptions are true and no nogood is. The first nogood of a
-    /// refutation gets this name, and the others those after it.
+    /// refutation gets this name, and each further one the next number.
     pub fn ask(
         &mut self,
         assumptions: &[u32],
@@ -185,7 +187,7 @@ impl Search {
             }
             let conflict = self.propagate()?;
             if conflict != NONE {
-                self.take_conflict(conflict)?;
+                self.handle_conflict(conflict)?;
                 continue;
             }
             self.restart_if_due()?;
@@ -197,9 +199,11 @@ impl Search {
             }
             match self.decide(assumptions)? {
                 Decision::Made => (),
-                Decision::Full => return Ok(Answer::Point(self.now.trail.to_vec(self.alloc)?)),
+                Decision::Full => return Ok(Answer::Point(
+                    self.assignment.trail.to_vec(self.alloc)?,
+                )),
                 Decision::Failed(literal) => {
-                    let clause = self.learn_assumptions(literal)?;
+                    let clause = self.learn_from_failed_assumption(literal)?;
                     return self.refutation_of(clause, name);
                 }
             }
@@ -207,23 +211,23 @@ impl Search {
         Ok(Answer::Unknown)
     }
 
-    // Learns from a clause that is false, or sees that no point is left.
-    fn take_conflict(&mut self, conflict: u32) -> Result<(), AllocError> {
+    // Learns from a clause that is false; at level 0, that no point is left.
+    fn handle_conflict(&mut self, conflict: u32) -> Result<(), AllocError> {
         self.pace.count_conflict();
-        if self.now.level() == 0 {
-            self.settle()?;
-            self.contradict(conflict)
+        if self.assignment.current_level() == 0 {
+            self.learn_units()?;
+            self.learn_contradiction(conflict)
         } else {
-            self.learn(conflict)
+            self.learn_from_conflict(conflict)
         }
     }
 
-    // Keeps what is learned as a clause.
+    // Adds the learned clause with its hints, and answers its number.
     pub(crate) fn add_learned(&mut self) -> Result<u32, AllocError> {
         self.names.push(NONE)?;
         let conflicts = self.pace.conflict_count();
         self.clauses
-            .learn(&self.analysis.learned, &self.analysis.hints, conflicts)
+            .push_learned(&self.analysis.learned, &self.analysis.hints, conflicts)
     }
 
     // Notes that a clause has this name.

@@ -8,23 +8,24 @@
 
 use crate::clauses::Clauses;
 use crate::lists::Lists;
-use crate::numbers::{NONE, at, put, small};
+use crate::numbers::{NONE, at, put, saturating_u32};
 use crate::search::Search;
 use std::alloc::{AllocError, Global};
 
-// How likely a variable is flipped that makes so many clauses false: in proportion to their number
-// and nine tenths, to the power of -2.3.
+// `WEIGHTS[b]` is proportional to (b + 0.9)^-2.3, with b the number of clauses that a flip makes
+// false: how likely the flip is.
 const WEIGHTS: [u64; 12] = [
     83500, 14975, 5662, 2864, 1698, 1111, 777, 571, 436, 343, 277, 228,
 ];
 
-// The first walk begins after so many steps for each literal of the clauses.
-const FIRST: u64 = 64;
+// The first walk is due after this many steps for each given clause.
+const FIRST_WALK: u64 = 64;
 
-// A walk takes one of so many steps.
-const PART: u64 = 16;
+// A walk may take the steps so far, divided by this number. The next walk is due after twice the
+// steps, so all walks together take an eighth.
+const WALK_PART: u64 = 16;
 
-/// When the next walk is due, and where its choices go on.
+/// At which number of steps the next walk is due, and the seed of its choices.
 #[derive(Clone, Copy)]
 pub(crate) struct Walks {
     next: u64,
@@ -56,23 +57,25 @@ struct Walk {
     negated: Vec<bool>,
     // By variable: whether it keeps its value.
     fixed: Vec<bool>,
-    // By clause: how many of its literals are true, and their exclusive or.
-    counts: Vec<u32>,
-    sums: Vec<u32>,
+    // By clause: how many of its literals are true.
+    true_counts: Vec<u32>,
+    // By clause: the exclusive or of its true literals, the literal itself if there is one.
+    xors: Vec<u32>,
     // By variable: in how many clauses its literal alone is true.
     breaks: Vec<u32>,
-    // The clauses that are false, and by clause its place among them.
-    open: Vec<u32>,
-    places: Vec<u32>,
+    // The clauses that are false.
+    false_clauses: Vec<u32>,
+    // By clause: its index among the false ones, or [`NONE`].
+    positions: Vec<u32>,
     seed: u64,
     // How many clauses were looked at.
     steps: u64,
 }
 
-// Adds a number to that at a place, where there is one.
-fn add(numbers: &mut Vec<u32>, place: u32, more: u32) {
-    let sum = at(numbers, place).wrapping_add(more);
-    put(numbers, place, sum);
+// Adds to the number at an index, where there is one; the largest number takes one away.
+fn add_at(numbers: &mut Vec<u32>, index: u32, more: u32) {
+    let sum = at(numbers, index).wrapping_add(more);
+    put(numbers, index, sum);
 }
 
 // By literal, the clauses that have it.
@@ -86,7 +89,7 @@ fn clauses_by_literal(
         lists.push(Vec::new(alloc))?;
     }
     for clause in 0..clauses.given {
-        add_clause(&mut lists, clauses.of(clause), clause)?;
+        add_clause(&mut lists, clauses.literals_of(clause), clause)?;
     }
     Ok(lists)
 }
@@ -101,8 +104,8 @@ fn add_clause(lists: &mut Vec<Vec<u32>>, literals: &[u32], clause: u32) -> Resul
     Ok(())
 }
 
-// The lists in one piece of memory.
-fn joined(alloc: Global, lists: &[Vec<u32>]) -> Result<Lists, AllocError> {
+// The lists, in one piece of memory.
+fn flatten(alloc: Global, lists: &[Vec<u32>]) -> Result<Lists, AllocError> {
     let mut all = Lists::new(alloc);
     for list in lists {
         all.push_list(list)?;
@@ -111,7 +114,7 @@ fn joined(alloc: Global, lists: &[Vec<u32>]) -> Result<Lists, AllocError> {
 }
 
 impl Walk {
-    // The point of these signs, at which the fixed variables stay.
+    // A walk from the point of these signs, which leaves the fixed variables as they are.
     fn new(
         alloc: Global,
         clauses: &Clauses,
@@ -123,19 +126,19 @@ impl Walk {
         let lists = clauses_by_literal(alloc, clauses, variables.saturating_mul(2))?;
         let given = clauses.given as usize;
         let mut walk = Walk {
-            by_literal: joined(alloc, &lists)?,
+            by_literal: flatten(alloc, &lists)?,
             negated,
             fixed,
-            counts: vec![in alloc; 0; given]?,
-            sums: vec![in alloc; 0; given]?,
+            true_counts: vec![in alloc; 0; given]?,
+            xors: vec![in alloc; 0; given]?,
             breaks: vec![in alloc; 0; variables]?,
-            open: Vec::new(alloc),
-            places: vec![in alloc; NONE; given]?,
+            false_clauses: Vec::new(alloc),
+            positions: vec![in alloc; NONE; given]?,
             seed,
             steps: 0,
         };
         for clause in 0..clauses.given {
-            walk.count(clauses.of(clause), clause)?;
+            walk.count_true(clauses.literals_of(clause), clause)?;
         }
         Ok(walk)
     }
@@ -148,82 +151,86 @@ impl Walk {
         }
     }
 
-    // Counts the true literals of a clause.
-    fn count(&mut self, literals: &[u32], clause: u32) -> Result<(), AllocError> {
-        let mut sum = 0;
+    // Counts the true literals of a clause, before the first flip.
+    fn count_true(&mut self, literals: &[u32], clause: u32) -> Result<(), AllocError> {
+        let mut xor = 0;
         let mut count: u32 = 0;
         for literal in literals {
             if self.is_true(*literal) {
-                sum ^= *literal;
+                xor ^= *literal;
                 count = count.saturating_add(1);
             }
         }
-        put(&mut self.counts, clause, count);
-        put(&mut self.sums, clause, sum);
+        put(&mut self.true_counts, clause, count);
+        put(&mut self.xors, clause, xor);
         if count == 0 {
-            self.open_clause(clause)?;
+            self.add_false_clause(clause)?;
         }
         if count == 1 {
-            add(&mut self.breaks, sum / 2, 1);
+            add_at(&mut self.breaks, xor / 2, 1);
         }
         Ok(())
     }
 
     // Adds a clause to those that are false.
-    fn open_clause(&mut self, clause: u32) -> Result<(), AllocError> {
-        put(&mut self.places, clause, small(self.open.len()));
-        self.open.push(clause)?;
+    fn add_false_clause(&mut self, clause: u32) -> Result<(), AllocError> {
+        put(
+            &mut self.positions,
+            clause,
+            saturating_u32(self.false_clauses.len()),
+        );
+        self.false_clauses.push(clause)?;
         Ok(())
     }
 
-    // Takes a clause from those that are false.
-    fn close_clause(&mut self, clause: u32) {
-        let place = at(&self.places, clause);
-        if let Some(last) = self.open.pop() {
+    // Takes a clause out of those that are false.
+    fn remove_false_clause(&mut self, clause: u32) {
+        let position = at(&self.positions, clause);
+        if let Some(last) = self.false_clauses.pop() {
             if last != clause {
-                put(&mut self.open, place, last);
-                put(&mut self.places, last, place);
+                put(&mut self.false_clauses, position, last);
+                put(&mut self.positions, last, position);
             }
         }
-        put(&mut self.places, clause, NONE);
+        put(&mut self.positions, clause, NONE);
     }
 
-    // A literal of these clauses becomes true.
-    fn raise(&mut self, literal: u32) {
+    // Counts a literal as true in its clauses.
+    fn make_true(&mut self, literal: u32) {
         let (begin, end) = self.by_literal.bounds(literal);
-        for place in begin..end {
-            let clause = self.by_literal.number(place);
-            let sum = at(&self.sums, clause);
-            match at(&self.counts, clause) {
+        for index in begin..end {
+            let clause = self.by_literal.number(index);
+            let xor = at(&self.xors, clause);
+            match at(&self.true_counts, clause) {
                 0 => {
-                    self.close_clause(clause);
-                    add(&mut self.breaks, literal / 2, 1);
+                    self.remove_false_clause(clause);
+                    add_at(&mut self.breaks, literal / 2, 1);
                 }
-                1 => add(&mut self.breaks, sum / 2, u32::MAX),
+                1 => add_at(&mut self.breaks, xor / 2, u32::MAX),
                 _ => (),
             }
-            add(&mut self.counts, clause, 1);
-            put(&mut self.sums, clause, sum ^ literal);
+            add_at(&mut self.true_counts, clause, 1);
+            put(&mut self.xors, clause, xor ^ literal);
         }
         self.steps = self.steps.saturating_add(end.saturating_sub(begin) as u64);
     }
 
-    // A literal of these clauses becomes false.
-    fn lower(&mut self, literal: u32) -> Result<(), AllocError> {
+    // Counts a literal as false in its clauses.
+    fn make_false(&mut self, literal: u32) -> Result<(), AllocError> {
         let (begin, end) = self.by_literal.bounds(literal);
-        for place in begin..end {
-            let clause = self.by_literal.number(place);
-            let sum = at(&self.sums, clause) ^ literal;
-            match at(&self.counts, clause) {
+        for index in begin..end {
+            let clause = self.by_literal.number(index);
+            let xor = at(&self.xors, clause) ^ literal;
+            match at(&self.true_counts, clause) {
                 1 => {
-                    self.open_clause(clause)?;
-                    add(&mut self.breaks, literal / 2, u32::MAX);
+                    self.add_false_clause(clause)?;
+                    add_at(&mut self.breaks, literal / 2, u32::MAX);
                 }
-                2 => add(&mut self.breaks, sum / 2, 1),
+                2 => add_at(&mut self.breaks, xor / 2, 1),
                 _ => (),
             }
-            add(&mut self.counts, clause, u32::MAX);
-            put(&mut self.sums, clause, sum);
+            add_at(&mut self.true_counts, clause, u32::MAX);
+            put(&mut self.xors, clause, xor);
         }
         self.steps = self.steps.saturating_add(end.saturating_sub(begin) as u64);
         Ok(())
@@ -231,16 +238,16 @@ impl Walk {
 
     // Makes a literal true that is false.
     fn flip(&mut self, literal: u32) -> Result<(), AllocError> {
-        let place = (literal / 2) as usize;
-        if place < self.negated.len() {
-            self.negated[place] = literal % 2 == 1;
+        let index = (literal / 2) as usize;
+        if index < self.negated.len() {
+            self.negated[index] = literal % 2 == 1;
         }
-        self.raise(literal);
-        self.lower(literal ^ 1)
+        self.make_true(literal);
+        self.make_false(literal ^ 1)
     }
 
-    // How likely the literal is made true.
-    fn weight(&self, literal: u32) -> u64 {
+    // How likely the literal is made true; 0 if its variable is fixed.
+    fn flip_weight(&self, literal: u32) -> u64 {
         match self.fixed.get((literal / 2) as usize) {
             Some(fixed) if !*fixed => {
                 let breaks = at(&self.breaks, literal / 2) as usize;
@@ -250,24 +257,24 @@ impl Walk {
         }
     }
 
-    // A literal of the clause, or none if all are fixed.
-    fn choose(&mut self, literals: &[u32]) -> Option<u32> {
+    // A literal of the clause to make true, at random by its weight; none if all are fixed.
+    fn choose_literal(&mut self, literals: &[u32]) -> Option<u32> {
         let mut total: u64 = 0;
         for literal in literals {
-            total = total.saturating_add(self.weight(*literal));
+            total = total.saturating_add(self.flip_weight(*literal));
         }
         if total == 0 {
             return None;
         }
         self.seed = next_random(self.seed);
-        Some(self.choose_at(literals, self.seed % total))
+        Some(self.literal_at_weight(literals, self.seed % total))
     }
 
-    // The literal at which the weights come to more than this.
-    fn choose_at(&self, literals: &[u32], mark: u64) -> u32 {
+    // The first literal at which the sum of the weights is more than `mark`.
+    fn literal_at_weight(&self, literals: &[u32], mark: u64) -> u32 {
         let mut left = mark;
         for literal in literals {
-            let weight = self.weight(*literal);
+            let weight = self.flip_weight(*literal);
             if left < weight {
                 return *literal;
             }
@@ -276,30 +283,31 @@ impl Walk {
         NONE
     }
 
-    // One of the clauses that are false.
-    fn false_clause(&mut self) -> u32 {
+    // A clause that is false, at random, or [`NONE`].
+    fn random_false_clause(&mut self) -> u32 {
         self.seed = next_random(self.seed);
-        let count = self.open.len() as u64;
+        let count = self.false_clauses.len() as u64;
         if count == 0 {
             return NONE;
         }
-        match self.open.get((self.seed % count) as usize) {
+        match self.false_clauses.get((self.seed % count) as usize) {
             Some(clause) => *clause,
             None => NONE,
         }
     }
 
-    // Whether a point is found at which no clause is false, with so many looks at clauses.
+    // Flips variables until no clause is false, or this many clauses were looked at. Whether such a
+    // point is found.
     fn run(&mut self, clauses: &Clauses, steps: u64) -> Result<bool, AllocError> {
         for _ in 0..steps {
-            if self.open.is_empty() {
+            if self.false_clauses.is_empty() {
                 return Ok(true);
             }
             if self.steps > steps {
                 break;
             }
-            let clause = self.false_clause();
-            match self.choose(clauses.of(clause)) {
+            let clause = self.random_false_clause();
+            match self.choose_literal(clauses.literals_of(clause)) {
                 Some(literal) => self.flip(literal)?,
                 None => break,
             }
@@ -309,54 +317,55 @@ impl Walk {
 }
 
 impl Search {
-    // Whether it is time to walk.
+    // Whether a walk is due.
     fn is_walk_due(&self) -> bool {
-        let first = FIRST.saturating_mul(self.clauses.given as u64);
+        let first = FIRST_WALK.saturating_mul(self.clauses.given as u64);
         self.steps > self.walks.next.max(first)
     }
 
-    // By variable whether it is false: those that are set or assumed, and the others as they were
+    // By variable whether it is false where the walk starts: as it is set or assumed, else as it was
     // set last.
-    fn signs(&self, assumptions: &[u32]) -> Result<Vec<bool>, AllocError> {
+    fn starting_signs(&self, assumptions: &[u32]) -> Result<Vec<bool>, AllocError> {
         let mut negated = self.phases.to_vec(self.alloc)?;
-        put_signs(&mut negated, &self.now.trail);
+        put_signs(&mut negated, &self.assignment.trail);
         put_signs(&mut negated, assumptions);
         Ok(negated)
     }
 
-    // The variables that are set or assumed.
-    fn fixed(&self, assumptions: &[u32]) -> Result<Vec<bool>, AllocError> {
+    // By variable whether it is set or assumed.
+    fn fixed_variables(&self, assumptions: &[u32]) -> Result<Vec<bool>, AllocError> {
         let mut fixed = vec![in self.alloc; false; self.phases.len()]?;
-        mark_variables(&mut fixed, &self.now.trail);
+        mark_variables(&mut fixed, &self.assignment.trail);
         mark_variables(&mut fixed, assumptions);
         Ok(fixed)
     }
 
-    /// Walks where that is due, at the first level: the literals of a point that is found.
+    /// Walks, if that is due and no literal is decided. The literals of all variables at a point that
+    /// is found.
     pub(crate) fn walk(&mut self, assumptions: &[u32]) -> Result<Option<Vec<u32>>, AllocError> {
-        if self.now.level() != 0 || !self.is_walk_due() {
+        if self.assignment.current_level() != 0 || !self.is_walk_due() {
             return Ok(None);
         }
         self.walks.next = self.steps.saturating_mul(2);
-        let negated = self.signs(assumptions)?;
-        let fixed = self.fixed(assumptions)?;
+        let negated = self.starting_signs(assumptions)?;
+        let fixed = self.fixed_variables(assumptions)?;
         let mut walk = Walk::new(self.alloc, &self.clauses, negated, fixed, self.walks.seed)?;
-        let found = walk.run(&self.clauses, self.steps / PART)?;
+        let found = walk.run(&self.clauses, self.steps / WALK_PART)?;
         self.walks.seed = walk.seed;
         self.steps = self.steps.saturating_add(walk.steps);
         if !found {
             return Ok(None);
         }
-        Ok(Some(literals_of(self.alloc, &walk.negated)?))
+        Ok(Some(literals_with_signs(self.alloc, &walk.negated)?))
     }
 }
 
 // Gives the variables of the literals their signs.
 fn put_signs(negated: &mut Vec<bool>, literals: &[u32]) {
     for literal in literals {
-        let place = (*literal / 2) as usize;
-        if place < negated.len() {
-            negated[place] = *literal % 2 == 1;
+        let index = (*literal / 2) as usize;
+        if index < negated.len() {
+            negated[index] = *literal % 2 == 1;
         }
     }
 }
@@ -364,18 +373,18 @@ fn put_signs(negated: &mut Vec<bool>, literals: &[u32]) {
 // Marks the variables of the literals.
 fn mark_variables(marks: &mut Vec<bool>, literals: &[u32]) {
     for literal in literals {
-        let place = (*literal / 2) as usize;
-        if place < marks.len() {
-            marks[place] = true;
+        let index = (*literal / 2) as usize;
+        if index < marks.len() {
+            marks[index] = true;
         }
     }
 }
 
 // The literals with these signs.
-fn literals_of(alloc: Global, negated: &[bool]) -> Result<Vec<u32>, AllocError> {
+fn literals_with_signs(alloc: Global, negated: &[bool]) -> Result<Vec<u32>, AllocError> {
     let mut literals = Vec::new(alloc);
     for (variable, negated) in negated.iter().enumerate() {
-        let literal = small(variable).saturating_mul(2);
+        let literal = saturating_u32(variable).saturating_mul(2);
         literals.push(literal.saturating_add(*negated as u32))?;
     }
     Ok(literals)

@@ -4,12 +4,12 @@ use crate::clauses::Clauses;
 use std::alloc::{AllocError, Global};
 use std::mem::replace;
 
-/// The place of a clause that watches a literal, and another literal of it: if that one is true, the
+/// The offset of a clause that watches a literal, and another literal of it: if that one is true, the
 /// clause needs no look (Een and Sorensson, An extensible SAT-solver, 2003).
 #[derive(Clone, Copy)]
 pub(crate) struct Watch {
-    pub(crate) place: u32,
-    pub(crate) other: u32,
+    pub(crate) offset: u32,
+    pub(crate) blocker: u32,
 }
 
 /// The watches of all literals.
@@ -35,43 +35,59 @@ impl Watches {
         Ok(())
     }
 
-    /// Lets a clause watch its first two literals.
-    pub(crate) fn watch(&mut self, place: u32, literals: &[u32]) -> Result<(), AllocError> {
+    /// Lets the clause at this offset watch its first two literals.
+    pub(crate) fn watch_first_two(
+        &mut self,
+        offset: u32,
+        literals: &[u32],
+    ) -> Result<(), AllocError> {
         if literals.len() > 1 {
             let (one, other) = (literals[0], literals[1]);
-            self.push(one, Watch { place, other })?;
-            self.push(other, Watch { place, other: one })?;
+            self.push(
+                one,
+                Watch {
+                    offset,
+                    blocker: other,
+                },
+            )?;
+            self.push(
+                other,
+                Watch {
+                    offset,
+                    blocker: one,
+                },
+            )?;
         }
         Ok(())
     }
 
-    /// Takes out the list of a literal.
-    pub(crate) fn take(&mut self, alloc: Global, literal: u32) -> Vec<Watch> {
+    /// Takes out the watches of a literal, which has none then.
+    pub(crate) fn take_list(&mut self, alloc: Global, literal: u32) -> Vec<Watch> {
         match self.by_literal.get_mut(literal as usize) {
             Some(list) => replace(list, Vec::new(alloc)),
             None => Vec::new(alloc),
         }
     }
 
-    /// Puts it back.
-    pub(crate) fn put(&mut self, literal: u32, watches: Vec<Watch>) {
+    /// Puts the watches of a literal back.
+    pub(crate) fn put_list(&mut self, literal: u32, watches: Vec<Watch>) {
         if let Some(list) = self.by_literal.get_mut(literal as usize) {
             *list = watches;
         }
     }
 
     /// How many clauses watch a literal.
-    pub(crate) fn count(&self, literal: u32) -> usize {
+    pub(crate) fn count_of(&self, literal: u32) -> usize {
         match self.by_literal.get(literal as usize) {
             Some(list) => list.len(),
             None => 0,
         }
     }
 
-    /// Takes out the clauses whose distance is 0.
-    pub(crate) fn forget(&mut self, clauses: &Clauses) {
+    /// Takes out the watches of dropped clauses.
+    pub(crate) fn remove_dropped(&mut self, clauses: &Clauses) {
         for list in self.by_literal.iter_mut() {
-            list.retain(|watch| clauses.is_kept_at(watch.place));
+            list.retain(|watch| !clauses.is_dropped_at(watch.offset));
         }
     }
 }

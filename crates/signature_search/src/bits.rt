@@ -27,7 +27,7 @@ impl Literals {
         (self.zeros & other.zeros) | (self.ones & other.ones)
     }
 
-    /// The literals of both.
+    /// The literals of both: the meet of the cubes, unless they have opposite literals.
     pub(crate) fn meet(self, other: Literals) -> Literals {
         Literals {
             zeros: self.zeros | other.zeros,
@@ -54,7 +54,7 @@ pub(crate) fn meets(a: &[Literals], b: &[Literals]) -> bool {
     true
 }
 
-/// Whether each literal of the first is one of the second.
+/// Whether the first cube contains the second: each literal of the first is one of the second.
 pub(crate) fn contains(a: &[Literals], b: &[Literals]) -> bool {
     for (one, other) in a.iter().zip(b.iter()) {
         if (one.zeros & !other.zeros) | (one.ones & !other.ones) != 0 {
@@ -64,12 +64,12 @@ pub(crate) fn contains(a: &[Literals], b: &[Literals]) -> bool {
     true
 }
 
-/// Whether there is a literal.
+/// Whether the cube has a literal.
 pub(crate) fn has_literal(row: &[Literals]) -> bool {
     row.iter().any(|word| word.inputs() != 0)
 }
 
-/// How many literals there are.
+/// How many literals the cube has.
 pub(crate) fn literal_count(row: &[Literals]) -> u32 {
     let mut count: u32 = 0;
     for word in row {
@@ -78,15 +78,16 @@ pub(crate) fn literal_count(row: &[Literals]) -> u32 {
     count
 }
 
-/// Adds the literals of the other cube.
+/// Narrows a cube to its meet with the other one, by adding its literals.
 pub(crate) fn narrow_to(row: &mut Vec<Literals>, other: &[Literals]) {
     for (word, more) in row.iter_mut().zip(other.iter()) {
         *word = word.meet(*more);
     }
 }
 
-/// Adds a cube's literals without those at the inputs of another cube. Whether one is left.
-pub(crate) fn push_freed(
+/// Adds the cofactor of a cube by another: its literals at inputs where the other has none. Whether
+/// there is such a literal.
+pub(crate) fn push_cofactor(
     rows: &mut Vec<Literals>,
     row: &[Literals],
     other: &[Literals],
@@ -100,7 +101,7 @@ pub(crate) fn push_freed(
     Ok(left != 0)
 }
 
-/// The words at a place, none past the end.
+/// The `width` words from an index on, none if that is past the end.
 pub(crate) fn row_at<T>(rows: &[T], begin: usize, width: usize) -> &[T] {
     let end = begin.saturating_add(width);
     if begin <= end && end <= rows.len() {
@@ -110,7 +111,7 @@ pub(crate) fn row_at<T>(rows: &[T], begin: usize, width: usize) -> &[T] {
     }
 }
 
-/// The words from a place on.
+/// The words from an index on.
 pub(crate) fn tail<T>(rows: &[T], begin: usize) -> &[T] {
     if begin <= rows.len() {
         &rows[begin..]
@@ -153,22 +154,22 @@ pub(crate) fn free_input(row: &mut Vec<Literals>, input: usize) {
     }
 }
 
-/// Whether there is a bit at a place.
-pub(crate) fn has_bit(words: &[u64], place: usize) -> bool {
-    match words.get(place / 64) {
-        Some(word) => *word >> (place % 64) & 1 != 0,
+/// Whether the bit at an index is set.
+pub(crate) fn has_bit(words: &[u64], index: usize) -> bool {
+    match words.get(index / 64) {
+        Some(word) => *word >> (index % 64) & 1 != 0,
         None => false,
     }
 }
 
-/// Puts a bit at a place.
-pub(crate) fn put_bit(words: &mut Vec<u64>, place: usize) {
-    if let Some(word) = words.get_mut(place / 64) {
-        *word |= 1 << (place % 64);
+/// Sets the bit at an index.
+pub(crate) fn put_bit(words: &mut Vec<u64>, index: usize) {
+    if let Some(word) = words.get_mut(index / 64) {
+        *word |= 1 << (index % 64);
     }
 }
 
-/// Whether each bit of the first is in the second.
+/// Whether each bit of the first set is in the second.
 pub(crate) fn is_within(a: &[u64], b: &[u64]) -> bool {
     for (one, other) in a.iter().zip(b.iter()) {
         if *one & !*other != 0 {
@@ -178,7 +179,7 @@ pub(crate) fn is_within(a: &[u64], b: &[u64]) -> bool {
     true
 }
 
-/// Whether some bit is in both.
+/// Whether some bit is in both sets.
 pub(crate) fn share_bit(a: &[u64], b: &[u64]) -> bool {
     for (one, other) in a.iter().zip(b.iter()) {
         if *one & *other != 0 {
@@ -188,7 +189,7 @@ pub(crate) fn share_bit(a: &[u64], b: &[u64]) -> bool {
     false
 }
 
-/// How many bits there are.
+/// How many bits are set.
 pub(crate) fn bit_count(words: &[u64]) -> u32 {
     let mut count: u32 = 0;
     for word in words {
@@ -197,37 +198,37 @@ pub(crate) fn bit_count(words: &[u64]) -> u32 {
     count
 }
 
-/// Adds the bits of others.
+/// Adds the bits of another set.
 pub(crate) fn join_bits(words: &mut Vec<u64>, others: &[u64]) {
     for (word, more) in words.iter_mut().zip(others.iter()) {
         *word |= *more;
     }
 }
 
-/// The places of the bits, the least first.
-pub(crate) fn places_of(alloc: Global, words: &[u64]) -> Result<Vec<usize>, AllocError> {
-    let mut places: Vec<usize> = Vec::new(alloc);
-    for place in 0..words.len().saturating_mul(64) {
-        if has_bit(words, place) {
-            places.push(place)?;
+/// The indices of the bits that are set, the least first.
+pub(crate) fn bit_indices(alloc: Global, words: &[u64]) -> Result<Vec<usize>, AllocError> {
+    let mut indices: Vec<usize> = Vec::new(alloc);
+    for index in 0..words.len().saturating_mul(64) {
+        if has_bit(words, index) {
+            indices.push(index)?;
         }
     }
-    Ok(places)
+    Ok(indices)
 }
 
-/// Counts the inputs of a word, the first of which has this number.
+/// Adds one to the count of each input of a word, the first bit of which is the input `first`.
 fn count_inputs(word: u64, first: usize, counts: &mut Vec<u32>) {
     let mut rest = word;
     for _ in 0..word.count_ones() {
-        let place = first.wrapping_add(rest.trailing_zeros() as usize);
-        if let Some(count) = counts.get_mut(place) {
+        let input = first.wrapping_add(rest.trailing_zeros() as usize);
+        if let Some(count) = counts.get_mut(input) {
             *count = count.wrapping_add(1);
         }
         rest &= rest.wrapping_sub(1);
     }
 }
 
-/// Counts the literals of a cube by input.
+/// Adds one to the counts of a cube's literals, by input.
 pub(crate) fn count_literals_of(row: &[Literals], zeros: &mut Vec<u32>, ones: &mut Vec<u32>) {
     for (k, word) in row.iter().enumerate() {
         let first = k.wrapping_mul(64);
@@ -236,9 +237,9 @@ pub(crate) fn count_literals_of(row: &[Literals], zeros: &mut Vec<u32>, ones: &m
     }
 }
 
-/// The count at a place.
-pub(crate) fn count_at(counts: &[u32], place: usize) -> u32 {
-    match counts.get(place) {
+/// The count at an index, 0 past the end.
+pub(crate) fn count_at(counts: &[u32], index: usize) -> u32 {
+    match counts.get(index) {
         Some(count) => *count,
         None => 0,
     }
@@ -253,7 +254,7 @@ pub(crate) enum Few {
 }
 
 impl Few {
-    /// With as many as the word has bits.
+    /// This number and that of the word's bits together.
     pub(crate) fn with(self, word: u64) -> Few {
         if word == 0 {
             self
@@ -265,7 +266,7 @@ impl Few {
     }
 }
 
-/// How many bits there are.
+/// Whether no bit is set, one, or more.
 pub(crate) fn few_bits(words: &[u64]) -> Few {
     let mut few = Few::None;
     for word in words {

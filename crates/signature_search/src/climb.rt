@@ -5,26 +5,30 @@
 //! maximal ones.
 
 use crate::bits::{free_input, has_bit, join_bits, put_bit};
-use crate::own_place::{Finder, Found};
+use crate::finder::{Finder, Signature};
 use crate::rows::Cube;
 use std::alloc::AllocError;
 
 /// A literal that may be left out, by its input, or an output that may be added.
 #[derive(Clone, Copy)]
 enum Step {
-    Free(usize),
-    Raise(usize),
+    DropLiteral(usize),
+    AddOutput(usize),
 }
 
 impl Finder<'_> {
-    // The literals and absent outputs that are a row by themselves: no implicant is without them.
-    fn fixed_in(&self, found: &Found) -> Result<(Vec<u64>, Vec<u64>), AllocError> {
+    // The inputs whose literals, and the absent outputs which, are a row by themselves: no implicant
+    // that contains the cube lacks such a literal or has such an output.
+    fn fixed_by_single_rows(
+        &self,
+        signature: &Signature,
+    ) -> Result<(Vec<u64>, Vec<u64>), AllocError> {
         let mut inputs: Vec<u64> = vec![in self.alloc; 0; self.function.width]?;
         let mut outputs: Vec<u64> = vec![in self.alloc; 0; self.function.output_words]?;
-        for row in 0..found.rows.len() {
-            if found.rows.size(row) == 1 {
-                join_bits(&mut inputs, found.rows.inputs(row));
-                if let Some(output) = found.rows.output(row) {
+        for row in 0..signature.rows.len() {
+            if signature.rows.size(row) == 1 {
+                join_bits(&mut inputs, signature.rows.inputs(row));
+                if let Some(output) = signature.rows.output(row) {
                     put_bit(&mut outputs, output);
                 }
             }
@@ -33,69 +37,73 @@ impl Finder<'_> {
     }
 
     // Adds a step for each literal that is not fixed.
-    fn add_literals(
+    fn push_literal_steps(
         &self,
-        found: &Found,
+        signature: &Signature,
         fixed: &[u64],
         steps: &mut Vec<Step>,
     ) -> Result<(), AllocError> {
         for input in 0..self.function.inputs {
-            if found.cube.literal(input).is_some() && !has_bit(fixed, input) {
-                steps.push(Step::Free(input))?;
+            if signature.cube.literal(input).is_some() && !has_bit(fixed, input) {
+                steps.push(Step::DropLiteral(input))?;
             }
         }
         Ok(())
     }
 
     // Adds a step for each absent output that is not fixed.
-    fn add_outputs(
+    fn push_output_steps(
         &self,
-        found: &Found,
+        signature: &Signature,
         fixed: &[u64],
         steps: &mut Vec<Step>,
     ) -> Result<(), AllocError> {
         for output in 0..self.function.outputs {
-            if !has_bit(&found.cube.outputs, output) && !has_bit(fixed, output) {
-                steps.push(Step::Raise(output))?;
+            if !has_bit(&signature.cube.outputs, output) && !has_bit(fixed, output) {
+                steps.push(Step::AddOutput(output))?;
             }
         }
         Ok(())
     }
 
     // The steps from a signature cube that lead to an implicant.
-    fn steps_from(&self, found: &Found) -> Result<Vec<Step>, AllocError> {
-        let (inputs, outputs) = self.fixed_in(found)?;
+    fn steps_from(&self, signature: &Signature) -> Result<Vec<Step>, AllocError> {
+        let (inputs, outputs) = self.fixed_by_single_rows(signature)?;
         let mut steps: Vec<Step> = Vec::new(self.alloc);
-        self.add_literals(found, &inputs, &mut steps)?;
-        self.add_outputs(found, &outputs, &mut steps)?;
+        self.push_literal_steps(signature, &inputs, &mut steps)?;
+        self.push_output_steps(signature, &outputs, &mut steps)?;
         Ok(steps)
     }
 
     // The cube after a step, or `None` if an earlier step led as far.
-    fn cube_after(&self, found: &Found, step: Step) -> Result<Option<Cube>, AllocError> {
+    fn cube_after(&self, signature: &Signature, step: Step) -> Result<Option<Cube>, AllocError> {
         let is_new = match step {
-            Step::Free(input) => found.cube.literal(input).is_some(),
-            Step::Raise(output) => !has_bit(&found.cube.outputs, output),
+            Step::DropLiteral(input) => signature.cube.literal(input).is_some(),
+            Step::AddOutput(output) => !has_bit(&signature.cube.outputs, output),
         };
         if !is_new {
             return Ok(None);
         }
-        let mut cube = Cube::of(self.alloc, &found.cube.literals, &found.cube.outputs)?;
+        let mut cube = Cube::of(
+            self.alloc,
+            &signature.cube.literals,
+            &signature.cube.outputs,
+        )?;
         match step {
-            Step::Free(input) => free_input(&mut cube.literals, input),
-            Step::Raise(output) => put_bit(&mut cube.outputs, output),
+            Step::DropLiteral(input) => free_input(&mut cube.literals, input),
+            Step::AddOutput(output) => put_bit(&mut cube.outputs, output),
         }
         Ok(Some(cube))
     }
 
     // Tries each step once. Whether one led on.
-    fn climb_once(&mut self, at: &mut Found) -> Result<bool, AllocError> {
+    fn climb_once(&mut self, at: &mut Signature) -> Result<bool, AllocError> {
         let mut rose = false;
         for step in &self.steps_from(at)? {
             if let Some(cube) = self.cube_after(at, *step)?
-                && let Some(found) = self.found(&cube)?
+                && let Some(signature) = self.signature_of(&cube)?
             {
-                *at = found;
+                *at = signature;
                 rose = true;
             }
         }
@@ -103,8 +111,8 @@ impl Finder<'_> {
     }
 
     /// A signature cube from which no step leads on.
-    pub(crate) fn climb(&mut self, found: Found) -> Result<Found, AllocError> {
-        let mut at = found;
+    pub(crate) fn climb(&mut self, signature: Signature) -> Result<Signature, AllocError> {
+        let mut at = signature;
         let most = self.function.inputs.saturating_add(self.function.outputs);
         for _ in 0..=most {
             if !self.climb_once(&mut at)? {

@@ -9,7 +9,7 @@ use crate::bits::{
     Literals, count_at, count_literals_of, free_input, has_literal, literal_at, put_literal,
     row_at, tail,
 };
-use crate::function::{absorb_list, is_held};
+use crate::lists::{absorb_list, any_contains};
 use std::alloc::{AllocError, Global};
 
 /// How often each input has a literal, by sense.
@@ -68,8 +68,8 @@ fn cofactor(
     Ok(half)
 }
 
-/// The outside of a cube: a cube for each literal.
-fn opposites(alloc: Global, row: &[Literals]) -> Result<Vec<Literals>, AllocError> {
+/// The complement of a cube: a cube for each literal.
+fn complement_of_cube(alloc: Global, row: &[Literals]) -> Result<Vec<Literals>, AllocError> {
     let mut list: Vec<Literals> = Vec::new(alloc);
     for input in 0..row.len().saturating_mul(64) {
         if let Some(one) = literal_at(row, input) {
@@ -81,8 +81,8 @@ fn opposites(alloc: Global, row: &[Literals]) -> Result<Vec<Literals>, AllocErro
     Ok(list)
 }
 
-/// Adds the cubes of one half: as they are to those of both halves where that is right, else with
-/// the literal.
+/// Adds the cubes of one half: as they are to those of both halves where they are marked, else with
+/// the literal to the parted ones.
 fn add_half(
     half: &[Literals],
     width: usize,
@@ -103,8 +103,8 @@ fn add_half(
     Ok(())
 }
 
-/// Which cubes of a half lie in a cube of the other half, or all of them.
-fn in_other(
+/// Marks the cubes of a half that lie in a cube of the other half, or all of them.
+fn marks_of_contained(
     alloc: Global,
     half: &[Literals],
     other: &[Literals],
@@ -113,13 +113,13 @@ fn in_other(
 ) -> Result<Vec<bool>, AllocError> {
     let mut marks: Vec<bool> = Vec::new(alloc);
     for row in half.chunks_exact(width.max(1)) {
-        marks.push(all || is_held(other, row, width))?;
+        marks.push(all || any_contains(other, row, width))?;
     }
     Ok(marks)
 }
 
 /// A cube of one literal.
-fn one_literal(
+fn cube_of_literal(
     alloc: Global,
     width: usize,
     input: usize,
@@ -130,8 +130,8 @@ fn one_literal(
     Ok(cube)
 }
 
-/// The halves as one list. Where the input occurs in one sense alone, all that is outside on its
-/// side is outside on the other too.
+/// The complements of the halves as one list. Where the input occurs in one sense alone, all that is
+/// outside the half with its literal is outside the other half too.
 fn join_halves(
     alloc: Global,
     low: &[Literals],
@@ -142,12 +142,12 @@ fn join_halves(
 ) -> Result<Vec<Literals>, AllocError> {
     let no_zeros = count_at(&counts.zeros, input) == 0;
     let no_ones = count_at(&counts.ones, input) == 0;
-    let low_marks = in_other(alloc, low, high, width, no_ones)?;
-    let high_marks = in_other(alloc, high, low, width, no_zeros)?;
+    let low_marks = marks_of_contained(alloc, low, high, width, no_ones)?;
+    let high_marks = marks_of_contained(alloc, high, low, width, no_zeros)?;
     let mut both: Vec<Literals> = Vec::new(alloc);
     let mut parted: Vec<Literals> = Vec::new(alloc);
-    let zero = one_literal(alloc, width, input, false)?;
-    let one = one_literal(alloc, width, input, true)?;
+    let zero = cube_of_literal(alloc, width, input, false)?;
+    let one = cube_of_literal(alloc, width, input, true)?;
     add_half(low, width, &low_marks, &zero, &mut both, &mut parted)?;
     add_half(high, width, &high_marks, &one, &mut both, &mut parted)?;
     let mut joined = absorb_list(alloc, &both, width)?;
@@ -155,21 +155,23 @@ fn join_halves(
     Ok(joined)
 }
 
-/// Cubes with the points outside the list, or `None` where there are more of them than are left.
+/// Cubes with the points outside the list, or `None` if more words of cubes are made on the way than
+/// the budget has; it is lowered by a part of those that are made.
 pub(crate) fn complement(
     alloc: Global,
     list: &[Literals],
     width: usize,
-    left: &mut usize,
+    budget: &mut usize,
 ) -> Result<Option<Vec<Literals>>, AllocError> {
-    outside(alloc, list, width, left, width.saturating_mul(64))
+    complement_to_depth(alloc, list, width, budget, width.saturating_mul(64))
 }
 
-fn outside(
+/// The complement, by at most `depth` splits one within the other: one for each input is enough.
+fn complement_to_depth(
     alloc: Global,
     list: &[Literals],
     width: usize,
-    left: &mut usize,
+    budget: &mut usize,
     depth: usize,
 ) -> Result<Option<Vec<Literals>>, AllocError> {
     let rows = absorb_list(alloc, list, width)?;
@@ -184,23 +186,23 @@ fn outside(
         return Ok(None);
     };
     let joined = if tail(&rows, width).is_empty() {
-        opposites(alloc, first)?
+        complement_of_cube(alloc, first)?
     } else {
         let counts = Counts::of(alloc, &rows, width)?;
         let input = counts.splitting_input();
         let zeros = cofactor(alloc, &rows, width, input, false)?;
-        let Some(low) = outside(alloc, &zeros, width, left, below)? else {
+        let Some(low) = complement_to_depth(alloc, &zeros, width, budget, below)? else {
             return Ok(None);
         };
         let ones = cofactor(alloc, &rows, width, input, true)?;
-        let Some(high) = outside(alloc, &ones, width, left, below)? else {
+        let Some(high) = complement_to_depth(alloc, &ones, width, budget, below)? else {
             return Ok(None);
         };
         join_halves(alloc, &low, &high, width, input, &counts)?
     };
-    if joined.len() > *left {
+    if joined.len() > *budget {
         return Ok(None);
     }
-    *left = left.saturating_sub(joined.len() / 16);
+    *budget = budget.saturating_sub(joined.len() / 16);
     Ok(Some(joined))
 }

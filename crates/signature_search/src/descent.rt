@@ -5,43 +5,43 @@
 //! has one always. So the literals that part the two cubes are put in an order, those of short rows
 //! first, and the least number of them that will do is looked for by halves.
 
-use crate::bits::{Literals, has_bit, literal_at, places_of, put_literal};
-use crate::blocking::Blocking;
-use crate::own_place::{Finder, Found};
+use crate::bits::{Literals, bit_indices, has_bit, literal_at, put_literal};
+use crate::blocking_matrix::BlockingRows;
+use crate::finder::{Finder, Signature};
 use crate::rows::Cube;
 use std::alloc::{AllocError, Global};
 
-// What a row weighs, shared by its literals.
-const WEIGHT: u64 = 1 << 32;
+// The weight of a row, shared by its literals.
+const ROW_WEIGHT: u64 = 1 << 32;
 
-/// How much the rows ask for an input.
-fn weight_of(rows: &Blocking, input: usize) -> u64 {
+/// The weight of an input: its shares of the rows that have it. Short rows give large shares.
+fn input_weight(rows: &BlockingRows, input: usize) -> u64 {
     let mut weight: u64 = 0;
     for row in 0..rows.len() {
         if has_bit(rows.inputs(row), input) {
-            weight = weight.wrapping_add(WEIGHT / u64::from(rows.size(row).max(1)));
+            weight = weight.wrapping_add(ROW_WEIGHT / u64::from(rows.size(row).max(1)));
         }
     }
     weight
 }
 
-/// The inputs with literals that the wide cube lacks, those that the rows ask for most first.
-fn missing_inputs(
+/// The inputs of literals that the wide cube lacks, by decreasing weight.
+fn missing_inputs_by_weight(
     alloc: Global,
-    found: &Found,
+    signature: &Signature,
     wide: &[Literals],
 ) -> Result<Vec<usize>, AllocError> {
-    let missing = found.cube.inputs_beyond(alloc, wide)?;
+    let missing = signature.cube.inputs_beyond(alloc, wide)?;
     let mut weighed: Vec<(u64, usize)> = Vec::new(alloc);
-    for input in &places_of(alloc, &missing)? {
-        weighed.push((u64::MAX - weight_of(&found.rows, *input), *input))?;
+    for input in &bit_indices(alloc, &missing)? {
+        weighed.push((u64::MAX - input_weight(&signature.rows, *input), *input))?;
     }
     weighed.sort_unstable();
     weighed.iter().map(|(_, input)| *input).collect(alloc)
 }
 
-/// The cube with the first of the literals that it lacks of the other one.
-fn with_first(
+/// The wide cube with the literals of the other one at the first `count` inputs.
+fn with_first_literals(
     alloc: Global,
     wide: &Cube,
     literals: &[Literals],
@@ -73,17 +73,17 @@ fn point_of(
 }
 
 impl Finder<'_> {
-    /// The signature cube of a point, which is a place of its own.
-    fn found_at_point(
+    /// The signature cube of a point of the cube near, with the point as its own place.
+    fn signature_at_point(
         &mut self,
         near: &[Literals],
         output: usize,
-    ) -> Result<Option<Found>, AllocError> {
+    ) -> Result<Option<Signature>, AllocError> {
         let place = point_of(self.alloc, near, self.function.inputs)?;
         let words = self.function.output_words;
         let cube = Cube::with_output(self.alloc, &place, output, words)?;
-        match self.signature(&cube)? {
-            Some((cube, rows)) => Ok(Some(Found {
+        match self.signature_cube(&cube)? {
+            Some((cube, rows)) => Ok(Some(Signature {
                 cube,
                 place,
                 output,
@@ -93,25 +93,25 @@ impl Finder<'_> {
         }
     }
 
-    /// A signature cube with a place of its own, which the cube near holds in part, between that
-    /// one and the wide cube. `None` if it meets OFF.
+    /// A large signature cube with a place of its own, found from cubes between a point of the cube
+    /// near and the wide cube, which contains it. `None` if the cube near meets OFF.
     pub(crate) fn descend(
         &mut self,
         wide: &[Literals],
         near: &[Literals],
         output: usize,
-    ) -> Result<Option<Found>, AllocError> {
+    ) -> Result<Option<Signature>, AllocError> {
         let words = self.function.output_words;
         let cube = Cube::with_output(self.alloc, near, output, words)?;
-        let first = match self.found(&cube)? {
-            Some(found) => Some(found),
-            None => self.found_at_point(near, output)?,
+        let first = match self.signature_of(&cube)? {
+            Some(signature) => Some(signature),
+            None => self.signature_at_point(near, output)?,
         };
         let Some(mut best) = first else {
             return Ok(None);
         };
         let wide = Cube::with_output(self.alloc, wide, output, words)?;
-        let inputs = missing_inputs(self.alloc, &best, &wide.literals)?;
+        let inputs = missing_inputs_by_weight(self.alloc, &best, &wide.literals)?;
         let literals = best.cube.literals.to_vec(self.alloc)?;
         let mut least: usize = 0;
         let mut most = inputs.len();
@@ -120,10 +120,10 @@ impl Finder<'_> {
                 break;
             }
             let middle = least.wrapping_add(most) / 2;
-            let cube = with_first(self.alloc, &wide, &literals, &inputs, middle)?;
-            match self.found(&cube)? {
-                Some(found) => {
-                    best = found;
+            let cube = with_first_literals(self.alloc, &wide, &literals, &inputs, middle)?;
+            match self.signature_of(&cube)? {
+                Some(signature) => {
+                    best = signature;
                     most = middle;
                 }
                 None => least = middle.saturating_add(1),

@@ -1,7 +1,8 @@
-//! A function by output, as lists of cubes over its inputs; and the list without absorbed cubes.
+//! A function by output, as lists of cubes over its inputs.
 
-use crate::bits::{Literals, contains, has_bit, literal_count, row_at};
+use crate::bits::{Literals, has_bit};
 use crate::complement::complement;
+use crate::lists::absorb_list;
 use crate::rows::{Rows, words_for};
 use std::alloc::{AllocError, Global};
 
@@ -10,8 +11,9 @@ use std::alloc::{AllocError, Global};
 pub(crate) struct Function {
     pub(crate) inputs: usize,
     pub(crate) outputs: usize,
-    /// Words of a cube's inputs, and of its outputs.
+    /// How many words the inputs of a cube take.
     pub(crate) width: usize,
+    /// How many words the outputs of a cube take.
     pub(crate) output_words: usize,
     /// Whether wanted places lie in ON cubes alone, and not in all that is outside OFF and DC.
     pub(crate) samples: bool,
@@ -19,65 +21,43 @@ pub(crate) struct Function {
     dc: Vec<Vec<Literals>>,
     off: Vec<Vec<Literals>>,
     // ON with DC.
-    both: Vec<Vec<Literals>>,
+    on_and_dc: Vec<Vec<Literals>>,
 }
 
-// So many cubes of all outputs are made at most where ON with DC is the outside of OFF.
-const OUTSIDE: usize = 1 << 18;
+// At most about this many words of cubes are made, for all outputs, where ON with DC is the complement
+// of OFF.
+const COMPLEMENT_BUDGET: usize = 1 << 18;
 
-/// The rows of each output.
-fn by_output(alloc: Global, rows: &Rows, outputs: usize) -> Result<Vec<Vec<Literals>>, AllocError> {
+/// The rows of each output, without other outputs.
+fn rows_by_output(
+    alloc: Global,
+    rows: &Rows,
+    outputs: usize,
+) -> Result<Vec<Vec<Literals>>, AllocError> {
     let mut lists: Vec<Vec<Literals>> = Vec::new(alloc);
     for output in 0..outputs {
-        lists.push(rows_of(alloc, rows, output)?)?;
+        lists.push(rows_of_output(alloc, rows, output)?)?;
     }
     Ok(lists)
 }
 
-/// The rows of an output.
-pub(crate) fn rows_of(
+/// The input parts of the rows that have an output.
+pub(crate) fn rows_of_output(
     alloc: Global,
     rows: &Rows,
     output: usize,
 ) -> Result<Vec<Literals>, AllocError> {
     let mut list: Vec<Literals> = Vec::new(alloc);
     for row in 0..rows.len() {
-        if has_bit(rows.raised(row), output) {
-            list.extend_from_slice(rows.literals(row))?;
+        if has_bit(rows.outputs_of(row), output) {
+            list.extend_from_slice(rows.literals_of(row))?;
         }
     }
     Ok(list)
 }
 
-/// The list without cubes that lie in others of it, those with fewer literals first.
-pub(crate) fn absorb_list(
-    alloc: Global,
-    list: &[Literals],
-    width: usize,
-) -> Result<Vec<Literals>, AllocError> {
-    let mut order: Vec<(u32, usize)> = Vec::new(alloc);
-    for (place, row) in list.chunks_exact(width.max(1)).enumerate() {
-        order.push((literal_count(row), place))?;
-    }
-    order.sort_unstable();
-    let mut kept: Vec<Literals> = Vec::with_capacity(alloc, list.len())?;
-    for (_, place) in &order {
-        let row = row_at(list, place.saturating_mul(width), width);
-        if !is_held(&kept, row, width) {
-            kept.extend_from_slice(row)?;
-        }
-    }
-    Ok(kept)
-}
-
-/// Whether a cube of the list contains this one.
-pub(crate) fn is_held(list: &[Literals], row: &[Literals], width: usize) -> bool {
-    list.chunks_exact(width.max(1))
-        .any(|other| contains(other, row))
-}
-
-/// Both lists of each output, in one.
-fn join_lists(
+/// For each output its list of ON and its list of DC together, without absorbed cubes.
+fn unions_by_output(
     alloc: Global,
     on: &[Vec<Literals>],
     dc: &[Vec<Literals>],
@@ -92,16 +72,16 @@ fn join_lists(
     Ok(lists)
 }
 
-/// The outside of each list, or `None` where that is too much.
-fn outsides(
+/// The complement of each list, or `None` where that is past the budget.
+fn complements_by_output(
     alloc: Global,
     lists: &[Vec<Literals>],
     width: usize,
 ) -> Result<Option<Vec<Vec<Literals>>>, AllocError> {
-    let mut left = OUTSIDE;
+    let mut budget = COMPLEMENT_BUDGET;
     let mut outsides: Vec<Vec<Literals>> = Vec::new(alloc);
     for list in lists {
-        match complement(alloc, list, width, &mut left)? {
+        match complement(alloc, list, width, &mut budget)? {
             Some(outside) => outsides.push(absorb_list(alloc, &outside, width)?)?,
             None => return Ok(None),
         }
@@ -109,17 +89,17 @@ fn outsides(
     Ok(Some(outsides))
 }
 
-/// The list at a place, empty if there is none.
-fn list_at(lists: &[Vec<Literals>], place: usize) -> &[Literals] {
-    match lists.get(place) {
+/// The list at an index, empty past the end.
+fn list_at(lists: &[Vec<Literals>], index: usize) -> &[Literals] {
+    match lists.get(index) {
         Some(list) => list,
         None => &[],
     }
 }
 
 impl Function {
-    /// The function of these rows. With `samples` DC is all that neither ON nor OFF holds. `None`
-    /// where that is too much.
+    /// The function of these rows. With `samples` DC is all that neither ON nor OFF holds. `None` if
+    /// the complement of OFF is past the budget.
     pub(crate) fn new(
         alloc: Global,
         on: &Rows,
@@ -129,16 +109,16 @@ impl Function {
     ) -> Result<Option<Function>, AllocError> {
         let (inputs, outputs) = (on.inputs(), on.outputs());
         let width = words_for(inputs);
-        let wanted = by_output(alloc, on, outputs)?;
-        let free = by_output(alloc, dc, outputs)?;
-        let outside = by_output(alloc, off, outputs)?;
-        let both = if samples {
-            match outsides(alloc, &outside, width)? {
+        let wanted = rows_by_output(alloc, on, outputs)?;
+        let free = rows_by_output(alloc, dc, outputs)?;
+        let outside = rows_by_output(alloc, off, outputs)?;
+        let on_and_dc = if samples {
+            match complements_by_output(alloc, &outside, width)? {
                 Some(lists) => lists,
                 None => return Ok(None),
             }
         } else {
-            join_lists(alloc, &wanted, &free, width)?
+            unions_by_output(alloc, &wanted, &free, width)?
         };
         Ok(Some(Function {
             inputs,
@@ -149,7 +129,7 @@ impl Function {
             on: wanted,
             dc: free,
             off: outside,
-            both,
+            on_and_dc,
         }))
     }
 
@@ -167,10 +147,10 @@ impl Function {
             width: words_for(inputs),
             output_words: words_for(outputs),
             samples,
-            on: by_output(alloc, on, outputs)?,
-            dc: by_output(alloc, dc, outputs)?,
+            on: rows_by_output(alloc, on, outputs)?,
+            dc: rows_by_output(alloc, dc, outputs)?,
             off: Vec::new(alloc),
-            both: Vec::new(alloc),
+            on_and_dc: Vec::new(alloc),
         })
     }
 
@@ -189,8 +169,8 @@ impl Function {
         list_at(&self.off, output)
     }
 
-    /// Cubes with the places of ON and DC.
-    pub(crate) fn both(&self, output: usize) -> &[Literals] {
-        list_at(&self.both, output)
+    /// Cubes that hold the points of ON and DC under an output.
+    pub(crate) fn on_and_dc(&self, output: usize) -> &[Literals] {
+        list_at(&self.on_and_dc, output)
     }
 }

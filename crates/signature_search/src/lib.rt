@@ -1,36 +1,37 @@
-//! Places whose signature cubes are maximal: a search that owes nothing, and whose answers can be
-//! looked at.
+//! Places whose signature cubes are maximal: a search whose answers have no contract; the caller
+//! checks them.
 //!
 //! The signature cube of a place is the meet of all primes that hold it (McGeer, Sanghavi, Brayton
 //! and Sangiovanni-Vincentelli, Espresso-Signature: a new exact minimizer for logic functions,
 //! 1993). A cover that holds one place of each maximal signature cube holds all wanted places, and
 //! there are far fewer such cubes than primes. [`signature_places`] answers a place for each that it
-//! finds; who calls it looks whether they are enough. It is proved to be safe and to end, and
-//! nothing more.
+//! finds; the caller checks whether they are enough. It is proved to be safe and to end, and nothing
+//! more.
 //!
 //! 1. Each ON cube as it stands: its signature cube is taken if it has a place of its own.
 //! 2. What no signature cube holds yet, place by place: the largest cube between the place and an
 //!    ON cube whose signature cube has a place of its own, and from there larger ones.
-//! 3. Those that lie in others are left out.
+//! 3. Signature cubes that lie in others are left out.
 //!
 //! A signature cube costs a pass over all OFF cubes, and one question over the ON and DC cubes near
 //! it; a maximal one takes some tens of these.
 #![tactic(auto)]
 
 mod bits;
-mod blocking;
+mod blocking_matrix;
 mod climb;
 mod complement;
 mod descent;
+mod finder;
 mod function;
-mod own_place;
+mod lists;
 mod prime_list;
 mod question;
 mod rows;
 mod search;
 
 use crate::bits::has_bit;
-use crate::function::{Function, rows_of};
+use crate::function::{Function, rows_of_output};
 use crate::question::Question;
 use crate::rows::words_for;
 use crate::search::Search;
@@ -40,8 +41,8 @@ use std::alloc::{AllocError, Global};
 /// Wanted places, one for each maximal signature cube that is found, in any order.
 ///
 /// The OFF rows hold all places that neither ON nor DC holds, and no other. With `samples` DC is
-/// all that neither ON nor OFF holds, and the DC rows are empty. After so many signature cubes no
-/// more are looked for.
+/// all that neither ON nor OFF holds, and the DC rows are empty. No more are looked for once `limit`
+/// signature cubes are found.
 pub fn signature_places(
     alloc: Global,
     on: &Rows,
@@ -56,8 +57,8 @@ pub fn signature_places(
     Search::new(alloc, &function, None, limit)?.run(on)
 }
 
-/// As [`signature_places`], where the rows are all primes and no OFF rows are known. With `samples`
-/// wanted places lie in ON rows alone.
+/// Wanted places as [`signature_places`] answers them, found by the list of all primes instead of
+/// OFF rows. With `samples` wanted places lie in ON rows alone.
 pub fn places_by_primes(
     alloc: Global,
     on: &Rows,
@@ -82,9 +83,9 @@ pub fn place_outside(
     let mut question = Question::new(alloc, words_for(rows.inputs()))?;
     let mut left = budget;
     for output in 0..rows.outputs() {
-        if has_bit(rows.raised(row), output) {
-            let held = rows_of(alloc, list, output)?;
-            if question.ask(rows.literals(row), &held, &mut left)? {
+        if has_bit(rows.outputs_of(row), output) {
+            let held = rows_of_output(alloc, list, output)?;
+            if question.ask(rows.literals_of(row), &held, &mut left)? {
                 return Ok(Some(Place::of(alloc, question.answer(), output)?));
             }
         }

@@ -1,18 +1,18 @@
 //! Signature cubes where all primes are known.
 //!
 //! The signature cube of a cube is the meet of the primes that contain it, and a place of it is its
-//! own if it lies in no other prime. This serves where the primes are few and the OFF cubes many.
+//! own if it lies in no other prime. This is used where the primes are few and the OFF cubes many.
 
-use crate::bits::{Literals, contains, has_bit, is_within, meets, narrow_to, push_freed};
-use crate::blocking::Blocking;
-use crate::own_place::{Finder, all_bits};
+use crate::bits::{Literals, contains, has_bit, is_within, meets, narrow_to, push_cofactor};
+use crate::blocking_matrix::BlockingRows;
+use crate::finder::{Finder, all_bits};
 use crate::rows::{Cube, Rows};
 use std::alloc::AllocError;
 
 /// Whether a prime contains the cube.
-fn holds(primes: &Rows, prime: usize, cube: &Cube) -> bool {
-    contains(primes.literals(prime), &cube.literals)
-        && is_within(&cube.outputs, primes.raised(prime))
+fn prime_contains(primes: &Rows, prime: usize, cube: &Cube) -> bool {
+    contains(primes.literals_of(prime), &cube.literals)
+        && is_within(&cube.outputs, primes.outputs_of(prime))
 }
 
 /// Leaves the bits that are in both.
@@ -23,39 +23,43 @@ fn meet_bits(words: &mut Vec<u64>, others: &[u64]) {
 }
 
 impl Finder<'_> {
-    /// The meet of the primes that contain the cube, and what may be left out of it. `None` if no
-    /// prime contains the cube.
+    /// The meet of the primes that contain the cube, and rows by which each of its literals may be left
+    /// out. `None` if no prime contains the cube.
     pub(crate) fn meet_of_primes(
         &self,
         primes: &Rows,
         cube: &Cube,
-    ) -> Result<Option<(Cube, Blocking)>, AllocError> {
+    ) -> Result<Option<(Cube, BlockingRows)>, AllocError> {
         let width = self.function.width;
         let mut literals: Vec<Literals> = vec![in self.alloc; Literals::NONE; width]?;
         let mut outputs = all_bits(self.alloc, self.function.outputs)?;
         let mut found = false;
         for prime in 0..primes.len() {
-            if holds(primes, prime, cube) {
+            if prime_contains(primes, prime, cube) {
                 found = true;
-                narrow_to(&mut literals, primes.literals(prime));
-                meet_bits(&mut outputs, primes.raised(prime));
+                narrow_to(&mut literals, primes.literals_of(prime));
+                meet_bits(&mut outputs, primes.outputs_of(prime));
             }
         }
         if !found {
             return Ok(None);
         }
-        let rows = self.one_row(&literals, &outputs)?;
+        let rows = self.rows_of_all_literals(&literals, &outputs)?;
         Ok(Some((Cube { literals, outputs }, rows)))
     }
 
-    // All literals as a row, by themselves and with each output that is absent: each of them may be
-    // left out.
-    fn one_row(&self, literals: &[Literals], outputs: &[u64]) -> Result<Blocking, AllocError> {
+    // All literals as a row, without an output and with each output that is absent: no literal is a
+    // row by itself, so each may be left out.
+    fn rows_of_all_literals(
+        &self,
+        literals: &[Literals],
+        outputs: &[u64],
+    ) -> Result<BlockingRows, AllocError> {
         let mut inputs: Vec<u64> = Vec::with_capacity(self.alloc, literals.len())?;
         for word in literals {
             inputs.push(word.inputs())?;
         }
-        let mut rows = Blocking::new(self.alloc, self.function.width);
+        let mut rows = BlockingRows::new(self.alloc, self.function.width);
         rows.push(&inputs, None)?;
         for output in 0..self.function.outputs {
             if !has_bit(outputs, output) {
@@ -65,9 +69,9 @@ impl Finder<'_> {
         Ok(rows)
     }
 
-    /// Whether former answers lead to a place of the cube that lies in no other prime and in no DC
-    /// cube under this output, which the question then answers.
-    pub(crate) fn guess_by_primes(
+    /// Whether former answers give a place of the cube that lies in no other prime and in no DC cube
+    /// under this output. It is then the answer of the question.
+    pub(crate) fn guess_own_place_by_primes(
         &mut self,
         primes: &Rows,
         cube: &Cube,
@@ -76,9 +80,9 @@ impl Finder<'_> {
         self.question.guess(&cube.literals)?;
         let guess = self.question.answer();
         for prime in 0..primes.len() {
-            if has_bit(primes.raised(prime), output)
-                && meets(primes.literals(prime), guess)
-                && !holds(primes, prime, cube)
+            if has_bit(primes.outputs_of(prime), output)
+                && meets(primes.literals_of(prime), guess)
+                && !prime_contains(primes, prime, cube)
             {
                 return Ok(false);
             }
@@ -88,8 +92,8 @@ impl Finder<'_> {
         Ok(!dc.any(|row| meets(row, guess)))
     }
 
-    /// Gathers the primes with the output that meet the cube and do not contain it. `false` if they
-    /// hold all of it under this output.
+    /// Gathers the primes with the output that meet the cube and do not contain it. `false` if one of
+    /// them contains all of it under this output.
     pub(crate) fn avoid_primes(
         &mut self,
         primes: &Rows,
@@ -97,11 +101,11 @@ impl Finder<'_> {
         output: usize,
     ) -> Result<bool, AllocError> {
         for prime in 0..primes.len() {
-            let literals = primes.literals(prime);
-            if has_bit(primes.raised(prime), output)
+            let literals = primes.literals_of(prime);
+            if has_bit(primes.outputs_of(prime), output)
                 && meets(literals, &cube.literals)
-                && !holds(primes, prime, cube)
-                && !push_freed(&mut self.list, literals, &cube.literals)?
+                && !prime_contains(primes, prime, cube)
+                && !push_cofactor(&mut self.avoided, literals, &cube.literals)?
             {
                 return Ok(false);
             }

@@ -9,7 +9,7 @@
 
 use crate::bits::{
     Few, Literals, count_at, count_literals_of, has_literal, literal_count, meets, narrow_to,
-    push_freed, put_literal, row_at, tail,
+    push_cofactor, put_literal, row_at, tail,
 };
 use std::alloc::{AllocError, Global};
 use std::mem::swap;
@@ -26,10 +26,11 @@ struct Region {
 #[derive(Clone, Copy)]
 enum State {
     /// It has a place outside the cubes.
-    Free,
+    PlaceFound,
     /// It has none.
     Held,
-    Open,
+    /// Nothing is forced, and it is to be split.
+    Undecided,
 }
 
 /// The state of a question, whose memory serves the next one too.
@@ -38,47 +39,49 @@ pub(crate) struct Question {
     width: usize,
     rows: Vec<Literals>,
     regions: Vec<Region>,
-    // What is forced in the last region, and what will be once its cubes are looked at anew.
+    // The literals that are forced in the last region.
     forced: Vec<Literals>,
-    next: Vec<Literals>,
-    // The literals that occur there.
+    // The literals that its cubes force, while they are looked at.
+    next_forced: Vec<Literals>,
+    // The literals that occur in its cubes; while an input is chosen, in its shortest ones.
     occurring: Vec<Literals>,
-    // By input: the literal that it last had in a place that was found, where none was asked for.
-    kept: Vec<Literals>,
-    // Whether the last region has no place.
+    // By input: the literal that it last had in an answer, where the cube asked for had none.
+    remembered: Vec<Literals>,
+    // Whether the last region is seen to have no place outside its cubes.
     is_held: bool,
     // By input: how many cubes have its literals.
     zeros: Vec<u32>,
     ones: Vec<u32>,
 }
 
-/// Notes the literals of a cube, and what it forces if it has one alone. Whether it has any.
-fn note(row: &[Literals], forced: &mut Vec<Literals>, occurring: &mut Vec<Literals>) -> bool {
+/// Notes that the literals of a cube occur, and what it forces if it has one literal. Whether it has
+/// any.
+fn note_row(row: &[Literals], forced: &mut Vec<Literals>, occurring: &mut Vec<Literals>) -> bool {
     let mut few = Few::None;
     for (word, seen) in row.iter().zip(occurring.iter_mut()) {
         few = few.with(word.inputs());
         *seen = seen.meet(*word);
     }
     if few == Few::One {
-        oppose(row, forced);
+        force_opposites(row, forced);
     }
     few != Few::None
 }
 
-/// Adds the opposites of a cube's literals.
-fn oppose(row: &[Literals], forced: &mut Vec<Literals>) {
+/// Adds the opposites of a cube's literals to the forced ones.
+fn force_opposites(row: &[Literals], forced: &mut Vec<Literals>) {
     for (word, force) in row.iter().zip(forced.iter_mut()) {
         force.zeros |= word.ones;
         force.ones |= word.zeros;
     }
 }
 
-/// Whether an input has both literals.
-fn is_torn(row: &[Literals]) -> bool {
+/// Whether some input has both literals.
+fn has_both_literals(row: &[Literals]) -> bool {
     row.iter().any(|word| word.zeros & word.ones != 0)
 }
 
-/// Adds literals to the row at a place.
+/// Adds literals to the row that begins at an index.
 fn narrow_at(rows: &mut Vec<Literals>, begin: usize, literals: &[Literals]) {
     for (k, more) in literals.iter().enumerate() {
         if let Some(word) = rows.get_mut(begin.wrapping_add(k)) {
@@ -87,7 +90,7 @@ fn narrow_at(rows: &mut Vec<Literals>, begin: usize, literals: &[Literals]) {
     }
 }
 
-/// Adds the row at a place, narrowed to these literals.
+/// Adds a copy of the row that begins at an index, narrowed to these literals.
 fn push_narrowed(
     rows: &mut Vec<Literals>,
     begin: usize,
@@ -103,8 +106,8 @@ fn push_narrowed(
     Ok(())
 }
 
-/// Puts the literals of a row without those at the inputs taken to another place.
-fn move_row(rows: &mut Vec<Literals>, from: usize, to: usize, taken: &[Literals]) {
+/// Writes the row that begins at `from` to `to`, without its literals at the inputs of `taken`.
+fn move_row_without(rows: &mut Vec<Literals>, from: usize, to: usize, taken: &[Literals]) {
     for (k, word) in taken.iter().enumerate() {
         let rest = match rows.get(from.wrapping_add(k)) {
             Some(old) => old.at(!word.inputs()),
@@ -124,9 +127,9 @@ impl Question {
             rows: Vec::new(alloc),
             regions: Vec::new(alloc),
             forced: vec![in alloc; Literals::NONE; width.max(1)]?,
-            next: vec![in alloc; Literals::NONE; width.max(1)]?,
+            next_forced: vec![in alloc; Literals::NONE; width.max(1)]?,
             occurring: vec![in alloc; Literals::NONE; width.max(1)]?,
-            kept: vec![in alloc; Literals::NONE; width.max(1)]?,
+            remembered: vec![in alloc; Literals::NONE; width.max(1)]?,
             is_held: false,
             zeros: vec![in alloc; 0; inputs]?,
             ones: vec![in alloc; 0; inputs]?,
@@ -142,22 +145,22 @@ impl Question {
         budget: &mut u64,
     ) -> Result<bool, AllocError> {
         self.guess(inside)?;
-        if self.is_right(list) {
+        if self.is_guess_right(list) {
             return Ok(true);
         }
-        if !self.begin(inside, list)? {
+        if !self.load_rows(inside, list)? {
             return Ok(false);
         }
         let regions = *budget;
         for _ in 0..regions {
             *budget = budget.saturating_sub(1);
-            let goes_on = match self.settle() {
-                State::Free => {
-                    self.keep(inside);
+            let goes_on = match self.propagate() {
+                State::PlaceFound => {
+                    self.remember_answer(inside);
                     return Ok(true);
                 }
-                State::Held => self.go_back(),
-                State::Open => self.split()?,
+                State::Held => self.backtrack(),
+                State::Undecided => self.split()?,
             };
             if !goes_on {
                 return Ok(false);
@@ -171,24 +174,24 @@ impl Question {
     pub(crate) fn guess(&mut self, inside: &[Literals]) -> Result<(), AllocError> {
         self.rows.clear();
         self.regions.clear();
-        for (word, kept) in inside.iter().zip(self.kept.iter()) {
+        for (word, kept) in inside.iter().zip(self.remembered.iter()) {
             self.rows.push(word.meet(kept.at(!word.inputs())))?;
         }
         Ok(())
     }
 
     // Whether the cube that was guessed is outside the list.
-    fn is_right(&self, list: &[Literals]) -> bool {
+    fn is_guess_right(&self, list: &[Literals]) -> bool {
         let guess = self.answer();
         !list
             .chunks_exact(self.width.max(1))
             .any(|row| meets(row, guess))
     }
 
-    // Keeps the literals of the answer at inputs that were free.
-    fn keep(&mut self, inside: &[Literals]) {
-        let begin = self.begin_of_last();
-        for (k, (kept, asked)) in self.kept.iter_mut().zip(inside.iter()).enumerate() {
+    // Remembers the literals of the answer at inputs where the cube asked for has none.
+    fn remember_answer(&mut self, inside: &[Literals]) {
+        let begin = self.begin_of_last_region();
+        for (k, (kept, asked)) in self.remembered.iter_mut().zip(inside.iter()).enumerate() {
             let found = match self.rows.get(begin.wrapping_add(k)) {
                 Some(word) => word.at(!asked.inputs()),
                 None => Literals::NONE,
@@ -199,18 +202,20 @@ impl Question {
 
     /// The cube that was found last, which is outside the list.
     pub(crate) fn answer(&self) -> &[Literals] {
-        row_at(&self.rows, self.begin_of_last(), self.width)
+        row_at(&self.rows, self.begin_of_last_region(), self.width)
     }
 
-    fn begin_of_last(&self) -> usize {
+    // The index of the first word of the last region.
+    fn begin_of_last_region(&self) -> usize {
         match self.regions.last() {
             Some(region) => region.begin,
             None => 0,
         }
     }
 
-    // Takes up the cubes that meet this one. `false` if one of them holds it.
-    fn begin(&mut self, inside: &[Literals], list: &[Literals]) -> Result<bool, AllocError> {
+    // Loads the first region: the cube, and the cubes of the list that meet it. `false` if one of them
+    // contains it.
+    fn load_rows(&mut self, inside: &[Literals], list: &[Literals]) -> Result<bool, AllocError> {
         self.rows.clear();
         self.regions.clear();
         self.regions.push(Region {
@@ -220,98 +225,102 @@ impl Question {
         })?;
         self.rows.extend_from_slice(inside)?;
         for row in list.chunks_exact(self.width.max(1)) {
-            if meets(row, inside) && !push_freed(&mut self.rows, row, inside)? {
+            if meets(row, inside) && !push_cofactor(&mut self.rows, row, inside)? {
                 return Ok(false);
             }
         }
-        self.look();
+        self.note_all_rows();
         Ok(true)
     }
 
-    // Takes what is forced in the last region, until nothing is.
-    fn settle(&mut self) -> State {
-        let begin = self.begin_of_last();
+    // Unit propagation: takes what is forced in the last region, until nothing is.
+    fn propagate(&mut self) -> State {
+        let begin = self.begin_of_last_region();
         for _ in 0..=self.zeros.len() {
             if self.is_held {
                 return State::Held;
             }
             if self.rows.len() <= begin.saturating_add(self.width) {
-                return State::Free;
+                return State::PlaceFound;
             }
             if !has_literal(&self.forced) {
-                return State::Open;
+                return State::Undecided;
             }
-            self.take_forced(begin);
+            self.take_forced_literals(begin);
         }
         State::Held
     }
 
-    // Looks at the cubes of the only region.
-    fn look(&mut self) {
-        self.begin_look();
+    // Notes the literals of all cubes of the first region.
+    fn note_all_rows(&mut self) {
+        self.begin_notes();
         for row in tail(&self.rows, self.width).chunks_exact(self.width.max(1)) {
-            if !note(row, &mut self.next, &mut self.occurring) {
+            if !note_row(row, &mut self.next_forced, &mut self.occurring) {
                 self.is_held = true;
             }
         }
-        self.end_look();
+        self.end_notes();
     }
 
-    fn begin_look(&mut self) {
+    // Before the cubes of the last region are noted.
+    fn begin_notes(&mut self) {
         self.is_held = false;
-        self.next.fill(Literals::NONE);
+        self.next_forced.fill(Literals::NONE);
         self.occurring.fill(Literals::NONE);
     }
 
-    // What the cubes force is known now.
-    fn end_look(&mut self) {
-        swap(&mut self.forced, &mut self.next);
+    // After the cubes of the last region are noted: what they force is known now. Where they force
+    // nothing, pure literals do.
+    fn end_notes(&mut self) {
+        swap(&mut self.forced, &mut self.next_forced);
         if !has_literal(&self.forced) {
-            self.force_pure();
+            self.force_pure_literals();
         }
-        if is_torn(&self.forced) {
+        if has_both_literals(&self.forced) {
             self.is_held = true;
         }
     }
 
-    // Where one literal of an input occurs alone, the other one leaves all of its cubes.
-    fn force_pure(&mut self) {
+    // Forces, at inputs where one literal alone occurs, the other one: the cubes with it then do not
+    // hold the place.
+    fn force_pure_literals(&mut self) {
         for (force, seen) in self.forced.iter_mut().zip(self.occurring.iter()) {
             force.zeros = seen.ones & !seen.zeros;
             force.ones = seen.zeros & !seen.ones;
         }
     }
 
-    // Takes the forced literals: cubes that have one of their opposites are left.
-    fn take_forced(&mut self, begin: usize) {
+    // Narrows the last region to the forced literals: cubes that have one of their opposites drop out.
+    fn take_forced_literals(&mut self, begin: usize) {
         let width = self.width;
         narrow_at(&mut self.rows, begin, &self.forced);
-        self.begin_look();
+        self.begin_notes();
         let count = self.rows.len().saturating_sub(begin) / width.max(1);
         let mut from = begin;
         let mut to = begin.saturating_add(width);
         for _ in 1..count {
             from = from.saturating_add(width);
             if meets(row_at(&self.rows, from, width), &self.forced) {
-                move_row(&mut self.rows, from, to, &self.forced);
-                self.note_at(to);
+                move_row_without(&mut self.rows, from, to, &self.forced);
+                self.note_row_at(to);
                 to = to.saturating_add(width);
             }
         }
         self.rows.truncate(to);
-        self.end_look();
+        self.end_notes();
     }
 
-    fn note_at(&mut self, place: usize) {
-        let row = row_at(&self.rows, place, self.width);
-        if !note(row, &mut self.next, &mut self.occurring) {
+    // Notes the row that begins at an index.
+    fn note_row_at(&mut self, begin: usize) {
+        let row = row_at(&self.rows, begin, self.width);
+        if !note_row(row, &mut self.next_forced, &mut self.occurring) {
             self.is_held = true;
         }
     }
 
     // Splits the last region, and goes on with the half that has fewer cubes.
     fn split(&mut self) -> Result<bool, AllocError> {
-        let begin = self.begin_of_last();
+        let begin = self.begin_of_last_region();
         let input = self.splitting_input(begin);
         let one = count_at(&self.ones, input) < count_at(&self.zeros, input);
         if let Some(region) = self.regions.last_mut() {
@@ -329,16 +338,17 @@ impl Question {
         Ok(true)
     }
 
+    // Forces one literal alone.
     fn force_literal(&mut self, input: usize, one: bool) {
         self.forced.fill(Literals::NONE);
         put_literal(&mut self.forced, input, one);
     }
 
-    // Copies a region within the forced literals to the end.
+    // Copies a region to the end, narrowed to the forced literals.
     fn copy_region(&mut self, begin: usize, end: usize) -> Result<(), AllocError> {
         let width = self.width;
         push_narrowed(&mut self.rows, begin, &self.forced)?;
-        self.begin_look();
+        self.begin_notes();
         let count = end.saturating_sub(begin) / width.max(1);
         let mut from = begin;
         for _ in 1..count {
@@ -346,16 +356,17 @@ impl Question {
             if meets(row_at(&self.rows, from, width), &self.forced) {
                 let to = self.rows.len();
                 self.rows.extend_from_slice(&self.forced)?;
-                move_row(&mut self.rows, from, to, &self.forced);
-                self.note_at(to);
+                move_row_without(&mut self.rows, from, to, &self.forced);
+                self.note_row_at(to);
             }
         }
-        self.end_look();
+        self.end_notes();
         Ok(())
     }
 
-    // Leaves the last region, and goes on with the other half of the one before it.
-    fn go_back(&mut self) -> bool {
+    // Leaves the last region, and goes on with the other half of the one before it. Whether there is
+    // one.
+    fn backtrack(&mut self) -> bool {
         if let Some(region) = self.regions.pop() {
             self.rows.truncate(region.begin);
         }
@@ -363,7 +374,7 @@ impl Question {
             Some(region) => {
                 let (begin, input, one) = (region.begin, region.input, region.one);
                 self.force_literal(input, one);
-                self.take_forced(begin);
+                self.take_forced_literals(begin);
                 true
             }
             None => false,
@@ -379,7 +390,7 @@ impl Question {
         for input in 0..self.zeros.len() {
             let (zeros, ones) = (count_at(&self.zeros, input), count_at(&self.ones, input));
             let here = (zeros.wrapping_add(ones), zeros.min(ones));
-            if is_input_of(&self.occurring, input) && here >= most {
+            if has_literal_at(&self.occurring, input) && here >= most {
                 most = here;
                 best = input;
             }
@@ -387,7 +398,7 @@ impl Question {
         best
     }
 
-    // Counts the literals of a region by input, and notes those of its shortest cubes.
+    // Counts the literals of a region by input, and notes those that occur in its shortest cubes.
     fn count_literals(&mut self, begin: usize) {
         self.zeros.fill(0);
         self.ones.fill(0);
@@ -408,7 +419,7 @@ impl Question {
 }
 
 /// Whether an input has a literal.
-fn is_input_of(row: &[Literals], input: usize) -> bool {
+fn has_literal_at(row: &[Literals], input: usize) -> bool {
     match row.get(input / 64) {
         Some(word) => word.inputs() >> (input % 64) & 1 != 0,
         None => false,

@@ -4,7 +4,7 @@ ghost use Rattle.std.specs.Prelude.{◌<◌};
 use crate::bits::{Literals, has_bit, literal_at, put_bit, row_at};
 use std::alloc::{AllocError, Global};
 
-/// How many words hold so many bits, one at least.
+/// How many words hold this many bits; at least one.
 pub(crate) fn words_for(bits: usize) -> usize
     ensures { 0 < result }
 {
@@ -17,27 +17,27 @@ pub struct Rows {
     inputs: usize,
     outputs: usize,
     literals: Vec<Literals>,
-    raised: Vec<u64>,
+    outputs_by_row: Vec<u64>,
 }
 
 impl Rows {
-    /// No rows, of so many inputs and outputs.
+    /// No rows, of this many inputs and outputs.
     pub fn new(alloc: Global, inputs: usize, outputs: usize) -> Rows {
         Rows {
             inputs,
             outputs,
             literals: Vec::new(alloc),
-            raised: Vec::new(alloc),
+            outputs_by_row: Vec::new(alloc),
         }
     }
 
-    /// Begins a row, without literals and outputs.
-    pub fn open(&mut self) -> Result<(), AllocError> {
+    /// Begins a row, which has no literals and outputs yet.
+    pub fn begin_row(&mut self) -> Result<(), AllocError> {
         for _ in 0..words_for(self.inputs) {
             self.literals.push(Literals::NONE)?;
         }
         for _ in 0..words_for(self.outputs) {
-            self.raised.push(0)?;
+            self.outputs_by_row.push(0)?;
         }
         Ok(())
     }
@@ -62,11 +62,17 @@ impl Rows {
 
     /// Gives the last row an output. An output that is not there is ignored.
     pub fn put_output(&mut self, output: usize) {
-        let begin = self.raised.len().saturating_sub(words_for(self.outputs));
+        let begin = self
+            .outputs_by_row
+            .len()
+            .saturating_sub(words_for(self.outputs));
         if output >= self.outputs {
             return;
         }
-        if let Some(word) = self.raised.get_mut(begin.saturating_add(output / 64)) {
+        if let Some(word) = self
+            .outputs_by_row
+            .get_mut(begin.saturating_add(output / 64))
+        {
             *word |= 1 << (output % 64);
         }
     }
@@ -92,15 +98,15 @@ impl Rows {
     }
 
     /// The literals of a row.
-    pub(crate) fn literals(&self, row: usize) -> &[Literals] {
+    pub(crate) fn literals_of(&self, row: usize) -> &[Literals] {
         let width = words_for(self.inputs);
         row_at(&self.literals, row.saturating_mul(width), width)
     }
 
     /// The outputs of a row.
-    pub(crate) fn raised(&self, row: usize) -> &[u64] {
+    pub(crate) fn outputs_of(&self, row: usize) -> &[u64] {
         let width = words_for(self.outputs);
-        row_at(&self.raised, row.saturating_mul(width), width)
+        row_at(&self.outputs_by_row, row.saturating_mul(width), width)
     }
 }
 
@@ -112,7 +118,7 @@ pub struct Place {
 }
 
 impl Place {
-    /// A place of a cube, where the free inputs are 0.
+    /// A place of a cube: inputs where it has no literal are 0.
     pub(crate) fn of(
         alloc: Global,
         inside: &[Literals],
@@ -137,7 +143,7 @@ impl Place {
 }
 
 /// One step of a hash over words (Knuth, The art of computer programming, volume 3).
-fn mixed(number: u64, word: u64) -> u64 {
+fn hash_step(number: u64, word: u64) -> u64 {
     let next = (number ^ word).wrapping_mul(0x9E3779B97F4A7C15);
     next ^ (next >> 29)
 }
@@ -190,14 +196,14 @@ impl Cube {
         Ok(inputs)
     }
 
-    /// A number for the cube, which hardly any other has.
-    pub(crate) fn number(&self) -> u64 {
+    /// A hash of the cube.
+    pub(crate) fn hash(&self) -> u64 {
         let mut number: u64 = 0;
         for word in &self.literals {
-            number = mixed(mixed(number, word.zeros), word.ones);
+            number = hash_step(hash_step(number, word.zeros), word.ones);
         }
         for word in &self.outputs {
-            number = mixed(number, *word);
+            number = hash_step(number, *word);
         }
         number
     }

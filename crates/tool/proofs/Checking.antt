@@ -5,8 +5,8 @@ use Rattle.std.proofs.lemmas.List.Folds.{list_any-append}
 use Rattle.cube.specs.Cube.{Cube, Place, holds, IsSubset}
 use Rattle.cover.specs.Places.{holds_all, places, share_place}
 use Rattle.cover.proofs.SumPlaces.{none-shares, outside-shares, shares-none, shares-outside, whole-outside}
-use Rattle.pla.specs.declared.fault.FileType.{FileType}
-use Rattle.pla.specs.declared.fault.FileType.TheVariants.{F, Fd, Fr, Fdr}
+use Rattle.pla.specs.declared.file_type.FileType.{FileType}
+use Rattle.pla.specs.declared.file_type.FileType.TheVariants.{F, Fd, Fr, Fdr}
 use Rattle.pla.specs.Completed.{dc_list, off_list, outside}
 use Rattle.pla.specs.Description.{Description}
 use Rattle.pla.specs.Sets.{SetLists}

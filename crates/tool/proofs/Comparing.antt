@@ -6,8 +6,8 @@ use Rattle.cover.proofs.MaskedAgreement.{all_free}
 use Rattle.cover.proofs.MeetsWithin.{IsSubset-meets}
 use Rattle.cover.proofs.OffSets.{places-sum}
 use Rattle.cover.proofs.SumMeets.{places-append}
-use Rattle.pla.specs.declared.fault.FileType.{FileType}
-use Rattle.pla.specs.declared.fault.FileType.TheVariants.{F, Fd, Fr, Fdr}
+use Rattle.pla.specs.declared.file_type.FileType.{FileType}
+use Rattle.pla.specs.declared.file_type.FileType.TheVariants.{F, Fd, Fr, Fdr}
 use Rattle.pla.specs.Completed.{dc_list}
 use Rattle.pla.specs.Description.{Description}
 use Rattle.tool.specs.Comparing.{settled}

@@ -2,8 +2,8 @@
 use Rattle.std.specs.Prelude.{Bool, List}
 use Rattle.cube.specs.Cube.{Cube, Place, intersection}
 use Rattle.cover.specs.Places.{places}
-use Rattle.pla.specs.declared.fault.FileType.{FileType}
-use Rattle.pla.specs.declared.fault.FileType.TheVariants.{F, Fd, Fr, Fdr}
+use Rattle.pla.specs.declared.file_type.FileType.{FileType}
+use Rattle.pla.specs.declared.file_type.FileType.TheVariants.{F, Fd, Fr, Fdr}
 
 -- the places of s that a file settles: if they are outside its ON list, they are don't-cares only
 -- where it lists them as such. Under fr these are those of its OFF list

@@ -5,8 +5,8 @@ use Rattle.std.specs.Str.{bytes_eq}
 use Rattle.cube.specs.Limits.{format_limits}
 use Rattle.cube.specs.Size.{Size}
 use Rattle.pla.specs.declared.ending.Ending.{Ending}
-use Rattle.pla.specs.declared.fault.Echo.{Echo}
-use Rattle.pla.specs.declared.fault.Echo.TheVariants.{Keep, Eat}
+use Rattle.pla.specs.declared.echo.Echo.{Echo}
+use Rattle.pla.specs.declared.echo.Echo.TheVariants.{Keep, Eat}
 use Rattle.pla.specs.declared.fault.ReadFault.{ReadFault}
 use Rattle.pla.specs.Description.{Description, described}
 use Rattle.pla.specs.Echoes.{due}

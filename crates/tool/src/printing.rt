@@ -11,7 +11,9 @@ ghost use Rattle.tool.specs.Steps.{PutsOut};
 use crate::failure::Failure;
 use crate::status::Status;
 use cover::Cover;
-use pla::{OutType, Output, Pla, WriteFault, open_dc, open_off, write_bytes, write_covers};
+use pla::{
+    OutType, Output, Pla, WriteFault, dc_unless_given, off_unless_given, write_bytes, write_covers,
+};
 use std::alloc::{AllocError, Global};
 
 // The description with this list in place of its ON list, if memory was enough for it.
@@ -78,8 +80,8 @@ fn open_lists(alloc: Global, pla: &Pla, out_type: OutType) -> Result<Open, Alloc
           cubes = off_list pla.now.file_type (prints_off out_type) pla.now;
         }) }
 {
-    let dc = open_dc(alloc, pla, is_dc_printed(out_type))?;
-    let off = open_off(alloc, pla, is_off_printed(out_type))?;
+    let dc = dc_unless_given(alloc, pla, is_dc_printed(out_type))?;
+    let off = off_unless_given(alloc, pla, is_off_printed(out_type))?;
     Ok(Open { dc, off })
 }
 

@@ -14,7 +14,7 @@ use crate::printing::{judge, lent};
 use crate::status::Status;
 use cover::{Cover, are_meets_within_either, is_within_either};
 use minimum::Choice;
-use pla::{FileType, OutType, Output, Pla, open_dc};
+use pla::{FileType, OutType, Output, Pla, dc_unless_given};
 use std::alloc::{AllocError, Global};
 
 // Whether the two agree outside their DC-sets.
@@ -42,8 +42,8 @@ fn listed_dc(alloc: Global, pla: &Pla, other: &Pla) -> Result<Cover, AllocError>
           ++ dc_list other.now.file_type false other.now;
     }) }
 {
-    let dc = open_dc(alloc, pla, false)?;
-    let other_dc = open_dc(alloc, other, false)?;
+    let dc = dc_unless_given(alloc, pla, false)?;
+    let other_dc = dc_unless_given(alloc, other, false)?;
     let mut free = lent(&dc, pla.dc()).try_clone()?;
     free.append(lent(&other_dc, other.dc()))?;
     Ok(free)

@@ -289,7 +289,7 @@ fn ends_at_write<O: Opener>(
     writes: u64,
 ) -> Result<bool, Fail> {
     let output = Taken::new(alloc, 200, 10, false)?;
-    let mut output = output.failing_after(writes);
+    let mut output = output.failing_once_after(writes);
     let mut message = Taken::new(alloc, 200, 200, false)?;
     let status = execute(alloc, Ok(words), files, &mut output, &mut message);
     Ok(

@@ -167,7 +167,7 @@ fn long_lists_of_marks_are_made(rt: HostRuntime) -> Result<(), Fail> {
 fn decoder(alloc: Global) -> Result<Rows, AllocError> {
     let mut rows = Rows::new(alloc, 10, 1024);
     for number in 0..1024usize {
-        rows.open()?;
+        rows.begin_row()?;
         for input in 0..10usize {
             rows.put_literal(input, number >> input & 1 == 1);
         }
@@ -181,7 +181,7 @@ fn outside_decoder(alloc: Global) -> Result<Rows, AllocError> {
     let mut rows = Rows::new(alloc, 10, 1024);
     for number in 0..1024usize {
         for input in 0..10usize {
-            rows.open()?;
+            rows.begin_row()?;
             rows.put_literal(input, number >> input & 1 == 0);
             rows.put_output(number);
         }

@@ -8,7 +8,7 @@ use std::test::Fail;
 fn decoder(alloc: Global) -> Result<Rows, AllocError> {
     let mut rows = Rows::new(alloc, 6, 64);
     for number in 0..64usize {
-        rows.open()?;
+        rows.begin_row()?;
         for input in 0..6usize {
             rows.put_literal(input, number >> input & 1 == 1);
         }
@@ -22,7 +22,7 @@ fn outside_decoder(alloc: Global) -> Result<Rows, AllocError> {
     let mut rows = Rows::new(alloc, 6, 64);
     for number in 0..64usize {
         for input in 0..6usize {
-            rows.open()?;
+            rows.begin_row()?;
             rows.put_literal(input, number >> input & 1 == 0);
             rows.put_output(number);
         }

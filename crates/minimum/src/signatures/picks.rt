@@ -23,7 +23,7 @@ fn put_outputs(rows: &mut Rows, cube: &Cube) {
 
 /// Adds the cube as a row.
 fn put_cube(rows: &mut Rows, cube: &Cube) -> Result<(), AllocError> {
-    rows.open()?;
+    rows.begin_row()?;
     for i in 0..cube.shape().inputs() {
         match cube.symbol(i) {
             Symbol::Dash => {}

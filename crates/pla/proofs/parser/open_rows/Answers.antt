@@ -1,7 +1,7 @@
 use Rattle.std.proofs.Common.{[], Some, ap, sym, ◌∙◌, option_map}
 use Rattle.std.specs.Option.{option_or}
 use Rattle.cube.specs.Size.{Size}
-use Rattle.pla.specs.declared.fault.FileType.TheVariants.{Fd}
+use Rattle.pla.specs.declared.file_type.FileType.TheVariants.{Fd}
 use Rattle.pla.specs.Reading.{RowsRead, rows_of}
 use Rattle.pla.proofs.parser.open_rows.Goals as goal
 

@@ -1,6 +1,6 @@
 use Rattle.std.proofs.Common.{◌≡◌, codes, refl, ap, sym, ◌∙◌}
-use Rattle.pla.specs.declared.fault.FileType.{FileType}
-use Rattle.pla.specs.declared.fault.FileType.TheVariants.{F, Fd, Fr, Fdr}
+use Rattle.pla.specs.declared.file_type.FileType.{FileType}
+use Rattle.pla.specs.declared.file_type.FileType.TheVariants.{F, Fd, Fr, Fdr}
 use Rattle.pla.specs.declared.rows.Part.{Part}
 use Rattle.pla.specs.declared.rows.Part.TheVariants.{On}
 use Rattle.pla.specs.Symbols.{is_byte_of}

@@ -1,5 +1,5 @@
 use Rattle.std.proofs.Common.{◌∙◌, ap, sym, false}
-use Rattle.pla.specs.declared.fault.FileType.TheVariants.{F, Fd, Fr, Fdr}
+use Rattle.pla.specs.declared.file_type.FileType.TheVariants.{F, Fd, Fr, Fdr}
 use Rattle.tool.specs.Check.{flaws_of}
 use Rattle.tool.proofs.Checking.{flaws-shown, sets_by}
 use Rattle.tool.proofs.check.flaws_in.Goals as goal

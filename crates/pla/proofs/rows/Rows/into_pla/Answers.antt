@@ -1,5 +1,5 @@
 use Rattle.std.proofs.Common.{ap, ◌∙◌}
-use Rattle.pla.specs.declared.fault.FileType.{FileType}
+use Rattle.pla.specs.declared.file_type.FileType.{FileType}
 use Rattle.pla.specs.Names.{owned_names}
 use Rattle.pla.specs.Description.{Description}
 use Rattle.pla.specs.Reading.{RowsRead}
@@ -16,4 +16,4 @@ returns c =
       dc = r.dc;
       off = r.off;
     } in
-    c.new.ensures ∙ ap (described c.rows_type-file_type.result) c.self.view_is ∙ ap (λ t. described t c.args.self) (c.rows_type-file_type.ensures 0)
+    c.new.ensures ∙ ap (described c.file_type_or_fd-file_type.result) c.self.view_is ∙ ap (λ t. described t c.args.self) (c.file_type_or_fd-file_type.ensures 0)

@@ -41,32 +41,32 @@ returns-in_err-end_line-in-Some-clause-count g c =
     let p = err_from_is_err_and c.from_residual.result c.from_residual.ensures.1 in
     rw (p.1, p.2) (λ text st. fed_count c.in_err-end_line-in-Some.field-0.0 c.args.self c.loop-rest.self c.args.piece.now c.loop-rest.rest.now _ _ (g.W.Output.calls c.args.output.now) (g.W.Output.calls c.loop-rest.output) (g.W.Output.calls c.end_line.new.output) text c.loop-rest.invariant st e.count)
 
-pub returns-in_err-hold-in-None-clause-fault : goal.returns-in_err-hold-in-None-clause-fault
-returns-in_err-hold-in-None-clause-fault g c =
+pub returns-in_err-keep_rest-in-None-clause-fault : goal.returns-in_err-keep_rest-in-None-clause-fault
+returns-in_err-keep_rest-in-None-clause-fault g c =
     let rest = c.loop-rest.rest.now in
-    let p = err_from_is_err_and c.from_residual-in_err-hold-in-None.result c.from_residual-in_err-hold-in-None.ensures.1 in
-    rw (p.1, p.2) (λ text st. fed_fault c.in_err-hold-in-None.field-0.0 c.args.self c.loop-rest.self c.args.piece.now rest (rest ++ []) [] _ _ _ _ text c.loop-rest.invariant
+    let p = err_from_is_err_and c.from_residual-in_err-keep_rest-in-None.result c.from_residual-in_err-keep_rest-in-None.ensures.1 in
+    rw (p.1, p.2) (λ text st. fed_fault c.in_err-keep_rest-in-None.field-0.0 c.args.self c.loop-rest.self c.args.piece.now rest (rest ++ []) [] _ _ _ _ text c.loop-rest.invariant
     (sym (append-nil rest) ∙ sym (append-nil (rest ++ []))) st
-    (λ t s. held_fault c.in_err-hold-in-None.field-0.0 c.loop-rest.self t rest [] s (sym c.done.ensures ∙ c.loop-rest-test.true) c.in-None.ensures c.in_err-hold-in-None.ensures.fault))
+    (λ t s. held_fault c.in_err-keep_rest-in-None.field-0.0 c.loop-rest.self t rest [] s (sym c.done.ensures ∙ c.loop-rest-test.true) c.in-None.ensures c.in_err-keep_rest-in-None.ensures.fault))
 
-pub returns-in_err-hold-in-None-clause-written : goal.returns-in_err-hold-in-None-clause-written
-returns-in_err-hold-in-None-clause-written g c =
+pub returns-in_err-keep_rest-in-None-clause-written : goal.returns-in_err-keep_rest-in-None-clause-written
+returns-in_err-keep_rest-in-None-clause-written g c =
     let rest = c.loop-rest.rest.now in
-    let p = err_from_is_err_and c.from_residual-in_err-hold-in-None.result c.from_residual-in_err-hold-in-None.ensures.1 in
-    rw (p.1, p.2) (λ text st. fed_written c.in_err-hold-in-None.field-0.0 c.args.self c.loop-rest.self c.args.piece.now rest (rest ++ []) [] _ _ (g.W.Output.taken c.loop-rest.output) _ _ text c.loop-rest.invariant
+    let p = err_from_is_err_and c.from_residual-in_err-keep_rest-in-None.result c.from_residual-in_err-keep_rest-in-None.ensures.1 in
+    rw (p.1, p.2) (λ text st. fed_written c.in_err-keep_rest-in-None.field-0.0 c.args.self c.loop-rest.self c.args.piece.now rest (rest ++ []) [] _ _ (g.W.Output.taken c.loop-rest.output) _ _ text c.loop-rest.invariant
     (sym (append-nil rest) ∙ sym (append-nil (rest ++ []))) st
-    (λ t s. held_fault c.in_err-hold-in-None.field-0.0 c.loop-rest.self t rest [] s (sym c.done.ensures ∙ c.loop-rest-test.true) c.in-None.ensures c.in_err-hold-in-None.ensures.fault)
-    (λ t s. held_written c.in_err-hold-in-None.field-0.0 c.loop-rest.self t rest [] (g.W.Output.taken c.loop-rest.output) s (sym c.done.ensures ∙ c.loop-rest-test.true) c.in-None.ensures c.in_err-hold-in-None.ensures.fault))
+    (λ t s. held_fault c.in_err-keep_rest-in-None.field-0.0 c.loop-rest.self t rest [] s (sym c.done.ensures ∙ c.loop-rest-test.true) c.in-None.ensures c.in_err-keep_rest-in-None.ensures.fault)
+    (λ t s. held_written c.in_err-keep_rest-in-None.field-0.0 c.loop-rest.self t rest [] (g.W.Output.taken c.loop-rest.output) s (sym c.done.ensures ∙ c.loop-rest-test.true) c.in-None.ensures c.in_err-keep_rest-in-None.ensures.fault))
 
-pub returns-in_err-hold-in-None-clause-count : goal.returns-in_err-hold-in-None-clause-count
-returns-in_err-hold-in-None-clause-count g c =
-    let p = err_from_is_err_and c.from_residual-in_err-hold-in-None.result c.from_residual-in_err-hold-in-None.ensures.1 in
-    rw (p.1, p.2) (λ text st. fed_count c.in_err-hold-in-None.field-0.0 c.args.self c.loop-rest.self c.args.piece.now c.loop-rest.rest.now _ _ (g.W.Output.calls c.args.output.now) (g.W.Output.calls c.loop-rest.output) (g.W.Output.calls c.loop-rest.output) text c.loop-rest.invariant st
-    (λ t s. held_counts c.in_err-hold-in-None.field-0.0 _ _ (g.W.Output.calls c.loop-rest.output) c.in_err-hold-in-None.ensures.fault))
+pub returns-in_err-keep_rest-in-None-clause-count : goal.returns-in_err-keep_rest-in-None-clause-count
+returns-in_err-keep_rest-in-None-clause-count g c =
+    let p = err_from_is_err_and c.from_residual-in_err-keep_rest-in-None.result c.from_residual-in_err-keep_rest-in-None.ensures.1 in
+    rw (p.1, p.2) (λ text st. fed_count c.in_err-keep_rest-in-None.field-0.0 c.args.self c.loop-rest.self c.args.piece.now c.loop-rest.rest.now _ _ (g.W.Output.calls c.args.output.now) (g.W.Output.calls c.loop-rest.output) (g.W.Output.calls c.loop-rest.output) text c.loop-rest.invariant st
+    (λ t s. held_counts c.in_err-keep_rest-in-None.field-0.0 _ _ (g.W.Output.calls c.loop-rest.output) c.in_err-keep_rest-in-None.ensures.fault))
 
 pub returns-in-None : goal.returns-in-None
 returns-in-None g c =
-    let fed = fed_rest c.args.self c.loop-rest.self c.hold.new.self c.args.piece.now c.loop-rest.rest.now _ _ _ _ c.loop-rest.invariant (sym c.done.ensures ∙ c.loop-rest-test.true) c.in-None.ensures c.in_ok-hold-in-None.ensures.kept c.in_ok-hold-in-None.ensures.fits in
+    let fed = fed_rest c.args.self c.loop-rest.self c.keep_rest.new.self c.args.piece.now c.loop-rest.rest.now _ _ _ _ c.loop-rest.invariant (sym c.done.ensures ∙ c.loop-rest-test.true) c.in-None.ensures c.in_ok-keep_rest-in-None.ensures.kept c.in_ok-keep_rest-in-None.ensures.fits in
     record { echo = fed.echo; stands = fed.stands; fault = λ text st. tt; written = fed.written; count = fed.count; onward = fed.onward }
 
 pub returns : goal.returns

@@ -2,7 +2,7 @@ use Rattle.std.proofs.Common.{◌+◌, take, drop, refl, ap, sym, ◌∙◌, sub
 use Rattle.pla.specs.Reading.{RowsRead, BeginsRow}
 use Rattle.pla.proofs.Moves.{drop_is}
 use Rattle.pla.proofs.Runs.{read_row_front}
-use Rattle.pla.proofs.rows.Rows.take_row.Goals as goal
+use Rattle.pla.proofs.rows.Rows.take_whole_row.Goals as goal
 
 pub returns-clause-read : goal.returns-clause-read
 returns-clause-read c =

@@ -1,7 +1,7 @@
 use Rattle.std.proofs.Common.{◌∷◌, flat_map, take}
 use Rattle.pla.specs.Device.{PutsOn, CountsOn}
 use Rattle.pla.specs.Names.{name_bytes}
-use Rattle.pla.proofs.text.write_each.Given as goal
+use Rattle.pla.proofs.text.write_each_name.Given as goal
 
 abbrev pub invariant-loop-name : goal.invariant-loop-name
 invariant-loop-name g l = record {

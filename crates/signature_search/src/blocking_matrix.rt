@@ -1,4 +1,5 @@
-//! The minimal rows of a cube's blocking matrix.
+//! The minimal rows of a cube's blocking matrix. (`blocking` in `minimum` is another thing: the
+//! cubes that block each step out of a prime.)
 //!
 //! A row is made of an OFF cube: the literals of the cube that part the two, and the output of the
 //! OFF cube where the cube lacks it. A prime that contains the cube keeps one literal of each row,
@@ -18,15 +19,15 @@ use std::alloc::{AllocError, Global};
 
 /// Rows of a blocking matrix: the inputs of their literals, and an output for some.
 #[derive(Drop)]
-pub(crate) struct Blocking {
+pub(crate) struct BlockingRows {
     width: usize,
     inputs: Vec<u64>,
     outputs: Vec<Option<usize>>,
 }
 
-impl Blocking {
-    pub(crate) fn new(alloc: Global, width: usize) -> Blocking {
-        Blocking {
+impl BlockingRows {
+    pub(crate) fn new(alloc: Global, width: usize) -> BlockingRows {
+        BlockingRows {
             width,
             inputs: Vec::new(alloc),
             outputs: Vec::new(alloc),
@@ -38,18 +39,18 @@ impl Blocking {
         self.outputs.len()
     }
 
-    /// The inputs of a row.
+    /// The inputs of the literals of a row.
     pub(crate) fn inputs(&self, row: usize) -> &[u64] {
         row_at(&self.inputs, row.saturating_mul(self.width), self.width)
     }
 
-    /// The inputs of the rows from one to another.
-    pub(crate) fn inputs_of(&self, begin: usize, end: usize) -> &[u64] {
+    /// The inputs of the rows from `begin` to `end`, row by row.
+    pub(crate) fn inputs_of_rows(&self, begin: usize, end: usize) -> &[u64] {
         let count = end.saturating_sub(begin).saturating_mul(self.width);
         row_at(&self.inputs, begin.saturating_mul(self.width), count)
     }
 
-    /// The output of a row.
+    /// The output of a row, if it has one.
     pub(crate) fn output(&self, row: usize) -> Option<usize> {
         match self.outputs.get(row) {
             Some(output) => *output,
@@ -62,7 +63,7 @@ impl Blocking {
         bit_count(self.inputs(row)).wrapping_add(self.output(row).is_some() as u32)
     }
 
-    /// The row after the last that has the output of this one, which it follows.
+    /// The end of the rows that have the output of this one, from it on.
     pub(crate) fn end_of_output(&self, row: usize) -> usize {
         let output = self.output(row);
         for other in row..self.len() {
@@ -80,15 +81,15 @@ impl Blocking {
         Ok(())
     }
 
-    // Whether a row from one to another is within this one.
-    fn has_within(&self, inputs: &[u64], begin: usize, end: usize) -> bool {
-        self.inputs_of(begin, end)
+    // Whether the inputs of some row from `begin` to `end` are all among these.
+    fn has_row_within(&self, inputs: &[u64], begin: usize, end: usize) -> bool {
+        self.inputs_of_rows(begin, end)
             .chunks_exact(self.width.max(1))
             .any(|other| is_within(other, inputs))
     }
 
     /// The inputs that occur in rows.
-    pub(crate) fn all_inputs(&self, alloc: Global) -> Result<Vec<u64>, AllocError> {
+    pub(crate) fn occurring_inputs(&self, alloc: Global) -> Result<Vec<u64>, AllocError> {
         let mut all: Vec<u64> = vec![in alloc; 0; self.width]?;
         for row in self.inputs.chunks_exact(self.width.max(1)) {
             join_bits(&mut all, row);
@@ -99,21 +100,22 @@ impl Blocking {
 
 /// The blocking matrix of a cube, and memory that is kept from one to the next.
 #[derive(Drop)]
-pub(crate) struct Matrix {
+pub(crate) struct BlockingMatrix {
     alloc: Global,
     width: usize,
-    // The inputs whose literals are rows by themselves, for all outputs of the cube, and for one
-    // more output.
+    // The inputs whose literals are rows by themselves for the outputs of the cube.
     common: Vec<u64>,
+    // The inputs whose literals are rows by themselves for these, or for one more output.
     singles: Vec<u64>,
-    // Other rows, and their order.
+    // Rows of several literals.
     rows: Vec<u64>,
+    // The lengths and indices of these, the shortest first.
     order: Vec<(u32, usize)>,
 }
 
-impl Matrix {
-    pub(crate) fn new(alloc: Global, width: usize) -> Result<Matrix, AllocError> {
-        Ok(Matrix {
+impl BlockingMatrix {
+    pub(crate) fn new(alloc: Global, width: usize) -> Result<BlockingMatrix, AllocError> {
+        Ok(BlockingMatrix {
             alloc,
             width,
             common: vec![in alloc; 0; width]?,
@@ -129,47 +131,49 @@ impl Matrix {
         &mut self,
         function: &Function,
         cube: &Cube,
-    ) -> Result<Option<Blocking>, AllocError> {
-        let mut found = Blocking::new(self.alloc, self.width);
+    ) -> Result<Option<BlockingRows>, AllocError> {
+        let mut found = BlockingRows::new(self.alloc, self.width);
         self.common.fill(0);
         self.singles.fill(0);
         self.rows.clear();
         for output in 0..function.outputs {
             if has_bit(&cube.outputs, output)
-                && !self.gather(&cube.literals, function.off(output))?
+                && !self.gather_rows(&cube.literals, function.off(output))?
             {
                 return Ok(None);
             }
         }
-        self.push_minimal(&mut found, 0, None)?;
+        self.push_minimal_rows(&mut found, 0, None)?;
         let longer = found.len();
         self.push_singles(&mut found, None)?;
         for output in 0..function.outputs {
             if !has_bit(&cube.outputs, output) {
-                self.common_to_singles();
-                self.add_output(&mut found, longer, cube, function, output)?;
+                self.copy_common_to_singles();
+                self.add_rows_of_output(&mut found, longer, cube, function, output)?;
             }
         }
         Ok(Some(found))
     }
 
-    fn common_to_singles(&mut self) {
+    // Begins the rows of one literal of another output with the common ones.
+    fn copy_common_to_singles(&mut self) {
         self.singles.fill(0);
         join_bits(&mut self.singles, &self.common);
     }
 
-    // Adds the minimal rows of an output that the cube lacks.
-    fn add_output(
+    // Adds the minimal rows of an output that the cube lacks. If the cube meets an OFF cube of it,
+    // that is one row without literals.
+    fn add_rows_of_output(
         &mut self,
-        found: &mut Blocking,
+        found: &mut BlockingRows,
         longer: usize,
         cube: &Cube,
         function: &Function,
         output: usize,
     ) -> Result<(), AllocError> {
         self.rows.clear();
-        if self.gather(&cube.literals, function.off(output))? {
-            self.push_minimal(found, longer, Some(output))?;
+        if self.gather_rows(&cube.literals, function.off(output))? {
+            self.push_minimal_rows(found, longer, Some(output))?;
             self.push_singles(found, Some(output))
         } else {
             self.rows.clear();
@@ -178,9 +182,9 @@ impl Matrix {
         }
     }
 
-    // Gathers what parts the cube from OFF cubes: rows of one literal as a set, and of the others
-    // those that have none of it so far. `false` if one of the cubes meets it.
-    fn gather(&mut self, cube: &[Literals], off: &[Literals]) -> Result<bool, AllocError> {
+    // Gathers the rows of OFF cubes: those of one literal as a set, and of the others those that have
+    // no literal of the set so far. `false` if one of the cubes meets this one.
+    fn gather_rows(&mut self, cube: &[Literals], off: &[Literals]) -> Result<bool, AllocError> {
         for other in off.chunks_exact(self.width.max(1)) {
             let begin = self.rows.len();
             for (mine, theirs) in cube.iter().zip(other.iter()) {
@@ -201,34 +205,36 @@ impl Matrix {
         Ok(true)
     }
 
-    // Adds the minimal ones of the rows of several literals that contain none of the first found.
-    fn push_minimal(
+    // Adds the minimal ones of the rows of several literals that contain no single one and none of the
+    // first `longer` rows found.
+    fn push_minimal_rows(
         &mut self,
-        found: &mut Blocking,
+        found: &mut BlockingRows,
         longer: usize,
         output: Option<usize>,
     ) -> Result<(), AllocError> {
         self.order.clear();
-        for (place, row) in self.rows.chunks_exact(self.width.max(1)).enumerate() {
-            if !share_bit(row, &self.singles) && !found.has_within(row, 0, longer) {
-                self.order.push((bit_count(row), place))?;
+        for (index, row) in self.rows.chunks_exact(self.width.max(1)).enumerate() {
+            if !share_bit(row, &self.singles) && !found.has_row_within(row, 0, longer) {
+                self.order.push((bit_count(row), index))?;
             }
         }
         self.order.sort_unstable();
         let begin = found.len();
-        for (_, place) in &self.order {
-            let row = row_at(&self.rows, place.saturating_mul(self.width), self.width);
-            if !found.has_within(row, begin, found.len()) {
+        for (_, index) in &self.order {
+            let row = row_at(&self.rows, index.saturating_mul(self.width), self.width);
+            if !found.has_row_within(row, begin, found.len()) {
                 found.push(row, output)?;
             }
         }
         Ok(())
     }
 
-    // Adds the rows of one literal: without an output those are common to all outputs.
+    // Adds the rows of one literal that are not common to all outputs; the rows without an output
+    // become common.
     fn push_singles(
         &mut self,
-        found: &mut Blocking,
+        found: &mut BlockingRows,
         output: Option<usize>,
     ) -> Result<(), AllocError> {
         for input in 0..self.width.saturating_mul(64) {

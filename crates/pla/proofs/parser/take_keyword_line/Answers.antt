@@ -2,7 +2,7 @@ use Rattle.std.proofs.Common.{◌≡◌, [], cond, None, ap, sym, ◌∙◌, sub
 use Rattle.std.specs.Option.{option_or}
 use Rattle.cube.specs.Limits.{format_limits}
 use Rattle.cube.specs.Size.{Size}
-use Rattle.pla.specs.declared.fault.FileType.TheVariants.{Fd}
+use Rattle.pla.specs.declared.file_type.FileType.TheVariants.{Fd}
 use Rattle.pla.specs.Lines.{words, keyword_code, keyword_words}
 use Rattle.pla.specs.Keywords.{texts}
 use Rattle.pla.specs.HeadView.{seen, keyword_fault}
@@ -10,7 +10,7 @@ use Rattle.pla.specs.Reading.{RowsRead, rows_of}
 use Rattle.pla.specs.Parsing.{IsTied, opened, unfinished_of}
 use Rattle.pla.proofs.KeywordLines.{not_repeated}
 use Rattle.pla.proofs.Ties.{tied_keyword, repeated_anywhere}
-use Rattle.pla.proofs.parser.take_keyword.Goals as goal
+use Rattle.pla.proofs.parser.take_keyword_line.Goals as goal
 
 pub returns-in_err-set-clause-tied : goal.returns-in_err-set-clause-tied
 returns-in_err-set-clause-tied c = λ tied. subst (λ h. IsTied h c.args.rows.now) (sym (c.in_err-set.ensures.err 0)) tied

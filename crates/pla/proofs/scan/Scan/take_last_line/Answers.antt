@@ -1,7 +1,7 @@
 use Rattle.std.proofs.Common.{sym, ap, ◌∙◌}
 use Rattle.pla.proofs.Feeding.{none_kept, ends_counts}
 use Rattle.pla.proofs.EndLaws.{empty_takes, empty_written, last_takes, last_told, last_written, some_kept}
-use Rattle.pla.proofs.scan.Scan.last_line.Goals as goal
+use Rattle.pla.proofs.scan.Scan.take_last_line.Goals as goal
 
 pub returns-then-is_empty-clause-takes : goal.returns-then-is_empty-clause-takes
 returns-then-is_empty-clause-takes g c =

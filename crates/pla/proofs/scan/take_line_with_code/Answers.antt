@@ -6,7 +6,7 @@ use Rattle.pla.specs.Scan.{Refuses}
 use Rattle.pla.specs.Reads.{MatchCause}
 use Rattle.pla.proofs.StepLaws.{taken_fine}
 use Rattle.pla.proofs.Feeding.{fault_takes, fault_counts}
-use Rattle.pla.proofs.scan.take_with_code.Goals as goal
+use Rattle.pla.proofs.scan.take_line_with_code.Goals as goal
 
 pub returns-in-Err-clause-takes : goal.returns-in-Err-clause-takes
 returns-in-Err-clause-takes g c = λ before st. (refl, taken_fine format_limits before c.args.line.now c.args.parser.now c.take.new.self st (c.in-Ok.ensures.stands before st))

@@ -2,7 +2,7 @@ use Rattle.std.proofs.Common.{sym, ◌∙◌, ltb, codes, arith}
 use Rattle.std.proofs.lemmas.Bool.{cond-true, cond-false, lt-ltb, le-ltb}
 use Rattle.pla.specs.Symbols.{is_byte_of}
 use Rattle.pla.proofs.Marks.{input_marked, output_marked}
-use Rattle.pla.proofs.rows.symbol_at.Goals as goal
+use Rattle.pla.proofs.rows.is_symbol.Goals as goal
 
 pub returns-then-place-n : goal.returns-then-place-n
 returns-then-place-n c =

@@ -1,0 +1,307 @@
+//! Finds signature cubes, and whether they have a place of their own.
+//!
+//! The signature cube of a cube is the meet of the primes that contain it: it keeps the literals
+//! and lacks the outputs that occur in minimal rows of the blocking matrix (McGeer, Sanghavi,
+//! Brayton and Sangiovanni-Vincentelli, Espresso-Signature: a new exact minimizer for logic
+//! functions, 1993). A wanted place of it is its own if only the primes that contain all of it hold
+//! the place. To test a place, exchange the literals of a minimal row for their opposites, under the
+//! output of the row if it has one: the place is an own one if for each row the place that comes of
+//! this is outside ON and DC. Which ON and DC cubes hold an exchanged place depends only on the
+//! inputs where the cube has no literal; so the tests of all rows together are one question.
+
+use crate::bits::{Literals, has_bit, meets, narrow_to, push_cofactor, put_bit};
+use crate::blocking_matrix::{BlockingMatrix, BlockingRows};
+use crate::function::Function;
+use crate::question::Question;
+use crate::rows::{Cube, Rows, words_for};
+use std::alloc::{AllocError, Global};
+use std::collections::BTreeSet;
+
+// At most this many regions are looked at for a place of a cube's own.
+const REGION_BUDGET: u64 = 300;
+
+/// A signature cube with a place of its own.
+#[derive(Drop)]
+pub(crate) struct Signature {
+    pub(crate) cube: Cube,
+    /// A cube whose points are places of its own, under the output.
+    pub(crate) place: Vec<Literals>,
+    /// The output of these places.
+    pub(crate) output: usize,
+    /// The minimal rows of the cube's blocking matrix.
+    pub(crate) rows: BlockingRows,
+}
+
+/// Finds signature cubes.
+#[derive(Drop)]
+pub(crate) struct Finder<'a> {
+    pub(crate) alloc: Global,
+    pub(crate) function: &'a Function,
+    pub(crate) question: Question,
+    matrix: BlockingMatrix,
+    // All primes, where they are known.
+    primes: Option<&'a Rows>,
+    // The cubes that a place must avoid, without the literals at inputs of the signature cube.
+    pub(crate) avoided: Vec<Literals>,
+    // The hashes of signature cubes that have no place of their own.
+    without_own_place: BTreeSet<u64>,
+    // Where a cube has the opposite literals of the signature cube, and where the same.
+    compared: Vec<Literals>,
+}
+
+/// Whether a cube meets the signature cube with the literals of some row exchanged. `compared` says
+/// where they have opposite literals, and where the same.
+fn meets_with_any_row_exchanged(compared: &[Literals], rows: &[u64], width: usize) -> bool {
+    rows.chunks_exact(width.max(1))
+        .any(|row| meets_with_row_exchanged(compared, row))
+}
+
+/// Whether a cube meets the signature cube with the literals of this row exchanged.
+fn meets_with_row_exchanged(compared: &[Literals], row: &[u64]) -> bool {
+    for (word, inputs) in compared.iter().zip(row.iter()) {
+        if (word.ones & *inputs) | (word.zeros & !*inputs) != 0 {
+            return false;
+        }
+    }
+    true
+}
+
+/// Notes where the cubes have opposite literals, as zeros, and where the same, as ones.
+fn compare(compared: &mut Vec<Literals>, a: &[Literals], b: &[Literals]) {
+    for (word, (one, other)) in compared.iter_mut().zip(a.iter().zip(b.iter())) {
+        word.zeros = one.opposites(*other);
+        word.ones = one.agreements(*other);
+    }
+}
+
+impl<'a> Finder<'a> {
+    pub(crate) fn new(
+        alloc: Global,
+        function: &'a Function,
+        primes: Option<&'a Rows>,
+    ) -> Result<Finder<'a>, AllocError> {
+        let width = function.width;
+        Ok(Finder {
+            alloc,
+            function,
+            question: Question::new(alloc, width)?,
+            matrix: BlockingMatrix::new(alloc, width)?,
+            primes,
+            avoided: Vec::new(alloc),
+            without_own_place: BTreeSet::new(alloc),
+            compared: vec![in alloc; Literals::NONE; width]?,
+        })
+    }
+
+    /// The signature cube of a cube, and its minimal rows. `None` if the cube meets OFF.
+    pub(crate) fn signature_cube(
+        &mut self,
+        cube: &Cube,
+    ) -> Result<Option<(Cube, BlockingRows)>, AllocError> {
+        if let Some(primes) = self.primes {
+            return self.meet_of_primes(primes, cube);
+        }
+        let Some(rows) = self.matrix.minimal_rows(self.function, cube)? else {
+            return Ok(None);
+        };
+        let literals = self.literals_of_rows(cube, &rows)?;
+        let outputs = self.outputs_without_row(&rows)?;
+        Ok(Some((Cube { literals, outputs }, rows)))
+    }
+
+    // The literals of the cube at inputs that some row has.
+    fn literals_of_rows(
+        &self,
+        cube: &Cube,
+        rows: &BlockingRows,
+    ) -> Result<Vec<Literals>, AllocError> {
+        let inputs = rows.occurring_inputs(self.alloc)?;
+        let mut literals: Vec<Literals> = Vec::with_capacity(self.alloc, inputs.len())?;
+        for (word, kept) in cube.literals.iter().zip(inputs.iter()) {
+            literals.push(word.at(*kept))?;
+        }
+        Ok(literals)
+    }
+
+    // The outputs that no row has.
+    fn outputs_without_row(&self, rows: &BlockingRows) -> Result<Vec<u64>, AllocError> {
+        let mut outputs = all_bits(self.alloc, self.function.outputs)?;
+        for row in 0..rows.len() {
+            if let Some(output) = rows.output(row)
+                && let Some(word) = outputs.get_mut(output / 64)
+            {
+                *word &= !(1 << (output % 64));
+            }
+        }
+        Ok(outputs)
+    }
+
+    /// The signature cube of a cube, if it has a place of its own.
+    pub(crate) fn signature_of(&mut self, cube: &Cube) -> Result<Option<Signature>, AllocError> {
+        match self.signature_cube(cube)? {
+            Some((signature, rows)) => self.signature_with_own_place(signature, rows),
+            None => Ok(None),
+        }
+    }
+
+    /// The signature cube with these minimal rows, if it has a place of its own.
+    pub(crate) fn signature_with_own_place(
+        &mut self,
+        cube: Cube,
+        rows: BlockingRows,
+    ) -> Result<Option<Signature>, AllocError> {
+        let hash = cube.hash();
+        if self.without_own_place.contains(&hash) {
+            return Ok(None);
+        }
+        let Some(output) = self.output_of_own_place(&cube, &rows)? else {
+            self.without_own_place.insert(hash)?;
+            return Ok(None);
+        };
+        Ok(Some(Signature {
+            cube,
+            place: self.question.answer().to_vec(self.alloc)?,
+            output,
+            rows,
+        }))
+    }
+
+    // An output of the cube under which it has a place of its own, which is then the answer of the
+    // question.
+    fn output_of_own_place(
+        &mut self,
+        cube: &Cube,
+        rows: &BlockingRows,
+    ) -> Result<Option<usize>, AllocError> {
+        self.avoided.clear();
+        let first = match rows.output(0) {
+            Some(_) => 0,
+            None => rows.end_of_output(0),
+        };
+        if self.primes.is_none() && !self.avoid_rows_with_outputs(cube, rows, first)? {
+            return Ok(None);
+        }
+        let common = self.avoided.len();
+        for output in 0..self.function.outputs {
+            if has_bit(&cube.outputs, output) && !self.function.on(output).is_empty() {
+                self.avoided.truncate(common);
+                if self.guess_own_place(cube, output)?
+                    || self.avoid_all(cube, rows, first, output)?
+                        && self.has_wanted_place(cube, output)?
+                {
+                    return Ok(Some(output));
+                }
+            }
+        }
+        Ok(None)
+    }
+
+    // Whether former answers give a place of the cube's own, if all primes are known to check it.
+    fn guess_own_place(&mut self, cube: &Cube, output: usize) -> Result<bool, AllocError> {
+        match self.primes {
+            Some(primes) if !self.function.samples => self.guess_own_place_by_primes(
+                primes, cube, output,
+            ),
+            _ => Ok(false),
+        }
+    }
+
+    // Gathers the cubes to be avoided for the rows with an output. `false` if these are all places.
+    fn avoid_rows_with_outputs(
+        &mut self,
+        cube: &Cube,
+        rows: &BlockingRows,
+        first: usize,
+    ) -> Result<bool, AllocError> {
+        let mut begin = first;
+        for _ in first..rows.len() {
+            let Some(output) = rows.output(begin) else {
+                break;
+            };
+            let end = rows.end_of_output(begin);
+            if !self.avoid_exchanged(cube, rows.inputs_of_rows(begin, end), output)? {
+                return Ok(false);
+            }
+            begin = end;
+        }
+        Ok(true)
+    }
+
+    // Gathers the ON and DC cubes of an output that the cube meets with a row exchanged. `false` if one
+    // of them contains the cube then.
+    fn avoid_exchanged(
+        &mut self,
+        cube: &Cube,
+        rows: &[u64],
+        output: usize,
+    ) -> Result<bool, AllocError> {
+        let width = self.function.width;
+        for other in self.function.on_and_dc(output).chunks_exact(width.max(1)) {
+            compare(&mut self.compared, other, &cube.literals);
+            if meets_with_any_row_exchanged(&self.compared, rows, width)
+                && !push_cofactor(&mut self.avoided, other, &cube.literals)?
+            {
+                return Ok(false);
+            }
+        }
+        Ok(true)
+    }
+
+    // Gathers the DC cubes of an output that meet the cube. `false` if one contains it.
+    fn avoid_dc(&mut self, cube: &Cube, output: usize) -> Result<bool, AllocError> {
+        let width = self.function.width;
+        for other in self.function.dc(output).chunks_exact(width.max(1)) {
+            if meets(other, &cube.literals)
+                && !push_cofactor(&mut self.avoided, other, &cube.literals)?
+            {
+                return Ok(false);
+            }
+        }
+        Ok(true)
+    }
+
+    // Gathers the cubes to be avoided under this output. `false` if these are all places.
+    fn avoid_all(
+        &mut self,
+        cube: &Cube,
+        rows: &BlockingRows,
+        first: usize,
+        output: usize,
+    ) -> Result<bool, AllocError> {
+        let is_left = match self.primes {
+            Some(primes) => self.avoid_primes(primes, cube, output)?,
+            None => self.avoid_exchanged(cube, rows.inputs_of_rows(0, first), output)?,
+        };
+        Ok(is_left && self.avoid_dc(cube, output)?)
+    }
+
+    // Whether the cube has a wanted place under this output outside all that was gathered.
+    fn has_wanted_place(&mut self, cube: &Cube, output: usize) -> Result<bool, AllocError> {
+        let mut budget = REGION_BUDGET;
+        if !self.function.samples {
+            return self
+                .question
+                .ask(&cube.literals, &self.avoided, &mut budget);
+        }
+        let width = self.function.width;
+        for wanted in self.function.on(output).chunks_exact(width.max(1)) {
+            if meets(wanted, &cube.literals) {
+                let mut inside = cube.literals.to_vec(self.alloc)?;
+                narrow_to(&mut inside, wanted);
+                if self.question.ask(&inside, &self.avoided, &mut budget)? {
+                    return Ok(true);
+                }
+            }
+        }
+        Ok(false)
+    }
+}
+
+/// This many bits, all of them set.
+pub(crate) fn all_bits(alloc: Global, count: usize) -> Result<Vec<u64>, AllocError> {
+    let mut words: Vec<u64> = vec![in alloc; 0; words_for(count)]?;
+    for index in 0..count {
+        put_bit(&mut words, index);
+    }
+    Ok(words)
+}
