@@ -78,7 +78,7 @@ impl Table {
 
     /// The least cover, by a renumbered table, which is cheaper if many columns are not live.
     #[cycle(parts)]
-    pub(crate) fn least_by_parts(
+    pub(crate) fn least_renumbered(
         &self,
         alloc: Global,
         choice: Choice,
@@ -87,17 +87,17 @@ impl Table {
         ensures { IfOk result (λ v. IsLeast choice self.now v.items) }
     {
         match self.renumber(alloc)? {
-            None => self.least_of_parts(alloc, choice, effort),
+            None => self.least_by_parts(alloc, choice, effort),
             Some(table) => {
-                let numbers = table.least_of_parts(alloc, choice, effort)?;
-                self.with_numbers(alloc, &numbers)
+                let numbers = table.least_by_parts(alloc, choice, effort)?;
+                self.cover_of_numbers(alloc, &numbers)
             }
         }
     }
 
     /// The least cover, of each part by itself.
     #[cycle(parts)]
-    fn least_of_parts(
+    fn least_by_parts(
         &self,
         alloc: Global,
         choice: Choice,
@@ -108,8 +108,8 @@ impl Table {
         match self.parts(alloc)? {
             None => self.least_of_whole(alloc, choice, effort),
             Some(Parts { one, other }) => {
-                let first = one.least_by_parts(alloc, choice, effort)?;
-                let second = other.least_by_parts(alloc, choice, effort)?;
+                let first = one.least_renumbered(alloc, choice, effort)?;
+                let second = other.least_renumbered(alloc, choice, effort)?;
                 join(alloc, &first, &second)
             }
         }

@@ -110,7 +110,7 @@ impl Table {
     }
 
     /// The taken columns and those that have these numbers.
-    pub(crate) fn with_numbers(
+    pub(crate) fn cover_of_numbers(
         &self,
         alloc: Global,
         numbers: &[usize],

@@ -381,7 +381,7 @@ impl Table {
 
     /// A lower bound on the length of covers, where one of so many columns is known: a hint, as row
     /// weights show it.
-    fn least_length(
+    fn length_bound_hint(
         &self,
         alloc: Global,
         columns: usize,
@@ -411,7 +411,7 @@ impl Table {
         ensures { IfOk result (λ v. IsCover self.now v.items) }
     {
         let greedy = self.some_cover(alloc, Choice::First, 0, 1)?;
-        let least = self.least_length(alloc, greedy.len(), warm_start)?;
+        let least = self.length_bound_hint(alloc, greedy.len(), warm_start)?;
         self.some_cover(alloc, choice, least, 20)
     }
 
@@ -474,7 +474,7 @@ impl Table {
             if cost <= low {
                 return Ok(cover);
             }
-            let target = self.target_cost(alloc, columns, cost, warm_start)?;
+            let target = self.literals_bound_hint(alloc, columns, cost, warm_start)?;
             warm_start.set_hint(alloc, &cover)?;
             let limit = target.max(low + 1).min(cost);
             match self.with_fewer(alloc, columns, limit, warm_start)? {
@@ -486,7 +486,7 @@ impl Table {
 
     /// A lower bound on the literals of covers of so many columns, where one of this cost is known: a
     /// hint, as row weights show it.
-    fn target_cost(
+    fn literals_bound_hint(
         &self,
         alloc: Global,
         columns: usize,
@@ -550,7 +550,7 @@ pub fn least_cover(table: &Table, choice: Choice) -> Result<Vec<usize>, AllocErr
     let alloc = *table.rows.allocator();
     let mut effort = Effort::none();
     let core = table.cyclic_core(alloc, choice)?;
-    core.least_by_parts(alloc, choice, &mut effort)
+    core.least_renumbered(alloc, choice, &mut effort)
 }
 
 /// The least cover, as [`least_cover`] gives it; adds what was done to find it, figures that no
@@ -564,5 +564,5 @@ pub fn least_cover_with_effort(
 {
     let alloc = *table.rows.allocator();
     let core = table.cyclic_core(alloc, choice)?;
-    core.least_by_parts(alloc, choice, effort)
+    core.least_renumbered(alloc, choice, effort)
 }

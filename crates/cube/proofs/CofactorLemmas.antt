@@ -60,7 +60,7 @@ widened_output true false = refl
 widened_output false true = refl
 widened_output false false = refl
 
--- the words that `widened_word` gives
+-- the words that `or_not_word` gives
 IsOutputWord-widened : (bs os : List Bool) (m v x y w : ℕ) → length bs ≡ length os → length bs ≡ m
     → IsOutputWord bs v x → IsOutputWord os v y
     → ((k : ℕ) → k < 64 → 64 * v + k < m → bit_at w k ≡ max (bit_at x k) (1 - bit_at y k))

@@ -24,8 +24,7 @@ use crate::shape::Shape;
 use crate::symbol::Symbol;
 use crate::words::{
     clear_from, copied_words, count_clear, covers_words, first_clear, first_difference, freed_word,
-    has_all, has_bit, minus_word, set_word, share_bit, widened_word, with_bit, with_word,
-    zip_words,
+    has_all, has_bit, minus_word, or_not_word, set_word, share_bit, with_bit, with_word, zip_words,
 };
 use smallvec::SmallVec;
 use std::alloc::{AllocError, Global};
@@ -350,7 +349,7 @@ impl Cube {
                 if k < start {
                     freed_word(mine, theirs)
                 } else {
-                    widened_word(outputs, k - start, mine, theirs)
+                    or_not_word(outputs, k - start, mine, theirs)
                 }
             },
         )?;

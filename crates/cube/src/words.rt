@@ -186,7 +186,7 @@ pub(crate) fn full_word(len: usize, w: usize) -> u64
 }
 
 /// Word `w` of a set of `len` bits: the bits of `a`, and those that are not in `b`.
-pub(crate) fn widened_word(len: usize, w: usize, a: u64, b: u64) -> u64
+pub(crate) fn or_not_word(len: usize, w: usize, a: u64, b: u64) -> u64
     ensures within { (k : ℕ) → k < 64 → 64 * w + k < len → bit_at result k
         ≡ max (bit_at a k) (1 - bit_at b k) }
     ensures past { (k : ℕ) → k < 64 → len ≤ 64 * w + k → bit_at result k ≡ bit_at a k }

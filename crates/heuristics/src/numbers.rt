@@ -39,7 +39,7 @@ pub(crate) fn shift(numbers: &mut Vec<i64>, row: &[u32], amount: i64) {
 }
 
 /// Overwrites `numbers` with `others`, if there are as many.
-pub(crate) fn copy_to(numbers: &mut Vec<i64>, others: &[i64]) {
+pub(crate) fn overwrite(numbers: &mut Vec<i64>, others: &[i64]) {
     if numbers.len() == others.len() {
         numbers.copy_from_slice(others);
     }

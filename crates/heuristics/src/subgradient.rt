@@ -11,7 +11,7 @@
 
 use crate::compact::Compact;
 use crate::goal::Goal;
-use crate::numbers::{at, copy_to, put, shift, total};
+use crate::numbers::{at, overwrite, put, shift, total};
 use std::alloc::{AllocError, Global};
 
 /// The multiplier of a column where columns cost the same.
@@ -150,7 +150,7 @@ fn overload(loads: &[i64], scaled_costs: &[i64]) -> i64 {
 
 /// How much less the row must weigh so that one more of its columns is not overloaded; nothing if
 /// at most one is.
-fn excess(row: &[u32], weight: i64, loads: &[i64], scaled_costs: &[i64]) -> i64 {
+fn weight_decrease(row: &[u32], weight: i64, loads: &[i64], scaled_costs: &[i64]) -> i64 {
     let mut number: u32 = 0;
     let mut least = weight;
     for column in row {
@@ -248,7 +248,7 @@ impl Ascent {
         for (_, i) in order {
             let row = table.rows.list(*i);
             let weight = at(weights, *i);
-            let less = excess(row, weight, &self.loads, &self.scaled_costs);
+            let less = weight_decrease(row, weight, &self.loads, &self.scaled_costs);
             if less > 0 {
                 put(weights, *i, weight.wrapping_sub(less));
                 shift(&mut self.loads, row, 0i64.wrapping_sub(less));
@@ -359,13 +359,13 @@ impl Ascent {
         }
         if value > self.top {
             self.top = value;
-            copy_to(&mut self.top_weights, &self.weights);
+            overwrite(&mut self.top_weights, &self.weights);
             self.top_column = self.column;
         }
     }
 
     /// Sets the loads for the present weights, and answers their value.
-    pub(crate) fn weigh(&mut self, table: &Compact, goal: Goal) -> i64 {
+    pub(crate) fn set_loads(&mut self, table: &Compact, goal: Goal) -> i64 {
         if self.cost > 0 {
             self.set_scaled_costs(&table.costs, self.column);
         }
@@ -390,7 +390,7 @@ impl Ascent {
         self.idle = 0;
         self.pace = self.pace.wrapping_mul(3) / 5;
         self.column = self.top_column;
-        copy_to(&mut self.weights, &self.top_weights);
+        overwrite(&mut self.weights, &self.top_weights);
     }
 
     /// Makes a step, and polishes every `SPAN` steps; answers whether the goal is reached.
@@ -408,7 +408,7 @@ impl Ascent {
             if self.best_value > 0 {
                 return Ok(true);
             }
-            self.weigh(table, goal);
+            self.set_loads(table, goal);
         }
         if self.idle > PATIENCE {
             self.slow_down();
@@ -423,7 +423,7 @@ impl Ascent {
 
     /// Polishes the best weights. If they end just short of the goal, the steps are restarted once.
     /// Answers whether the steps are over.
-    pub(crate) fn stop(
+    pub(crate) fn polish_best_or_restart(
         &mut self,
         alloc: Global,
         table: &Compact,

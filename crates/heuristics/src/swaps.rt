@@ -57,7 +57,7 @@ impl LocalSearch {
     }
 
     /// Starts with no column: each row is uncovered, and weighs one.
-    fn start(&mut self, alloc: Global, table: &Compact) -> Result<(), AllocError> {
+    fn start_empty(&mut self, alloc: Global, table: &Compact) -> Result<(), AllocError> {
         let columns = table.costs.len();
         let rows = table.rows.len();
         self.weights = vec![in alloc; 1; rows]?;
@@ -210,7 +210,7 @@ impl LocalSearch {
     }
 
     /// Raises the weights of the uncovered rows.
-    fn weigh(&mut self, table: &Compact) {
+    fn raise_uncovered_weights(&mut self, table: &Compact) {
         for i in 0..self.open.len() {
             let row = number(&self.open, i);
             let weight = at(&self.weights, row).wrapping_add(1);
@@ -294,7 +294,7 @@ impl LocalSearch {
         }
         self.add(table, column)?;
         set(&mut self.stamps, column, now);
-        self.weigh(table);
+        self.raise_uncovered_weights(table);
         Ok(column)
     }
 
@@ -354,7 +354,7 @@ pub fn local_search(
     steps: usize,
 ) -> Result<Vec<usize>, AllocError> {
     let mut search = LocalSearch::new(alloc);
-    search.start(alloc, table)?;
+    search.start_empty(alloc, table)?;
     search.begin_with(table, live, &marked(alloc, hint, columns)?)?;
     search.best_list(alloc, table, goal, steps)
 }

@@ -179,7 +179,7 @@ impl WarmStart {
 
     /// The number of the remembered row that each row comes from. Since then rows may have been
     /// dropped, have lost columns, or been added at the end; an added row gets a new number.
-    fn numbers_of(
+    fn row_ids(
         &self,
         alloc: Global,
         rows: &[Vec<usize>],
@@ -268,13 +268,13 @@ impl WarmStart {
             Course::new(self.steps, NEAR_REACH)
         };
         for step in 0..STEPS * 2 + 2 {
-            let value = ascent.weigh(table, goal);
+            let value = ascent.set_loads(table, goal);
             if step % 4 == 0 {
                 self.note_likely(live, ascent, step == 0);
             }
             ascent.note(value);
             let over = if ascent.is_over(step, &mut course) {
-                ascent.stop(alloc, table, goal, step, &mut course)?
+                ascent.polish_best_or_restart(alloc, table, goal, step, &mut course)?
             } else {
                 ascent.go_on(alloc, table, goal, step, value)?
             };
@@ -302,7 +302,7 @@ impl WarmStart {
     ) -> Result<Multipliers, AllocError> {
         self.effort.rounds = self.effort.rounds.saturating_add(1);
         let marks = marked(alloc, live, columns)?;
-        let numbers = self.numbers_of(alloc, rows, &marks)?;
+        let numbers = self.row_ids(alloc, rows, &marks)?;
         let mut ascent = self.ascent(alloc, table, &numbers)?;
         if !rows.is_empty() {
             self.likely = vec![in alloc; 0; columns]?;

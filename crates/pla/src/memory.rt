@@ -107,7 +107,7 @@ impl Input for Given {
         ensures nearer { self.new.until_failure ≡ one_nearer self.old.until_failure }
     {
         let due = self.until_failure == Some(0);
-        self.until_failure = nearer(self.until_failure);
+        self.until_failure = calls_left_after_one(self.until_failure);
         let rest = self.bytes.len() - self.at;
         if due || (rest == 0 && self.ending == Ending::Failed) {
             self.calls = self.calls.after_broken_read();
@@ -123,7 +123,7 @@ impl Input for Given {
 }
 
 // How many calls come before the one that is to fail, after one more call; `None` if it has failed.
-fn nearer(until_failure: Option<u64>) -> Option<u64>
+fn calls_left_after_one(until_failure: Option<u64>) -> Option<u64>
     ensures { result ≡ one_nearer until_failure }
 {
     match until_failure {
@@ -246,7 +246,7 @@ impl Output for Taken {
         ensures nearer { self.new.until_failure ≡ one_nearer self.old.until_failure }
     {
         let due = self.until_failure == Some(0);
-        self.until_failure = nearer(self.until_failure);
+        self.until_failure = calls_left_after_one(self.until_failure);
         let room = self.bytes.len() - self.used;
         if due || (room == 0 && !bytes.is_empty()) {
             self.calls = self.calls.after_broken_write();

@@ -63,7 +63,7 @@ fn take_keyword_line(
         (IsKeywordFault format_limits (seen head.old (unfinished_of rows.old)) line.now) }
 {
     let words = words_of(alloc, keyword_code_of(line))?;
-    let unfinished = unfinished_in(rows);
+    let unfinished = pending_count_of(rows);
     if let Some(kind) = head.keyword_fault(unfinished, &words) {
         return Err(LineError::Fault(kind));
     }
@@ -73,7 +73,7 @@ fn take_keyword_line(
 }
 
 /// How many symbols an unfinished row has so far; 0 if none is begun.
-fn unfinished_in(rows: &Option<Rows>) -> usize
+fn pending_count_of(rows: &Option<Rows>) -> usize
     ensures { result ≡ unfinished_of rows.now }
 {
     match rows {

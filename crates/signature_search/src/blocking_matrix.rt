@@ -45,7 +45,7 @@ impl BlockingRows {
     }
 
     /// The inputs of the rows from `begin` to `end`, row by row.
-    pub(crate) fn inputs_of_rows(&self, begin: usize, end: usize) -> &[u64] {
+    pub(crate) fn input_words_of_rows(&self, begin: usize, end: usize) -> &[u64] {
         let count = end.saturating_sub(begin).saturating_mul(self.width);
         row_at(&self.inputs, begin.saturating_mul(self.width), count)
     }
@@ -83,7 +83,7 @@ impl BlockingRows {
 
     // Whether the inputs of some row from `begin` to `end` are all among these.
     fn has_row_within(&self, inputs: &[u64], begin: usize, end: usize) -> bool {
-        self.inputs_of_rows(begin, end)
+        self.input_words_of_rows(begin, end)
             .chunks_exact(self.width.max(1))
             .any(|other| is_within(other, inputs))
     }

@@ -187,7 +187,7 @@ impl<'a> Finder<'a> {
                 self.avoided.truncate(common);
                 if self.guess_own_place(cube, output)?
                     || self.avoid_all(cube, rows, first, output)?
-                        && self.has_wanted_place(cube, output)?
+                        && self.has_wanted_place_outside_avoided(cube, output)?
                 {
                     return Ok(Some(output));
                 }
@@ -219,7 +219,7 @@ impl<'a> Finder<'a> {
                 break;
             };
             let end = rows.end_of_output(begin);
-            if !self.avoid_exchanged(cube, rows.inputs_of_rows(begin, end), output)? {
+            if !self.avoid_exchanged(cube, rows.input_words_of_rows(begin, end), output)? {
                 return Ok(false);
             }
             begin = end;
@@ -270,13 +270,17 @@ impl<'a> Finder<'a> {
     ) -> Result<bool, AllocError> {
         let is_left = match self.primes {
             Some(primes) => self.avoid_primes(primes, cube, output)?,
-            None => self.avoid_exchanged(cube, rows.inputs_of_rows(0, first), output)?,
+            None => self.avoid_exchanged(cube, rows.input_words_of_rows(0, first), output)?,
         };
         Ok(is_left && self.avoid_dc(cube, output)?)
     }
 
     // Whether the cube has a wanted place under this output outside all that was gathered.
-    fn has_wanted_place(&mut self, cube: &Cube, output: usize) -> Result<bool, AllocError> {
+    fn has_wanted_place_outside_avoided(
+        &mut self,
+        cube: &Cube,
+        output: usize,
+    ) -> Result<bool, AllocError> {
         let mut budget = REGION_BUDGET;
         if !self.function.samples {
             return self

@@ -30,7 +30,7 @@ returns-clause-tied c = λ tied.
     let unfinished = unfinished_of c.args.rows.now in
     let empty : Size → RowsRead = λ size. rows_of Fd size [] in
     let none : keyword_fault format_limits (seen c.args.head.now unfinished) line ≡ None =
-    ap (λ u. keyword_fault format_limits (seen c.args.head.now u) line) (sym c.unfinished_in-unfinished.ensures) ∙ sym (c.keyword_fault.ensures line named) ∙ c.in_default.is in
+    ap (λ u. keyword_fault format_limits (seen c.args.head.now u) line) (sym c.pending_count_of-unfinished.ensures) ∙ sym (c.keyword_fault.ensures line named) ∙ c.in_default.is in
     let repeated = sym (repeated_anywhere (seen c.args.head.now 0) line unfinished) ∙ not_repeated format_limits (seen c.args.head.now unfinished) line none in
     let rows : c.open_rows.new.rows ≡ opened c.args.rows.now (seen c.set.new.self 0) =
     c.open_rows.ensures ∙ ap (λ o. option_or c.args.rows.now (option_map empty o)) (c.shape.ensures 0) in

@@ -5,15 +5,15 @@ use Rattle.covering.specs.Choices.{join}
 use Rattle.covering.specs.Parts.{pick}
 use Rattle.covering.proofs.table.Table.+parts.Goals as goal
 
-pub least_by_parts-returns-in_ok-numbers-in-Some : goal.least_by_parts-returns-in_ok-numbers-in-Some
-least_by_parts-returns-in_ok-numbers-in-Some t c =
+pub least_renumbered-returns-in_ok-numbers-in-Some : goal.least_renumbered-returns-in_ok-numbers-in-Some
+least_renumbered-returns-in_ok-numbers-in-Some t c =
     let g = c.args.self.now in
     let is = rw c.in-Some.is at c.in_ok-renumber.ensures in
     let least = is.least c.args.choice c.in_ok-numbers-in-Some.numbers.items c.in_ok-numbers-in-Some.ensures in
-    IfOk-weaker c.with_numbers.result _ _ (λ v h. subst (IsLeast c.args.choice g) (sym (h ∙ ap (λ ns. join g.taken (map (pick g.live) ns)) c.deref.ensures.value)) least) c.with_numbers.ensures
+    IfOk-weaker c.cover_of_numbers.result _ _ (λ v h. subst (IsLeast c.args.choice g) (sym (h ∙ ap (λ ns. join g.taken (map (pick g.live) ns)) c.deref.ensures.value)) least) c.cover_of_numbers.ensures
 
-pub least_of_parts-returns-in_ok-second-in-Some : goal.least_of_parts-returns-in_ok-second-in-Some
-least_of_parts-returns-in_ok-second-in-Some t c =
+pub least_by_parts-returns-in_ok-second-in-Some : goal.least_by_parts-returns-in_ok-second-in-Some
+least_by_parts-returns-in_ok-second-in-Some t c =
     let g = c.args.self.now in
     let is = rw c.in-Some.is at c.in_ok-parts.ensures in
     let least = is.least c.args.choice c.in_ok-first-in-Some.first.items c.in_ok-second-in-Some.second.items c.in_ok-first-in-Some.ensures c.in_ok-second-in-Some.ensures in

@@ -1,7 +1,7 @@
 use Rattle.std.proofs.Common.{◌∙◌, ap, max, ◌-◌, arith}
 use Rattle.std.specs.Int.{bit_at}
 use Rattle.cube.proofs.WordLemmas.{widened_bits}
-use Rattle.cube.proofs.words.widened_word.Goals as goal
+use Rattle.cube.proofs.words.or_not_word.Goals as goal
 
 pub returns-clause-within : goal.returns-clause-within
 returns-clause-within c k lt within =
