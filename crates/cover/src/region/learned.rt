@@ -294,8 +294,8 @@ fn numbers_per_cube(shape: Shape) -> usize {
         .saturating_add(shape.outputs() / 32)
 }
 
-// The literals of a cube, numbered as in `sat_search`: `1` at input `i` is `2 i`, and `0` is `2 i +
-// 1`.
+// The literals of a cube by their numbers in `sat_search`: `1` at input `i` is `2 i`, and `0` there
+// is one more.
 fn literals_of(alloc: Global, cube: &Cube) -> Result<Vec<u32>, AllocError> {
     let mut literals = Vec::new(alloc);
     for i in 0..cube.shape().inputs() {
