@@ -140,8 +140,8 @@ impl WarmStart {
         &self.likely
     }
 
-    /// By how much the last bound fell short of its goal: in columns, or in units of cost where columns
-    /// do not all cost alike.
+    /// By how much the last bound fell short of its goal: in columns, or in units of cost where
+    /// columns do not all cost alike.
     pub fn shortfall(&self) -> u64 {
         self.missing
     }

@@ -64,8 +64,8 @@ impl Given {
         }
     }
 
-    /// This input, but the one read fails that comes after `reads` further ones. The reads after it are
-    /// as they were.
+    /// This input, but the one read fails that comes after `reads` further ones. The reads after it
+    /// are as they were.
     pub fn failing_once_after(self, reads: u64) -> Given
         ensures { result ≡ record self { until_failure = Some reads } }
     {
@@ -164,8 +164,8 @@ impl Model for Taken {
 }
 
 impl Taken {
-    /// Nothing taken, and room for `room` bytes, at most `most` of them a write. Each flush fails if
-    /// `flush_fails` is set.
+    /// Nothing taken, and room for `room` bytes, at most `most` of them a write. Each flush fails
+    /// if `flush_fails` is set.
     pub fn new(
         alloc: Global,
         room: usize,
@@ -197,8 +197,8 @@ impl Taken {
         })
     }
 
-    /// This output, but the one write fails that comes after `writes` further ones. The writes after it
-    /// are as they were.
+    /// This output, but the one write fails that comes after `writes` further ones. The writes
+    /// after it are as they were.
     pub fn failing_once_after(self, writes: u64) -> Taken
         ensures { result ≡ record self { until_failure = Some writes } }
     {
