@@ -341,8 +341,8 @@ impl LocalSearch {
     }
 }
 
-/// The best list of columns that a search of `steps` steps finds, as indices of `live`; it stops once
-/// a list reaches the goal. It starts with the live columns of the hint; columns are below
+/// The best list of columns that a search of `steps` steps finds, as indices of `live`; it stops
+/// once a list reaches the goal. It starts with the live columns of the hint; columns are below
 /// `columns`. A step reads some rows of two columns.
 pub fn local_search(
     alloc: Global,

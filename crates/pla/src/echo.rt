@@ -17,8 +17,8 @@ pub enum Echo {
     Eat,
 }
 
-/// What stands before the comment of a line. `row_code` is that of a row line, and is answered if it
-/// is one.
+/// What stands before the comment of a line. `row_code` is that of a row line, and is answered if
+/// it is one.
 fn before_comment<'a>(line: &'a [u8], row_code: &'a [u8]) -> &'a [u8]
     requires { row_code.now ≡ row_code_on line.now }
     ensures { result.now ≡ code_on line.now }
@@ -62,8 +62,8 @@ fn is_known(keyword: &[u8]) -> bool
         || is(keyword, b".p")
 }
 
-/// What is passed on of a line, without a line feed. `row_code` is what stands before the comment if
-/// it is a row line.
+/// What is passed on of a line, without a line feed. `row_code` is what stands before the comment
+/// if it is a row line.
 fn echo_text<'a>(echo: Echo, line: &'a [u8], row_code: &'a [u8]) -> &'a [u8]
     requires { row_code.now ≡ row_code_on line.now }
     ensures { result.now

@@ -4,8 +4,9 @@
 //! - [`read_pla`] reads a description through a fixed buffer, in one pass, and passes comments and
 //!   unknown keywords on; it reports a fault with its line. [`Scan`] does so for bytes that come in
 //!   pieces from elsewhere.
-//! - [`Sets::of`] gives the lists of a description's three sets, and computes lists that its type does
-//!   not give; [`dc_unless_given`] and [`off_unless_given`] give such lists alone, and copy none.
+//! - [`Sets::of`] gives the lists of a description's three sets, and computes lists that its type
+//!   does not give; [`dc_unless_given`] and [`off_unless_given`] give such lists alone, and copy
+//!   none.
 //! - [`write_pla`] prints a description with such lists.
 //! - [`Input`] and [`Output`] are what is read from and written to; [`Reading`] and [`Writing`]
 //!   make them of std's readers and writers; [`Given`] and [`Taken`] are an input and an output in

@@ -11,7 +11,7 @@ use std::alloc::{AllocError, Global};
 use std::marker::Model;
 
 /// An input that delivers stored bytes, at most a given number a read, and then ends or fails. One
-/// read may be made to fail by itself: reads before and after it succeed.
+/// read may be made to fail by itself; the others are as they were without that.
 #[derive(Drop)]
 pub struct Given {
     bytes: Vec<u8>,
@@ -64,7 +64,8 @@ impl Given {
         }
     }
 
-    /// This input, but one read fails: the one after this many further reads. Later ones succeed.
+    /// This input, but the one read fails that comes after `reads` further ones. The reads after it
+    /// are as they were.
     pub fn failing_once_after(self, reads: u64) -> Given
         ensures { result ≡ record self { until_failure = Some reads } }
     {
@@ -133,7 +134,7 @@ fn calls_left_after_one(until_failure: Option<u64>) -> Option<u64>
 }
 
 /// An output that takes bytes up to its room, at most a given number a write, and then fails. One
-/// write may be made to fail by itself: writes before and after it succeed.
+/// write may be made to fail by itself; the others are as they were without that.
 #[derive(Drop)]
 pub struct Taken {
     bytes: Vec<u8>,
@@ -163,8 +164,8 @@ impl Model for Taken {
 }
 
 impl Taken {
-    /// Nothing taken, and room for `room` bytes, at most `most` of them a write. Each flush fails if
-    /// `flush_fails` is set.
+    /// Nothing taken, and room for `room` bytes, at most `most` of them a write. Each flush fails
+    /// if `flush_fails` is set.
     pub fn new(
         alloc: Global,
         room: usize,
@@ -196,7 +197,8 @@ impl Taken {
         })
     }
 
-    /// This output, but one write fails: the one after this many further writes. Later ones succeed.
+    /// This output, but the one write fails that comes after `writes` further ones. The writes
+    /// after it are as they were.
     pub fn failing_once_after(self, writes: u64) -> Taken
         ensures { result ≡ record self { until_failure = Some writes } }
     {

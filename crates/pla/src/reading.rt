@@ -123,8 +123,8 @@ fn with_flush<T: Drop>(
     }
 }
 
-/// The kind of fault to report. A write to the echo buffer fails only for want of memory, so a failed
-/// one is reported as that.
+/// The kind of fault to report. A write to the echo buffer fails only for want of memory, so a
+/// failed one is reported as that.
 fn out_of_memory_if_write_failed(kind: ReadKind) -> ReadKind
     ensures { result ≡ buffered_kind_of kind }
 {

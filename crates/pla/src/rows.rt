@@ -28,9 +28,9 @@ pub enum Part {
     Off,
 }
 
-// What each byte is in a row. Bit 4: a symbol of an input. Bit 5: a symbol of an output. Then one bit
-// for the list that it puts the output into: bit 0 for OFF, bit 1 for ON, bit 2 for DC, bit 3 for
-// none.
+// What each byte is in a row. Bit 4: a symbol of an input. Bit 5: a symbol of an output. Then one
+// bit for the list that it puts the output into: bit 0 for OFF, bit 1 for ON, bit 2 for DC, bit 3
+// for none.
 static MARKS: [u8; 256] = [
     0, 0, 0, 0, 0, 0, 0, 0, 0, 0, 0, 0, 0, 0, 0, 0, 0, 0, 0, 0, 0, 0, 0, 0, 0, 0, 0, 0, 0, 0, 0, 0,
     0, 0, 0, 0, 0, 0, 0, 0, 0, 0, 0, 0, 0, 52, 0, 0, 49, 50, 52, 40, 34, 0, 0, 0, 0, 0, 0, 0, 0, 0,
@@ -252,8 +252,8 @@ impl Rows {
         Ok(())
     }
 
-    /// Adds a run of symbols to the pending ones, and ends the row if it is whole then. The run lies in
-    /// one row.
+    /// Adds a run of symbols to the pending ones, and ends the row if it is whole then. The run
+    /// lies in one row.
     fn push_run(&mut self, file_type: FileType, run: &[u8]) -> Result<(), AllocError>
         ensures size { self.new.size ≡ self.old.size }
         ensures ok { OnOk result (self.new ≡ with_run file_type self.old run.now) }
@@ -265,8 +265,8 @@ impl Rows {
         Ok(())
     }
 
-    /// The length of the run that the code begins with: symbols up to the end of the inputs or of the
-    /// row.
+    /// The length of the run that the code begins with: symbols up to the end of the inputs or of
+    /// the row.
     fn run_length(&self, code: &[u8]) -> usize
         ensures fits { result ≤ length code.now }
         ensures run { IsRun self.now (take result code.now) }
@@ -284,8 +284,8 @@ impl Rows {
         most
     }
 
-    /// Whether the code is seen to begin with a whole row, with a blank between inputs and outputs. It
-    /// may answer `false` for such a row.
+    /// Whether the code is seen to begin with a whole row, with a blank between inputs and outputs.
+    /// It may answer `false` for such a row.
     fn begins_row(&self, code: &[u8]) -> bool
         ensures { result ≡ true → BeginsRow self.now code.now }
     {
@@ -299,8 +299,8 @@ impl Rows {
         are_symbols(n, n, &code[n + 1..n + 1 + m])
     }
 
-    /// Takes the whole row that the code begins with, if it does, straight from the code, and answers
-    /// what follows it.
+    /// Takes the whole row that the code begins with, if it does, straight from the code, and
+    /// answers what follows it.
     fn take_whole_row<'a>(
         &mut self,
         file_type: FileType,

@@ -54,8 +54,8 @@ fn line_end(bytes: &[u8]) -> Option<LineEnd>
     }
 }
 
-/// The kind of fault that a line has by its number and size alone: it comes after `lines` lines, and
-/// has `size` bytes so far.
+/// The kind of fault that a line has by its number and size alone: it comes after `lines` lines,
+/// and has `size` bytes so far.
 fn size_fault(lines: u64, size: usize) -> Option<ReadKind>
     ensures { (rest : List ℕ) → size ≡ length rest
         → result ≡ kind_of_rest format_limits lines rest }

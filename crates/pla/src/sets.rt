@@ -38,8 +38,8 @@ impl Sets {
         Sets { on, dc, off }
     }
 
-    /// The lists of a description's three sets. Lists that its type gives are copied as they stand. Of
-    /// the others, `dc` asks under fr for what neither ON nor OFF holds, and `off` under f and
+    /// The lists of a description's three sets. Lists that its type gives are copied as they stand.
+    /// Of the others, `dc` asks under fr for what neither ON nor OFF holds, and `off` under f and
     /// fd for what neither ON nor DC holds; they are empty if not asked for, and DC is empty under
     /// f.
     ///
@@ -92,8 +92,8 @@ impl Sets {
     }
 }
 
-// The DC list that [`Sets::of`] gives: a copy, or computed if the type does not give it and `compute`
-// asks for it.
+// The DC list that [`Sets::of`] gives: a copy, or computed if the type does not give it and
+// `compute` asks for it.
 fn dc_list_of(alloc: Global, pla: &Pla, compute: bool) -> Result<Cover, AllocError>
     ensures { IfOk result (λ list. list ≡ record {
       size = pla.now.size;
@@ -120,9 +120,9 @@ fn off_list_of(alloc: Global, pla: &Pla, compute: bool) -> Result<Cover, AllocEr
     }
 }
 
-/// The DC list that [`Sets::of`] gives, unless it is the description's own: `None` under fd and fdr,
-/// whose rows give it. Under fr it is computed if `compute` asks for it, and else empty; under f it
-/// is empty.
+/// The DC list that [`Sets::of`] gives, unless it is the description's own: `None` under fd and
+/// fdr, whose rows give it. Under fr it is computed if `compute` asks for it, and else empty; under
+/// f it is empty.
 ///
 /// # Errors
 ///
@@ -140,8 +140,8 @@ pub fn dc_unless_given(alloc: Global, pla: &Pla, compute: bool) -> Result<Option
     }
 }
 
-/// The OFF list that [`Sets::of`] gives, unless it is the description's own: `None` under fr and fdr,
-/// whose rows give it. Under f and fd it is computed if `compute` asks for it, and else empty.
+/// The OFF list that [`Sets::of`] gives, unless it is the description's own: `None` under fr and
+/// fdr, whose rows give it. Under f and fd it is computed if `compute` asks for it, and else empty.
 ///
 /// # Errors
 ///

@@ -1,5 +1,5 @@
-//! Texts written to an output. (`Writing`, a writer of std as an output device, stands in `over_std`,
-//! with `Reading`.)
+//! Texts written to an output. (`Writing`, a writer of std as an output device, stands in
+//! `over_std`, with `Reading`.)
 //!
 //! A text is written part by part: [`write_bytes`] writes the first, and [`write_next`] each
 //! further one, only while all went well. So what the output took is always a prefix of the text,

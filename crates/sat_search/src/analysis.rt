@@ -33,7 +33,8 @@ pub(crate) struct Analysis {
     marks: Vec<Mark>,
     /// The variables that have a mark.
     pub(crate) marked: Vec<u32>,
-    /// The variables whose reasons are being read, each with the offset of the next literal to read.
+    /// The variables whose reasons are being read, each with the offset of the next literal to
+    /// read.
     pub(crate) stack: Vec<(u32, u32)>,
     // By level: the stamp of the last clause for which it was counted.
     level_stamps: Vec<u32>,
@@ -208,8 +209,8 @@ impl Search {
         before
     }
 
-    // Notes that a clause had a part in a conflict. Its literals may be at fewer levels than before:
-    // then its distance is lowered.
+    // Notes that a clause had a part in a conflict. Its literals may be at fewer levels than
+    // before: then its distance is lowered.
     fn note_use(&mut self, clause: u32) {
         let conflicts = self.pace.conflict_count();
         self.clauses.set_last_use(clause, conflicts);

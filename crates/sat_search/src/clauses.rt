@@ -2,7 +2,8 @@
 //!
 //! A clause is never taken out, as the learned ones are the proof: one that is dropped is no longer
 //! watched. Clauses whose literals were set at many levels are dropped first: their literal block
-//! distance is large (Audemard and Simon, Predicting learnt clauses quality in modern SAT solvers, 2009).
+//! distance is large (Audemard and Simon, Predicting learnt clauses quality in modern SAT solvers,
+//! 2009).
 
 use crate::lists::Lists;
 use crate::numbers::{NONE, at, put, saturating_u32};
@@ -16,8 +17,8 @@ const BY_CLAUSE: usize = 11;
 /// The clauses. The search watches the first two literals of each.
 #[derive(Drop)]
 pub(crate) struct Clauses {
-    // Of each clause, one after the other, its number, how many literals it has, and the literals. An
-    // offset is an index here: of a clause, that of its number.
+    // Of each clause, one after the other, its number, how many literals it has, and the literals.
+    // An offset is an index here: of a clause, that of its number.
     arena: Vec<u32>,
     // By clause: where its literals begin, and where they end.
     begins: Vec<u32>,

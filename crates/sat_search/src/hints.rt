@@ -1,10 +1,10 @@
 //! Hints: the clauses that show a learned one. Where the learned clause is false, each hint, after
-//! the hints before it, has one literal that is not false yet, and the last has none (Cruz-Filipe et
-//! al. 2017).
+//! the hints before it, has one literal that is not false yet, and the last has none (Cruz-Filipe
+//! et al. 2017).
 //!
-//! The hints are the reasons of all variables that were resolved on or left out, in the order of the
-//! trail. Literals of level 0 have clauses of one literal (`units`), so that no clause repeats the
-//! hints of these.
+//! The hints are the reasons of all variables that were resolved on or left out, in the order of
+//! the trail. Literals of level 0 have clauses of one literal (`units`), so that no clause repeats
+//! the hints of these.
 
 use crate::analysis::Mark;
 use crate::numbers::{NONE, at};

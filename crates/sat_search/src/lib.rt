@@ -14,9 +14,9 @@
 //!    literals (Moskewicz, Madigan, Zhao, Zhang and Malik, Chaff: engineering an efficient SAT
 //!    solver, 2001).
 //! 2. Analysis: from a clause that is false a new one is learned, at the first unique implication
-//!    point of the current decision level (Marques-Silva and Sakallah, GRASP: a new search algorithm for
-//!    satisfiability, 1996). It is made smaller by what follows from the rest of it (Soerensson and
-//!    Biere, Minimizing learned clauses, 2009).
+//!    point of the current decision level (Marques-Silva and Sakallah, GRASP: a new search
+//!    algorithm for satisfiability, 1996). It is made smaller by what follows from the rest of it
+//!    (Soerensson and Biere, Minimizing learned clauses, 2009).
 //! 3. Hints: the clauses by which the new one is seen, in the order in which they set literals
 //!    (Cruz-Filipe, Heule, Hunt, Kaufmann and Schneider-Kamp, Efficient certified RAT verification,
 //!    2017).

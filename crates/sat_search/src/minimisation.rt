@@ -57,7 +57,8 @@ impl Search {
         Ok(())
     }
 
-    // Looks at the literal at an offset in a variable's reason. Whether the variable may still follow.
+    // Looks at the literal at an offset in a variable's reason. Whether the variable may still
+    // follow.
     fn check_reason_literal(&mut self, variable: u32, offset: u32) -> Result<bool, AllocError> {
         self.analysis
             .stack

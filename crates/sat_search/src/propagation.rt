@@ -22,8 +22,8 @@ enum Finding {
     Last(u32),
 }
 
-// Finds a clause another literal to watch instead of one that is false now, unless its other watched
-// literal is true. The watched literals are the first two.
+// Finds a clause another literal to watch instead of one that is false now, unless its other
+// watched literal is true. The watched literals are the first two.
 fn find_watch(assignment: &Assignment, literals: &mut [u32], failed: u32) -> Finding {
     if literals.len() < 2 {
         return Finding::True(NONE);
@@ -55,8 +55,8 @@ fn put_watch(watches: &mut Vec<Watch>, index: usize, watch: Watch) {
 }
 
 impl Search {
-    // Sets a literal, as all others of the clause at this offset are false; answers the clause if the
-    // literal is false too, and [`NONE`] else.
+    // Sets a literal, as all others of the clause at this offset are false; answers the clause if
+    // the literal is false too, and [`NONE`] else.
     fn set_or_conflict(&mut self, literal: u32, offset: u32) -> Result<u32, AllocError> {
         let clause = self.clauses.clause_at(offset);
         if self.assignment.value(literal) == Value::False {

@@ -63,8 +63,8 @@ impl Refutation {
 }
 
 impl Search {
-    /// The refutation that ends with this clause: it, and all that show it and have no name yet. They
-    /// get names from this one on.
+    /// The refutation that ends with this clause: it, and all that show it and have no name yet.
+    /// They get names from this one on.
     pub(crate) fn refutation_of(&mut self, goal: u32, name: u32) -> Result<Answer, AllocError> {
         let mut refutation = Refutation {
             nogoods: Lists::new(self.alloc),

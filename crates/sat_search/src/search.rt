@@ -46,10 +46,11 @@ pub(crate) enum Decision {
 /// Nogoods, what was learned of them, and what is set.
 ///
 /// It keeps what it learned as long as it lives, since that is what shows what it learns later. A
-/// number is of four bytes, and a clause has thirteen beside its literals and hints; [`Limits`] says
-/// how many there may be. Beyond those it keeps some twenty numbers for each variable, room to grow,
-/// which is no more than it has filled, while clauses are dropped three numbers for each, and while
-/// it walks two for each literal of the nogoods, four for each nogood and six for each variable.
+/// number is of four bytes, and a clause has thirteen beside its literals and hints; [`Limits`]
+/// says how many there may be. Beyond those it keeps some twenty numbers for each variable, room to
+/// grow, which is no more than it has filled, while clauses are dropped three numbers for each, and
+/// while it walks two for each literal of the nogoods, four for each nogood and six for each
+/// variable.
 #[derive(Drop)]
 pub struct Search {
     pub(crate) alloc: Global,
@@ -165,8 +166,8 @@ impl Search {
         Ok(())
     }
 
-    /// How many numbers the search keeps of all clauses: their literals, hints and watches, and what
-    /// else is kept of each. [`Limits::size`] bounds it.
+    /// How many numbers the search keeps of all clauses: their literals, hints and watches, and
+    /// what else is kept of each. [`Limits::size`] bounds it.
     pub fn size(&self) -> usize {
         self.clauses.size()
     }

@@ -22,8 +22,8 @@ impl Search {
         Ok(())
     }
 
-    // The clause of this literal alone that follows from its reason at level 0; the reason itself if
-    // it has no other literal.
+    // The clause of this literal alone that follows from its reason at level 0; the reason itself
+    // if it has no other literal.
     fn unit_clause_of(&mut self, literal: u32, reason: u32) -> Result<u32, AllocError> {
         if self.clauses.literals_of(reason).len() == 1 {
             return Ok(reason);

@@ -323,8 +323,8 @@ impl Search {
         self.steps > self.walks.next.max(first)
     }
 
-    // By variable whether it is false where the walk starts: as it is set or assumed, else as it was
-    // set last.
+    // By variable whether it is false where the walk starts: as it is set or assumed, else as it
+    // was set last.
     fn starting_signs(&self, assumptions: &[u32]) -> Result<Vec<bool>, AllocError> {
         let mut negated = self.phases.to_vec(self.alloc)?;
         put_signs(&mut negated, &self.assignment.trail);
@@ -340,8 +340,8 @@ impl Search {
         Ok(fixed)
     }
 
-    /// Walks, if that is due and no literal is decided. The literals of all variables at a point that
-    /// is found.
+    /// Walks, if that is due and no literal is decided. The literals of all variables at a point
+    /// that is found.
     pub(crate) fn walk(&mut self, assumptions: &[u32]) -> Result<Option<Vec<u32>>, AllocError> {
         if self.assignment.current_level() != 0 || !self.is_walk_due() {
             return Ok(None);

@@ -4,8 +4,8 @@ use crate::clauses::Clauses;
 use std::alloc::{AllocError, Global};
 use std::mem::replace;
 
-/// The offset of a clause that watches a literal, and another literal of it: if that one is true, the
-/// clause needs no look (Een and Sorensson, An extensible SAT-solver, 2003).
+/// The offset of a clause that watches a literal, and another literal of it: if that one is true,
+/// the clause needs no look (Een and Sorensson, An extensible SAT-solver, 2003).
 #[derive(Clone, Copy)]
 pub(crate) struct Watch {
     pub(crate) offset: u32,

@@ -77,13 +77,16 @@ fn leader(leaders: &[usize], i: usize) -> usize {
 
 // Joins the components of the inputs at which the row has literals.
 fn join_inputs(row: &Cube, leaders: &mut [usize]) {
-    let _inputs = row.shape().inputs();
+    let inputs = row.shape().inputs();
     let Some(first) = row.next_literal(0) else {
         return;
     };
     let own = leader(leaders, first);
     let mut from = first + 1;
-    while let Some(i) = row.next_literal(from) {
+    while from < inputs {
+        let Some(i) = row.next_literal(from) else {
+            return;
+        };
         if let Some(slot) = leaders.get_mut(leader(leaders, i)) {
             *slot = own;
         }
