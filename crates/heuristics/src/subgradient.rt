@@ -36,7 +36,8 @@ const SPAN: u32 = 25;
 /// The steps are given up if this many times the last gain would not reach the goal.
 pub(crate) const REACH: i64 = 20;
 
-/// The same where the steps continue from another table's and columns cost the same.
+/// The same number as `REACH`, where the steps continue from another table's and columns cost the
+/// same.
 pub(crate) const NEAR_REACH: i64 = 4;
 
 /// The least length of a step; shorter ones gain nothing.
