@@ -14,6 +14,7 @@ use Rattle.cube.proofs.HoldsLemmas.{Covers, Covers-from_IsSubset, IsSubset-from_
 use Rattle.cube.proofs.SharpLemmas.{some_true, true_some, get_or-minus}
 use Rattle.cover.specs.Places.{places}
 use Rattle.cover.proofs.Everywhere.{is_subset-iff}
+use Rattle.cover.proofs.Found.{output_of_place}
 use Rattle.cover.proofs.Inputs.{matches-set_symbol, matches-own}
 use Rattle.minimum.specs.declared.essential_by_neighbours.growth.Side.{Side}
 use Rattle.minimum.specs.declared.essential_by_neighbours.growth.Side.TheVariants.{Inside}
@@ -127,6 +128,18 @@ module _ (size : Size) (s : Place → Bool) (c : Cube) (cube : IsCube size c) (j
 
   pub not_apart : ((point : List Bool) → matches c.symbols point ≡ true → matches u.symbols point ≡ true → ⊥) → ⊥
   not_apart h = h (map pick c.symbols) (matches-map_pick c.symbols) (u_matches (map pick c.symbols) (matches-map_pick c.symbols))
+
+  -- the cube with the output has a place there
+  pub stacked_cube : (wide : Cube) → SameSize wide c → ((p : Place) → holds wide p ≡ ((matches c.symbols p.point && matches u.symbols p.point)
+      && (get_or c.outputs p.output false || get_or u.outputs p.output false))) → IsCube size wide
+  stacked_cube wide same stacked =
+      let m = matches-map_pick c.symbols in
+      let p : Place = record { point = map pick c.symbols; output = j } in
+      record {
+        has_size = (same.0 ∙ cube.has_size.0, same.1 ∙ cube.has_size.1);
+        some_output = output_of_place wide p (stacked p ∙ and_from (matches c.symbols p.point && matches u.symbols p.point) (get_or c.outputs p.output false || get_or u.outputs p.output false)
+            (and_from (matches c.symbols p.point) (matches u.symbols p.point) m (u_matches p.point m)) (or_right (get_or c.outputs j false) (get_or u.outputs j false) u_output));
+      }
 
   module _ (wide : Cube) (wide_cube : IsCube size wide) (stacked : (p : Place) → holds wide p ≡ ((matches c.symbols p.point && matches u.symbols p.point)
       && (get_or c.outputs p.output false || get_or u.outputs p.output false))) where

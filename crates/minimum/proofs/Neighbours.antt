@@ -7,13 +7,16 @@ use Rattle.std.proofs.lemmas.List.{get_or-set_other, get_or_past, take_more}
 use Rattle.cube.specs.declared.symbol.Symbol.{Symbol}
 use Rattle.cube.specs.declared.symbol.Symbol.TheVariants.{Dash, Zero, One}
 use Rattle.cube.specs.Pattern.{agrees, matches}
-use Rattle.cube.specs.Cube.{Cube, Place, holds, with_symbol, SameSize, size_of}
+use Rattle.cube.specs.Cube.{Cube, Place, holds, with_symbol, SameSize, IsDisjoint, size_of}
+use Rattle.cube.specs.Literals.{are_opposite, is_beyond_symbol}
 use Rattle.cube.specs.Sharp.{opposite, minus}
 use Rattle.cube.proofs.HoldsLemmas.{agrees_at-matches}
 use Rattle.cube.proofs.SharpLemmas.{some_true, true_some, get_or-minus}
 use Rattle.cover.specs.Cubes.{AreCubes}
 use Rattle.cover.specs.Places.{places}
+use Rattle.cover.proofs.Found.{output_of_place}
 use Rattle.cover.proofs.Inputs.{matches-set_bit, matches-own}
+use Rattle.cover.proofs.Regions.{zero_literal, one_literal}
 use Rattle.cover.proofs.SumMeets.{places-append}
 use Rattle.minimum.specs.Neighbours.{flip, under, held_by, IsAlone, IsAloneByInputs, IsAloneByOutputs, AreNeighbours, AddsNeighbours}
 
@@ -42,6 +45,34 @@ against Zero true literal a b = false≢true a
 against Zero false literal a b = false≢true b
 against One true literal a b = false≢true b
 against One false literal a b = false≢true a
+
+-- a cube that is not apart from another has an output
+pub met_output : (a b : Cube) → (IsDisjoint (holds a) (holds b) → ⊥) → list_any (λ x. x) a.outputs ≡ true
+met_output a b meets = elim (cases_Bool (list_any (λ x. x) a.outputs)) [
+  | inl on ↦ on
+  | inr off ↦ absurd (meets (λ p mine theirs. false≢true (sym off ∙ output_of_place a p mine)))
+]
+
+-- no opposite literals, and no literal that the second does not have
+
+pub not_opposite : (own t : Symbol) → are_opposite own t ≡ false → t ≡ opposite own → own ≡ Dash
+not_opposite Dash t e f = refl
+not_opposite Zero t e f = absurd (false≢true (sym e ∙ ap (are_opposite Zero) f))
+not_opposite One t e f = absurd (false≢true (sym e ∙ ap (are_opposite One) f))
+
+pub not_beyond : (own t : Symbol) → is_beyond_symbol own t ≡ false → t ≡ Dash → own ≡ Dash
+not_beyond Dash t e f = refl
+not_beyond Zero t e f = absurd (false≢true (sym e ∙ ap (is_beyond_symbol Zero) f))
+not_beyond One t e f = absurd (false≢true (sym e ∙ ap (is_beyond_symbol One) f))
+
+pub beyond_dash : (own t : Symbol) → is_beyond_symbol own t ≡ true → are_opposite own t ≡ false → (own ≢ Dash) × (t ≡ Dash)
+beyond_dash Dash t e f = absurd (false≢true e)
+beyond_dash Zero Dash e f = (zero_literal, refl)
+beyond_dash Zero Zero e f = absurd (false≢true e)
+beyond_dash Zero One e f = absurd (false≢true (sym f))
+beyond_dash One Dash e f = (one_literal, refl)
+beyond_dash One Zero e f = absurd (false≢true (sym f))
+beyond_dash One One e f = absurd (false≢true e)
 
 -- ---- a row put back by steps at inputs
 

@@ -61,6 +61,7 @@ module _ (given : SetLists) (none : given.dc ≡ []) where
       → StandsFor (with_open given) given (Outside alone)
   stands_alone alone e is = record {
     size = refl;
+    on = refl;
     wanted = wanted_place;
     primes = ap (λ z. complete_sum z (λ p. not (places alone.cubes p))) e
         ∙ complete_sum-agree given.size (λ p. not (places alone.cubes p)) (λ p. places given.on p || places (outside given.size (given.on ++ given.off)) p)
@@ -68,7 +69,7 @@ module _ (given : SetLists) (none : given.dc ≡ []) where
   }
 
   pub stands_primes : (list : Cubes) → list.cubes ≡ primes_of (with_open given) → StandsFor (with_open given) given (Primes list)
-  stands_primes list e = record { size = refl; wanted = wanted_place; primes = e }
+  stands_primes list e = record { size = refl; on = refl; wanted = wanted_place; primes = e }
 
   pub sampled_alone : (alone : Cubes) (on : Cubes) → on ≡ record { size = given.size; cubes = given.on } → ((p : Place) → IsPlace given.size p → places alone.cubes p ≡ difference (places given.off) (places given.on) p)
       → IsSampled (with_open given) on alone

@@ -26,6 +26,7 @@ module _ (sets : SetLists) (off : Cubes) (e : off.size ≡ sets.size) where
   pub stands_outside : ((p : Place) → IsPlace sets.size p → places off.cubes p ≡ not (places sets.on p || places sets.dc p)) → StandsFor sets sets (Outside off)
   stands_outside h = record {
     size = refl;
+    on = refl;
     wanted = λ p place. refl;
     primes = ap (λ z. complete_sum z (λ p. not (places off.cubes p))) e
         ∙ complete_sum-agree sets.size (λ p. not (places off.cubes p)) (λ p. places sets.on p || places sets.dc p)
@@ -40,4 +41,4 @@ module _ (sets : SetLists) (list : Cubes) (e : list ≡ record { size = sets.siz
   }
 
   pub stands_among : StandsFor sets sets (Primes list)
-  stands_among = record { size = refl; wanted = λ p place. refl; primes = ap (λ (l : Cubes). l.cubes) e }
+  stands_among = record { size = refl; on = refl; wanted = λ p place. refl; primes = ap (λ (l : Cubes). l.cubes) e }

@@ -1,13 +1,14 @@
 -- The outputs that rows reach inside a cube.
-use Rattle.std.proofs.Common.{◌≡◌, ℕ, ◌+◌, ◌<◌, inl, inr, Bool, true, false, ◌&&◌, ◌||◌, List, length, take, map, get_or, refl, ap, sym, ◌∙◌}
+use Rattle.std.proofs.Common.{◌≡◌, ℕ, ◌+◌, ◌<◌, inl, inr, Bool, true, false, not, ◌&&◌, ◌||◌, List, length, take, map, get_or, refl, ap, sym, ◌∙◌}
 use Rattle.std.specs.List.{list_any}
-use Rattle.std.proofs.lemmas.Bool.{cases_Bool, false≢true, and_parts, and_from}
+use Rattle.std.proofs.lemmas.Bool.{cases_Bool, false≢true, and_parts, and_from, or_right, not_from_false}
 use Rattle.std.proofs.lemmas.List.{set-get_or}
 use Rattle.cube.specs.Size.{Size}
 use Rattle.cube.specs.Pattern.{matches}
 use Rattle.cube.specs.Cube.{Cube, Place, holds, SameSize, IsCube}
 use Rattle.cube.proofs.HoldsLemmas.{pick, matches-map_pick}
-use Rattle.cube.proofs.SharpLemmas.{some_true}
+use Rattle.cube.specs.Sharp.{minus}
+use Rattle.cube.proofs.SharpLemmas.{some_true, true_some, get_or-minus}
 use Rattle.cover.specs.Cubes.{Cubes}
 use Rattle.cover.specs.Places.{places}
 use Rattle.minimum.specs.Neighbours.{Grows, IsSettledOutput, IsBeside, AreNear, IsPartOf, AreReached}
@@ -55,6 +56,43 @@ module _ (region here : Cube) (rows : List Cube) (i : ℕ) (row : Cube) (lt : i 
           ∙ sym (stacked p)
           ∙ ap (λ b. b && get_or both.outputs p.output false) m;
     }
+
+-- ---- a row that adds no output
+
+-- a cube with more outputs than another has one
+pub more_output : (both here : Cube) → SameSize both here → list_any (λ b. b) (minus both.outputs here.outputs) ≡ true → list_any (λ b. b) both.outputs ≡ true
+more_output both here size more =
+    let w = some_true (minus both.outputs here.outputs) more in
+    true_some both.outputs w.0 (and_parts (get_or both.outputs w.0 false) (not (get_or here.outputs w.0 false)) (sym (get_or-minus both.outputs here.outputs w.0 size.1) ∙ w.1)).0
+
+module _ (region here : Cube) (rows : List Cube) (i : ℕ) (row : Cube) (lt : i < length rows) (at : row ≡ get_or rows i row) (so : AreReached region (take i rows) here)
+    (both : Cube) (size : SameSize both here) (stacked : (p : Place) → holds both p ≡ ((matches here.symbols p.point && matches row.symbols p.point) && (get_or here.outputs p.output false || get_or row.outputs p.output false)))
+    (less : list_any (λ b. b) (minus both.outputs here.outputs) ≡ true → ⊥) where
+  has_already : (p : Place) → matches here.symbols p.point ≡ true → holds row p ≡ true → get_or here.outputs p.output false ≡ true
+  has_already p m on =
+      let own = get_or here.outputs p.output false in
+      let more = get_or row.outputs p.output false in
+      let parts = and_parts (matches row.symbols p.point) more on in
+      let held : holds both p ≡ true = stacked p ∙ and_from (matches here.symbols p.point && matches row.symbols p.point) (own || more)
+      (and_from (matches here.symbols p.point) (matches row.symbols p.point) m parts.0) (or_right own more parts.1) in
+      let there = (and_parts (matches both.symbols p.point) (get_or both.outputs p.output false) held).1 in
+      elim (cases_Bool own) [
+        | inl e ↦ e
+        | inr lacks ↦ absurd (less (true_some (minus both.outputs here.outputs) p.output (get_or-minus both.outputs here.outputs p.output size.1
+            ∙ and_from (get_or both.outputs p.output false) (not own) there (not_from_false own lacks))))
+      ]
+
+  pub reached_already : AreReached region (take (i + 1) rows) here
+  reached_already = record {
+    size = so.size;
+    inputs = so.inputs;
+    outputs = λ p m lacks. elim (cases_Bool (holds row p)) [
+      | inr off ↦ sym (row_left rows i row lt at p p (take i rows) (take i rows) refl off) ∙ so.outputs p m lacks
+      | inl on ↦
+          let own = has_already p m on in
+          more_places rows i row lt at p ∙ ap (λ b. b || holds row p) (so.outputs p m lacks ∙ own) ∙ sym own
+    ];
+  }
 
 -- ---- of a part of the cube, and of the rows near it
 

@@ -13,8 +13,6 @@ use Rattle.cover.specs.Places.{places}
 use Rattle.minimum.specs.declared.essential_by_neighbours.grown_primes.GrownPrimes.{GrownPrimes}
 use Rattle.minimum.specs.declared.essential_by_neighbours.growth.Side.{Side}
 use Rattle.minimum.specs.declared.essential_by_neighbours.growth.Side.TheVariants.{Inside, Outside}
-use Rattle.minimum.specs.declared.essential_by_neighbours.neighbours.Way.{Way}
-use Rattle.minimum.specs.declared.essential_by_neighbours.neighbours.Way.TheVariants.{Free, Across}
 use Rattle.minimum.specs.Primes.{others}
 
 -- the places inside a list or outside it
@@ -103,8 +101,8 @@ pub record IsPartOf (c part : Cube) : Type 0 where
   pub outputs : part.outputs ≡ c.outputs
   pub within : IsSubset (holds part) (holds c)
 
--- a part of a cube's inputs that each row of a list holds whole or not at all, under the outputs
--- that the cube lacks: `here` has those of them that the list has there
+-- a part of a cube's inputs of which a list holds all or nothing under each output that the cube
+-- lacks: `here` has those of them that the list has there
 pub record AreReached (c : Cube) (rows : List Cube) (here : Cube) : Type 0 where
   pub size : SameSize here c
   pub inputs : (point : List Bool) → matches here.symbols point ≡ true
@@ -122,11 +120,6 @@ pub record IsAlone (s : Place → Bool) (c : Cube) (p : Place) : Type 0 where
 abbrev pub held_by : Option Cube → Place → Bool
 held_by None p = false
 held_by (Some c) p = holds c p
-
--- what a row has at such a literal if the step there leads into the row
-abbrev pub sought : Way → Symbol → Symbol
-sought Free literal = Dash
-sought Across literal = opposite literal
 
 -- cubes whose places in c are those from which a step out of c leads into a list
 pub record AreNeighbours (c : Cube) (rows near : List Cube) : Type 0 where

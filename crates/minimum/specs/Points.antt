@@ -97,9 +97,10 @@ PointsAreEnough = (sets : SetLists) (points columns : List Cube) → AreCubes se
     → HasExact sets columns (point_table points columns)
 
 -- lists and a source that stand for the same function as others: the same places are wanted, and
--- the source tells the primes
+-- the source tells the primes; the ON lists are the same
 pub record StandsFor (sets given : SetLists) (source : Source) : Type 0 where
   pub size : given.size ≡ sets.size
+  pub on : sets.on ≡ given.on
   pub wanted : (p : Place) → IsPlace sets.size p → care_on given p ≡ care_on sets p
   pub primes : source_primes source ≡ primes_of sets
 

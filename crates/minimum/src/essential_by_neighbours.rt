@@ -14,6 +14,7 @@
 
 ghost use Rattle.std.specs.Prelude.{◌≡◌, ◌++◌, IfOk, OnOk};
 ghost use Rattle.std.specs.List.{Contains};
+ghost use Rattle.cube.specs.Cube.{IsCube};
 ghost use Rattle.cube.specs.Sum.{IsMaximal, complete_sum};
 ghost use Rattle.cover.specs.Places.{places};
 ghost use Rattle.minimum.specs.Primes.{primes_of, essential_of, care_on};
@@ -32,19 +33,11 @@ use crate::essential_by_neighbours::growth::{Growth, Side, grown};
 use crate::essential_by_neighbours::near::asked;
 use crate::essential_by_neighbours::neighbours::neighbours;
 pub use crate::essential_by_neighbours::outside::find_essential_outside;
+use crate::prime_implicants::on_and_dc;
 use cover::{Cover, in_row_order};
 use cube::Cube;
 use pla::Sets;
 use std::alloc::{AllocError, Global};
-
-/// The ON cubes and then the DC cubes.
-fn on_and_dc(sets: &Sets) -> Result<Cover, AllocError>
-    ensures { IfOk result (λ rows. rows ≡ record { size = sets.now.size; cubes = sets.now.on ++ sets.now.dc }) }
-{
-    let mut rows = sets.on().try_clone()?;
-    rows.append(sets.dc())?;
-    Ok(rows)
-}
 
 /// Whether the neighbours of the prime and the DC-set leave out a place of it: such a place is
 /// wanted, as the prime lies in the ON-set with the DC-set.
@@ -78,11 +71,11 @@ fn add_essential(
 ) -> Result<(), AllocError>
     requires rows { rows.now ≡ record { size = sets.now.size; cubes = sets.now.on ++ sets.now.dc } }
     requires cube { Contains sets.now.on cube.now }
+    requires is_cube { IsCube sets.now.size cube.now }
     requires found { HaveSize sets.now.size found.old }
     ensures { OnOk result (AddsEssential sets.now.size (places rows.now.cubes) (care_on sets.now)
         cube.now found.old found.new) }
 {
-    let _shape = rows.shape();
     if found.contain(cube) {
         return Ok(());
     }

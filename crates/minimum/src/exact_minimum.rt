@@ -8,14 +8,14 @@
 
 ghost use Rattle.std.specs.Prelude.{◌≡◌, ◌<◌, ◌||◌, IfOk, IfSome, not};
 ghost use Rattle.cube.specs.Cube.{IsPlace, Place};
-ghost use Rattle.cover.specs.Cubes.{AreCubes};
+ghost use Rattle.cube.specs.Limits.{IsWithinLimits, format_limits};
 ghost use Rattle.cover.specs.Places.{places};
 ghost use Rattle.pla.specs.Sets.{SetLists};
 ghost use Rattle.minimum.specs.Points.{IsSource, StandsFor};
 ghost use Rattle.minimum.specs.Primes.{chosen, exact_of, primes_of};
 
 use crate::essential_primes::add;
-use crate::prime_implicants::primes;
+use crate::prime_implicants::{on_and_dc, primes};
 use crate::prime_table::OfPrimes;
 use crate::signatures::picks::{places_of_primes, places_outside};
 use crate::signatures::source::{Source, Stop};
@@ -90,8 +90,7 @@ fn off_of(sets: &Sets) -> Result<Option<Cover>, AllocError>
     if !uses_outside(sets) {
         return Ok(None);
     }
-    let mut all = sets.on().try_clone()?;
-    all.append(sets.dc())?;
+    let all = on_and_dc(sets)?;
     outside(&all, budget_outside(&all))
 }
 
@@ -105,8 +104,8 @@ pub(crate) fn exact_by_points(
 ) -> Result<Option<Cover>, AllocError>
     ghost sets: { SetLists }
     requires source { IsSource given.now.size source.now }
-    requires on { AreCubes sets.size sets.on }
     requires same { StandsFor sets given.now source.now }
+    requires limits { IsWithinLimits format_limits given.now.size }
     ensures { IfOk result (λ o. IfSome o (λ list. list ≡ record
         { size = given.now.size; cubes = exact_of choice sets })) }
 {
@@ -135,7 +134,6 @@ fn exact_outside(
     ensures { IfOk result (λ o. IfSome o (λ list. list ≡ record
         { size = sets.now.size; cubes = exact_of choice sets.now })) }
 {
-    let _shape = sets.on().shape();
     let places = places_outside(alloc, sets, &off, false)?;
     exact_by_points(alloc, sets, &Source::Outside(off), &places, choice)
 }
@@ -154,7 +152,6 @@ fn exact_among(
     if !uses_points_of_primes(sets) {
         return Ok(None);
     }
-    let _shape = sets.on().shape();
     let places = places_of_primes(alloc, sets, primes, false)?;
     let source = Source::Primes(primes.try_clone()?);
     exact_by_points(alloc, sets, &source, &places, choice)

@@ -202,7 +202,6 @@ fn exact_outside_off(
     })) }
 {
     let samples = samples_of(alloc, pla)?;
-    let _shape = pla.on().shape();
     if !uses_points(&samples) {
         return Ok(None);
     }
@@ -228,7 +227,6 @@ fn exact_among_primes(
     })) }
 {
     let samples = samples_of(alloc, pla)?;
-    let _shape = pla.on().shape();
     let primes = primes_outside(off)?;
     let places = places_of_primes(alloc, &samples, &primes, true)?;
     exact_by_points(alloc, &samples, &Source::Primes(primes), &places, choice)

@@ -5,8 +5,9 @@
 //! cubes that are far apart never come together. It takes a look at each cube that is left for each
 //! region, and memory for the rows and for a list of numbers at each level of the splits.
 
-ghost use Rattle.std.specs.Prelude.{◌≡◌, ◌<◌, true, false, IfOk, map, replicate, slice_set};
+ghost use Rattle.std.specs.Prelude.{◌≡◌, ◌<◌, ◌≤◌, true, false, IfOk, length, map, replicate, slice_set};
 ghost use Rattle.cube.specs.Cube.{literals as literals_of};
+ghost use Rattle.cube.specs.Limits.{IsWithinLimits, format_limits};
 ghost use Rattle.cover.specs.Cubes.{AreCubes};
 ghost use Rattle.covering.specs.Table.{items_of};
 ghost use Rattle.minimum.specs.Primes.{primes_of};
@@ -42,16 +43,22 @@ pub(crate) fn one_output(alloc: Global, shape: Shape, j: usize) -> Result<Cube, 
 
 /// The number of literals.
 fn weight(cube: &Cube) -> u32
+    requires { length cube.now.symbols ≤ format_limits.inputs }
     ensures { result ≡ literals_of cube.now }
 {
-    let _inputs = cube.shape().inputs();
     cube.literals() as u32
 }
 
-pub(crate) fn weights(alloc: Global, cubes: &[Cube]) -> Result<Vec<u32>, AllocError>
-    ensures { IfOk result (λ v. v.items ≡ map literals_of cubes.now) }
+/// The numbers of literals of the list's cubes.
+pub(crate) fn weights(alloc: Global, list: &Cover) -> Result<Vec<u32>, AllocError>
+    requires { IsWithinLimits format_limits list.now.size }
+    ensures { IfOk result (λ v. v.items ≡ map literals_of list.now.cubes) }
 {
-    cubes.iter().map(|cube| weight(cube)).collect(alloc)
+    let mut weights = Vec::with_capacity(alloc, list.len())?;
+    for cube in list.as_slice() {
+        weights.push(weight(cube))?;
+    }
+    Ok(weights)
 }
 
 /// The rows of all wanted places.
@@ -60,8 +67,9 @@ fn rows_of(alloc: Global, lists: &Lists, shape: Shape) -> Result<Vec<Vec<usize>>
     requires on { AreCubes shape lists.now.on.now }
     requires dc { AreCubes shape lists.now.dc.now }
     requires enough { AreEnough lists.now.primes.now lists.now.on.now lists.now.dc.now }
-    ensures { IfOk result (λ v. AreRowsOf lists.now.primes.now lists.now.on.now lists.now.dc.now
-        (items_of v.items)) }
+    ensures rows { IfOk result (λ v. AreRowsOf lists.now.primes.now lists.now.on.now
+        lists.now.dc.now (items_of v.items)) }
+    ensures limits { IfOk result (λ v. IsWithinLimits format_limits shape) }
 {
     let candidates = Candidates {
         primes: numbers(alloc, lists.primes.len())?,
@@ -100,7 +108,7 @@ impl OfPrimes for Table {
             dc: sets.dc().as_slice(),
         };
         let rows = rows_of(alloc, &lists, primes.shape())?;
-        let weights = weights(alloc, lists.primes)?;
+        let weights = weights(alloc, primes)?;
         match Table::new(alloc, rows, weights)? {
             Some(table) => Ok(table),
             None => unreachable!(),

@@ -16,8 +16,9 @@
 //! more memory than the rows, or a gigabyte and a half where a search has to be asked.
 
 ghost use Rattle.std.specs.Prelude.{◌≡◌, ◌++◌, true, IfOk, IfSome, OnOk, All, length, map};
-ghost use Rattle.std.specs.List.{Contains};
+ghost use Rattle.std.specs.List.{Contains, range_with_len};
 ghost use Rattle.cube.specs.Cube.{IsCube, SameSize, literals, Cube as Row};
+ghost use Rattle.cube.specs.Limits.{IsWithinLimits, format_limits};
 ghost use Rattle.cover.specs.Cubes.{AreCubes};
 ghost use Rattle.pla.specs.Sets.{SetLists};
 ghost use Rattle.covering.specs.Table.{AreRows};
@@ -87,11 +88,18 @@ fn add_place(
     let Some(point) = point_of_place(alloc, sets.on().shape(), place)? else {
         return Ok(());
     };
-    let _shape = point.shape();
     if found.is_signed(&point) {
         return Ok(());
     }
     pick_point(alloc, sets, source, on, dc, &point, found)
+}
+
+/// The numbers of the list's cubes.
+fn all_numbers(alloc: Global, list: &Cover) -> Result<Vec<usize>, AllocError>
+    ensures numbers { IfOk result (λ v. v.items ≡ range_with_len 0 (length list.now.cubes)) }
+    ensures cubes { AreCubes list.now.size list.now.cubes }
+{
+    numbers(alloc, list.as_slice().len())
 }
 
 /// Adds the proposed places, where they are wanted.
@@ -106,9 +114,8 @@ fn add_places(
     requires found { IsFound (function_by sets.now source.now) found.old }
     ensures found { OnOk result (IsFound (function_by sets.now source.now) found.new) }
 {
-    let on = numbers(alloc, sets.on().len())?;
-    let dc = numbers(alloc, sets.dc().len())?;
-    let (_on, _dc) = (sets.on().as_slice(), sets.dc().as_slice());
+    let on = all_numbers(alloc, sets.on())?;
+    let dc = all_numbers(alloc, sets.dc())?;
     for place in places {
         add_place(alloc, sets, source, &on, &dc, place, found)?;
     }
@@ -146,9 +153,8 @@ fn add_cubes(alloc: Global, sets: &Sets, source: &Source, found: &mut Found) -> 
     ensures found { OnOk result (IsFound (function_by sets.now source.now) found.new) }
     ensures forced { OnOk result (AreForced (function_by sets.now source.now) found.new.points.items (λ p. true)) }
 {
-    let on = numbers(alloc, sets.on().len())?;
-    let dc = numbers(alloc, sets.dc().len())?;
-    let _dc = sets.dc().as_slice();
+    let on = all_numbers(alloc, sets.on())?;
+    let dc = all_numbers(alloc, sets.dc())?;
     let held = signed_or_free(alloc, sets, found)?;
     let cubes = sets.on().as_slice();
     let are_held = held.holds_cubes(cubes)?;
@@ -180,6 +186,7 @@ fn point_table(alloc: Global, points: &[Cube], columns: &Cover) -> Result<Table,
         → All (λ d. SameSize d x) columns.now.cubes }
     requires rows { AreRows (length (map literals columns.now.cubes))
         (map (holders columns.now.cubes) points.now) }
+    requires limits { IsWithinLimits format_limits columns.now.size }
     ensures { IfOk result (λ t. t ≡ point_table_of points.now columns.now.cubes) }
 {
     let all = numbers(alloc, columns.len())?;
@@ -187,7 +194,7 @@ fn point_table(alloc: Global, points: &[Cube], columns: &Cover) -> Result<Table,
     for point in points {
         rows.push(spanning(alloc, columns.as_slice(), point, &all)?)?;
     }
-    let weights = weights(alloc, columns.as_slice())?;
+    let weights = weights(alloc, columns)?;
     match Table::new(alloc, rows, weights)? {
         Some(table) => Ok(table),
         None => unreachable!(),
@@ -205,8 +212,8 @@ pub(crate) fn table_of_points(
 ) -> Result<(Cover, Table), Stop>
     ghost sets: { SetLists }
     requires source { IsSource given.now.size source.now }
-    requires on { AreCubes sets.size sets.on }
     requires same { StandsFor sets given.now source.now }
+    requires limits { IsWithinLimits format_limits given.now.size }
     ensures size { IfOk result (λ r. r.0.size ≡ given.now.size) }
     ensures exact { IfOk result (λ r. HasExact sets r.0.cubes r.1) }
 {

@@ -6,6 +6,7 @@
 //! is looked for in the next list. A part that meets no row of some list is given up at once.
 
 ghost use Rattle.std.specs.Prelude.{◌≡◌, ◌≢◌, ◌<◌, ◌↔◌, IsTrue, true, false, All, IfOk, slice_index_or};
+ghost use Rattle.std.specs.List.{list_any};
 ghost use Rattle.cube.specs.Cube.{HasSize, IsCube};
 ghost use Rattle.minimum.specs.declared.essential_by_neighbours.growth.Side.{Side};
 ghost use Rattle.minimum.specs.Neighbours.{on_side, IsAlone, IsAloneByInputs};
@@ -35,7 +36,6 @@ fn blocking_input(alloc: Global, off: &Cover, prime: &Cube, i: usize) -> Result<
     let literal = prime.symbol(i);
     let mut list = Vec::new(alloc);
     for row in off.as_slice() {
-        let _shape = row.shape();
         if !is_same(row.symbol(i), literal) {
             add_meeting(&mut list, prime, Some(row.with_symbol(i, Symbol::Dash)?))?;
         }
@@ -52,7 +52,6 @@ fn blocking_output(alloc: Global, off: &Cover, prime: &Cube, j: usize) -> Result
     let shape = prime.shape();
     let mut list = Vec::new(alloc);
     for row in off.as_slice() {
-        let _shape = row.shape();
         if row.output(j) {
             add_meeting(&mut list, prime, row.stack(prime)?)?;
         }
@@ -109,11 +108,11 @@ fn all_meet(lists: &[Cover], from: usize, region: &Cube) -> bool
 
 /// Whether some place of the region is in each of the lists from a number on.
 pub(crate) fn has_common(lists: &[Cover], from: usize, region: &Cube) -> Result<bool, AllocError>
-    requires { All (λ l. HasSize region.now l.size) lists.now }
+    requires sizes { All (λ l. HasSize region.now l.size) lists.now }
+    requires output { IsTrue (list_any (λ b. b) region.now.outputs) }
     ensures some { IfOk result (λ b. b ≡ true → HasCommon region.now lists.now from) }
     ensures none { IfOk result (λ b. b ≡ false → HasCommon region.now lists.now from → ⊥) }
 {
-    let _shape = region.shape();
     if from >= lists.len() {
         return Ok(true);
     }

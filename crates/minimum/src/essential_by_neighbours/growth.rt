@@ -29,7 +29,7 @@ pub(crate) enum Side {
 }
 
 /// The other literal.
-pub(crate) fn opposite(symbol: Symbol) -> Symbol
+fn opposite(symbol: Symbol) -> Symbol
     ensures { result ≡ opposite_of symbol }
 {
     match symbol {
@@ -138,7 +138,6 @@ fn widened(
     let Some(wide) = cube.stack(&output)? else {
         unreachable!()
     };
-    let _shape = wide.shape();
     let rest = wide.without_outputs(&cube)?;
     if is_implicant(side, asked(rows, &near), &rest)? {
         return Ok(Growth { cube: wide, near });

@@ -41,7 +41,6 @@ fn not_far(alloc: Global, rows: &Cover, cube: &Cube) -> Result<Cover, AllocError
 {
     let mut near = Vec::new(alloc);
     for row in rows.as_slice() {
-        let _shape = row.shape();
         if !is_far(cube, row) {
             near.push(row.try_clone()?)?;
         }

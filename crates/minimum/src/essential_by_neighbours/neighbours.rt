@@ -6,62 +6,18 @@
 //! prime count. A row that conflicts with the prime at an input meets it at most if freed there; one
 //! that conflicts nowhere is put back as it is, if it has `-` at some literal of the prime.
 
-ghost use Rattle.std.specs.Prelude.{◌≡◌, ◌≢◌, ℕ, ◌<◌, ◌||◌, Bool, true, false, IfOk, IfSome, IfNone, OnOk, length, slice_index_or};
+ghost use Rattle.std.specs.Prelude.{◌≡◌, ◌||◌, true, false, IfOk, IfSome, OnOk};
 ghost use Rattle.cube.specs.Cube.{HasSize, SameSize, Place, holds, size_of};
 ghost use Rattle.cover.specs.Cubes.{AreCubes};
 ghost use Rattle.cover.specs.Places.{places};
-ghost use Rattle.minimum.specs.Neighbours.{held_by, sought as sought_by, IsAloneByInputs, IsAloneByOutputs, AddsNeighbours, AreNeighbours};
+ghost use Rattle.minimum.specs.Neighbours.{held_by, IsAloneByInputs, IsAloneByOutputs, AddsNeighbours, AreNeighbours};
 
-use crate::essential_by_neighbours::growth::opposite;
 use cover::Cover;
 use cube::{Cube, Symbol};
 use std::alloc::{AllocError, Global};
 
-/// What a row has at a literal of a prime, if a step there leads into the row.
-#[derive(Clone, Copy)]
-pub(crate) enum Way {
-    /// The row has `-` there.
-    Free,
-    /// The row has the opposite literal there.
-    Across,
-}
-
-/// The symbol that is looked for at a literal.
-fn sought(way: Way, literal: Symbol) -> Symbol
-    ensures { result ≡ sought_by way literal }
-{
-    match way {
-        Way::Free => Symbol::Dash,
-        Way::Across => opposite(literal),
-    }
-}
-
-/// The first input at which the prime has a literal and the row the symbol that is looked for.
-fn step_input(prime: &Cube, row: &Cube, way: Way) -> Option<usize>
-    requires { SameSize row.now prime.now }
-    ensures within { IfSome result (λ i. i < length prime.now.symbols) }
-    ensures literal { IfSome result
-        (λ i. slice_index_or prime.now.symbols i Symbol.Dash ≢ Symbol.Dash) }
-    ensures symbol { IfSome result
-        (λ i. slice_index_or row.now.symbols i Symbol.Dash
-        ≡ sought_by way (slice_index_or prime.now.symbols i Symbol.Dash)) }
-    ensures none { IfNone result ((i : ℕ)
-        → slice_index_or row.now.symbols i Symbol.Dash
-        ≡ sought_by way (slice_index_or prime.now.symbols i Symbol.Dash)
-        → slice_index_or prime.now.symbols i Symbol.Dash ≡ Symbol.Dash) }
-{
-    let _inputs = prime.shape().inputs();
-    let mut from = 0;
-    while let Some(i) = prime.next_literal(from) {
-        if row.symbol(i) == sought(way, prime.symbol(i)) {
-            return Some(i);
-        }
-        from = i + 1;
-    }
-    None
-}
-
-/// The row put back by the steps at inputs.
+/// The row put back by the steps at inputs: freed of a literal that is opposite to the prime's, or as
+/// it is where it has `-` at a literal of the prime.
 fn back_by_inputs(prime: &Cube, row: &Cube) -> Result<Option<Cube>, AllocError>
     requires { SameSize row.now prime.now }
     ensures size { IfOk result (λ found. IfSome found (λ c. SameSize c row.now)) }
@@ -70,10 +26,10 @@ fn back_by_inputs(prime: &Cube, row: &Cube) -> Result<Option<Cube>, AllocError>
     ensures some { IfOk result (λ found. (p : Place) → holds prime.now p ≡ true
         → held_by found p ≡ true → IsAloneByInputs (holds row.now) prime.now p → ⊥) }
 {
-    if let Some(i) = step_input(prime, row, Way::Across) {
+    if let Some(i) = prime.next_opposite(row, 0) {
         return Ok(Some(row.with_symbol(i, Symbol::Dash)?));
     }
-    if step_input(prime, row, Way::Free).is_some() {
+    if prime.next_beyond(row, 0).is_some() {
         return Ok(Some(row.try_clone()?));
     }
     Ok(None)
@@ -107,7 +63,6 @@ pub(crate) fn add_meeting(
         → places near.new.items p ≡ (places near.old.items p || held_by found p)) }
 {
     if let Some(cube) = found {
-        let _shape = cube.shape();
         if !cube.disjoint(prime) {
             near.push(cube)?;
         }

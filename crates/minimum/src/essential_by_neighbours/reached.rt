@@ -1,7 +1,8 @@
 //! The outputs that rows reach inside a cube.
 //!
 //! Most outputs cannot be added to a cube, and one point of it shows this of many. A part of the
-//! cube is taken that each row holds whole or not at all, with the outputs of the rows that hold it.
+//! cube is narrowed to each row that has an output more there, and gets the outputs of these rows. So
+//! under an output that the cube lacks the rows hold the whole part, or no place of it.
 
 ghost use Rattle.std.specs.Prelude.{◌≡◌, ◌<◌, List, false, not, IfOk, length, slice_index_or};
 ghost use Rattle.cube.specs.Cube.{Cube as Row, HasSize, Place};
@@ -35,8 +36,9 @@ pub(crate) fn outputs_at(rows: &Cover, region: Cube) -> Result<Cube, AllocError>
     let mut here = region;
     for row in rows.as_slice() {
         if let Some(both) = here.stack(row)? {
-            let _shape = both.shape();
-            here = both;
+            if both.has_more_outputs(&here) {
+                here = both;
+            }
         }
     }
     Ok(here)

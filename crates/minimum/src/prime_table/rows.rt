@@ -114,9 +114,12 @@ pub(crate) fn literal_inside(cube: &Cube, region: &Cube) -> Option<usize>
     requires { SameSize cube.now region.now }
     ensures { MatchOption result (HasNoneInside cube.now region.now) (IsFree region.now) }
 {
-    let _inputs = cube.shape().inputs();
+    let inputs = region.shape().inputs();
     let mut from = 0;
-    while let Some(i) = cube.next_literal(from) {
+    while from < inputs {
+        let Some(i) = cube.next_literal(from) else {
+            return None;
+        };
         if region.symbol(i) == Symbol::Dash {
             return Some(i);
         }

@@ -3,13 +3,13 @@
 
 ghost use Rattle.std.specs.Prelude.{◌≡◌, ◌∷◌, ◌++◌, [], true, IfOk, IfSome, OnOk, All};
 ghost use Rattle.std.specs.List.{Contains};
-ghost use Rattle.cube.specs.Cube.{SameSize, IsCube, IsSubset, Cube as Row, holds};
-ghost use Rattle.minimum.specs.Points.{IsSource, function_by, IsFound, IsWantedPoint};
+ghost use Rattle.cube.specs.Cube.{HasSize, SameSize, IsCube, IsSubset, Cube as Row, holds};
+ghost use Rattle.pla.specs.Sets.{SetLists};
+ghost use Rattle.minimum.specs.Points.{IsSource, function_by, source_size, IsFound, IsWantedPoint};
 
 use crate::signatures::source::{Source, Stop, primes_containing};
 use cover::Cover;
 use cube::Cube;
-use pla::Sets;
 use std::alloc::{AllocError, Global};
 
 /// Points, the primes that contain them, and their signatures.
@@ -69,7 +69,6 @@ fn signature(list: &Cover) -> Result<Option<Cube>, AllocError>
         };
         common = less;
     }
-    let _shape = common.shape();
     Ok(Some(common))
 }
 
@@ -83,15 +82,15 @@ fn push_cube(list: &mut Vec<Cube>, cube: Cube) -> Result<(), AllocError>
 
 /// Adds a point, the primes that hold it, and their signature.
 pub(crate) fn add_point(
-    sets: &Sets,
     source: &Source,
     point: Cube,
     found: &mut Found,
 ) -> Result<(), Stop>
-    requires source { IsSource sets.now.size source.now }
-    requires point { IsWantedPoint (function_by sets.now source.now) point }
-    requires found { IsFound (function_by sets.now source.now) found.old }
-    ensures found { OnOk result (IsFound (function_by sets.now source.now) found.new) }
+    requires { HasSize point (source_size source.now) }
+    ensures found { OnOk result ((sets : SetLists) → IsSource sets.size source.now
+        → IsWantedPoint (function_by sets source.now) point
+        → IsFound (function_by sets source.now) found.old
+        → IsFound (function_by sets source.now) found.new) }
     ensures points { OnOk result (found.new.points.items ≡ found.old.points.items ++ point ∷ []) }
 {
     let row = primes_containing(source, &point)?;

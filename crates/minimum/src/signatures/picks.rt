@@ -1,5 +1,8 @@
 //! Points that a search proposes.
 
+ghost use Rattle.std.specs.Prelude.{IfOk};
+ghost use Rattle.cube.specs.Limits.{IsWithinLimits, format_limits};
+
 use cover::Cover;
 use cube::{Cube, Symbol};
 use pla::Sets;
@@ -33,7 +36,9 @@ fn put_cube(rows: &mut Rows, cube: &Cube) -> Result<(), AllocError> {
 }
 
 /// The list as rows.
-fn rows_of(alloc: Global, list: &Cover) -> Result<Rows, AllocError> {
+fn rows_of(alloc: Global, list: &Cover) -> Result<Rows, AllocError>
+    ensures { IfOk result (λ _. IsWithinLimits format_limits list.now.size) }
+{
     let shape = list.shape();
     let mut rows = Rows::new(alloc, shape.inputs(), shape.outputs());
     for cube in list.as_slice() {
@@ -49,7 +54,9 @@ pub(crate) fn places_outside(
     sets: &Sets,
     off: &Cover,
     sampled: bool,
-) -> Result<Vec<Place>, AllocError> {
+) -> Result<Vec<Place>, AllocError>
+    ensures { IfOk result (λ _. IsWithinLimits format_limits sets.now.size) }
+{
     let on = rows_of(alloc, sets.on())?;
     let dc = rows_of(alloc, sets.dc())?;
     let off = rows_of(alloc, off)?;
@@ -62,7 +69,9 @@ pub(crate) fn places_of_primes(
     sets: &Sets,
     primes: &Cover,
     sampled: bool,
-) -> Result<Vec<Place>, AllocError> {
+) -> Result<Vec<Place>, AllocError>
+    ensures { IfOk result (λ _. IsWithinLimits format_limits sets.now.size) }
+{
     let on = rows_of(alloc, sets.on())?;
     let dc = rows_of(alloc, sets.dc())?;
     let primes = rows_of(alloc, primes)?;

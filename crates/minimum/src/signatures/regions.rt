@@ -84,9 +84,8 @@ pub(crate) fn pick_point(
         → AreForced (function_by sets.now source.now) found.new.points.items (holds region.now)) }
 {
     let point = point_of(region)?;
-    let _shape = point.shape();
     if is_wanted(alloc, sets, on, dc, &point)? {
-        add_point(sets, source, point, found)?;
+        add_point(source, point, found)?;
     }
     Ok(())
 }
@@ -221,7 +220,6 @@ pub(crate) fn add_cube(
     for j in 0..shape.outputs() {
         let output = one_output(alloc, shape, j)?;
         if let Some(part) = cube.meet(&output)? {
-            let _shape = part.shape();
             add_points(alloc, sets, source, on, dc, &part, found)?;
         }
     }

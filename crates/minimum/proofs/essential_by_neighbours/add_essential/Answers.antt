@@ -1,24 +1,14 @@
-use Rattle.std.proofs.Common.{All, ap, sym, subst, ◌∙◌}
-use Rattle.std.specs.List.{Contains}
-use Rattle.std.proofs.lemmas.List.Elements.{Contains-append_left}
+use Rattle.std.proofs.Common.{ap, sym, subst}
 use Rattle.std.proofs.lemmas.Result.{IfOk-weaker}
 use Rattle.cube.specs.Cube.{IsCube}
 use Rattle.cube.specs.Sum.{IsMaximal}
 use Rattle.cover.specs.Places.{places}
-use Rattle.cover.proofs.Lists.{all_members}
 use Rattle.minimum.specs.Primes.{care_on}
 use Rattle.minimum.specs.Neighbours.{AreNear}
 use Rattle.minimum.proofs.Growth.{grown_maximal}
 use Rattle.minimum.proofs.EssentialByNeighbours.{in_rows, adds_none_found, adds_prime}
 use Rattle.minimum.proofs.essential_by_neighbours.add_essential.Goals as goal
-use Rattle.minimum.proofs.essential_by_neighbours.add_essential.Goals.{After-shape-shape, In_ok-prime}
-
-cube_is : (c : After-shape-shape) → IsCube c.args.rows.now.size c.args.cube.now
-cube_is c =
-    let rows = c.args.rows.now in
-    let sets = c.args.sets.now in
-    let member = subst (λ l. Contains l c.args.cube.now) (sym (ap (λ k. k.cubes) c.requires.rows)) (Contains-append_left sets.on sets.dc c.args.cube.now c.requires.cube) in
-    all_members (IsCube rows.size) rows.cubes (subst (λ n. All (IsCube n) rows.cubes) c.shape-shape.ensures.size c.shape-shape.ensures.cubes) c.args.cube.now member
+use Rattle.minimum.proofs.essential_by_neighbours.add_essential.Goals.{In_ok-prime}
 
 maximal : (c : In_ok-prime) → IsMaximal c.args.sets.now.size (places c.args.rows.now.cubes) c.in_ok-prime.field-0.cube
 maximal c =
@@ -33,7 +23,7 @@ returns-then-contain c =
     adds_none_found sets.size (places c.args.rows.now.cubes) (care_on sets) c.args.cube.now c.args.found.now (c.contain.ensures c.if-contain.true)
 
 pub grown-requires : goal.grown-requires
-grown-requires c = cube_is ((goal.at.grown-requires c).After-shape-shape)
+grown-requires c = subst (λ n. IsCube n c.args.cube.now) (sym (ap (λ k. k.size) c.requires.rows)) c.requires.is_cube
 
 pub is_essential-requires-clause-prime : goal.is_essential-requires-clause-prime
 is_essential-requires-clause-prime c = maximal ((goal.at.is_essential-requires-clause-prime c).In_ok-prime)

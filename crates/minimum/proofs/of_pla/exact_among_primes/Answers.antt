@@ -1,6 +1,6 @@
 use Rattle.std.proofs.Common.{◌≡◌, ◌∙◌, ap, sym, subst}
 use Rattle.std.specs.Prelude.{IfOk, IfSome}
-use Rattle.cover.specs.Cubes.{AreCubes, Cubes}
+use Rattle.cover.specs.Cubes.{Cubes}
 use Rattle.pla.specs.Sets.{SetLists}
 use Rattle.minimum.specs.Primes.{exact_of, primes_of}
 use Rattle.minimum.proofs.OfPla.{open_sets, stands_primes, with_open}
@@ -12,12 +12,10 @@ exact_by_points-requires c =
     let pla = c.args.pla.now in
     let given = c.in_ok-samples.samples in
     let is = c.in_ok-samples.ensures in
-    let on : AreCubes given.size given.on = subst (λ (s : SetLists). AreCubes s.size s.on) (sym is)
-    (subst (AreCubes pla.size) (ap (λ (l : Cubes). l.cubes) c.on.ensures) (subst (λ z. AreCubes z c.on.result.now.cubes) (c.shape-shape.ensures.size ∙ ap (λ (l : Cubes). l.size) c.on.ensures) c.shape-shape.ensures.cubes)) in
     let list = c.in_ok-primes.primes in
     let all : SetLists → Cubes = λ sets. record { size = sets.size; cubes = primes_of sets } in
     let same : list ≡ all (with_open given) = c.in_ok-primes.ensures pla c.requires.file_type c.requires.size c.requires.places ∙ ap all (sym (open_sets pla given is c.requires.file_type)) in
-    (primes_among (with_open given) list same, (on, stands_primes given (ap (λ (s : SetLists). s.dc) is) list (ap (λ (l : Cubes). l.cubes) same)))
+    (primes_among (with_open given) list same, (stands_primes given (ap (λ (s : SetLists). s.dc) is) list (ap (λ (l : Cubes). l.cubes) same), c.in_ok-places.ensures))
 
 pub returns : goal.returns
 returns c =

@@ -1,7 +1,7 @@
 use Rattle.std.proofs.Common.{◌≡◌, ◌∙◌, ap, sym, subst}
 use Rattle.std.specs.Prelude.{IfOk, IfSome}
 use Rattle.cube.specs.Cube.{Place, IsPlace, difference}
-use Rattle.cover.specs.Cubes.{AreCubes, Cubes}
+use Rattle.cover.specs.Cubes.{Cubes}
 use Rattle.cover.specs.Places.{places}
 use Rattle.pla.specs.Sets.{SetLists}
 use Rattle.minimum.specs.Primes.{exact_of}
@@ -14,14 +14,12 @@ exact_by_points-requires c =
     let pla = c.args.pla.now in
     let given = c.in_ok-samples.samples in
     let is = c.in_ok-samples.ensures in
-    let on : AreCubes given.size given.on = subst (λ (s : SetLists). AreCubes s.size s.on) (sym is)
-    (subst (AreCubes pla.size) (ap (λ (l : Cubes). l.cubes) c.on.ensures) (subst (λ z. AreCubes z c.on.result.now.cubes) (c.shape-shape.ensures.size ∙ ap (λ (l : Cubes). l.size) c.on.ensures) c.shape-shape.ensures.cubes)) in
     let off = c.in_ok-try_clone.field-0 in
     let same = c.in_ok-try_clone.ensures in
     let sized : off.size ≡ given.size = ap (λ (l : Cubes). l.size) same ∙ c.requires.size ∙ ap (λ (s : SetLists). s.size) (sym is) in
     let places_are = subst (λ (l : Cubes). (p : Place) → IsPlace pla.size p → places l.cubes p ≡ difference (places pla.off) (places pla.on) p) (sym same) c.requires.places in
     let alone = subst (λ (s : SetLists). (p : Place) → IsPlace s.size p → places off.cubes p ≡ difference (places s.off) (places s.on) p) (sym is) places_are in
-    (primes_outside given off sized, (on, stands_alone given (ap (λ (s : SetLists). s.dc) is) off sized alone))
+    (primes_outside given off sized, (stands_alone given (ap (λ (s : SetLists). s.dc) is) off sized alone, c.in_ok-places.ensures))
 
 pub returns : goal.returns
 returns c =

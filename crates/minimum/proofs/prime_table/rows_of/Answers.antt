@@ -9,8 +9,8 @@ loop-j-init c =
     let lists = c.args.lists.now in
     subst (λ rows. RowsSoFar lists.primes.now lists.on.now lists.dc.now 0 (items_of rows)) (sym c.new-rows.ensures.items) (rows_none lists.primes.now lists.on.now lists.dc.now)
 
-pub returns : goal.returns
-returns c =
+pub returns-clause-rows : goal.returns-clause-rows
+returns-clause-rows c =
     let lists = c.args.lists.now in
     rows_all c.args.shape lists.primes.now lists.on.now lists.dc.now c.requires.primes c.requires.on c.requires.dc c.requires.enough c.loop-j.j (items_of c.loop-j.rows.items)
     (let l = c.loop-j-test.false in let n = c.outputs-j-end.ensures.value in omega arith) c.loop-j.invariant

@@ -1,14 +1,32 @@
-use Rattle.std.proofs.Common.{◌≡◌, ℕ, ◌+◌, ◌<◌, List, Option, None, Some, IfSome, IsNone, sym, subst, ◌↔◌, length, refl, true, arith}
+use Rattle.std.proofs.Common.{◌≡◌, ℕ, ◌+◌, ◌<◌, List, Option, None, Some, IfSome, IsNone, sym, subst, ◌∙◌, ◌↔◌, length, refl, true, arith}
 use Rattle.std.specs.List.{Contains}
-use Rattle.cube.specs.Cube.{Cube, Place, holds, intersection, IsDisjoint}
+use Rattle.cube.specs.Cube.{Cube, Place, holds, intersection, IsDisjoint, SameSize}
 use Rattle.cover.specs.Cubes.{Cubes}
+use Rattle.cover.proofs.Found.{meet_output}
 use Rattle.minimum.specs.Blocking.{HasCommon}
 use Rattle.minimum.proofs.Blocking.{common_none, common_more, common_next, part_none}
 use Rattle.minimum.proofs.essential_by_neighbours.blocking.+has_common.Goals as goal
 use Rattle.minimum.proofs.essential_by_neighbours.blocking.+has_common.Goals.{in-Some+in_ok-has_common+else-branch+in-Heap-1, in-Some+in_ok-has_common+else-branch+in-Inline-1, in_default}
 
 pub returns-then-from-lists-clause-some : goal.returns-then-from-lists-clause-some
-returns-then-from-lists-clause-some t c _ = common_none c.args.region.now c.args.lists.now c.args.from c.if-from-lists.true c.shape-shape.ensures.is_cube.some_output
+returns-then-from-lists-clause-some t c _ = common_none c.args.region.now c.args.lists.now c.args.from c.if-from-lists.true c.requires.output
+
+pub has_common-requires : goal.has_common-requires
+has_common-requires t c =
+    let region = c.args.region.now in
+    let row = c.row-item.result in
+    let lists = c.args.lists.now in
+    let part = c.in-Some.part in
+    let same : SameSize part region = subst (λ o. IfSome o (λ d. SameSize d region)) c.in-Some.is c.in_ok-part.ensures.size in
+    let both : (p : Place) → holds part p ≡ intersection (holds region) (holds row) p =
+    subst (λ o. IfSome o (λ d. (p : Place) → holds d p ≡ intersection (holds region) (holds row) p)) c.in-Some.is c.in_ok-part.ensures.places in
+    let lt : c.args.from < length lists = omega (arith, c.if-from-lists.false) in (
+      omega (arith, lt),
+      (
+        (λ k l below. let own = c.requires.sizes k l below in (same.0 ∙ own.0, same.1 ∙ own.1)),
+        meet_output region row part c.in_ok-part.field-0 c.in-Some.is c.in_ok-part.ensures.none both,
+      ),
+    )
 
 pub returns-then-branch-clause-some : goal.returns-then-branch-clause-some
 returns-then-branch-clause-some t c _ =

@@ -7,11 +7,11 @@ use Rattle.cube.specs.Pattern.{matches}
 use Rattle.cube.specs.Cube.{Cube, Place, holds, HasSize, SameSize, IsCube}
 use Rattle.cube.proofs.SharpLemmas.{length-minus}
 use Rattle.minimum.specs.Neighbours.{on_side, AreNear, near_or}
-use Rattle.minimum.proofs.Growth.{not_apart, rest_output, beside_wide, beside_rest, widened_grows, widened_settles, unwidened_settles}
+use Rattle.minimum.proofs.Growth.{not_apart, stacked_cube, rest_output, beside_wide, beside_rest, widened_grows, widened_settles, unwidened_settles}
 use Rattle.minimum.proofs.Reached.{off_settles}
 use Rattle.minimum.proofs.Near.{near_to_all, all_to_near, near_fewer}
 use Rattle.minimum.proofs.essential_by_neighbours.growth.widened.Goals as goal
-use Rattle.minimum.proofs.essential_by_neighbours.growth.widened.Goals.{After-stack, After-shape-shape}
+use Rattle.minimum.proofs.essential_by_neighbours.growth.widened.Goals.{After-stack, In-Some}
 
 is_output : (c : After-stack) → c.in_ok-output.output ≡ record { symbols = replicate c.args.rows.now.size.inputs Dash; outputs = set (replicate c.args.rows.now.size.outputs false) c.args.j true }
 is_output c =
@@ -21,16 +21,18 @@ is_output c =
 lacks : (c : After-stack) → get_or c.args.grown.cube.outputs c.args.j false ≡ false
 lacks c = get_or_from_slice_get c.args.grown.cube.outputs c.args.j c.output.result false c.output.ensures ∙ c.if-output.false
 
-wide_cube : (c : After-shape-shape) → IsCube c.args.rows.now.size c.in-Some.wide
-wide_cube c =
-    let same : SameSize c.in-Some.wide c.args.grown.cube = subst (λ o. IfSome o (λ d. SameSize d c.args.grown.cube)) c.in-Some.is c.in_ok-wide.ensures.size in
-    let long = c.requires.is_cube.has_size in
-    record { has_size = (same.0 ∙ long.0, same.1 ∙ long.1); some_output = c.shape-shape.ensures.is_cube.some_output }
-
-stacked : (c : After-shape-shape) → (p : Place) → holds c.in-Some.wide p ≡ ((matches c.args.grown.cube.symbols p.point && matches c.in_ok-output.output.symbols p.point)
+stacked : (c : In-Some) → (p : Place) → holds c.in-Some.wide p ≡ ((matches c.args.grown.cube.symbols p.point && matches c.in_ok-output.output.symbols p.point)
     && (get_or c.args.grown.cube.outputs p.output false || get_or c.in_ok-output.output.outputs p.output false))
 stacked c = subst (λ o. IfSome o (λ d. (p : Place) → holds d p ≡ ((matches c.args.grown.cube.symbols p.point && matches c.in_ok-output.output.symbols p.point)
     && (get_or c.args.grown.cube.outputs p.output false || get_or c.in_ok-output.output.outputs p.output false)))) c.in-Some.is c.in_ok-wide.ensures.places
+
+wide_cube : (c : In-Some) → IsCube c.args.rows.now.size c.in-Some.wide
+wide_cube c =
+    let rows = c.args.rows.now in
+    let same : SameSize c.in-Some.wide c.args.grown.cube = subst (λ o. IfSome o (λ d. SameSize d c.args.grown.cube)) c.in-Some.is c.in_ok-wide.ensures.size in
+    let region : Size → Cube = λ z. record { symbols = replicate z.inputs Dash; outputs = set (replicate z.outputs false) c.args.j true } in
+    stacked_cube rows.size (on_side c.args.side rows.cubes) c.args.grown.cube c.requires.is_cube c.args.j c.requires.output c.in_ok-output.output (c.in_ok-output.ensures ∙ ap region c.shape.ensures.size)
+    c.in-Some.wide same (stacked c)
 
 pub unreachable-requires : goal.unreachable-requires
 unreachable-requires c =
@@ -43,12 +45,12 @@ pub without_outputs-requires-clause-some : goal.without_outputs-requires-clause-
 without_outputs-requires-clause-some c =
     let rows = c.args.rows.now in
     let s = (goal.at.without_outputs-requires-clause-some c).After-stack in
-    let t = (goal.at.without_outputs-requires-clause-some c).After-shape-shape in
+    let t = (goal.at.without_outputs-requires-clause-some c).In-Some in
     rest_output rows.size (on_side c.args.side rows.cubes) c.args.grown.cube c.requires.is_cube c.args.j c.requires.output c.in_ok-output.output (is_output s) c.in-Some.wide (wide_cube t) (stacked t) (lacks s)
 
 pub is_implicant-requires : goal.is_implicant-requires
 is_implicant-requires c =
-    let t = (goal.at.is_implicant-requires c).After-shape-shape in
+    let t = (goal.at.is_implicant-requires c).In-Some in
     let wide = (wide_cube t).has_size in
     let own = c.requires.is_cube.has_size in
     subst (HasSize c.in_ok-rest.rest) (sym (ap (λ k. k.size) c.asked.ensures ∙ c.requires.near.size)) (
@@ -60,7 +62,7 @@ pub returns-then-branch-clause-near : goal.returns-then-branch-clause-near
 returns-then-branch-clause-near c =
     let rows = c.args.rows.now in
     let s = (goal.at.returns-then-branch-clause-near c).After-stack in
-    let t = (goal.at.returns-then-branch-clause-near c).After-shape-shape in
+    let t = (goal.at.returns-then-branch-clause-near c).In-Some in
     near_fewer c.args.grown.cube rows (near_or rows c.args.grown.near) c.requires.near c.in-Some.wide
     (beside_wide rows.size (on_side c.args.side rows.cubes) c.args.grown.cube c.requires.is_cube c.args.j c.requires.output c.in_ok-output.output (is_output s) c.in-Some.wide (wide_cube t) (stacked t))
 
@@ -68,7 +70,7 @@ pub returns-then-branch-clause-grows : goal.returns-then-branch-clause-grows
 returns-then-branch-clause-grows c =
     let rows = c.args.rows.now in
     let s = (goal.at.returns-then-branch-clause-grows c).After-stack in
-    let t = (goal.at.returns-then-branch-clause-grows c).After-shape-shape in
+    let t = (goal.at.returns-then-branch-clause-grows c).In-Some in
     widened_grows rows.size (on_side c.args.side rows.cubes) c.args.grown.cube c.requires.is_cube c.args.j c.requires.output c.in_ok-output.output (is_output s) c.in-Some.wide (wide_cube t) (stacked t)
     c.in_ok-rest.rest c.in_ok-rest.ensures.value
     (near_to_all c.args.grown.cube rows c.asked.result.now (subst (AreNear c.args.grown.cube rows) (sym c.asked.ensures) c.requires.near) c.args.side c.in_ok-rest.rest (beside_rest rows.size (on_side c.args.side rows.cubes) c.args.grown.cube c.requires.is_cube c.args.j c.requires.output c.in_ok-output.output (is_output s) c.in-Some.wide (wide_cube t) (stacked t)
@@ -78,7 +80,7 @@ pub returns-then-branch-clause-settled : goal.returns-then-branch-clause-settled
 returns-then-branch-clause-settled c =
     let rows = c.args.rows.now in
     let s = (goal.at.returns-then-branch-clause-settled c).After-stack in
-    let t = (goal.at.returns-then-branch-clause-settled c).After-shape-shape in
+    let t = (goal.at.returns-then-branch-clause-settled c).In-Some in
     widened_settles rows.size (on_side c.args.side rows.cubes) c.args.grown.cube c.requires.is_cube c.args.j c.requires.output c.in_ok-output.output (is_output s) c.in-Some.wide (wide_cube t) (stacked t)
     c.in_ok-rest.rest c.in_ok-rest.ensures.value
 
@@ -86,7 +88,7 @@ pub returns-clause-settled : goal.returns-clause-settled
 returns-clause-settled c =
     let rows = c.args.rows.now in
     let s = (goal.at.returns-clause-settled c).After-stack in
-    let t = (goal.at.returns-clause-settled c).After-shape-shape in
+    let t = (goal.at.returns-clause-settled c).In-Some in
     unwidened_settles rows.size (on_side c.args.side rows.cubes) c.args.grown.cube c.requires.is_cube c.args.j c.requires.output c.in_ok-output.output (is_output s) c.in-Some.wide (wide_cube t) (stacked t)
     c.in_ok-rest.rest c.in_ok-rest.ensures.value (λ sub. false≢true (sym c.if-branch.false ∙ c.in_ok-is_implicant.ensures.1
     (all_to_near c.args.grown.cube rows c.asked.result.now (subst (AreNear c.args.grown.cube rows) (sym c.asked.ensures) c.requires.near) c.args.side c.in_ok-rest.rest (beside_rest rows.size (on_side c.args.side rows.cubes) c.args.grown.cube c.requires.is_cube c.args.j c.requires.output c.in_ok-output.output (is_output s) c.in-Some.wide (wide_cube t) (stacked t)

@@ -4,6 +4,7 @@ use Rattle.std.proofs.lemmas.Bool.{or_cases}
 use Rattle.cube.specs.Size.{Size}
 use Rattle.cube.specs.Cube.{Cube, Place, holds, intersection, IsCube, IsDisjoint, SameSize}
 use Rattle.cover.specs.Cubes.{Cubes}
+use Rattle.cover.proofs.Found.{meet_output}
 use Rattle.cover.proofs.Lists.{list_any_from}
 use Rattle.minimum.specs.declared.essential_by_neighbours.growth.Side.TheVariants.{Outside}
 use Rattle.minimum.specs.Neighbours.{on_side, IsAlone}
@@ -12,8 +13,16 @@ use Rattle.minimum.proofs.Blocking.{more_places, lists_fit, own_from_common, com
 use Rattle.minimum.proofs.essential_by_neighbours.outside.has_own_place.Goals as goal
 use Rattle.minimum.proofs.essential_by_neighbours.outside.has_own_place.Goals.{in-Some+in_ok-has_common+else-branch+in-Heap-1, in-Some+in_ok-has_common+else-branch+in-Inline-1, in_default}
 
-pub has_common-requires : goal.has_common-requires
-has_common-requires c =
+pub has_common-requires-clause-output : goal.has_common-requires-clause-output
+has_common-requires-clause-output c =
+    let prime = c.args.prime.now in
+    let cube = c.cube-item.result in
+    let both : (p : Place) → holds c.in-Some.region p ≡ intersection (holds prime) (holds cube) p =
+    subst (λ o. IfSome o (λ d. (p : Place) → holds d p ≡ intersection (holds prime) (holds cube) p)) c.in-Some.is c.in_ok-region.ensures.places in
+    meet_output prime cube c.in-Some.region c.in_ok-region.field-0 c.in-Some.is c.in_ok-region.ensures.none both
+
+pub has_common-requires-clause-sizes : goal.has_common-requires-clause-sizes
+has_common-requires-clause-sizes c =
     let off = c.args.off.now in
     let prime = c.args.prime.now in
     lists_fit off.size prime c.in_ok-lists.lists.items (IsAlone (on_side Outside off.cubes) prime) c.in_ok-lists.ensures (subst (λ z. IsCube z prime) (sym c.requires.size) c.requires.prime)

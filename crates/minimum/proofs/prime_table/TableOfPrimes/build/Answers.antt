@@ -1,6 +1,7 @@
 use Rattle.std.proofs.Common.{◌∙◌, ap, sym, subst, length}
 use Rattle.std.proofs.lemmas.List.{length-map}
 use Rattle.cube.specs.Cube.{literals}
+use Rattle.cube.specs.Limits.{IsWithinLimits, format_limits}
 use Rattle.cover.specs.Cubes.{AreCubes}
 use Rattle.covering.specs.Table.{items_of}
 use Rattle.minimum.specs.PrimeTable.{HasPrimeCovers}
@@ -23,8 +24,8 @@ unreachable-requires c =
     let on = c.as_slice-2.ensures.value ∙ ap (λ k. k.cubes) c.on.ensures in
     let dc = c.as_slice-3.ensures.value ∙ ap (λ k. k.cubes) c.dc.ensures in
     let are = subst (AreCubes sets.size) on (subst (λ n. AreCubes n c.as_slice-2.result.now) (ap (λ k. k.size) c.on.ensures) c.as_slice-2.ensures.cubes) in
-    let rows = rows_for sets c.as_slice.result.now c.as_slice-2.result.now c.as_slice-3.result.now (items_of c.in_ok-rows.rows.items) primes on dc c.in_ok-rows.ensures in
-    let long = ap length c.in_ok-weights.ensures ∙ length-map c.as_slice.result.now literals ∙ ap length primes in
+    let rows = rows_for sets c.as_slice.result.now c.as_slice-2.result.now c.as_slice-3.result.now (items_of c.in_ok-rows.rows.items) primes on dc c.in_ok-rows.ensures.rows in
+    let long = ap length c.in_ok-weights.ensures ∙ length-map c.args.primes.now.cubes literals ∙ ap (λ k. length k.cubes) c.requires in
     let none' = rw c.in-None.is at c.in_ok-table.ensures in
     none' (are_rows sets are (items_of c.in_ok-rows.rows.items) (length c.in_ok-weights.weights.items) long rows.demands)
 
@@ -35,7 +36,10 @@ returns-clause-covers c =
     let on = c.as_slice-2.ensures.value ∙ ap (λ k. k.cubes) c.on.ensures in
     let dc = c.as_slice-3.ensures.value ∙ ap (λ k. k.cubes) c.dc.ensures in
     let are = subst (AreCubes sets.size) on (subst (λ n. AreCubes n c.as_slice-2.result.now) (ap (λ k. k.size) c.on.ensures) c.as_slice-2.ensures.cubes) in
-    let rows = rows_for sets c.as_slice.result.now c.as_slice-2.result.now c.as_slice-3.result.now (items_of c.in_ok-rows.rows.items) primes on dc c.in_ok-rows.ensures in
-    let long = ap length c.in_ok-weights.ensures ∙ length-map c.as_slice.result.now literals ∙ ap length primes in
+    let rows = rows_for sets c.as_slice.result.now c.as_slice-2.result.now c.as_slice-3.result.now (items_of c.in_ok-rows.rows.items) primes on dc c.in_ok-rows.ensures.rows in
+    let long = ap length c.in_ok-weights.ensures ∙ length-map c.args.primes.now.cubes literals ∙ ap (λ k. length k.cubes) c.requires in
     let some = rw c.in-Some.is at c.in_ok-table.ensures in
     subst (HasPrimeCovers sets) (sym some.1) (same_covers sets are (items_of c.in_ok-rows.rows.items) c.in_ok-weights.weights.items long rows)
+
+pub weights-requires : goal.weights-requires
+weights-requires c = subst (IsWithinLimits format_limits) c.shape.ensures.size c.in_ok-rows.ensures.limits

@@ -2,6 +2,7 @@ use Rattle.std.proofs.Common.{◌≡◌, ◌∙◌, ◌<◌, ◌+◌, ap, sym, s
 use Rattle.cube.specs.Size.{Size}
 use Rattle.cube.specs.declared.symbol.Symbol.TheVariants.{Dash}
 use Rattle.cube.specs.Cube.{Cube, IsCube, holds}
+use Rattle.cover.proofs.Found.{meet_IsCube}
 use Rattle.minimum.specs.Points.{AddsPoints, Function, function_by, IsFound}
 use Rattle.minimum.proofs.PickedPoints.{cube_part, outputs_more, outputs_apart}
 use Rattle.minimum.proofs.signatures.regions.add_cube.Goals as goal
@@ -14,8 +15,9 @@ add_points-requires-clause-part c =
     let shape : c.shape-shape.result ≡ sets.size = λ i. record { inputs = (sym own.0 ∙ c.requires.cube.0) i; outputs = (sym own.1 ∙ c.requires.cube.1) i } in
     let made : Size → Cube = λ z. record { symbols = replicate z.inputs Dash; outputs = set (replicate z.outputs false) c.loop-j.j true } in
     let size = rw c.in-Some.is at c.in_ok-part.ensures.size in
-    let cube : IsCube sets.size c.in-Some.part = record { has_size = (size.0 ∙ c.requires.cube.0, size.1 ∙ c.requires.cube.1); some_output = c.shape-shape-in-Some.ensures.is_cube.some_output } in
-    cube_part sets c.loop-j.j c.args.cube.now c.in_ok-output.output c.in-Some.part c.args.on.now c.args.dc.now c.requires.lists (c.in_ok-output.ensures ∙ ap made shape) cube (rw c.in-Some.is at c.in_ok-part.ensures.places)
+    let both = rw c.in-Some.is at c.in_ok-part.ensures.places in
+    let cube : IsCube sets.size c.in-Some.part = meet_IsCube sets.size c.args.cube.now c.in_ok-output.output c.in-Some.part c.in_ok-part.field-0 c.requires.cube size c.in-Some.is c.in_ok-part.ensures.none both in
+    cube_part sets c.loop-j.j c.args.cube.now c.in_ok-output.output c.in-Some.part c.args.on.now c.args.dc.now c.requires.lists (c.in_ok-output.ensures ∙ ap made shape) cube both
 
 pub loop-j-preserved : goal.loop-j-preserved
 loop-j-preserved c =
