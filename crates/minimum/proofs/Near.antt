@@ -1,6 +1,6 @@
 -- The rows near a cube hold what all rows hold beside it.
 use Rattle.std.proofs.Common.{◌≡◌, ◌≢◌, ℕ, ◌+◌, ◌<◌, inl, inr, ◌∷◌, ◌++◌, [], Bool, true, false, not, ◌||◌, List, length, take, get_or, set, refl, ap, sym, ◌∙◌, arith}
-use Rattle.std.proofs.lemmas.Bool.{cases_Bool, cases_eq, cases_lt, false≢true, and_parts, and_from}
+use Rattle.std.proofs.lemmas.Bool.{cases_Bool, cases_eq, cases_lt, and_parts, and_from}
 use Rattle.std.proofs.lemmas.List.{get_or-set_other, get_or_past, set-get_or, set-set}
 use Rattle.cube.specs.declared.symbol.Symbol.{Symbol}
 use Rattle.cube.specs.declared.symbol.Symbol.TheVariants.{Dash, Zero, One}

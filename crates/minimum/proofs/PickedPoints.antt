@@ -1,5 +1,5 @@
 -- Points picked in regions, and what they force.
-use Rattle.std.proofs.Common.{◌≡◌, ◌≢◌, ℕ, suc, ◌+◌, ◌<◌, ◌≤◌, Bool, true, false, not, ◌&&◌, ◌||◌, List, [], ◌∷◌, ◌++◌, length, map, take, get_or, set, replicate, slice_get, Some, ltb, All, refl, ap, ap₂, sym, subst, ◌∙◌, arith, inl, inr}
+use Rattle.std.proofs.Common.{◌≡◌, ◌≢◌, ℕ, suc, ◌+◌, ◌<◌, ◌≤◌, Bool, true, false, not, ◌&&◌, List, [], ◌∷◌, ◌++◌, length, map, take, get_or, set, replicate, slice_get, Some, ltb, All, refl, ap, ap₂, sym, subst, ◌∙◌, arith, inl, inr}
 use Rattle.std.specs.Prelude.{filter}
 use Rattle.std.specs.List.{Contains, list_any, range_with_len}
 use Rattle.std.proofs.lemmas.Bool.{cases_Bool, cases_lt, ltb-true, lt-ltb, false≢true, and_parts, and_from, not-true, not_from_false, both_ways}
@@ -14,21 +14,18 @@ use Rattle.cube.specs.Cube.{Cube, Place, holds, with_symbol, HasSize, SameSize, 
 use Rattle.cube.proofs.HoldsLemmas.{pick}
 use Rattle.cube.proofs.Members.{Contains-here, Contains-nil, Contains-cases, Contains-filter, Contains-filter_cases}
 use Rattle.cube.proofs.SharpLemmas.{some_true}
-use Rattle.cube.proofs.SumLemmas.{is_subset-from_fact, Contains-complete_sum, IsPlace-from_holds}
-use Rattle.cover.specs.Cubes.{AreCubes, Cubes}
+use Rattle.cube.proofs.SumLemmas.{is_subset-from_fact, IsPlace-from_holds}
+use Rattle.cover.specs.Cubes.{AreCubes}
 use Rattle.cover.specs.Places.{places}
 use Rattle.cover.specs.Contained.{is_within}
-use Rattle.cover.specs.Containing.{sum_containing}
 use Rattle.cover.specs.Marks.{cube_at}
 use Rattle.cover.specs.Reduced.{HasSameCubes}
 use Rattle.cover.proofs.ContainmentLemmas.{All-range}
 use Rattle.cover.proofs.Everywhere.{holds_universal}
-use Rattle.cover.proofs.SumMeets.{places-append}
 use Rattle.cover.proofs.Lists.{all_members, members_all, list_any_from, list_any_witness}
 use Rattle.cover.proofs.Meeting.{is_disjoint-from_fact}
 use Rattle.cover.proofs.OverRegion.{within_from_fact}
 use Rattle.cover.proofs.Regions.{place_at, narrowed, narrowed_at, zero_literal}
-use Rattle.cover.proofs.SumEnds.{complete_sum-agree}
 use Rattle.cover.proofs.SumSplit.{IsCube-with_symbol}
 use Rattle.pla.specs.Sets.{SetLists}
 use Rattle.covering.specs.Table.{has, RisesFrom}

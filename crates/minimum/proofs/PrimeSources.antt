@@ -1,7 +1,7 @@
 -- Sources of the primes of three lists.
-use Rattle.std.proofs.Common.{◌≡◌, Bool, true, false, not, ◌||◌, List, refl, ap, sym, subst, ◌∙◌}
+use Rattle.std.proofs.Common.{◌≡◌, Bool, true, false, not, ◌||◌, refl, ap, subst, ◌∙◌}
 use Rattle.std.specs.List.{Contains}
-use Rattle.cube.specs.Cube.{Cube, Place, IsCube, IsPlace}
+use Rattle.cube.specs.Cube.{Place, IsCube, IsPlace}
 use Rattle.cube.specs.Sum.{complete_sum}
 use Rattle.cube.proofs.SumLemmas.{Contains-complete_sum}
 use Rattle.cover.specs.Cubes.{Cubes}

@@ -1,7 +1,6 @@
 -- Growth of a cube to a prime, and the places beside a prime. No public clause cites this module.
 use Rattle.std.specs.Prelude.{◌≡◌, ◌≢◌, ℕ, ◌<◌, Bool, true, false, not, List, [], ◌∷◌, ◌++◌, Option, None, Some, length, slice_index_or, slice_set, Contains}
 use Rattle.std.specs.List.{filter}
-use Rattle.cube.specs.declared.symbol.Symbol.{Symbol}
 use Rattle.cube.specs.declared.symbol.Symbol.TheVariants.{Dash}
 use Rattle.cube.specs.Size.{Size}
 use Rattle.cube.specs.Pattern.{matches}

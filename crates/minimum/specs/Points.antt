@@ -7,13 +7,13 @@ use Rattle.cube.specs.Size.{Size}
 use Rattle.cube.specs.Cube.{Cube, Place, holds, literals, IsCube, IsPlace, IsSubset}
 use Rattle.cube.specs.Order.{row_cmp}
 use Rattle.cube.specs.Sum.{complete_sum}
-use Rattle.cover.specs.Cubes.{AreCubes, Cubes}
+use Rattle.cover.specs.Cubes.{AreCubes}
 use Rattle.cover.specs.Places.{places}
 use Rattle.pla.specs.Sets.{SetLists}
 use Rattle.covering.specs.declared.choice.Choice.{Choice}
 use Rattle.minimum.specs.declared.signatures.source.Source.{Source}
 use Rattle.minimum.specs.declared.signatures.source.Source.TheVariants.{Outside, Primes}
-use Rattle.minimum.specs.declared.signatures.found.Found.{Found}
+use Rattle.minimum.specs.declared.signatures.picked_points.PickedPoints.{PickedPoints}
 use Rattle.covering.specs.Table.{Table, fresh}
 use Rattle.covering.specs.Cover.{IsLeast}
 use Rattle.minimum.specs.Primes.{primes_of, care_on, chosen, exact_of}
@@ -112,7 +112,7 @@ pub record AreFound (f : Function) (points columns signatures : List Cube) : Typ
   pub signs : (s : Cube) → Contains signatures s → (x : Cube) × Contains points x
       × ((p : Place) → holds s p ≡ true → Forces f x p)
 
-abbrev pub IsFound : Function → Found → Type 0
+abbrev pub IsFound : Function → PickedPoints → Type 0
 IsFound f found = AreFound f found.points.items found.columns.items found.signatures.items
 
 -- each wanted place of the region is in a signature

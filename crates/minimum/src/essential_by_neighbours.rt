@@ -23,16 +23,16 @@ ghost use Rattle.minimum.specs.Neighbours.{has_own, AreNear, HaveSize, AddsEssen
 mod blocking;
 mod grown_primes;
 pub(crate) mod growth;
-mod near;
+mod near_rows;
 pub(crate) mod neighbours;
-mod outside;
-mod reached;
+mod reached_outputs;
+mod sampled;
 
 use crate::essential_by_neighbours::grown_primes::GrownPrimes;
-use crate::essential_by_neighbours::growth::{Growth, Side, grown};
-use crate::essential_by_neighbours::near::asked;
+use crate::essential_by_neighbours::growth::{Growth, Side, grow};
+use crate::essential_by_neighbours::near_rows::rows_to_ask;
 use crate::essential_by_neighbours::neighbours::neighbours;
-pub use crate::essential_by_neighbours::outside::find_essential_outside;
+pub use crate::essential_by_neighbours::sampled::find_essential_outside;
 use crate::prime_implicants::on_and_dc;
 use cover::{Cover, in_row_order};
 use cube::Cube;
@@ -79,8 +79,8 @@ fn add_essential(
     if found.contain(cube) {
         return Ok(());
     }
-    let Growth { cube: prime, near } = grown(alloc, Side::Inside, rows, cube)?;
-    let is_essential = is_essential(alloc, sets, rows, asked(rows, &near), &prime)?;
+    let Growth { cube: prime, near } = grow(alloc, Side::Inside, rows, cube)?;
+    let is_essential = is_essential(alloc, sets, rows, rows_to_ask(rows, &near), &prime)?;
     found.add(prime, is_essential)
 }
 

@@ -19,7 +19,7 @@ use pla::Sets;
 use std::alloc::{AllocError, Global};
 
 /// Adds a copy of the cube.
-pub(crate) fn add(list: &mut Cover, cube: &Cube) -> Result<(), AllocError>
+pub(crate) fn add_copy(list: &mut Cover, cube: &Cube) -> Result<(), AllocError>
     requires { HasSize cube.now list.old.size }
     ensures size { OnOk result (list.new.size ≡ list.old.size) }
     ensures cubes { OnOk result (list.new.cubes ≡ list.old.cubes ++ cube.now ∷ []) }
@@ -133,7 +133,7 @@ pub fn essential(alloc: Global, sets: &Sets, primes: &Cover) -> Result<Cover, Al
     let mut list = Cover::new(alloc, primes.shape());
     for (number, prime) in primes.as_slice().iter().enumerate() {
         if is_essential_at(alloc, sets, primes, &non_candidates, number, prime)? {
-            add(&mut list, prime)?;
+            add_copy(&mut list, prime)?;
         }
     }
     Ok(list)

@@ -14,7 +14,7 @@ ghost use Rattle.pla.specs.Sets.{SetLists};
 ghost use Rattle.minimum.specs.Points.{IsSource, StandsFor};
 ghost use Rattle.minimum.specs.Primes.{chosen, exact_of, primes_of};
 
-use crate::essential_primes::add;
+use crate::essential_primes::add_copy;
 use crate::prime_implicants::{on_and_dc, primes};
 use crate::prime_table::OfPrimes;
 use crate::signatures::picks::{places_of_primes, places_outside};
@@ -23,7 +23,7 @@ use crate::signatures::table_of_points;
 use cover::{Budget, Cover, outside};
 use covering::{Choice, Table, least_cover, reduce};
 use pla::Sets;
-use signature_search::Place as Pick;
+use signature_search::Place as ProposedPlace;
 use std::alloc::{AllocError, Global};
 
 /// The cubes with these numbers.
@@ -36,7 +36,7 @@ fn cubes_at(alloc: Global, list: &Cover, numbers: &[usize]) -> Result<Cover, All
     let mut picked = Cover::new(alloc, list.shape());
     for number in numbers {
         if let Some(cube) = list.get(*number) {
-            add(&mut picked, cube)?;
+            add_copy(&mut picked, cube)?;
         }
     }
     Ok(picked)
@@ -99,7 +99,7 @@ pub(crate) fn exact_by_points(
     alloc: Global,
     given: &Sets,
     source: &Source,
-    places: &[Pick],
+    places: &[ProposedPlace],
     choice: Choice,
 ) -> Result<Option<Cover>, AllocError>
     ghost sets: { SetLists }

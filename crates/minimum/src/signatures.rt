@@ -25,14 +25,14 @@ ghost use Rattle.covering.specs.Table.{AreRows};
 ghost use Rattle.minimum.specs.PrimeRows.{HasOneOutput};
 ghost use Rattle.minimum.specs.Points.{AreForced, AreLists, IsSource, function_by, HasExact, holders, IsFound, point_table as point_table_of, StandsFor};
 
-mod found;
+mod picked_points;
 pub(crate) mod picks;
 pub(crate) mod regions;
 pub(crate) mod source;
 
-use crate::prime_table::rows::spanning;
+use crate::prime_table::rows::numbers_spanning;
 use crate::prime_table::weights;
-use crate::signatures::found::Found;
+use crate::signatures::picked_points::PickedPoints;
 use crate::signatures::regions::{add_cube, pick_point};
 use crate::signatures::source::{Source, Stop};
 use cover::{Cover, in_row_order};
@@ -78,7 +78,7 @@ fn add_place(
     on: &[usize],
     dc: &[usize],
     place: &Place,
-    found: &mut Found,
+    found: &mut PickedPoints,
 ) -> Result<(), Stop>
     requires source { IsSource sets.now.size source.now }
     requires lists { AreLists sets.now on.now dc.now }
@@ -108,7 +108,7 @@ fn add_places(
     sets: &Sets,
     source: &Source,
     places: &[Place],
-    found: &mut Found,
+    found: &mut PickedPoints,
 ) -> Result<(), Stop>
     requires source { IsSource sets.now.size source.now }
     requires found { IsFound (function_by sets.now source.now) found.old }
@@ -134,7 +134,7 @@ fn copy_of(alloc: Global, cubes: &[Cube]) -> Result<Vec<Cube>, AllocError>
 }
 
 /// The signatures and the DC cubes.
-fn signed_or_free(alloc: Global, sets: &Sets, found: &Found) -> Result<Cover, AllocError>
+fn signed_or_free(alloc: Global, sets: &Sets, found: &PickedPoints) -> Result<Cover, AllocError>
     requires { AreCubes sets.now.size found.now.signatures.items }
     ensures size { IfOk result (λ held. held.size ≡ sets.now.size) }
     ensures cubes { IfOk result (λ held. held.cubes ≡ found.now.signatures.items ++ sets.now.dc) }
@@ -147,7 +147,12 @@ fn signed_or_free(alloc: Global, sets: &Sets, found: &Found) -> Result<Cover, Al
 }
 
 /// Adds points for what the signatures leave out of the ON cubes.
-fn add_cubes(alloc: Global, sets: &Sets, source: &Source, found: &mut Found) -> Result<(), Stop>
+fn add_cubes(
+    alloc: Global,
+    sets: &Sets,
+    source: &Source,
+    found: &mut PickedPoints,
+) -> Result<(), Stop>
     requires source { IsSource sets.now.size source.now }
     requires found { IsFound (function_by sets.now source.now) found.old }
     ensures found { OnOk result (IsFound (function_by sets.now source.now) found.new) }
@@ -168,13 +173,18 @@ fn add_cubes(alloc: Global, sets: &Sets, source: &Source, found: &mut Found) -> 
 }
 
 /// Points that force all wanted places, and the primes that hold one of them.
-fn find_points(alloc: Global, sets: &Sets, source: &Source, places: &[Place]) -> Result<Found, Stop>
+fn find_points(
+    alloc: Global,
+    sets: &Sets,
+    source: &Source,
+    places: &[Place],
+) -> Result<PickedPoints, Stop>
     requires source { IsSource sets.now.size source.now }
     ensures found { IfOk result (IsFound (function_by sets.now source.now)) }
     ensures forced { IfOk result (λ f. AreForced (function_by sets.now source.now) f.points.items
         (λ p. true)) }
 {
-    let mut found = Found::new(alloc);
+    let mut found = PickedPoints::new(alloc);
     add_places(alloc, sets, source, places, &mut found)?;
     add_cubes(alloc, sets, source, &mut found)?;
     Ok(found)
@@ -192,7 +202,7 @@ fn point_table(alloc: Global, points: &[Cube], columns: &Cover) -> Result<Table,
     let all = numbers(alloc, columns.len())?;
     let mut rows = Vec::new(alloc);
     for point in points {
-        rows.push(spanning(alloc, columns.as_slice(), point, &all)?)?;
+        rows.push(numbers_spanning(alloc, columns.as_slice(), point, &all)?)?;
     }
     let weights = weights(alloc, columns)?;
     match Table::new(alloc, rows, weights)? {
@@ -218,7 +228,7 @@ pub(crate) fn table_of_points(
     ensures exact { IfOk result (λ r. HasExact sets r.0.cubes r.1) }
 {
     let shape = given.on().shape();
-    let Found {
+    let PickedPoints {
         points,
         columns,
         signatures: _,

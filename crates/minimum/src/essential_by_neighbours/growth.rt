@@ -12,8 +12,8 @@ ghost use Rattle.cover.specs.Cubes.{AreCubes};
 ghost use Rattle.cover.specs.Places.{places};
 ghost use Rattle.minimum.specs.Neighbours.{on_side, Grows, IsGrown, IsSettledInput, IsSettledOutput, AreNear, AreReached, near_or};
 
-use crate::essential_by_neighbours::near::{asked, rows_near};
-use crate::essential_by_neighbours::reached::{is_off, outputs_at, part_of};
+use crate::essential_by_neighbours::near_rows::{rows_near, rows_to_ask};
+use crate::essential_by_neighbours::reached_outputs::{is_off, outputs_at, part_of};
 use crate::prime_table::one_output;
 use cover::Cover;
 use cube::{Cube, Symbol};
@@ -74,29 +74,29 @@ pub(crate) struct Growth {
 }
 
 /// The cube without its literal at an input, if that is an implicant.
-fn freed(
+fn without_literal(
     alloc: Global,
     side: Side,
     rows: &Cover,
-    grown: Growth,
+    growth: Growth,
     i: usize,
 ) -> Result<Growth, AllocError>
-    requires is_cube { IsCube rows.now.size grown.cube }
-    requires near { AreNear grown.cube rows.now (near_or rows.now grown.near) }
+    requires is_cube { IsCube rows.now.size growth.cube }
+    requires near { AreNear growth.cube rows.now (near_or rows.now growth.near) }
     requires input { i < rows.now.size.inputs }
     ensures grows { IfOk result
-        (λ g. Grows rows.now.size (on_side side rows.now.cubes) grown.cube g.cube) }
+        (λ g. Grows rows.now.size (on_side side rows.now.cubes) growth.cube g.cube) }
     ensures near { IfOk result (λ g. AreNear g.cube rows.now (near_or rows.now g.near)) }
     ensures settled { IfOk result
         (λ g. IsSettledInput rows.now.size (on_side side rows.now.cubes) g.cube i) }
 {
-    let Growth { cube, near } = grown;
+    let Growth { cube, near } = growth;
     let literal = cube.symbol(i);
     if literal == Symbol::Dash {
         return Ok(Growth { cube, near });
     }
     let rest = cube.with_symbol(i, opposite(literal))?;
-    if !is_implicant(side, asked(rows, &near), &rest)? {
+    if !is_implicant(side, rows_to_ask(rows, &near), &rest)? {
         return Ok(Growth { cube, near });
     }
     let cube = cube.with_symbol(i, Symbol::Dash)?;
@@ -109,25 +109,25 @@ fn freed(
 
 /// The cube with an output, if that is an implicant. Where it is not, the outputs that are reached
 /// mostly show it.
-fn widened(
+fn with_output(
     alloc: Global,
     side: Side,
     rows: &Cover,
     reached: &Cube,
-    grown: Growth,
+    growth: Growth,
     j: usize,
 ) -> Result<Growth, AllocError>
-    requires is_cube { IsCube rows.now.size grown.cube }
-    requires near { AreNear grown.cube rows.now (near_or rows.now grown.near) }
-    requires reached { AreReached grown.cube rows.now.cubes reached.now }
+    requires is_cube { IsCube rows.now.size growth.cube }
+    requires near { AreNear growth.cube rows.now (near_or rows.now growth.near) }
+    requires reached { AreReached growth.cube rows.now.cubes reached.now }
     requires output { j < rows.now.size.outputs }
     ensures grows { IfOk result
-        (λ g. Grows rows.now.size (on_side side rows.now.cubes) grown.cube g.cube) }
+        (λ g. Grows rows.now.size (on_side side rows.now.cubes) growth.cube g.cube) }
     ensures near { IfOk result (λ g. AreNear g.cube rows.now (near_or rows.now g.near)) }
     ensures settled { IfOk result
         (λ g. IsSettledOutput rows.now.size (on_side side rows.now.cubes) g.cube j) }
 {
-    let Growth { cube, near } = grown;
+    let Growth { cube, near } = growth;
     if cube.output(j) {
         return Ok(Growth { cube, near });
     }
@@ -139,14 +139,14 @@ fn widened(
         unreachable!()
     };
     let rest = wide.without_outputs(&cube)?;
-    if is_implicant(side, asked(rows, &near), &rest)? {
+    if is_implicant(side, rows_to_ask(rows, &near), &rest)? {
         return Ok(Growth { cube: wide, near });
     }
     Ok(Growth { cube, near })
 }
 
 /// The cube without the literals that it can do without, one after the other.
-fn grown_by_inputs(
+fn grow_at_inputs(
     alloc: Global,
     side: Side,
     rows: &Cover,
@@ -164,7 +164,7 @@ fn grown_by_inputs(
         near,
     };
     for i in 0..rows.shape().inputs() {
-        growth = freed(alloc, side, rows, growth, i)?;
+        growth = without_literal(alloc, side, rows, growth, i)?;
     }
     Ok(growth)
 }
@@ -173,7 +173,7 @@ fn grown_by_inputs(
 ///
 /// It costs a look at all rows, and one more for each literal that is freed; what else is asked for
 /// is asked of the rows near the cube, and of these for few outputs.
-pub(crate) fn grown(
+pub(crate) fn grow(
     alloc: Global,
     side: Side,
     rows: &Cover,
@@ -185,11 +185,11 @@ pub(crate) fn grown(
         rows.now.size.inputs rows.now.size.outputs) }
     ensures near { IfOk result (λ g. AreNear g.cube rows.now (near_or rows.now g.near)) }
 {
-    let mut growth = grown_by_inputs(alloc, side, rows, cube)?;
+    let mut growth = grow_at_inputs(alloc, side, rows, cube)?;
     let part = part_of(side, &growth.cube)?;
-    let reached = outputs_at(asked(rows, &growth.near), part)?;
+    let reached = outputs_at(rows_to_ask(rows, &growth.near), part)?;
     for j in 0..rows.shape().outputs() {
-        growth = widened(alloc, side, rows, &reached, growth, j)?;
+        growth = with_output(alloc, side, rows, &reached, growth, j)?;
     }
     Ok(growth)
 }

@@ -18,7 +18,7 @@ use std::alloc::{AllocError, Global};
 
 /// The row put back by the steps at inputs: freed of a literal that is opposite to the prime's, or as
 /// it is where it has `-` at a literal of the prime.
-fn back_by_inputs(prime: &Cube, row: &Cube) -> Result<Option<Cube>, AllocError>
+fn neighbour_by_inputs(prime: &Cube, row: &Cube) -> Result<Option<Cube>, AllocError>
     requires { SameSize row.now prime.now }
     ensures size { IfOk result (λ found. IfSome found (λ c. SameSize c row.now)) }
     ensures none { IfOk result (λ found. (p : Place) → holds prime.now p ≡ true
@@ -36,7 +36,7 @@ fn back_by_inputs(prime: &Cube, row: &Cube) -> Result<Option<Cube>, AllocError>
 }
 
 /// The row put back by the steps to outputs that the prime lacks.
-fn back_by_outputs(prime: &Cube, row: &Cube) -> Result<Option<Cube>, AllocError>
+fn neighbour_by_outputs(prime: &Cube, row: &Cube) -> Result<Option<Cube>, AllocError>
     requires { SameSize row.now prime.now }
     ensures size { IfOk result (λ found. IfSome found (λ c. SameSize c row.now)) }
     ensures none { IfOk result (λ found. (p : Place) → holds prime.now p ≡ true
@@ -75,8 +75,8 @@ fn add_neighbours(near: &mut Vec<Cube>, prime: &Cube, row: &Cube) -> Result<(), 
     requires { SameSize row.now prime.now }
     ensures { OnOk result (AddsNeighbours prime.now row.now near.old.items near.new.items) }
 {
-    add_meeting(near, prime, back_by_inputs(prime, row)?)?;
-    add_meeting(near, prime, back_by_outputs(prime, row)?)
+    add_meeting(near, prime, neighbour_by_inputs(prime, row)?)?;
+    add_meeting(near, prime, neighbour_by_outputs(prime, row)?)
 }
 
 /// The rows of the list put back by all steps out of the prime.

@@ -56,7 +56,7 @@ pub(crate) fn spans(cubes: &[Cube], region: &Cube, number: usize) -> bool
 }
 
 /// Those of the cubes that have a place of the region.
-pub(crate) fn touching(
+pub(crate) fn numbers_touching(
     alloc: Global,
     cubes: &[Cube],
     region: &Cube,
@@ -76,7 +76,7 @@ pub(crate) fn touching(
 }
 
 /// Those of the cubes that hold the region.
-pub(crate) fn spanning(
+pub(crate) fn numbers_spanning(
     alloc: Global,
     cubes: &[Cube],
     region: &Cube,
@@ -172,9 +172,9 @@ impl<'a> Lists<'a> {
             region.now n.primes.items n.on.items n.dc.items) }
     {
         Ok(Candidates {
-            primes: touching(alloc, self.primes, region, &candidates.primes)?,
-            on: touching(alloc, self.on, region, &candidates.on)?,
-            dc: touching(alloc, self.dc, region, &candidates.dc)?,
+            primes: numbers_touching(alloc, self.primes, region, &candidates.primes)?,
+            on: numbers_touching(alloc, self.on, region, &candidates.on)?,
+            dc: numbers_touching(alloc, self.dc, region, &candidates.dc)?,
         })
     }
 
@@ -195,7 +195,7 @@ impl<'a> Lists<'a> {
         if is_alone(&candidates.primes) {
             return copy_of(alloc, &candidates.primes);
         }
-        spanning(alloc, self.primes, region, &candidates.primes)
+        numbers_spanning(alloc, self.primes, region, &candidates.primes)
     }
 
     /// Whether no place of the region is wanted, or a row asks for more than its places do.

@@ -13,8 +13,8 @@ ghost use Rattle.minimum.specs.PrimeRows.{IsFree};
 ghost use Rattle.minimum.specs.Points.{AddsPoints, AreForced, AreLists, AreSigned, IsSource, function_by, IsFound, IsOnePoint, IsPart, IsPointOf};
 
 use crate::prime_table::one_output;
-use crate::prime_table::rows::{any_spans, first_inside, literal_inside, touching};
-use crate::signatures::found::{Found, add_point};
+use crate::prime_table::rows::{any_spans, first_inside, literal_inside, numbers_touching};
+use crate::signatures::picked_points::{PickedPoints, add_point};
 use crate::signatures::source::{Source, Stop};
 use covering::is_blank;
 use cube::{Cube, Symbol};
@@ -51,12 +51,12 @@ fn is_wanted(
     if !any_spans(sets.on().as_slice(), region, on) {
         return Ok(false);
     }
-    let near = touching(alloc, sets.dc().as_slice(), region, dc)?;
+    let near = numbers_touching(alloc, sets.dc().as_slice(), region, dc)?;
     Ok(is_blank(&near))
 }
 
 /// Whether it is plain that each wanted place of the region is in a signature.
-fn is_done(sets: &Sets, on: &[usize], dc: &[usize], region: &Cube, found: &Found) -> bool
+fn is_done(sets: &Sets, on: &[usize], dc: &[usize], region: &Cube, found: &PickedPoints) -> bool
     requires part { IsPart sets.now region.now on.now dc.now }
     requires found { AreCubes sets.now.size found.now.signatures.items }
     ensures { result ≡ true → AreSigned sets.now found.now.signatures.items (holds region.now) }
@@ -72,7 +72,7 @@ pub(crate) fn pick_point(
     on: &[usize],
     dc: &[usize],
     region: &Cube,
-    found: &mut Found,
+    found: &mut PickedPoints,
 ) -> Result<(), Stop>
     requires source { IsSource sets.now.size source.now }
     requires part { IsPart sets.now region.now on.now dc.now }
@@ -144,7 +144,7 @@ fn next_input(
     on: &[usize],
     dc: &[usize],
     region: &Cube,
-    found: &mut Found,
+    found: &mut PickedPoints,
 ) -> Result<Option<usize>, Stop>
     requires source { IsSource sets.now.size source.now }
     requires part { IsPart sets.now region.now on.now dc.now }
@@ -176,7 +176,7 @@ fn add_points(
     on: &[usize],
     dc: &[usize],
     region: &Cube,
-    found: &mut Found,
+    found: &mut PickedPoints,
 ) -> Result<(), Stop>
     requires source { IsSource sets.now.size source.now }
     requires part { IsPart sets.now region.now on.now dc.now }
@@ -185,8 +185,8 @@ fn add_points(
     ensures adds { OnOk result (AddsPoints (function_by sets.now source.now) (holds region.now) found.old.points.items
         found.new.points.items) }
 {
-    let on = touching(alloc, sets.on().as_slice(), region, on)?;
-    let dc = touching(alloc, sets.dc().as_slice(), region, dc)?;
+    let on = numbers_touching(alloc, sets.on().as_slice(), region, on)?;
+    let dc = numbers_touching(alloc, sets.dc().as_slice(), region, dc)?;
     let Some(i) = next_input(alloc, sets, source, &on, &dc, region, found)? else {
         return Ok(());
     };
@@ -206,7 +206,7 @@ pub(crate) fn add_cube(
     on: &[usize],
     dc: &[usize],
     cube: &Cube,
-    found: &mut Found,
+    found: &mut PickedPoints,
 ) -> Result<(), Stop>
     requires source { IsSource sets.now.size source.now }
     requires lists { AreLists sets.now on.now dc.now }

@@ -22,14 +22,14 @@ returns-then-contain c =
     let sets = c.args.sets.now in
     adds_none_found sets.size (places c.args.rows.now.cubes) (care_on sets) c.args.cube.now c.args.found.now (c.contain.ensures c.if-contain.true)
 
-pub grown-requires : goal.grown-requires
-grown-requires c = subst (λ n. IsCube n c.args.cube.now) (sym (ap (λ k. k.size) c.requires.rows)) c.requires.is_cube
+pub grow-requires : goal.grow-requires
+grow-requires c = subst (λ n. IsCube n c.args.cube.now) (sym (ap (λ k. k.size) c.requires.rows)) c.requires.is_cube
 
 pub is_essential-requires-clause-prime : goal.is_essential-requires-clause-prime
 is_essential-requires-clause-prime c = maximal ((goal.at.is_essential-requires-clause-prime c).In_ok-prime)
 
 pub is_essential-requires-clause-near : goal.is_essential-requires-clause-near
-is_essential-requires-clause-near c = subst (AreNear c.in_ok-prime.field-0.cube c.args.rows.now) (sym c.asked.ensures) c.in_ok-prime.ensures.near
+is_essential-requires-clause-near c = subst (AreNear c.in_ok-prime.field-0.cube c.args.rows.now) (sym c.rows_to_ask.ensures) c.in_ok-prime.ensures.near
 
 pub returns : goal.returns
 returns c =

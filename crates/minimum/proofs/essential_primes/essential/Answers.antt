@@ -6,7 +6,7 @@ use Rattle.minimum.specs.EssentialPrimes.{AreNonCandidates}
 use Rattle.minimum.proofs.EssentialPrimes.{kept_next, skipped_next}
 use Rattle.minimum.proofs.NonCandidates.{same_sizes}
 use Rattle.minimum.proofs.essential_primes.essential.Goals as goal
-use Rattle.minimum.proofs.essential_primes.essential.Goals.{then-branch+in_ok-add, else-branch, After-as_slice-2}
+use Rattle.minimum.proofs.essential_primes.essential.Goals.{then-branch+in_ok-add_copy, else-branch, After-as_slice-2}
 
 -- the cubes of the ON-set
 on_are : (c : After-as_slice-2) → AreCubes c.args.sets.now.size c.as_slice-2.result.now
@@ -55,10 +55,10 @@ loop-number-preserved c =
     let at = c.prime-item.is ∙ ap (λ l. get_or l i c.prime-item.result) value in
     let asked = c.in_ok-is_essential_at.ensures ∙ ap (λ l. is_essential c.args.sets.now l c.prime-item.result) (sym (ap (λ k. k.cubes) c.requires)) in
     elim c.if-branch.branch [
-      | then-branch+in_ok-add w ↦ record {
-        size = ap (λ l. l.size) w.list-is ∙ w.in_ok-add.ensures.size ∙ c.loop-number.invariant.size;
+      | then-branch+in_ok-add_copy w ↦ record {
+        size = ap (λ l. l.size) w.list-is ∙ w.in_ok-add_copy.ensures.size ∙ c.loop-number.invariant.size;
         cubes = kept_next test primes i lt c.prime-item.result at list.cubes c.if-branch.list.cubes c.in_ok-is_essential_at.field-0 c.loop-number.invariant.cubes asked w.if-branch.true
-            (ap (λ l. l.cubes) w.list-is ∙ w.in_ok-add.ensures.cubes);
+            (ap (λ l. l.cubes) w.list-is ∙ w.in_ok-add_copy.ensures.cubes);
       }
       | else-branch w ↦ record {
         size = ap (λ l. l.size) w.list-is ∙ c.loop-number.invariant.size;

@@ -1,7 +1,6 @@
-use Rattle.std.proofs.Common.{◌≡◌, ◌∙◌, [], true, refl, subst}
+use Rattle.std.proofs.Common.{[], true, refl, subst}
 use Rattle.std.proofs.lemmas.Option.{MatchOption-at_some}
 use Rattle.std.proofs.lemmas.Result.{IfOk-weaker}
-use Rattle.cover.specs.Cubes.{Cubes}
 use Rattle.pla.specs.Completed.{sets_of}
 use Rattle.pla.specs.Sets.{SetLists}
 use Rattle.minimum.specs.Blocking.{IsSampled}

@@ -1,4 +1,4 @@
-use Rattle.std.proofs.Common.{◌≤◌, ◌++◌, ◌∷◌, ◌∙◌, [], ap, sym, subst, arith, length, map, take}
+use Rattle.std.proofs.Common.{◌≤◌, ◌++◌, ◌∷◌, ◌∙◌, [], ap, sym, subst, arith, map, take}
 use Rattle.std.proofs.lemmas.List.{take_more, take_all, map-append}
 use Rattle.cube.specs.Cube.{IsCube, literals}
 use Rattle.minimum.proofs.prime_table.weights.Goals as goal

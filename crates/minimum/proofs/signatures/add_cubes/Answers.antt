@@ -1,7 +1,7 @@
 use Rattle.std.proofs.Common.{◌≡◌, ◌∙◌, ◌+◌, Bool, true, ap, get_or, sym, subst, take}
 use Rattle.std.specs.List.{Contains}
 use Rattle.std.proofs.lemmas.List.{get_or-map}
-use Rattle.cube.specs.Cube.{Cube, HasSize, Place, holds, IsSubset}
+use Rattle.cube.specs.Cube.{Cube, HasSize, holds, IsSubset}
 use Rattle.cube.specs.Sum.{is_subset}
 use Rattle.cube.proofs.SumLemmas.{implied_at, IsPlace-from_holds}
 use Rattle.cover.specs.Places.{places}

@@ -1,5 +1,4 @@
 use Rattle.std.proofs.Common.{◌≡◌, ◌∙◌, ap, subst}
-use Rattle.cube.specs.Size.{Size}
 use Rattle.cube.specs.Cube.{IsCube}
 use Rattle.minimum.proofs.PickedPoints.{point_part, sizes_for}
 use Rattle.minimum.proofs.signatures.add_place.Goals as goal

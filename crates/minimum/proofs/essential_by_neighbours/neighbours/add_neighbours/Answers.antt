@@ -9,7 +9,7 @@ both (Err e) f p q = tt
 pub returns : goal.returns
 returns c =
     both c.add_meeting-2.result
-    (λ second to_new. adds_both c.args.prime.now c.args.row.now c.in_ok-back_by_inputs.field-0 c.in_ok-back_by_outputs.field-0 c.args.near.now.items c.add_meeting.new.near.items c.add_meeting-2.new.near.items
-    c.in_ok-back_by_inputs.ensures.none c.in_ok-back_by_inputs.ensures.some c.in_ok-back_by_outputs.ensures.none c.in_ok-back_by_outputs.ensures.some
+    (λ second to_new. adds_both c.args.prime.now c.args.row.now c.in_ok-neighbour_by_inputs.field-0 c.in_ok-neighbour_by_outputs.field-0 c.args.near.now.items c.add_meeting.new.near.items c.add_meeting-2.new.near.items
+    c.in_ok-neighbour_by_inputs.ensures.none c.in_ok-neighbour_by_inputs.ensures.some c.in_ok-neighbour_by_outputs.ensures.none c.in_ok-neighbour_by_outputs.ensures.some
     c.in_ok-add_meeting.ensures.size second c.in_ok-add_meeting.ensures.places to_new)
     c.add_meeting-2.ensures.size c.add_meeting-2.ensures.places

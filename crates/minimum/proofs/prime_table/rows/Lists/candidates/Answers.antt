@@ -8,12 +8,12 @@ returns c =
     let lists = c.args.self.now in
     let region = c.args.region.now in
     let candidates = c.args.candidates.now in
-    let a = candidates_touching lists.primes.now region candidates.primes.items c.in_ok-touching.field-0.items c.requires.primes_size c.requires.primes_candidates
-    (c.in_ok-touching.ensures ∙ ap (filter (touches lists.primes.now region)) c.deref.ensures.value) in
-    let b = candidates_touching lists.on.now region candidates.on.items c.in_ok-touching-2.field-0.items c.requires.on_size c.requires.on_candidates
-    (c.in_ok-touching-2.ensures ∙ ap (filter (touches lists.on.now region)) c.deref-2.ensures.value) in
-    let d = candidates_touching lists.dc.now region candidates.dc.items c.in_ok-touching-3.field-0.items c.requires.dc_size c.requires.dc_candidates
-    (c.in_ok-touching-3.ensures ∙ ap (filter (touches lists.dc.now region)) c.deref-3.ensures.value) in
+    let a = candidates_touching lists.primes.now region candidates.primes.items c.in_ok-numbers_touching.field-0.items c.requires.primes_size c.requires.primes_candidates
+    (c.in_ok-numbers_touching.ensures ∙ ap (filter (touches lists.primes.now region)) c.deref.ensures.value) in
+    let b = candidates_touching lists.on.now region candidates.on.items c.in_ok-numbers_touching-2.field-0.items c.requires.on_size c.requires.on_candidates
+    (c.in_ok-numbers_touching-2.ensures ∙ ap (filter (touches lists.on.now region)) c.deref-2.ensures.value) in
+    let d = candidates_touching lists.dc.now region candidates.dc.items c.in_ok-numbers_touching-3.field-0.items c.requires.dc_size c.requires.dc_candidates
+    (c.in_ok-numbers_touching-3.ensures ∙ ap (filter (touches lists.dc.now region)) c.deref-3.ensures.value) in
     record {
       split = record {
         one = c.requires.one;

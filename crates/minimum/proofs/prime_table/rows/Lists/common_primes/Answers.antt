@@ -18,16 +18,16 @@ pub returns-clause-rises : goal.returns-clause-rises
 returns-clause-rises c =
     let lists = c.args.self.now in
     let candidates = c.args.candidates.now in
-    IfOk-weaker c.spanning.result _ _
+    IfOk-weaker c.numbers_spanning.result _ _
     (λ v same. (common_primes_spanning lists.primes.now lists.on.now lists.dc.now c.args.region.now candidates.primes.items candidates.on.items candidates.dc.items v.items c.requires
     (same ∙ ap (filter (spans lists.primes.now c.args.region.now)) c.deref-2.ensures.value)).0)
-    c.spanning.ensures
+    c.numbers_spanning.ensures
 
 pub returns-clause-hold : goal.returns-clause-hold
 returns-clause-hold c =
     let lists = c.args.self.now in
     let candidates = c.args.candidates.now in
-    IfOk-weaker c.spanning.result _ _
+    IfOk-weaker c.numbers_spanning.result _ _
     (λ v same. (common_primes_spanning lists.primes.now lists.on.now lists.dc.now c.args.region.now candidates.primes.items candidates.on.items candidates.dc.items v.items c.requires
     (same ∙ ap (filter (spans lists.primes.now c.args.region.now)) c.deref-2.ensures.value)).1)
-    c.spanning.ensures
+    c.numbers_spanning.ensures

@@ -1,0 +1,40 @@
+use Rattle.std.proofs.Common.{ap, sym, subst, ◌∙◌}
+use Rattle.minimum.specs.Neighbours.{AreNear, on_side}
+use Rattle.minimum.proofs.Growth.{grown_output, grows_none, grows_both}
+use Rattle.minimum.proofs.Reached.{reached_grown, reached_near}
+use Rattle.minimum.proofs.essential_by_neighbours.growth.grow.Goals as goal
+
+pub outputs_at-requires : goal.outputs_at-requires
+outputs_at-requires c =
+    let size = c.in_ok-part.ensures.size in
+    let long = c.in_ok-growth.ensures.grown.grows.is_cube.has_size in
+    let same = ap (λ k. k.size) c.rows_to_ask.ensures ∙ c.in_ok-growth.ensures.near.size in
+    (size.0 ∙ long.0 ∙ sym (ap (λ k. k.inputs) same), size.1 ∙ long.1 ∙ sym (ap (λ k. k.outputs) same))
+
+pub loop-j-init : goal.loop-j-init
+loop-j-init c =
+    let rows = c.args.rows.now in
+    record {
+      grown = c.in_ok-growth.ensures.grown;
+      near = c.in_ok-growth.ensures.near;
+      since = grows_none rows.size (on_side c.args.side rows.cubes) c.in_ok-growth.growth.cube c.in_ok-growth.ensures.grown.grows.is_cube;
+    }
+
+pub with_output-requires-clause-reached : goal.with_output-requires-clause-reached
+with_output-requires-clause-reached c =
+    let rows = c.args.rows.now in
+    let first = c.in_ok-growth.growth.cube in
+    let cube = c.in_ok-growth.ensures.grown.grows.is_cube in
+    reached_grown rows.size (on_side c.args.side rows.cubes) first c.loop-j.growth.cube c.in_ok-reached.reached rows.cubes cube c.loop-j.invariant.since
+    (reached_near rows.size first c.in_ok-part.part c.in_ok-reached.reached rows c.rows_to_ask.result.now cube (subst (AreNear first rows) (sym c.rows_to_ask.ensures) c.in_ok-growth.ensures.near) c.in_ok-part.ensures c.in_ok-reached.ensures)
+
+pub loop-j-preserved : goal.loop-j-preserved
+loop-j-preserved c =
+    let rows = c.args.rows.now in
+    let s = on_side c.args.side rows.cubes in
+    record {
+      grown = grown_output rows.size s c.args.cube.now c.loop-j.growth.cube c.in_ok-growth-2.growth.cube rows.size.inputs c.loop-j.j c.loop-j.invariant.grown
+          c.in_ok-growth-2.ensures.grows c.in_ok-growth-2.ensures.settled;
+      near = c.in_ok-growth-2.ensures.near;
+      since = grows_both rows.size s c.in_ok-growth.growth.cube c.loop-j.growth.cube c.in_ok-growth-2.growth.cube c.loop-j.invariant.since c.in_ok-growth-2.ensures.grows;
+    }

@@ -1,0 +1,74 @@
+use Rattle.std.proofs.Common.{◌≡◌, inl, inr, List, Option, None, Some, IfSome, IsNone, ◌↔◌, sym, subst, ◌∙◌, true, refl}
+use Rattle.std.specs.List.{Contains}
+use Rattle.std.proofs.lemmas.Bool.{or_cases}
+use Rattle.cube.specs.Size.{Size}
+use Rattle.cube.specs.Cube.{Cube, Place, holds, intersection, IsCube, IsDisjoint, SameSize}
+use Rattle.cover.specs.Cubes.{Cubes}
+use Rattle.cover.proofs.Found.{meet_output}
+use Rattle.cover.proofs.Lists.{list_any_from}
+use Rattle.minimum.specs.declared.essential_by_neighbours.growth.Side.TheVariants.{Outside}
+use Rattle.minimum.specs.Neighbours.{on_side, IsAlone}
+use Rattle.minimum.specs.Blocking.{AreBlocking, HasCommon}
+use Rattle.minimum.proofs.Blocking.{more_places, lists_fit, own_from_common, common_from_own}
+use Rattle.minimum.proofs.essential_by_neighbours.sampled.has_own_place.Goals as goal
+use Rattle.minimum.proofs.essential_by_neighbours.sampled.has_own_place.Goals.{in-Some+in_ok-has_common+else-branch+in-Heap-1, in-Some+in_ok-has_common+else-branch+in-Inline-1, in_default}
+
+pub has_common-requires-clause-output : goal.has_common-requires-clause-output
+has_common-requires-clause-output c =
+    let prime = c.args.prime.now in
+    let cube = c.cube-item.result in
+    let both : (p : Place) → holds c.in-Some.region p ≡ intersection (holds prime) (holds cube) p =
+    subst (λ o. IfSome o (λ d. (p : Place) → holds d p ≡ intersection (holds prime) (holds cube) p)) c.in-Some.is c.in_ok-region.ensures.places in
+    meet_output prime cube c.in-Some.region c.in_ok-region.field-0 c.in-Some.is c.in_ok-region.ensures.none both
+
+pub has_common-requires-clause-sizes : goal.has_common-requires-clause-sizes
+has_common-requires-clause-sizes c =
+    let off = c.args.off.now in
+    let prime = c.args.prime.now in
+    lists_fit off.size prime c.in_ok-lists.lists.items (IsAlone (on_side Outside off.cubes) prime) c.in_ok-lists.ensures (subst (λ z. IsCube z prime) (sym c.requires.size) c.requires.prime)
+    c.in-Some.region (subst (λ o. IfSome o (λ d. SameSize d prime)) c.in-Some.is c.in_ok-region.ensures.size) c.deref.result.now c.deref.ensures.value
+
+pub returns-then-branch-clause-some : goal.returns-then-branch-clause-some
+returns-then-branch-clause-some c _ =
+    let off = c.args.off.now in
+    let on = c.args.on.now in
+    let prime = c.args.prime.now in
+    let cube = c.cube-item.result in
+    let region = c.in-Some.region in
+    let fact = IsAlone (on_side Outside off.cubes) prime in
+    let both : (p : Place) → holds region p ≡ intersection (holds prime) (holds cube) p =
+    subst (λ o. IfSome o (λ d. (p : Place) → holds d p ≡ intersection (holds prime) (holds cube) p)) c.in-Some.is c.in_ok-region.ensures.places in
+    let w = own_from_common off.size prime cube region c.deref.result.now fact (subst (λ l. AreBlocking off.size prime l fact) (sym c.deref.ensures.value) c.in_ok-lists.ensures) both
+    (c.in_ok-has_common.ensures.some c.if-branch.true) in
+    let member : Contains on.cubes cube = subst (λ l. Contains l cube) c.as_slice-cube-items.ensures.value (c.loop-cube.cube-index, c.loop-cube-test.true, sym c.cube-item.is) in
+    (w.0, w.1, list_any_from (λ d. holds d w.0) on.cubes cube member w.2, w.3)
+
+there : (size : Size) (prime cube region : Cube) (lists lent : List Cubes) (fact : Place → Type 0) (found : Option Cube) → AreBlocking size prime lists fact → lent ≡ lists
+    → IfSome found (λ d. (p : Place) → holds d p ≡ intersection (holds prime) (holds cube) p) → found ≡ Some region → (HasCommon region lent 0 → ⊥)
+    → (p : Place) → holds prime p ≡ true → holds cube p ≡ true → fact p → ⊥
+there size prime cube region lists lent fact found blocking e both is none p in_c now a =
+    none (common_from_own size prime cube region lent fact (subst (λ l. AreBlocking size prime l fact) (sym e) blocking)
+    (subst (λ o. IfSome o (λ d. (p : Place) → holds d p ≡ intersection (holds prime) (holds cube) p)) is both) p in_c now a)
+
+here : (prime cube : Cube) (found : Option Cube) → (IsNone found ↔ IsDisjoint (holds prime) (holds cube)) → found ≡ None → (p : Place) → holds prime p ≡ true → holds cube p ≡ true → ⊥
+here prime cube found apart is p in_c now = (subst (λ o. IsNone o ↔ IsDisjoint (holds prime) (holds cube)) is apart).0 refl p in_c now
+
+pub loop-cube-preserved : goal.loop-cube-preserved
+loop-cube-preserved c p in_c h alone =
+    let off = c.args.off.now in
+    let prime = c.args.prime.now in
+    let cube = c.cube-item.result in
+    let cubes = c.as_slice-cube-items.result.now in
+    let fact = IsAlone (on_side Outside off.cubes) prime in
+    let lists = c.in_ok-lists.lists.items in
+    let found = c.in_ok-region.field-0 in
+    elim (or_cases _ _ (sym (more_places cubes c.loop-cube.cube-index cube c.loop-cube-test.true c.cube-item.is p) ∙ h)) [
+      | inl was ↦ c.loop-cube.invariant p in_c was alone
+      | inr now ↦ elim c.match-branch-3.branch [
+        | in-Some+in_ok-has_common+else-branch+in-Heap-1 w ↦ there off.size prime cube w.in-Some.region lists w.deref.result.now fact found c.in_ok-lists.ensures w.deref.ensures.value c.in_ok-region.ensures.places w.in-Some.is
+            (w.in_ok-has_common.ensures.none w.if-branch.false) p in_c now alone
+        | in-Some+in_ok-has_common+else-branch+in-Inline-1 w ↦ there off.size prime cube w.in-Some.region lists w.deref.result.now fact found c.in_ok-lists.ensures w.deref.ensures.value c.in_ok-region.ensures.places w.in-Some.is
+            (w.in_ok-has_common.ensures.none w.if-branch.false) p in_c now alone
+        | in_default w ↦ here prime cube found c.in_ok-region.ensures.none w.in_default.is p in_c now
+      ]
+    ]

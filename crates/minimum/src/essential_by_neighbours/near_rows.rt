@@ -1,0 +1,74 @@
+//! The rows near a cube.
+//!
+//! A step out of a cube leads to a place whose point is one of the cube's, but for the value at one
+//! input. A row that conflicts with the cube at two inputs has no such place, and is left out.
+
+ghost use Rattle.std.specs.Prelude.{◌≡◌, true, IfOk};
+ghost use Rattle.cube.specs.Cube.{HasSize};
+ghost use Rattle.minimum.specs.Neighbours.{IsFar, AreNear, near_or};
+
+use cover::Cover;
+use cube::Cube;
+use std::alloc::{AllocError, Global};
+
+/// Whether the row conflicts with the cube at two inputs.
+fn is_far(cube: &Cube, row: &Cube) -> bool
+    ensures { result ≡ true → IsFar cube.now row.now }
+{
+    cube.opposites(row) > 1
+}
+
+// Whether to copy the rows near the cube to a list of their own: to ask all rows
+// costs less where most are near.
+fn uses_near_rows(rows: &Cover, cube: &Cube) -> bool {
+    let mut left = rows.len() / 2;
+    for row in rows.as_slice() {
+        if is_far(cube, row) {
+            continue;
+        }
+        if left == 0 {
+            return false;
+        }
+        left -= 1;
+    }
+    true
+}
+
+/// The rows that do not conflict with the cube at two inputs.
+fn rows_not_far(alloc: Global, rows: &Cover, cube: &Cube) -> Result<Cover, AllocError>
+    requires { HasSize cube.now rows.now.size }
+    ensures { IfOk result (λ near. AreNear cube.now rows.now near) }
+{
+    let mut near = Vec::new(alloc);
+    for row in rows.as_slice() {
+        if !is_far(cube, row) {
+            near.push(row.try_clone()?)?;
+        }
+    }
+    Ok(Cover::from_cubes(rows.shape(), near))
+}
+
+/// The rows near the cube, or `None` for all rows.
+pub(crate) fn rows_near(
+    alloc: Global,
+    rows: &Cover,
+    cube: &Cube,
+) -> Result<Option<Cover>, AllocError>
+    requires { HasSize cube.now rows.now.size }
+    ensures { IfOk result (λ near. AreNear cube.now rows.now (near_or rows.now near)) }
+{
+    if !uses_near_rows(rows, cube) {
+        return Ok(None);
+    }
+    Ok(Some(rows_not_far(alloc, rows, cube)?))
+}
+
+/// The rows that are to be asked.
+pub(crate) fn rows_to_ask<'a>(rows: &'a Cover, near: &'a Option<Cover>) -> &'a Cover
+    ensures { result.now ≡ near_or rows.now near.now }
+{
+    match near {
+        None => rows,
+        Some(near) => near,
+    }
+}

@@ -1,0 +1,58 @@
+//! The outputs that rows reach inside a cube.
+//!
+//! Most outputs cannot be added to a cube, and one point of it shows this of many. A part of the
+//! cube is narrowed to each row that adds an output to it, and takes that row's outputs. So under an
+//! output that the cube lacks, the rows hold the whole part or no place of it.
+
+ghost use Rattle.std.specs.Prelude.{◌≡◌, ◌<◌, List, false, not, IfOk, length, slice_index_or};
+ghost use Rattle.cube.specs.Cube.{Cube as Row, HasSize, Place};
+ghost use Rattle.cover.specs.Places.{places};
+ghost use Rattle.minimum.specs.Neighbours.{on_side, IsPartOf, AreReached};
+
+use crate::essential_by_neighbours::growth::Side;
+use crate::signatures::regions::point_of;
+use cover::Cover;
+use cube::Cube;
+use std::alloc::AllocError;
+
+/// A part of the cube to begin with.
+///
+/// An output is refused inside the rows where none reaches it, and outside them where one does: so
+/// few rows are wanted there, or many.
+pub(crate) fn part_of(side: Side, cube: &Cube) -> Result<Cube, AllocError>
+    ensures { IfOk result (IsPartOf cube.now) }
+{
+    match side {
+        Side::Inside => point_of(cube),
+        Side::Outside => cube.try_clone(),
+    }
+}
+
+/// A part of the region with the outputs that are reached there, by a look at each row.
+pub(crate) fn outputs_at(rows: &Cover, region: Cube) -> Result<Cube, AllocError>
+    requires { HasSize region rows.now.size }
+    ensures { IfOk result (AreReached region rows.now.cubes) }
+{
+    let mut here = region;
+    for row in rows.as_slice() {
+        if let Some(both) = here.output_consensus(row)? {
+            if both.has_outputs_beyond(&here) {
+                here = both;
+            }
+        }
+    }
+    Ok(here)
+}
+
+/// Whether the places under the output are off that side, by the outputs that are reached.
+pub(crate) fn is_off(side: Side, reached: &Cube, j: usize) -> bool
+    requires { j < length reached.now.outputs }
+    ensures { (rows : List Row) → (p : Place)
+        → places rows p ≡ slice_index_or reached.now.outputs j false
+        → on_side side rows p ≡ not result }
+{
+    match side {
+        Side::Inside => !reached.output(j),
+        Side::Outside => reached.output(j),
+    }
+}
