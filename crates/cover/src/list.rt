@@ -101,7 +101,8 @@ impl Cover {
         ensures err { OnErr result (self.new.cubes ≡ self.old.cubes) }
         ensures handed_back { IfErr result (λ c. c ≡ cube) }
     {
-        let _shape = cube.shape();
+        let is_of_shape = cube.shape() == self.shape;
+        prove!(is_of_shape);
         match self.cubes.push(cube) {
             Ok(()) => Ok(()),
             Err(failed) => Err(failed.value),
