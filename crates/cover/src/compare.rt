@@ -54,7 +54,8 @@ pub fn agree_outside(list: &Cover, other: &Cover, dc: &Cover) -> Result<bool, Al
         ≡ agree_outside_of list.now.size (places list.now.cubes) (places other.now.cubes)
         (places dc.now.cubes)) }
 {
-    let (_list, _other) = (list.shape(), other.shape());
+    let have_one_shape = list.shape() == other.shape();
+    prove!(have_one_shape);
     if !is_within_either(list, other, dc)? {
         return Ok(false);
     }

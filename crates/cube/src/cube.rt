@@ -491,7 +491,8 @@ impl Cube {
         if !self.has_shape_of(other) {
             return false;
         }
-        let (_mine, _theirs) = (self.shape(), other.shape());
+        let have_one_shape = self.shape() == other.shape();
+        prove!(have_one_shape);
         self.contains(other) && other.contains(self)
     }
 
