@@ -4,6 +4,7 @@ And docs/LIBRARIES.md: the contracts of the libraries' other public calls, and w
 
 usage: docs/statement.py [--print [--libraries]]      (--print: one of the pages to standard output, and no file is written)
 """
+import itertools
 import os
 import re
 import sys
@@ -108,9 +109,10 @@ both, `P ⊎ Q` either, `P → Q` whenever P then Q, `(x : T) → P` for each x,
 what never does. `λ x. t` is the function that answers t. Texts are lists of bytes, and `codes` gives those of a quoted one. In a
 contract `x.old` and `x.new` are what a borrowed value is before and after the call, `x.now` is what a shared one is, and `result`
 is what the call answers; a type that has a model is seen as its model. A name that several sections define is that of its own
-section, unless a head says otherwise. The page leaves out the words `abbrev`, `unfoldable` and `pub`, which say when the checker
-looks into a definition and who may use it; it wraps comments anew or puts them beside what they are about, and puts lines of a
-definition together where they fit."""
+module, unless the line with `====` above the module says otherwise. The page leaves out the words `abbrev`, `unfoldable` and `pub`,
+which say when the checker looks into a definition and who may use it. It wraps comments anew or puts them beside what they are about.
+A definition with one equation has its arguments in its first line, as in `twice (n : ℕ) : ℕ = n + n` for `twice : ℕ → ℕ` and
+`twice n = n + n`. Equations, fields and cases stand side by side where they are short, with a semicolon between them."""
 
 STATEMENT = """# The statement
 
@@ -122,8 +124,6 @@ has to be read.
 The page is written by `docs/statement.py` from `crates/*/specs`, `crates/*/src` and the kit's files, and `tests/run` checks that it is
 fresh and that each name on it is defined on it. The libraries' other contracts are in [LIBRARIES.md](LIBRARIES.md).
 
-{table}
-
 {reading}
 """
 
@@ -134,13 +134,13 @@ What the public calls of the libraries promise to those who call them from elsew
 none of them to be believed. The statement says how a contract and a definition are read; what is defined there is not repeated.
 
 The page is written by `docs/statement.py`.
-
-{table}
 """
 
+WIDTH, SHORT = 130, 120     # of a line, and of one with several equations, fields or cases
+BETWEEN = ";  "             # which stands between these
 KIT = "What std defines"
 KIT_ABOUT = """Definitions of the kit's libraries, as its files have them: `Rattle.core.specs.List` is `core/specs/List.antt`, `lib.ListN` is
-`logic/Lib/ListN.antt`, and `mathlib.Core.Bool` is `antt/port/mathlib/src/Core/Bool.antt`. A, B, X, Y and T are any types, and ℓ and κ,
+`logic/Lib/ListN.antt`, and `mathlib.Core.Bool` is `antt/port/mathlib/src/Core/Bool.antt`. They stand in this order: {origins}. A, B, X, Y and T are any types, and ℓ and κ,
 the levels of types, say nothing here. These words are the logic's own:
 """
 KIT_ORDER = ("mathlib", "lib", "Rattle.core", "Rattle")
@@ -196,33 +196,33 @@ def items_of(entries, done):
                 yield cited
 
 
-def filled(text, width=130):
+def filled(text):
     """The text with its paragraphs wrapped, but for a table at its end."""
     text, bar, table = text.partition("\n|")
-    paragraphs = [textwrap.fill(" ".join(part.split()), width, break_long_words=False, break_on_hyphens=False)
+    paragraphs = [textwrap.fill(" ".join(part.split()), WIDTH, break_long_words=False, break_on_hyphens=False)
                   for part in text.strip().split("\n\n")]
     return "\n\n".join(paragraphs) + ("\n\n" + bar.strip() + table if bar else "")
 
 
-def wrapped(lines, width=130):
+def wrapped(lines):
     """The lines with their comments wrapped anew."""
     found = []
     for line in lines:
         last = found[-1] if found else ""
         mark = re.match(r" *(--|///) (?!----|[#*-] )", line)
         if mark and last.startswith(mark.group()) and " ----" not in last:
-            found[-1:] = textwrap.wrap(f"{last} {line[mark.end():]}", width, subsequent_indent=mark.group(), break_long_words=False,
+            found[-1:] = textwrap.wrap(f"{last} {line[mark.end():]}", WIDTH, subsequent_indent=mark.group(), break_long_words=False,
                                        break_on_hyphens=False)
         else:
             found.append(line)
     return found
 
 
-def joined(lines, width=130):
+def joined(lines):
     """The lines of a definition, with the parts of one that goes on over several put together where they fit."""
     found = []
     for line in lines:
-        if found and is_continued(found[-1], line) and len(found[-1]) + len(line.strip()) < width:
+        if found and is_continued(found[-1], line) and len(found[-1]) + len(line.strip()) < WIDTH:
             found[-1] += " " + line.strip()
         else:
             found.append(line)
@@ -235,30 +235,125 @@ def is_continued(last, line):
     return is_part and not line.lstrip().startswith("--") and not last.lstrip().startswith("--")
 
 
-def beside(lines, width=130):
-    """The lines of an item, with a comment of one line after the variant or field that it is about."""
-    found = []
+def beside(lines):
+    """The lines of an item: on one line if there is no comment; with a comment of one line after the variant or field that it is
+    about, and with arguments put together where they fit."""
+    if lines[0].endswith(" {") and lines[-1:] == ["}"] and all(re.match(r"    [^/]*,$", line) for line in lines[1:-1]):
+        whole = f"{lines[0]} {' '.join(line.strip() for line in lines[1:-1]).rstrip(',')} }}"
+        return [whole] if len(whole) <= WIDTH else lines
+    found, in_arguments = [], False
     for line in lines:
         about = re.match(r"    /// (.*)", found[-1]) if found else None
         is_alone = about and not (len(found) > 1 and found[-2].startswith("    ///"))
-        if is_alone and re.match(r"    [\w ]+(: \w+)?,$", line) and len(line) + len(about[1]) + 5 <= width:
+        is_argument = re.match(r"    \w+: .*,$", line) and found and (found[-1].endswith("(") or in_arguments)
+        in_arguments = bool(is_argument)
+        if is_alone and re.match(r"    [\w ]+(: \w+)?,$", line) and len(line) + len(about[1]) + 5 <= WIDTH:
             found[-1] = f"{line}  // {about[1]}"
+        elif is_argument and not found[-1].endswith("(") and len(found[-1]) + len(line.strip()) < WIDTH:
+            found[-1] += " " + line.strip()
         else:
             found.append(line)
     return found
 
 
+def without_titles(lines):
+    """The lines without the titles of what is said of errors."""
+    return re.sub(r"^ *///\n */// # Errors\n *///\n", "", "\n".join(lines), flags=re.M).split("\n") if lines else []
+
+
 def printed(entry):
     """The lines of an entry, as a page shows them."""
-    comment, lines = wrapped(entry.comment), wrapped(entry.lines)
+    comment, lines = wrapped(without_titles(entry.comment)), wrapped(without_titles(entry.lines))
     if is_item(entry):
-        return [*comment, *beside(lines)]
-    return with_comment(comment, joined([re.sub(r"^( *)((abbrev|unfoldable|pub) )+", r"\1", line) for line in lines]))
+        head, *body = beside(lines)
+        is_short = len(comment) == 1 and re.search(r"\b(enum|struct) ", head) and len(head) + len(comment[0]) + 1 <= WIDTH
+        return [f"{head}  {comment[0][1:]}", *body] if is_short else [*comment, head, *body]
+    lines = [re.sub(r"^( *)((abbrev|unfoldable|pub) )+", r"\1", line) for line in lines]
+    if lines[0].startswith(("data ", "record ")):
+        return with_comment(comment, side_by_side(joined(with_fields(lines))))
+    head, *body = joined(with_arguments(lines)[:1]) + joined(with_arguments(lines)[1:])
+    is_whole = len(body) == 1 and head.endswith(" =") and len(f"{head} {body[0].strip()}") <= WIDTH
+    if head.endswith(" =") and (is_whole or len(comment) != 1 or len(f"{head}  {comment[0]}") > WIDTH):
+        return with_comment(comment, joined([head, *body]))
+    return with_comment(comment, [head, *body] if head.endswith(" =") else side_by_side(joined(lines)))
 
 
-def with_comment(comment, lines, width=130):
+def with_fields(lines):
+    """The lines of a record or a data type: neighbours of one type on one line, and a comment of one line after its field."""
+    found = []
+    for at, line in enumerate(lines):
+        name, _, type_ = line.partition(" : ")
+        last, _, same = found[-1].partition(" : ") if found else ("", "", "")
+        is_whole = re.match(r"  [^ }-]", line)
+        goes_on = lines[at + 1:at + 2] and lines[at + 1].startswith("   ")
+        if is_whole and not goes_on and type_ == same and re.match(r"  [^ }-]", last):
+            found[-1] = f"{last} {name.strip()} : {type_}"
+        else:
+            found.append(line)
+    for at in range(len(found) - 1, 1, -1):
+        about, line = found[at - 1], found[at]
+        is_alone = re.match(r"  -- ", about) and not re.match(r"  -- ", found[at - 2]) and re.match(r"  \S+ : ", line)
+        if is_alone and len(line) + len(about) <= WIDTH and not (found[at + 1:at + 2] and found[at + 1].startswith("   ")):
+            found[at - 1:at + 1] = [f"{line}  {about.strip()}"]
+    return found
+
+
+def with_arguments(lines):
+    """The lines of a definition; of one with one equation, whose arguments are names, with these and their types in its first line."""
+    first, *equations = re.split(r"\n(?![ }])", "\n".join(lines))
+    if first.startswith(("data ", "record ")) or len(equations) != 1:
+        return lines
+    name, _, type_ = " ".join(first.split()).partition(" : ")
+    left, _, right = equations[0].partition(" =")
+    types, arguments = arrows(type_), left.split()[1:]
+    shared = [part for part in itertools.takewhile(lambda part: part.startswith("{"), types)]
+    types = types[len(shared):]
+    is_plain = all(re.fullmatch(r"[a-z]\w*", argument) for argument in arguments) and not any(re.match(r"\([^()]* : ", part) for part in types)
+    if "◌" in name or not is_plain or len(arguments) >= len(types):
+        return lines
+    groups = []
+    for argument, part in zip(arguments, types):
+        if groups and groups[-1][1] == part:
+            groups[-1][0].append(argument)
+        else:
+            groups.append(([argument], part))
+    given = [f"({' '.join(names)} : {part[1:-1] if re.fullmatch(r'[(].*→.*[)]', part) else part})" for names, part in groups]
+    head = f"{' '.join([name, *shared, *given])} : {' → '.join(types[len(arguments):])} ="
+    rest = [part for part in right.split("\n") if part.strip()]
+    return [head, "    " + rest[0].strip(), *rest[1:]] if len(head) <= WIDTH else lines
+
+
+def arrows(type_):
+    """The parts of a type between its arrows."""
+    found, depth = [""], 0
+    for sign in type_:
+        depth += {"(": 1, "{": 1, ")": -1, "}": -1}.get(sign, 0)
+        if sign == "→" and not depth:
+            found.append("")
+        else:
+            found[-1] += sign
+    return [part.strip() for part in found]
+
+
+def side_by_side(lines):
+    """The lines of a definition, with its equations, fields or cases on one line where they all fit, or on fewer where each is short."""
+    first, *others = lines
+    indent = "  " if first.startswith(("data ", "record ")) else ""
+    if not others or not all(re.match(indent + r"[^ }-]", line) and "  --" not in line for line in others):
+        return lines
+    found = [others[0]]
+    for line in others[1:]:
+        if len(found[-1]) + len(BETWEEN) + len(line.strip()) <= SHORT:
+            found[-1] += BETWEEN + line.strip()
+        else:
+            found.append(line)
+    return [first, *found] if len(found) == 1 or max(map(len, others)) <= SHORT // 2 else lines
+
+
+def with_comment(comment, lines):
     """The lines of a definition under its comment; one of a single line stands after the first line, where it fits."""
-    if len(comment) == 1 and len(lines[0]) + len(comment[0]) + 2 <= width:
+    is_head = len(lines) == 1 or lines[0].endswith((" =", " where")) or " : " in lines[0] and not lines[1].startswith("   ")
+    if len(comment) == 1 and is_head and len(lines[0]) + len(comment[0]) + 2 <= WIDTH:
         return [f"{lines[0]}  {comment[0]}", *lines[1:]]
     return [*comment, *lines]
 
@@ -270,26 +365,23 @@ def counted(entries):
     return len(entries), len(lines) - comments, comments
 
 
-def merged(parts):
-    """The parts, each without a heading in one with the part before it if both are of src."""
-    found = []
+def block(parts):
+    """The entries of a section as code: those of each part under its heading, and those of a module under its loose comments."""
+    lines = []
     for heading, entries in parts:
-        if found and not heading and entries and is_item(entries[0]) and is_item(found[-1][1][0]):
-            found[-1] = found[-1][0], found[-1][1] + entries
-        else:
-            found.append((heading, entries))
-    return found
+        section = ()
+        lines += [*heading, ""] if heading else []
+        for entry in entries:
+            if entry.section != section:
+                section = entry.section
+                lines += [*section, ""]
+            lines += [*printed(entry), ""]
+    return ["```", *lines[:-1], "```", ""]
 
 
-def block(entries):
-    """The entries as code: those of src, or those of a module under its loose comments."""
-    lines, section = [], ()
-    for entry in entries:
-        if entry.section != section:
-            section = entry.section
-            lines += [*section, ""]
-        lines += [*printed(entry), ""]
-    return ["```rust" if is_item(entries[0]) else "```", *lines[:-1], "```", ""]
+def headed(place, about=""):
+    """The heading of a module or of a call, as a comment."""
+    return textwrap.wrap(f"-- ==== {place}{about}", WIDTH, subsequent_indent="-- ", break_long_words=False, break_on_hyphens=False)
 
 
 class Page:
@@ -312,7 +404,9 @@ class Page:
         left_out = {entry for entry in self.seen if not is_of_kit(entry)} - set(printed)
         if left_out or len(printed) != len(set(printed)):
             sys.exit(f"statement: not printed once: {', '.join(entry.place + entry.name for entry in left_out)}")
-        self.sections.append((KIT, "\n".join([KIT_ABOUT, *self.words()]), list(self.parts_of_kit())))
+        kit = list(self.parts_of_kit())
+        origins = "; ".join(f"`{entries[0].place}` from `{entries[0].name}` on" for _, entries in kit if not is_item(entries[0]))
+        self.sections.append((KIT, "\n".join([KIT_ABOUT.format(origins=origins), *self.words()]), kit))
 
     def parts(self, place):
         """The entries of a place, behind those of src that they name: each list with its heading, or none."""
@@ -321,13 +415,13 @@ class Page:
             found.sort(key=lambda entry: self.order.get(entry.place + entry.name, -1))
             is_call = place.split("::")[-1][0].islower() or any("::" in entry.name for entry in found)
             items = list(items_of(found, self.done))
-            return [([f"### `{place}`", ""] if is_call else [], items + found)] if found else []
+            return [(headed(place) if is_call else [], items + found)] if found else []
         module = self.book.modules.get(place) or sys.exit(f"statement: there is no module {place}")
         entries = [entry for entry in module.entries if entry in self.seen]
         items = list(items_of(entries, self.done))
         notes = self.notes(entries)
-        heading = [f"### `{place}`", "", filled(module.about + (f" Here {notes}." if notes else "")), ""]
-        return [(heading, items), ([], entries)] if items else [(heading, entries)] if entries else []
+        heading = headed(place, f": {module.about[:1].lower()}{module.about[1:]}" + (f" Here {notes}." if notes else ""))
+        return [(heading, items + entries)] if entries else []
 
     def parts_of_kit(self):
         """The entries of the kit: its types, and then its modules, each with its name."""
@@ -336,7 +430,7 @@ class Page:
             yield [], types
         places = {entry.place for entry in self.seen if is_of_kit(entry) and not is_item(entry)}
         for place in sorted(places, key=lambda place: (next(k for k, it in enumerate(KIT_ORDER) if place.startswith(it)), place)):
-            yield [f"### `{place}`", ""], [entry for entry in self.book.modules[place].all_entries() if entry in self.seen]
+            yield [], [entry for entry in self.book.modules[place].all_entries() if entry in self.seen]
 
     def notes(self, entries):
         """What the entries mean by those names that mean several things on the page."""
@@ -359,11 +453,6 @@ class Page:
         told = [f"{names} {'is' if ',' not in names else 'are'} of `{owner}`" for names, owner in told]
         return "; ".join(told + sorted(set(renamed)))
 
-    def table(self):
-        rows = [(title, *counted([entry for _, entries in parts for entry in entries])) for title, _, parts in self.sections]
-        lines = [f"| {title} | {count} | {code} | {comments} |" for title, count, code, comments in rows if count]
-        return "\n".join(["| Subject | Definitions | Lines | Comments |", "|---|---:|---:|---:|", *lines])
-
     def words(self):
         """The words of the logic that the entries use, each with what it means."""
         cited = {name for entry in self.seen for name, meant in entry.cited.items() if not isinstance(meant, Entry)}
@@ -374,12 +463,10 @@ class Page:
 
     def text(self, introduction):
         definitions, code, comments = counted(self.seen)
-        lines = [introduction.format(definitions=definitions, lines=code, comments=comments, table=self.table(), reading=READING)]
+        lines = [introduction.format(definitions=definitions, lines=code, comments=comments, reading=READING)]
         for title, about, parts in self.sections:
             if parts:
-                lines += [f"## {title}", ""] + ([filled(about), ""] if about else [])
-            for heading, entries in merged(parts):
-                lines += heading + block(entries)
+                lines += [f"## {title}", "", *([filled(about), ""] if about else []), *block(parts)]
         return "\n".join(lines).rstrip("\n") + "\n"
 
 

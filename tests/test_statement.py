@@ -12,6 +12,7 @@ DOCS = os.path.join(TOP, "docs")
 sys.path.insert(0, DOCS)
 
 import definitions  # noqa: E402
+import statement  # noqa: E402
 
 PAGES = {"STATEMENT.md": (), "LIBRARIES.md": ("--libraries",)}
 
@@ -27,26 +28,50 @@ def page(name):
         return file.read()
 
 
-DECLARED = r"^(\S+)(?: [{(][^})]*[})])* : "        # the first line of a definition that is no data type and no record
+INSIDE = r"[^()]"
+for _ in range(4):
+    INSIDE = rf"(?:[^()]|\({INSIDE}*\))"
+GROUP = rf"(?:\({INSIDE}*\)|\{{[^{{}}]*\}})"                          # an argument with its type, or several
+DECLARED = rf"^(\S+)(?: {GROUP})* : "                               # the first line of a definition that is no data type and no record
+WITH_ARGUMENTS = re.compile(rf"(\S+)((?: {GROUP})*) : (.*?) =(?: (.*))?")
+RUST = re.compile(r"//|    |}|(pub|impl|struct|enum|trait)\b")
+
+
+def paragraphs(text):
+    """The parts of a page's code between empty lines, and whether each is Rust."""
+    for code in re.findall(r"^```\n(.*?)^```$", text, re.M | re.S):
+        yield [(part, bool(RUST.match(part))) for part in code.strip("\n").split("\n\n")]
+
+
+def as_in_a_file(code):
+    """A page's definitions as a file has them: one equation, field or case on a line, with no comment behind it."""
+    for line in code.split("\n"):
+        line = re.sub(r"(?<=\S)  -- .*", "", line)
+        found = WITH_ARGUMENTS.fullmatch(line)
+        if found:
+            name, groups, type_, body = found.groups()
+            given = re.findall(GROUP, groups)
+            names = [name for group in given if group[0] == "(" for name in group[1:].partition(" : ")[0].split()]
+            yield f"{name} : {' → '.join([*given, type_])}"
+            yield f"{' '.join([name, *names])} = {body or ''}"
+        else:
+            indent = re.match(" *", line).group()
+            yield from (indent + part.strip() for part in line.split(statement.BETWEEN))
 
 
 def defined_on(text):
     """The names that a page defines: in its code, and in its table of the logic's own words."""
     names = set()
-    for kind, code in re.findall(r"^```(rust)?\n(.*?)^```$", text, re.M | re.S):
-        if kind:
-            names |= set(re.findall(r"\b(?:enum|struct|trait|const|fn) (\w+)|^    (\w+)(?:\(.*\))?(?: = .*)?,(?:  //.*)?$|^    ghost (\w+)", code, re.M))
+    for part, is_rust in (found for code in paragraphs(text) for found in code):
+        if is_rust:
+            part = re.sub(r"^(.*(?:enum|struct) .*) \{ (.*) \}(?:  //.*)?$", lambda found: "\n    ".join([found[1], *(f"{one}," for one in found[2].split(", "))]), part, flags=re.M)
+            names |= set(re.findall(r"\b(?:enum|struct|trait|const|fn) (\w+)|^    (\w+)(?:\(.*\))?(?: = .*)?,(?:  //.*)?$|^    ghost (\w+)", part, re.M))
         else:
-            names |= set(re.findall(r"^(?:data |record )(\S+)|" + DECLARED + r"|^  ((?:\S+ )+):", code, re.M))
-    names |= {a or b for a, b in re.findall(r"`(\w+)`\s+is\s+`\w+`\s+of|^// (\w+) is \w+ of", text, re.M)}
+            names |= set(re.findall(r"^(?:data |record )(\S+)|" + DECLARED + r"|^  ((?:\S+ )+):", "\n".join(as_in_a_file(part)), re.M))
+    names |= {a or b for a, b in re.findall(r"`(\w+)`[\s-]+is[\s-]+`\w+`[\s-]+of|^// (\w+) is \w+ of", text, re.M)}
     words = re.findall(r"^\| (`.*`) \|", text, re.M) + re.findall(r"\b[A-Z]\b", text.partition("are any types")[0].rpartition("\n\n")[2])
     found = {word for group in names for part in ([group] if isinstance(group, str) else group) for word in part.split()} | set(re.findall(r"[^\s`,\"]+", " ".join(words)))
     return found | {part for name in found for part in definitions.parts(name)}
-
-
-def as_in_a_file(line):
-    """A line of a page's code as a file has it: with the word that a declaration begins with, and no comment behind it."""
-    return re.sub(rf"^(?={DECLARED}|(?:data|record) )", "pub ", re.sub(r"(?<=\S)  -- .*", "", line))
 
 
 class OnPage(definitions.Module):
@@ -55,7 +80,7 @@ class OnPage(definitions.Module):
     def __init__(self, code, names):
         self.place, self.about, self.entries, self.own = "page", "", [], {}
         self.names, self.short, self.missing = dict.fromkeys(names, ("page", "")), {}, set()
-        self.read([as_in_a_file(line) for line in code.split("\n")])
+        self.read([re.sub(rf"^(?={DECLARED}|(?:data|record) )", "pub ", line) for line in as_in_a_file(code)])
         for entry in self.entries:
             self.cite(entry)
 
@@ -101,11 +126,11 @@ class Statement(unittest.TestCase):
 class Closed(unittest.TestCase):
     def check(self, text, names):
         """Each name in the definitions and contracts of a page is one of these."""
-        contracts = re.compile(r"^```rust\n(.*?)^```$", re.M | re.S)
-        blocks = re.findall(r"^```\n(.*?)^```$", contracts.sub("", text), re.M | re.S)
-        self.assertGreater(len(blocks), 20)
+        sections = list(paragraphs(text))
+        blocks = ["\n\n".join(part for part, is_rust in code if not is_rust) for code in sections]
+        self.assertGreater(sum(block.count("\n\n") for block in blocks), 100)
         self.assertEqual(set().union(*(OnPage(code, names).missing for code in blocks)), set())
-        for code in contracts.findall(text):
+        for code in ("\n\n".join(part for part, is_rust in code if is_rust) for code in sections):
             plain = re.sub(r"//.*", "", code)
             own = {"self", "Self", "result", *re.findall(r"(\w+): ", plain), *re.findall(r"\b[A-Z]\b", plain)}
             for clause in definitions.clauses(plain):

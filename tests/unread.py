@@ -19,7 +19,7 @@ from as_rust import QUIET, blank, without_ghosts  # noqa: E402
 
 OPENING, CLOSING = "([{", ")]}"
 ITEM = re.compile(r"\bfn\s+(\w+)|\b(?:impl|trait)\b[^{;]*\{")
-KEPT = re.compile(r"\blet\s+(?:mut\s+)?(_\w+)")
+KEPT = re.compile(r"\blet\s+(?:mut\s+)?(_\w+)|\blet\s*\(([^=;]*\b_\w[^=;]*)\)\s*=")
 
 
 def quieted(found):
@@ -108,7 +108,7 @@ def unread_in(code):
                 if not (in_trait and (name == "self" or name.startswith("_"))) and not reads(body, name):
                     yield place, f"no body reads `{name}` of `{found[1]}`"
     for found in KEPT.finditer(code):
-        yield found.start(), f"`let {found[1]}`"
+        yield found.start(), f"`let {found[1] or '(' + found[2] + ')'}`"
 
 
 def unread_of(path):
