@@ -232,38 +232,31 @@ fn exact_among_primes(
     exact_by_points(alloc, &samples, &Source::Primes(primes), &places, choice)
 }
 
-// The least cover, with a DC list.
-fn exact_with_dc(alloc: Global, pla: &Pla, choice: Choice) -> Result<Cover, AllocError>
-    ensures { IfOk result (λ list. list ≡ record {
+// The least cover under fr without a DC list; none for other types, and where that is too much.
+fn exact_of_samples(
+    alloc: Global,
+    pla: &Pla,
+    choice: Choice,
+) -> Result<Option<Cover>, AllocError>
+    ensures { IfOk result (λ o. IfSome o (λ list. list ≡ record {
       size = pla.now.size;
       cubes = exact_of choice (sets_of pla.now true true);
-    }) }
+    })) }
 {
-    let sets = Sets::of(alloc, pla, true, false)?;
-    exact(alloc, &sets, choice)
-}
-
-// The least cover under fr; no DC list is made, unless that is less work.
-fn exact_of_samples(alloc: Global, pla: &Pla, choice: Choice) -> Result<Cover, AllocError>
-    requires { pla.now.file_type ≡ FileType.Fr }
-    ensures { IfOk result (λ list. list ≡ record {
-      size = pla.now.size;
-      cubes = exact_of choice (sets_of pla.now true true);
-    }) }
-{
+    let FileType::Fr = pla.file_type() else {
+        return Ok(None);
+    };
     let Some(off) = off_alone(pla)? else {
-        return exact_with_dc(alloc, pla, choice);
+        return Ok(None);
     };
     if let Some(list) = exact_outside_off(alloc, pla, &off, choice)? {
-        return Ok(list);
+        return Ok(Some(list));
     }
-    if let Some(list) = exact_among_primes(alloc, pla, &off, choice)? {
-        return Ok(list);
-    }
-    exact_with_dc(alloc, pla, choice)
+    exact_among_primes(alloc, pla, &off, choice)
 }
 
-/// The least cover by primes of the description's sets.
+/// The least cover by primes of the description's sets. Under fr no DC list is made, unless that is
+/// less work.
 ///
 /// # Errors
 ///
@@ -274,8 +267,9 @@ pub fn exact_of_pla(alloc: Global, pla: &Pla, choice: Choice) -> Result<Cover, A
       cubes = exact_of choice (sets_of pla.now true true);
     }) }
 {
-    match pla.file_type() {
-        FileType::Fr => exact_of_samples(alloc, pla, choice),
-        FileType::F | FileType::Fd | FileType::Fdr => exact_with_dc(alloc, pla, choice),
+    if let Some(list) = exact_of_samples(alloc, pla, choice)? {
+        return Ok(list);
     }
+    let sets = Sets::of(alloc, pla, true, false)?;
+    exact(alloc, &sets, choice)
 }

@@ -74,7 +74,8 @@ fn agree(alloc: Global, pla: &Pla, other: &Pla) -> Result<bool, AllocError>
     requires { other.now.size ≡ pla.now.size }
     ensures { IfOk result (λ holds. holds ≡ agree_of pla.now other.now) }
 {
-    let (_own, _theirs) = (pla.on().shape(), other.on().shape());
+    let have_one_shape = pla.on().shape() == other.on().shape();
+    prove!(have_one_shape);
     let free = listed_dc(alloc, pla, other)?;
     if !is_held(pla, other, &free)? {
         return Ok(false);

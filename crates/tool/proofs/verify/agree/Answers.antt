@@ -22,7 +22,7 @@ returns-then-not-branch c =
     let e = c.args.other.now in
     let are : AreCubes d.size d.on =
     subst (AreCubes d.size) (ap (λ (l : Cubes). l.cubes) c.on.ensures)
-    (subst (λ z. AreCubes z c.on.result.now.cubes) (c.shape-own.ensures.size ∙ ap (λ (l : Cubes). l.size) c.on.ensures) c.shape-own.ensures.cubes) in
+    (subst (λ z. AreCubes z c.on.result.now.cubes) (c.shape.ensures.size ∙ ap (λ (l : Cubes). l.size) c.on.ensures) c.shape.ensures.cubes) in
     masked_agreement-first d.size d.on e.on (places (listed d e)) (settles d.file_type d.off) (settles e.file_type e.off) (places (all_dc d e)) are (dcs-free d e c.requires)
     c.in_ok-is_held.field-0 c.if-not-branch.true
     (held-masked e.file_type e.off (places d.on) e.on c.in_ok-free.free.cubes (listed d e) (ap (λ (l : Cubes). l.cubes) c.in_ok-free.ensures) c.in_ok-is_held.field-0 c.in_ok-is_held.ensures)
@@ -33,10 +33,10 @@ returns c =
     let e = c.args.other.now in
     let are : AreCubes d.size d.on =
     subst (AreCubes d.size) (ap (λ (l : Cubes). l.cubes) c.on.ensures)
-    (subst (λ z. AreCubes z c.on.result.now.cubes) (c.shape-own.ensures.size ∙ ap (λ (l : Cubes). l.size) c.on.ensures) c.shape-own.ensures.cubes) in
+    (subst (λ z. AreCubes z c.on.result.now.cubes) (c.shape.ensures.size ∙ ap (λ (l : Cubes). l.size) c.on.ensures) c.shape.ensures.cubes) in
     let others : AreCubes d.size e.on =
     subst (AreCubes d.size) (ap (λ (l : Cubes). l.cubes) c.on-2.ensures)
-    (subst (λ z. AreCubes z c.on-2.result.now.cubes) (c.shape-theirs.ensures.size ∙ ap (λ (l : Cubes). l.size) c.on-2.ensures ∙ c.requires) c.shape-theirs.ensures.cubes) in
+    (subst (λ z. AreCubes z c.on-2.result.now.cubes) (c.shape-2.ensures.size ∙ ap (λ (l : Cubes). l.size) c.on-2.ensures ∙ c.requires) c.shape-2.ensures.cubes) in
     let free = ap (λ (l : Cubes). l.cubes) c.in_ok-free.ensures in
     IfOk-weaker c.is_held-2.result _ _
     (λ held h. masked_agreement-second d.size d.on e.on (places (listed d e)) (settles d.file_type d.off) (settles e.file_type e.off) (places (all_dc d e)) are (dcs-free d e c.requires) others
