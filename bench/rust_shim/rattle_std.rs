@@ -10,6 +10,7 @@ pub mod prelude {
     pub use crate::vec::Vec;
     pub use crate::rt::{Eprint, HostRuntime, Print};
     pub use crate::slices::{Items, Slices};
+    pub use crate::prove;
 }
 
 pub mod alloc {
@@ -34,6 +35,12 @@ macro_rules! vec {
     (in $alloc:expr; $($item:expr),* $(,)?) => {
         Ok::<_, $crate::alloc::AllocError>($crate::vec::Vec::of(std::vec![$($item),*]))
     };
+}
+
+/// What the checker proves is not looked at.
+#[macro_export]
+macro_rules! prove {
+    ($holds:expr) => { let _ = $holds; };
 }
 
 #[macro_export]
