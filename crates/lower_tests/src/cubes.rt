@@ -123,8 +123,18 @@ const PRODUCTS: [(Product, &str, &str, &[&str]); 20] = [
     (Product::By(Operation::Meet), "1- 10", "-1 01", &[]),
     (Product::By(Operation::Meet), "1- 11", "-1 01", &["11 01"]),
     (Product::By(Operation::Join), "11 10", "10 01", &["1- 11"]),
-    (Product::By(Operation::OutputConsensus), "1- 10", "-0 01", &["10 11"]),
-    (Product::By(Operation::OutputConsensus), "1- 10", "0- 11", &[]),
+    (
+        Product::By(Operation::OutputConsensus),
+        "1- 10",
+        "-0 01",
+        &["10 11"],
+    ),
+    (
+        Product::By(Operation::OutputConsensus),
+        "1- 10",
+        "0- 11",
+        &[],
+    ),
     (Product::By(Operation::Rest), "1- 11", "-0 01", &["1- 10"]),
     (Product::By(Operation::Rest), "1- 01", "-0 11", &[]),
     (

@@ -233,11 +233,7 @@ fn exact_among_primes(
 }
 
 // The least cover under fr without a DC list; none for other types, and where that is too much.
-fn exact_of_samples(
-    alloc: Global,
-    pla: &Pla,
-    choice: Choice,
-) -> Result<Option<Cover>, AllocError>
+fn exact_of_samples(alloc: Global, pla: &Pla, choice: Choice) -> Result<Option<Cover>, AllocError>
     ensures { IfOk result (λ o. IfSome o (λ list. list ≡ record {
       size = pla.now.size;
       cubes = exact_of choice (sets_of pla.now true true);
