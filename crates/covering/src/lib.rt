@@ -30,8 +30,7 @@
 //! by part, each renumbered (the first of two lists of one length has the least number in which they
 //! differ, so that the parts' least covers make the least cover); if all columns of a part cost the
 //! same its size decides. A search holds a copy of the table for each branch that is open, as many
-//! as columns are decided on one path. The number of branches is not bounded by less than the number
-//! of covers.
+//! as columns are decided on one path. A search may take exponentially many branches.
 #![tactic(auto)]
 
 mod bound;

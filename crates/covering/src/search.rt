@@ -229,7 +229,7 @@ impl Table {
         }
     }
 
-    /// That rest, for hints.
+    /// What is left of the budget, as hints take it.
     fn goal(&self, choice: Choice, budget: Budget) -> Goal {
         let rest = self.remaining_budget(choice, budget);
         Goal {
@@ -478,7 +478,7 @@ impl Table {
         Ok(Some(cover))
     }
 
-    /// A cover within the budget, if a local search of so many steps a row finds one.
+    /// A cover within the budget, if a local search of `steps` steps a row finds one.
     pub(crate) fn find_by_local_search(
         &self,
         alloc: Global,

@@ -28,10 +28,10 @@ use std::alloc::{AllocError, Global};
 /// A table with so few live columns is solved by trying all choices.
 const FEW: usize = 8;
 
-/// A question about a batch of columns is given up after so many tables.
+/// A question about a batch of columns is given up after this many tables.
 const BATCH_TABLES: u64 = 200;
 
-/// The first batch has so many columns.
+/// How many columns the first batch has.
 const FIRST_BATCH: usize = 4;
 
 /// A partial solution: the table of what is undecided, and a cover of it within the budget.
@@ -87,7 +87,7 @@ impl Questions {
         Ok(witness)
     }
 
-    /// The same, if it takes no more than `BATCH_TABLES` tables; else `None`. A cover that has
+    /// What `ask` answers, if it takes no more than `BATCH_TABLES` tables; else `None`. A cover that has
     /// one of many columns can be far harder to rule out than a cover that has the first of them.
     fn ask_briefly(
         &mut self,
@@ -352,8 +352,8 @@ impl Table {
         join(alloc, self.taken_columns(), self.live_columns())
     }
 
-    /// A cover that a local search finds, in so many steps a row; it ends early at a cover of so few
-    /// columns that costs nothing. All columns if it finds none.
+    /// The best cover of a local search of `steps` steps a row, which ends early at a cover of
+    /// `columns` columns that costs nothing. All columns if it finds none.
     fn some_cover(
         &self,
         alloc: Global,
@@ -379,7 +379,7 @@ impl Table {
         }
     }
 
-    /// A lower bound on the length of covers, where one of so many columns is known: a hint, as row
+    /// A lower bound on the length of covers, where one of `columns` columns is known: a hint, as row
     /// weights show it.
     fn length_bound_hint(
         &self,
@@ -436,7 +436,7 @@ impl Table {
         Ok(cover)
     }
 
-    /// A cover of so many columns with fewer literals; `None` if every cover is longer or has as
+    /// A cover of `columns` columns with fewer literals; `None` if every cover is longer or has as
     /// many.
     fn with_fewer(
         &self,
@@ -484,7 +484,7 @@ impl Table {
         }
     }
 
-    /// A lower bound on the literals of covers of so many columns, where one of this cost is known: a
+    /// A lower bound on the literals of covers of `columns` columns, where one of this cost is known: a
     /// hint, as row weights show it.
     fn literals_bound_hint(
         &self,

@@ -15,7 +15,7 @@
 //! - [`likeliest`] proposes a column to branch on, and [`batch`] columns that one question asks for
 //!   together.
 //!
-//! All sums wrap, and each index is checked before it is used: no call has a precondition. Each
+//! Sums wrap or saturate, and each index is checked before it is used: no call has a precondition. Each
 //! call takes memory for a few numbers for each row, each column and each entry of a row.
 #![tactic(auto)]
 

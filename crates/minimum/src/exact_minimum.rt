@@ -42,16 +42,16 @@ fn cubes_at(alloc: Global, list: &Cover, numbers: &[usize]) -> Result<Cover, All
     Ok(picked)
 }
 
-// So many cubes with the places outside are made at most for each output, and for all of them:
-// where many functions are joined in one output, there are far more, and the primes are few.
+// At most this many cubes with the places outside are made for each output: where many functions are
+// joined in one output there are far more, the primes are few, and all of them are listed.
 const MOST_OF_AN_OUTPUT: usize = 250;
 
-// The same for all outputs together.
+// At most this many such cubes are made for all outputs together.
 const MOST_OUTSIDE: usize = 40000;
 
-// So many rows are looked at for each output on the way, beside each row of the lists once for each
-// of these cubes: it takes some tenths of a second an output to give up, and functions with few such
-// cubes were seen to take a tenth of these rows.
+// At most this many rows are looked at for each output, besides each row of the lists once for each
+// of these cubes. To give up takes some tenths of a second an output; functions with few such cubes
+// were seen to take a tenth of these rows.
 const MOST_ROWS_OF_AN_OUTPUT: usize = 1_000_000;
 
 /// How far cubes with the places outside these are looked for.

@@ -68,7 +68,7 @@ impl Failure {
 }
 
 impl Operand {
-    // Its own of the two names.
+    // The name of this operand.
     fn choose<'a>(self, first: &'a [u8], second: &'a [u8]) -> &'a [u8]
         ensures { result.now ≡ name_at self (record { first = first.now; second = second.now }) }
     {

@@ -15,10 +15,9 @@ use cover::Cover;
 use cube::Cube;
 use std::alloc::AllocError;
 
-/// A part of the cube to begin with.
-///
-/// An output is refused inside the rows where none reaches it, and outside them where one does: so
-/// few rows are wanted there, or many.
+/// A part of the cube to begin with: a point if implicants lie inside the list, as few rows reach it
+/// and outputs that none reaches are refused; the whole cube if they lie outside, as many rows reach
+/// it and outputs that one reaches are refused.
 pub(crate) fn part_of(side: Side, cube: &Cube) -> Result<Cube, AllocError>
     ensures { IfOk result (IsPartOf cube.now) }
 {

@@ -6,7 +6,7 @@ use cube::{Cube, Symbol};
 /// A region with so few ON cubes is not halved.
 const FEW: usize = 16;
 
-/// At most so many of the ON cubes are looked at.
+/// At most this many of the ON cubes are looked at.
 const SAMPLE: usize = 64;
 
 /// How many of the looked-at cubes have no literal at the input.

@@ -9,7 +9,7 @@ use pla::Sets;
 use signature_search::{Place, Rows, places_by_primes, signature_places};
 use std::alloc::{AllocError, Global};
 
-// So many signatures are looked for at most.
+// At most this many signatures are looked for.
 const MOST: usize = 20000;
 
 /// Gives the last row the outputs of the cube.

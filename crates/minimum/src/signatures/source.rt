@@ -37,7 +37,7 @@ impl From<AllocError> for Stop {
     }
 }
 
-// So many primes of a point are listed at most.
+// At most this many primes of a point are listed.
 const MOST_PRIMES: usize = 20000;
 
 /// The primes that contain the point.
