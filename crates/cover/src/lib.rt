@@ -18,8 +18,9 @@
 //!   contain a region, without the others; and [`in_row_order`], the list sorted.
 //!
 //! With two inputs and one output, the rows `11 1`, `1- 1`, `1- 1` and `0- 1` hold every place, so
-//! `tautology` answers true; `contain` leaves `1- 1` and `0- 1`; the cofactor by `1- 1` has the
-//! rows `-1 1`, `-- 1` and `-- 1`; its complete sum is the row `-- 1`, and its complement is empty.
+//! `tautology` answers true, the complete sum is the row `-- 1`, and the complement is empty;
+//! `contain` leaves `1- 1` and `0- 1`; the cofactor by `1- 1` has the rows `-1 1`, `-- 1` and
+//! `-- 1`.
 //!
 //! No call lists points. `cofactor` looks at each cube once. `tautology`, `holds_cube(s)` and
 //! [`agree_outside`] split at inputs, each half answered by an implicant that says why it is held:

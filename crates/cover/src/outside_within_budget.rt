@@ -30,7 +30,8 @@ const FEW: usize = 16;
 /// How much a call may do before it gives up.
 #[derive(Clone, Copy)]
 pub struct Budget {
-    /// The most cubes that it keeps.
+    /// The most cubes that it keeps of one region: of an output in [`outside`], which keeps no more
+    /// in all either, and of a row in [`subtract`].
     pub cubes: usize,
     /// The most rows that it looks at, where a row counts each time, and an eighth where it is only
     /// compared with a cube. The time that is taken grows with this number.

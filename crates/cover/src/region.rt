@@ -6,9 +6,9 @@
 //! holds the whole region, and the other half is never asked for: so a split that had no part in an
 //! answer is undone at once, wherever it was made (Marques-Silva and Sakallah 1996). Else the
 //! answer is the consensus of both cubes, which has `-` at the input and elsewhere the literals of
-//! both (Brayton et al. 1984). A row with one open literal contains one of the halves, so that the
-//! other decides (Davis, Logemann and Loveland 1962). If a row has no open literal, the region is
-//! asked for without its outputs.
+//! both (Brayton et al. 1984). A row with one open literal and all outputs of the region contains
+//! one of the halves, so that the other decides (Davis, Logemann and Loveland 1962). If a row has
+//! no open literal, the region is asked for without the outputs of the row.
 //!
 //! Each question looks at the rows once. While some rows of a region have few open literals, its
 //! halves look at those rows alone, and at all rows that meet the region only once these have more.

@@ -55,7 +55,8 @@ impl Table {
         self.with(alloc, taken, live, rows)
     }
 
-    /// Two tables of about half of the rows each, if the rows fall into parts that share no column.
+    /// Two tables, of about half of the rows each where no part has more, if the rows fall into
+    /// parts that share no column.
     fn parts(&self, alloc: Global) -> Result<Option<Parts>, AllocError>
         ensures { IfOk result (λ o. IfSome o (λ p. AreParts self.now p.one p.other)) }
     {

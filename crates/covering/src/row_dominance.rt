@@ -50,8 +50,8 @@ fn unmark_dominating_rows(stay: &mut Vec<bool>, rows: &[Vec<usize>], among: &[us
     }
 }
 
-/// Marks rows so that each other row has all columns of a marked one, and each other row is
-/// unmarked if there is one.
+/// Marks the rows to keep. Each unmarked row has all columns of a marked one; if all are marked, no
+/// row has all columns of another.
 fn row_dominance(
     alloc: Global,
     rows: &[Vec<usize>],

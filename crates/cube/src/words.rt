@@ -161,7 +161,7 @@ pub(crate) fn minus_word(a: u64, b: u64) -> u64
     a & !b
 }
 
-/// The pairs of `a` where those of `b` have both bits, and elsewhere both bits.
+/// The pairs of `a` where those of `b` have both bits set, and pairs with both bits set elsewhere.
 pub(crate) fn freed_word(a: u64, b: u64) -> u64
     ensures low { (k : ℕ) → k < 32 → bit_at result (2 * k) ≡ freed_bit (bit_at a (2 * k)) b k }
     ensures high { (k : ℕ) → k < 32 → bit_at result (2 * k + 1)

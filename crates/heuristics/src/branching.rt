@@ -86,8 +86,8 @@ pub fn likeliest(rows: &[Vec<usize>], likely: &[i64], counts: &[i64]) -> usize {
     best
 }
 
-/// Whether to compute a bound again: whether at least an eighth of the columns that there were
-/// `before`, at the last one, is dropped `now`.
+/// Whether to compute a bound again: `before` is how many columns there were at the last one, `now`
+/// how many are left, and at least an eighth has to be gone.
 pub fn is_worth_a_bound(before: usize, now: usize) -> bool {
     now <= before.saturating_sub(before / 8)
 }

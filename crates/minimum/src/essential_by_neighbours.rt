@@ -4,10 +4,10 @@
 //! contains the cube holds that place, so that the essential one alone contains the cube: to grow the
 //! cube to any prime finds it. So there are no more candidates than ON cubes.
 //!
-//! A place of a prime lies in another prime exactly if a step out of the prime leads from it to an
-//! implicant: the two places make a cube, which lies in some prime; and a cube that lies not within
-//! the prime has the place at the end of such a step. So the neighbours and the DC-set leave out a
-//! place of the prime exactly if it is essential.
+//! A place of a prime lies in another prime exactly if a step out of the prime leads from it to a
+//! place of ON or DC: the two places make an implicant, which lies in some prime; and another prime
+//! that holds the place also holds the end of some such step. So the neighbours and the DC-set
+//! leave out a place of the prime exactly if it is essential.
 //!
 //! So a cube that lies in a prime grown before needs no look. The others cost a question for each
 //! literal and each missing output, and one for the prime, to the rows that are near.

@@ -42,8 +42,8 @@ fn cubes_at(alloc: Global, list: &Cover, numbers: &[usize]) -> Result<Cover, All
     Ok(picked)
 }
 
-// At most this many cubes with the places outside are made for each output: where many functions are
-// joined in one output there are far more, the primes are few, and all of them are listed.
+// At most this many cubes with the places outside are made for an output on average: where many
+// functions are joined in one output there are far more, the primes are few, and all are listed.
 const MOST_OF_AN_OUTPUT: usize = 250;
 
 // At most this many such cubes are made for all outputs together.
@@ -178,9 +178,10 @@ fn exact_by_table(
 /// that is not in the DC-set, the first of the shortest, in row order; with `Choice::Literals`, of
 /// those with the fewest literals.
 ///
-/// With many inputs and several outputs it lists no more primes than contain some picked points.
-/// Else its cost is that of [`primes`], with few inputs that of [`Table::build`], and then that of
-/// [`least_cover`] on the reduced table, whose number of branches has no small bound.
+/// With many inputs and several outputs it lists no more primes than contain some picked points,
+/// unless a budget is spent. Else its cost is that of [`primes`], with few inputs that of
+/// [`Table::build`], and then that of [`least_cover`] on the reduced table, whose number of
+/// branches has no small bound.
 pub fn exact(alloc: Global, sets: &Sets, choice: Choice) -> Result<Cover, AllocError>
     ensures { IfOk result (λ list. list ≡ record
         { size = sets.now.size; cubes = exact_of choice sets.now }) }

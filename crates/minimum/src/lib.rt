@@ -13,7 +13,8 @@
 //! and DC-set (McGeer, Sanghavi, Brayton and Sangiovanni-Vincentelli, ESPRESSO-SIGNATURE, 1993).
 //! That such a table is enough is the law [`points_are_enough`]. Else, and where a point has too
 //! many primes or the places outside take too many cubes, all primes are listed: with more than 20
-//! inputs points are picked by them, and else `Table::build` makes the table.
+//! inputs points are picked by them, and else `Table::build` makes the table. Of type fr
+//! ([`exact_of_pla`]) one output takes the first way too, and from all primes points are picked.
 //!
 //! The table is one of the covering problem (`covering`), which knows no cubes; what its callers
 //! need is passed on here.

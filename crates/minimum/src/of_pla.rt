@@ -18,11 +18,11 @@ use covering::Choice;
 use pla::{FileType, Pla, Sets};
 use std::alloc::{AllocError, Global};
 
-// At most this many cubes of the OFF list without the ON list are made; else a DC list is.
+// At most this many cubes are made of one OFF row without the ON list; else a DC list is made.
 const MOST_OF_OFF: usize = 200_000;
 
-// At most this many rows are looked at on the way, besides each ON row once for each OFF row: a wide
-// OFF row over many ON rows takes far more, and then a DC list is made sooner.
+// At most this many rows are looked at for all OFF rows, besides each ON row once for each OFF row:
+// a wide OFF row over many ON rows takes far more, and then a DC list is made sooner.
 const MOST_ROWS_OF_OFF: usize = 4_000_000;
 
 // How far the ON list is taken from the OFF list.
@@ -102,8 +102,9 @@ pub fn primes_of_pla(alloc: Global, pla: &Pla) -> Result<Cover, AllocError>
     }
 }
 
-// Whether to find essential primes without a list of all primes. All primes are few where there are
-// few inputs or one output, and then they are listed. Growing looks at all rows for each prime that it grows.
+// Whether to find essential primes without a list of all primes. With up to 12 inputs that list is
+// short, and is made unless rows are few; with one output it mostly is short. Growing looks at all
+// rows for each prime that it grows.
 fn uses_growth(sets: &Sets) -> bool {
     let (inputs, rows) = (sets.on().shape().inputs(), sets.on().len());
     if inputs <= 12 {

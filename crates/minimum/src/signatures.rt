@@ -1,8 +1,8 @@
 //! The least cover by the primes of some points.
 //!
-//! A prime that holds a wanted point may hold others: those that all primes of the point hold, the
-//! places of its signature (McGeer, Sanghavi, Brayton and Sangiovanni-Vincentelli,
-//! ESPRESSO-SIGNATURE, 1993). A cover that has a prime of the point holds these too. So points are
+//! A prime that holds a wanted point holds its signature too: the places that all primes of the
+//! point hold (McGeer, Sanghavi, Brayton and Sangiovanni-Vincentelli, ESPRESSO-SIGNATURE, 1993). So
+//! does a cover that has a prime of the point. So points are
 //! picked until each wanted place is in a signature, and only the primes that hold one of the points
 //! are made. There may be few of them where the function has far too many primes to list.
 //!

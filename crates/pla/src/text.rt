@@ -2,7 +2,7 @@
 //!
 //! A text begins with the shape, the names and the output type, and counts its rows before it gives
 //! them. It is put together in one buffer on the stack and handed to the output in few and large
-//! writes, so printing takes no memory, and its time grows with the symbols of the rows alone.
+//! writes, so printing takes no memory, and its time grows with the names and the symbols alone.
 ghost use Rattle.std.specs.Prelude.{◌≡◌, ◌∷◌, length, flat_map, sum_by};
 ghost use Rattle.pla.specs.Device.{CountsOn, PutsOn, TellsFailure, Writes};
 ghost use Rattle.pla.specs.Names.{lent_names, name_bytes};
@@ -91,7 +91,7 @@ fn type_line(out_type: OutType) -> &'static [u8]
     }
 }
 
-// How many rows are printed. Three counts may pass the last value of a u64.
+// How many rows are printed. The sum of three counts may pass the last value of a u64.
 fn row_count(out_type: OutType, on: &Cover, dc: &Cover, off: &Cover) -> u128
     ensures { result
         ≡ sum_by (λ section. length section.1)

@@ -5,8 +5,9 @@
 //! the variable is false. A nogood is a set of literals that must not all be true; inside, it is
 //! the clause of their negations. [`Search::ask`] answers a [`Answer::Point`] at which all
 //! assumptions are true and no nogood is, or a [`Refutation`]: further nogoods, each with those
-//! that show it, the last of which has literals of the assumptions alone. The caller checks the
-//! answer before it uses it: a poor one costs time alone. Each index is checked before it is used
+//! that show it, the last of which has literals of the assumptions alone; or, at its [`Limits`],
+//! [`Answer::Unknown`]. The caller checks the answer before it uses it: a poor one costs time
+//! alone. Each index is checked before it is used
 //! and no sum overflows, so no call has a precondition. The crate is proved to be safe and to end,
 //! and nothing more.
 //!

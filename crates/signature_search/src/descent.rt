@@ -3,7 +3,7 @@
 //!
 //! The smaller the cube, the likelier its signature cube has a place of its own, and that of a point
 //! has one always. So the literals that part the two cubes are put in an order, those of short rows
-//! first, and the least number of them that will do is looked for by halves.
+//! first, and the least number of them that will do is found by binary search.
 
 use crate::bits::{Literals, bit_indices, has_bit, literal_at, put_literal};
 use crate::blocking_matrix::BlockingRows;

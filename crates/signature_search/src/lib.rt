@@ -3,10 +3,10 @@
 //!
 //! The signature cube of a place is the meet of all primes that hold it (McGeer, Sanghavi, Brayton
 //! and Sangiovanni-Vincentelli, Espresso-Signature: a new exact minimizer for logic functions,
-//! 1993). A cover that holds one place of each maximal signature cube holds all wanted places, and
-//! there are far fewer such cubes than primes. [`signature_places`] answers a place for each that it
-//! finds; the caller checks whether they are enough. It is proved to be safe and to end, and nothing
-//! more.
+//! 1993). A cover by primes that holds, for each maximal signature cube, a place whose signature
+//! cube it is, holds all wanted places, and there are far fewer such cubes than primes.
+//! [`signature_places`] answers such a place for each that it finds; the caller checks whether they
+//! are enough. The crate is proved to be safe and to end, and nothing more.
 //!
 //! 1. Each ON cube as it stands: its signature cube is taken if it has a place of its own.
 //! 2. What no signature cube holds yet, place by place: the largest cube between the place and an

@@ -1,4 +1,4 @@
-//! Whether the three sets of a description part the space.
+//! Whether the three sets of a description partition the space.
 //!
 //! A list that the type of the rows leaves open is the complete sum of what the others leave, so it
 //! shares no place with them and leaves no gap; it is not computed, for it may be exponential.

@@ -58,7 +58,7 @@ pub(crate) fn print_lists<W: Output>(
     }
 }
 
-// The lists that stand apart from a description's own.
+// The lists that were computed; `None` where the description's own is lent.
 #[derive(Drop)]
 struct Open {
     dc: Option<Cover>,

@@ -13,7 +13,7 @@ use crate::status::Status;
 use pla::Output;
 use std::alloc::{AllocError, Global};
 
-/// Answers the words that a process was started with, the program's name first, and answers how it
+/// Acts on the words that a process was started with, the program's name first, and returns how it
 /// ends: if they say a line, it is run on its files, and otherwise it is said why not. So output,
 /// message and status are those of `tool`, unless memory runs out or an output fails.
 ///

@@ -1,5 +1,5 @@
-//! A run: reading one source or two, whether two have one size, the command, and the message on
-//! standard error; also the usage message (`refuse`).
+//! A run: the first source is read, the command is answered, the output is flushed, and what failed
+//! is said on standard error; also the usage message (`refuse`).
 ghost use Rattle.std.specs.Prelude.{◌≡◌, Err, IfErr, IfSome, IsTrue, is_some};
 ghost use Rattle.tool.specs.Messages.{is_answer};
 ghost use Rattle.tool.specs.Run.{AsksSecond, Intakes, Runs, Takes, TakesSome, WroteOrFailed, name_of, trace};
@@ -40,7 +40,7 @@ pub fn refuse<E: Output>(fault: &LineFault, err: &mut E) -> Status
 /// Runs the line, and answers how the process ends.
 ///
 /// The first source is read to its end or its first fault, then the second if there is one, and
-/// their comments and unknown keyword lines go out as their lines end; then the sizes of two files
+/// their comments and unknown keyword lines go out after each piece; then the sizes of two files
 /// are compared, the command's text is printed, and the output is flushed, once and last. The first
 /// that stops the run ends it: it is said in one line on `err`, whose own failures are ignored, and
 /// what comes after it is left alone. After a write that failed nothing more is written, and after

@@ -1,5 +1,5 @@
-//! Opening a source (`open_source`), reading it (`read_source`), and the second source of a run:
-//! one that is there, or one to be opened.
+//! Opening a source (`open_source`), reading it (`read_source`), and the second source of a run,
+//! one that is there or one to be opened, which has to be of the first's size (`read_other`).
 ghost use Rattle.std.specs.Prelude.{◌≡◌, IfErr, IfOk, Option, Some, map, string_bytes, true};
 ghost use Rattle.tool.specs.Program.{IsOpenedAs, named_file};
 ghost use Rattle.tool.specs.Run.{Intake, Takes, name_of, trace};
@@ -131,7 +131,7 @@ pub(crate) fn read_other<S: Second, W: Output>(
     }
 }
 
-// Reads a source, whose echoes go out as its lines end.
+// Reads a source that was opened, whose echoes go out piece by piece; a closed one is a failure.
 pub(crate) fn read_source<R: Input, W: Output>(
     alloc: Global,
     line: &Line,

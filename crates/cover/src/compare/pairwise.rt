@@ -1,9 +1,10 @@
 //! Whether all places of a list are in another, or none is, by pairs of rows.
 //!
 //! The rows of the first list are split three ways by their symbol at an input. To those with `0`
-//! or `1` there the rows of the second list with the other literal don't count. So each pair of
-//! rows comes together once at most, and both lists get shorter. The input is taken at which most
-//! pairs have opposite literals. Once few rows are left, each is asked for by itself.
+//! or `1` there the rows of the second list with the other literal do not count; to those with `-`
+//! all do. So each pair of rows comes together once at most. The input is taken at which most pairs
+//! have opposite literals. Once few rows are left or no split pays, the second list is asked for
+//! each row by itself, or, if they are to be disjoint, each pair is looked at.
 ghost use Rattle.std.specs.Prelude.{◌≡◌, ◌↔◌, ◌<◌, ◌≤◌, ◌∷◌, [], IsTrue, IfOk, IfSome, OnOk, All, filter, length, map, slice_index_or};
 ghost use Rattle.cube.specs.Size.{Size};
 ghost use Rattle.cube.specs.Cube.{HasSize, SameSize, IsSubset, IsDisjoint, holds, size_of};

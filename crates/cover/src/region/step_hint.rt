@@ -1,9 +1,9 @@
 //! The next step for a region: an input to split at, or a row without an open literal.
 //!
-//! A row with one open literal contains one half of the region (a unit, as in Davis, Logemann and
-//! Loveland 1962). If there is no such row, the region is split at the input where most of the
-//! nearest rows have an open literal, and of several such inputs where most of all rows do. All of
-//! this is a hint, which is checked before it is used.
+//! A row with one open literal and all outputs of the region contains one half of it (a unit, as
+//! in Davis, Logemann and Loveland 1962). If there is no such row, the region is split at the input
+//! where most of the nearest rows have an open literal, and of several such inputs where most of
+//! all rows do. All of this is a hint, which is checked before it is used.
 
 use crate::region::open_literals::{count_bits, first_open_literal, lacks_output, open_bits};
 use cube::{Cube, Shape, Symbol};
