@@ -10,9 +10,9 @@ use Rattle.covering.specs.declared.choice.Choice.{Choice}
 use Rattle.covering.specs.Table.{Table, has, RisesFrom, IsWithin, IsTable, items_of}
 use Rattle.covering.specs.Cover.{meets, IsCover, counted, sum_over, IsBefore, Precedes, IsLeast}
 use Rattle.covering.specs.Steps.{without, HasRow}
-use Rattle.covering.specs.Choices.{choices, join, better, best_of, meets_all, best_choice}
+use Rattle.covering.specs.Choices.{choices, union_of, better, best_of, meets_all, best_choice}
 use Rattle.covering.proofs.Sets.{has_here, has_later, has_cases, rises_above, rises_lower, lacks_below, without_rises, put_length, sum_put, meets_from, first_by_sets}
-use Rattle.covering.proofs.Subsets.{same_list, minus, minus_only, minus_lacks, minus_keeps, minus_length, minus_sum, join_rises, join_left, join_right, join_only, rows_met, rows_within}
+use Rattle.covering.proofs.Subsets.{same_list, minus, minus_only, minus_lacks, minus_keeps, minus_length, minus_sum, union_rises, union_left, union_right, union_only, rows_met, rows_within}
 
 -- ---- the choices ascend
 
@@ -246,32 +246,32 @@ difference l (p ∷ ps) (y ∷ ys) r q e h = go (cases_order p y) (difference (s
 
 -- ---- the cover of a choice
 
-pub join_length : (l : ℕ) (ts xs : List ℕ) → RisesFrom l xs → ((n : ℕ) → has n xs ≡ true → has n ts ≡ false) → length (join ts xs) ≡ length ts + length xs
-join_length l ts [] r f = omega arith
-join_length l ts (x ∷ xs) r f =
-    let lacks : has x (join ts xs) ≡ false = elim (cases_Bool (has x (join ts xs))) [
-      | inl e ↦ absurd (elim (join_only x ts xs e) [
+pub union_length : (l : ℕ) (ts xs : List ℕ) → RisesFrom l xs → ((n : ℕ) → has n xs ≡ true → has n ts ≡ false) → length (union_of ts xs) ≡ length ts + length xs
+union_length l ts [] r f = omega arith
+union_length l ts (x ∷ xs) r f =
+    let lacks : has x (union_of ts xs) ≡ false = elim (cases_Bool (has x (union_of ts xs))) [
+      | inl e ↦ absurd (elim (union_only x ts xs e) [
         | inl g ↦ both_ways _ (f x (has_here x x xs refl)) g
         | inr g ↦ (let a = rises_above x (suc x) xs r.1 g in omega arith)
       ])
       | inr e ↦ e
     ] in
-    let one = put_length x (join ts xs) lacks in
-    let k = join_length (suc x) ts xs r.1 (λ n h. f n (has_later n x xs h)) in
+    let one = put_length x (union_of ts xs) lacks in
+    let k = union_length (suc x) ts xs r.1 (λ n h. f n (has_later n x xs h)) in
     omega arith
 
-pub join_sum : (count : ℕ → ℕ) (l : ℕ) (ts xs : List ℕ) → RisesFrom l xs → ((n : ℕ) → has n xs ≡ true → has n ts ≡ false) → sum_over count (join ts xs) ≡ sum_over count ts + sum_over count xs
-join_sum count l ts [] r f = omega arith
-join_sum count l ts (x ∷ xs) r f =
-    let lacks : has x (join ts xs) ≡ false = elim (cases_Bool (has x (join ts xs))) [
-      | inl e ↦ absurd (elim (join_only x ts xs e) [
+pub union_sum : (count : ℕ → ℕ) (l : ℕ) (ts xs : List ℕ) → RisesFrom l xs → ((n : ℕ) → has n xs ≡ true → has n ts ≡ false) → sum_over count (union_of ts xs) ≡ sum_over count ts + sum_over count xs
+union_sum count l ts [] r f = omega arith
+union_sum count l ts (x ∷ xs) r f =
+    let lacks : has x (union_of ts xs) ≡ false = elim (cases_Bool (has x (union_of ts xs))) [
+      | inl e ↦ absurd (elim (union_only x ts xs e) [
         | inl g ↦ both_ways _ (f x (has_here x x xs refl)) g
         | inr g ↦ (let a = rises_above x (suc x) xs r.1 g in omega arith)
       ])
       | inr e ↦ e
     ] in
-    let one = sum_put count x (join ts xs) lacks in
-    let k = join_sum count (suc x) ts xs r.1 (λ n h. f n (has_later n x xs h)) in
+    let one = sum_put count x (union_of ts xs) lacks in
+    let k = union_sum count (suc x) ts xs r.1 (λ n h. f n (has_later n x xs h)) in
     omega arith
 
 pub minus_rises : (xs ts : List ℕ) → RisesFrom 0 xs → RisesFrom 0 (minus xs ts)
@@ -286,33 +286,33 @@ each_meets : (rows : List (List ℕ)) (s : List ℕ) → AllByRecursion (λ row.
 each_meets [] s h = refl
 each_meets (row ∷ rows) s h = and_from (meets s row) (meets_all rows s) (meets_from h.0.0 s row h.0.1 h.0.2) (each_meets rows s h.1)
 
-meets_joined : (ts ch : List ℕ) (rows : List (List ℕ)) → AllByRecursion (λ row. meets ch row ≡ true) rows → AllByRecursion (λ row. meets (join ts ch) row ≡ true) rows
-meets_joined ts ch [] h = tt
-meets_joined ts ch (row ∷ rows) h = (go row h.0, meets_joined ts ch rows h.1)
+meets_union : (ts ch : List ℕ) (rows : List (List ℕ)) → AllByRecursion (λ row. meets ch row ≡ true) rows → AllByRecursion (λ row. meets (union_of ts ch) row ≡ true) rows
+meets_union ts ch [] h = tt
+meets_union ts ch (row ∷ rows) h = (go row h.0, meets_union ts ch rows h.1)
   where
-    go : (r : List ℕ) → meets ch r ≡ true → meets (join ts ch) r ≡ true
+    go : (r : List ℕ) → meets ch r ≡ true → meets (union_of ts ch) r ≡ true
     go [] e = e
-    go (c ∷ cs) e = elim (or_cases (has c ch) (meets ch cs) e) [ inl f ↦ or_left _ _ (join_right c ts ch f) | inr f ↦ or_right (has c (join ts ch)) _ (go cs f) ]
+    go (c ∷ cs) e = elim (or_cases (has c ch) (meets ch cs) e) [ inl f ↦ or_left _ _ (union_right c ts ch f) | inr f ↦ or_right (has c (union_of ts ch)) _ (go cs f) ]
 
-pub exhaustive_least : (choice : Choice) (t : Table) (k : ℕ) (ch : List ℕ) → IsTable t → best_choice choice t k ≡ Some ch → ((j : ℕ) → j < k → best_choice choice t j ≡ None) → IsLeast choice t (join t.taken ch)
+pub exhaustive_least : (choice : Choice) (t : Table) (k : ℕ) (ch : List ℕ) → IsTable t → best_choice choice t k ≡ Some ch → ((j : ℕ) → j < k → best_choice choice t j ≡ None) → IsLeast choice t (union_of t.taken ch)
 exhaustive_least choice t k ch w found none =
     let count = counted choice t.weights in
     let passes = best_passes count (meets_all t.rows) (IsChoice 0 k t.live) ch (choices k t.live) (all_choices k 0 t.live w.live_rises) found in
     let is = passes.1 in
-    let s = join t.taken ch in
-    let rises = join_rises t.taken ch w.taken_rises in
-    let long : length s ≡ length t.taken + k = join_length 0 t.taken ch is.rises (λ n h. w.apart n (is.from n h)) ∙ ap (λ n. length t.taken + n) is.long in
+    let s = union_of t.taken ch in
+    let rises = union_rises t.taken ch w.taken_rises in
+    let long : length s ≡ length t.taken + k = union_length 0 t.taken ch is.rises (λ n h. w.apart n (is.from n h)) ∙ ap (λ n. length t.taken + n) is.long in
     record {
       cover = record {
         rises = rises;
-        taken = λ n h. join_left n t.taken ch h;
-        only = λ n h. elim (join_only n t.taken ch h) [ inl e ↦ or_left _ _ e | inr e ↦ or_right (has n t.taken) _ (is.from n e) ];
-        rows = meets_joined t.taken ch t.rows (meets_each t.rows ch passes.0);
+        taken = λ n h. union_left n t.taken ch h;
+        only = λ n h. elim (union_only n t.taken ch h) [ inl e ↦ or_left _ _ e | inr e ↦ or_right (has n t.taken) _ (is.from n e) ];
+        rows = meets_union t.taken ch t.rows (meets_each t.rows ch passes.0);
       };
       first = λ x h. other x h long rises is;
     }
   where
-    other : (x : List ℕ) → IsCover t x → length (join t.taken ch) ≡ length t.taken + k → RisesFrom 0 (join t.taken ch) → IsChoice 0 k t.live ch → (join t.taken ch ≡ x) ⊎ Precedes (counted choice t.weights) (join t.taken ch) x
+    other : (x : List ℕ) → IsCover t x → length (union_of t.taken ch) ≡ length t.taken + k → RisesFrom 0 (union_of t.taken ch) → IsChoice 0 k t.live ch → (union_of t.taken ch ≡ x) ⊎ Precedes (counted choice t.weights) (union_of t.taken ch) x
     other x h long rises is =
         let count = counted choice t.weights in
         let rest = minus x t.taken in
@@ -329,12 +329,12 @@ exhaustive_least choice t k ch w found none =
           | inr (inl less) ↦ absurd (best_none count (meets_all t.rows) (choices (length rest) t.live) (none (length rest) less) rest there meets_rest)
           | inr (inr more) ↦ inr (inl (omega arith))
           | inl same ↦ elim (best_first count (meets_all t.rows) ch rest (choices k t.live) (asc_choices k 0 t.live w.live_rises) found (subst (λ n. HasRow rest (choices n t.live)) same there) meets_rest) [
-            | inl e ↦ inl (same_list 0 (join t.taken ch) x rises h.rises
-                (λ n f. elim (join_only n t.taken ch f) [ inl g ↦ h.taken n g | inr g ↦ minus_only n x t.taken (subst (λ z. has n z ≡ true) e g) ])
-                (λ n f. elim (split n f) [ inl g ↦ join_left n t.taken ch g | inr g ↦ join_right n t.taken ch (subst (λ z. has n z ≡ true) (sym e) g) ]))
+            | inl e ↦ inl (same_list 0 (union_of t.taken ch) x rises h.rises
+                (λ n f. elim (union_only n t.taken ch f) [ inl g ↦ h.taken n g | inr g ↦ minus_only n x t.taken (subst (λ z. has n z ≡ true) e g) ])
+                (λ n f. elim (split n f) [ inl g ↦ union_left n t.taken ch g | inr g ↦ union_right n t.taken ch (subst (λ z. has n z ≡ true) (sym e) g) ]))
             | inr e ↦ (
-                let equal : length (join t.taken ch) ≡ length x = omega arith in
-                let mine : sum_over count (join t.taken ch) ≡ sum_over count t.taken + sum_over count ch = join_sum count 0 t.taken ch is.rises (λ n g. w.apart n (is.from n g)) in
+                let equal : length (union_of t.taken ch) ≡ length x = omega arith in
+                let mine : sum_over count (union_of t.taken ch) ≡ sum_over count t.taken + sum_over count ch = union_sum count 0 t.taken ch is.rises (λ n g. w.apart n (is.from n g)) in
                 let other_sum : sum_over count x ≡ sum_over count t.taken + sum_over count rest = minus_sum count 0 x t.taken h.rises w.taken_rises h.taken in
                 inr (inr (
                   equal,
@@ -348,10 +348,10 @@ exhaustive_least choice t k ch w found none =
                             | inl f ↦ absurd (elim (split d.0 f) [ inl g ↦ both_ways _ (w.apart d.0 (is.from d.0 d.1)) g | inr g ↦ both_ways _ d.2 g ])
                             | inr f ↦ f
                           ] in
-                          first_by_sets d.0 0 (join t.taken ch) x rises h.rises equal (join_right d.0 t.taken ch d.1) out
-                          (λ m below. same_bool (has m (join t.taken ch)) (has m x)
-                          (λ f. elim (join_only m t.taken ch f) [ inl g ↦ h.taken m g | inr g ↦ minus_only m x t.taken (sym (d.3 m below) ∙ g) ])
-                          (λ f. elim (split m f) [ inl g ↦ join_left m t.taken ch g | inr g ↦ join_right m t.taken ch (d.3 m below ∙ g) ]))),
+                          first_by_sets d.0 0 (union_of t.taken ch) x rises h.rises equal (union_right d.0 t.taken ch d.1) out
+                          (λ m below. same_bool (has m (union_of t.taken ch)) (has m x)
+                          (λ f. elim (union_only m t.taken ch f) [ inl g ↦ h.taken m g | inr g ↦ minus_only m x t.taken (sym (d.3 m below) ∙ g) ])
+                          (λ f. elim (split m f) [ inl g ↦ union_left m t.taken ch g | inr g ↦ union_right m t.taken ch (d.3 m below ∙ g) ]))),
                     )
                   ],
                 )))

@@ -7,11 +7,11 @@ use Rattle.covering.specs.declared.choice.Choice.{Choice}
 use Rattle.covering.specs.Table.{Table, has, RisesFrom, IsWithin, IsTable, table_of}
 use Rattle.covering.specs.Cover.{meets, counted}
 use Rattle.covering.specs.Steps.{without, take_column, drop_column, with_rows, HasRow, StandsWith, IsPreferred, Step, row_leaves, only_column, column_leaves, Steps, done, more, IsReduced}
-use Rattle.covering.specs.Choices.{join}
+use Rattle.covering.specs.Choices.{union_of}
 use Rattle.covering.specs.Search.{IsWeaklyReduced, marked, keep_columns, IsPruned}
 use Rattle.covering.specs.Reduce.{row_at, IsTranspose, MarksInessentialColumns, is_essential_column, rows_from, LeavesNoDominatingRow, HasNoDominatingRow, LeavesNoDominatedColumn, prefers, HasNoEssentialColumn, HasNoDominatedColumn, Shrinks, take_unmarked}
 use Rattle.covering.proofs.Sets.{has_here, has_later, has_cases, lacks_below, filter_parts, filter_keeps, filter_rises, filter_length}
-use Rattle.covering.proofs.Subsets.{same_list, join_rises, join_left, join_right, join_only}
+use Rattle.covering.proofs.Subsets.{same_list, union_rises, union_left, union_right, union_only}
 use Rattle.covering.proofs.Keeps.{row_live, steps_keep, preferred_apart}
 use Rattle.covering.proofs.Made.{table_same}
 use Rattle.covering.proofs.Rising.{range_rises, range_has, range_below}
@@ -191,7 +191,7 @@ module _ (choice : Choice) (t : Table) (transpose : List (List ℕ)) (keep : Lis
 -- ---- single columns are taken
 
 abbrev take_list : List ℕ → Table → Table
-take_list cs t = table_of t.columns (join t.taken cs) (filter (apart_of cs) t.live) (filter (λ row. not (meets cs row)) t.rows) t.weights
+take_list cs t = table_of t.columns (union_of t.taken cs) (filter (apart_of cs) t.live) (filter (λ row. not (meets cs row)) t.rows) t.weights
 
 meets_none : (row : List ℕ) → meets [] row ≡ false
 meets_none [] = refl
@@ -276,13 +276,13 @@ module _ (choice : Choice) (t : Table) (keep : List Bool) (wt : IsTable t) (h : 
       not_false true e = sym e
       not_false false e = refl
 
-  taken_same : filter (λ n. has n t.taken || not (marked keep n)) (range_with_len 0 t.columns) ≡ join t.taken essentials
-  taken_same = same_list 0 (filter (λ n. has n t.taken || not (marked keep n)) (range_with_len 0 t.columns)) (join t.taken essentials) (filter_rises _ 0 _ (range_rises 0 t.columns)) (join_rises t.taken essentials wt.taken_rises)
+  taken_same : filter (λ n. has n t.taken || not (marked keep n)) (range_with_len 0 t.columns) ≡ union_of t.taken essentials
+  taken_same = same_list 0 (filter (λ n. has n t.taken || not (marked keep n)) (range_with_len 0 t.columns)) (union_of t.taken essentials) (filter_rises _ 0 _ (range_rises 0 t.columns)) (union_rises t.taken essentials wt.taken_rises)
       (λ n k. let p = filter_parts (λ m. has m t.taken || not (marked keep m)) n (range_with_len 0 t.columns) k in elim (or_cases (has n t.taken) (not (marked keep n)) p.1) [
-        | inl e ↦ join_left n t.taken essentials e
-        | inr e ↦ join_right n t.taken essentials (let b = range_below n 0 t.columns p.0 in filter_keeps (λ m. not (marked keep m)) n t.live (row_live t n wt (essential_at n (omega arith) (not_false (marked keep n) e))) e)
+        | inl e ↦ union_left n t.taken essentials e
+        | inr e ↦ union_right n t.taken essentials (let b = range_below n 0 t.columns p.0 in filter_keeps (λ m. not (marked keep m)) n t.live (row_live t n wt (essential_at n (omega arith) (not_false (marked keep n) e))) e)
       ])
-      (λ n k. elim (join_only n t.taken essentials k) [
+      (λ n k. elim (union_only n t.taken essentials k) [
         | inl e ↦ filter_keeps (λ m. has m t.taken || not (marked keep m)) n (range_with_len 0 t.columns) (range_has n 0 t.columns (omega arith) (let b = wt.taken_within n e in omega arith)) (or_left (has n t.taken) _ e)
         | inr e ↦ (let p = of_essentials n e in filter_keeps (λ m. has m t.taken || not (marked keep m)) n (range_with_len 0 t.columns) (range_has n 0 t.columns (omega arith) (let b = wt.within n p.0 in omega arith)) (or_right (has n t.taken) _ (ap not p.1)))
       ])

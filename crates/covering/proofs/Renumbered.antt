@@ -9,13 +9,13 @@ use Rattle.covering.specs.declared.choice.Choice.{Choice}
 use Rattle.covering.specs.declared.choice.Choice.TheVariants.{First, Literals}
 use Rattle.covering.specs.Table.{Table, has, RisesFrom, IsTable, AreRows, fresh}
 use Rattle.covering.specs.Cover.{meets, IsCover, counted, sum_over, Precedes, IsLeast}
-use Rattle.covering.specs.Choices.{join}
+use Rattle.covering.specs.Choices.{union_of}
 use Rattle.covering.specs.Parts.{IsRenumbered, pick}
 use Rattle.covering.proofs.Sets.{has_here, has_later, has_cases, rises_above, filter_parts, filter_keeps, filter_rises, meets_at, meets_from, first_by_sets}
-use Rattle.covering.proofs.Subsets.{same_list, minus, minus_only, minus_lacks, minus_keeps, minus_length, minus_sum, join_rises, join_left, join_right, join_only}
+use Rattle.covering.proofs.Subsets.{same_list, minus, minus_only, minus_lacks, minus_keeps, minus_length, minus_sum, union_rises, union_left, union_right, union_only}
 use Rattle.covering.proofs.Covers.{rows_mapped}
 use Rattle.covering.proofs.Rising.{range_rises, range_has, range_below}
-use Rattle.covering.proofs.BestChoice.{difference, join_length, join_sum, minus_rises}
+use Rattle.covering.proofs.BestChoice.{difference, union_length, union_sum, minus_rises}
 
 -- ---- the numbers of a rising list
 
@@ -94,14 +94,14 @@ module _ (t : Table) (w : IsTable t) (rows : List (List ℕ)) (weights : List �
   back_rises : (s : List ℕ) → IsCover (fresh rows weights) s → RisesFrom 0 (back s)
   back_rises s h = map_rises t.live 0 0 s w.live_rises h.rises (below s h) (λ i l m. omega arith)
 
-  back_cover : (s : List ℕ) → IsCover (fresh rows weights) s → IsCover t (join t.taken (back s))
+  back_cover : (s : List ℕ) → IsCover (fresh rows weights) s → IsCover t (union_of t.taken (back s))
   back_cover s h = record {
-    rises = join_rises t.taken (back s) w.taken_rises;
-    taken = λ n e. join_left n t.taken (back s) e;
-    only = λ n e. elim (join_only n t.taken (back s) e) [ inl f ↦ or_left _ _ f | inr f ↦ or_right (has n t.taken) _ (back_live s h n f) ];
-    rows = subst (AllByRecursion (λ row. meets (join t.taken (back s)) row ≡ true)) same_rows
-        (rows_mapped (λ row. meets s row ≡ true) (λ row. meets (join t.taken (back s)) row ≡ true) (map (pick t.live)) rows
-        (λ row e. let m = meets_at s row e in meets_from (pick t.live m.0) (join t.taken (back s)) (map (pick t.live) row) (join_right (pick t.live m.0) t.taken (back s) (map_keeps (pick t.live) m.0 s m.1)) (map_keeps (pick t.live) m.0 row m.2)) h.rows);
+    rises = union_rises t.taken (back s) w.taken_rises;
+    taken = λ n e. union_left n t.taken (back s) e;
+    only = λ n e. elim (union_only n t.taken (back s) e) [ inl f ↦ or_left _ _ f | inr f ↦ or_right (has n t.taken) _ (back_live s h n f) ];
+    rows = subst (AllByRecursion (λ row. meets (union_of t.taken (back s)) row ≡ true)) same_rows
+        (rows_mapped (λ row. meets s row ≡ true) (λ row. meets (union_of t.taken (back s)) row ≡ true) (map (pick t.live)) rows
+        (λ row e. let m = meets_at s row e in meets_from (pick t.live m.0) (union_of t.taken (back s)) (map (pick t.live) row) (union_right (pick t.live m.0) t.taken (back s) (map_keeps (pick t.live) m.0 s m.1)) (map_keeps (pick t.live) m.0 row m.2)) h.rows);
   }
 
   -- a cover of the first table in the numbers of the second
@@ -150,11 +150,11 @@ module _ (t : Table) (w : IsTable t) (rows : List (List ℕ)) (weights : List �
     abbrev own : ℕ → ℕ
     own = counted choice weights
 
-    long_s : length (join t.taken (back s)) ≡ length t.taken + length s
-    long_s = join_length 0 t.taken (back s) (back_rises s hs) (λ n e. w.apart n (back_live s hs n e)) ∙ ap (λ n. length t.taken + n) (length-map s (pick t.live))
+    long_s : length (union_of t.taken (back s)) ≡ length t.taken + length s
+    long_s = union_length 0 t.taken (back s) (back_rises s hs) (λ n e. w.apart n (back_live s hs n e)) ∙ ap (λ n. length t.taken + n) (length-map s (pick t.live))
 
-    sum_s : sum_over count (join t.taken (back s)) ≡ sum_over count t.taken + sum_over own s
-    sum_s = join_sum count 0 t.taken (back s) (back_rises s hs) (λ n e. w.apart n (back_live s hs n e)) ∙ ap (λ n. sum_over count t.taken + n) (sum_map count own (pick t.live) s (λ i e. counts choice i (below s hs i e)))
+    sum_s : sum_over count (union_of t.taken (back s)) ≡ sum_over count t.taken + sum_over own s
+    sum_s = union_sum count 0 t.taken (back s) (back_rises s hs) (λ n e. w.apart n (back_live s hs n e)) ∙ ap (λ n. sum_over count t.taken + n) (sum_map count own (pick t.live) s (λ i e. counts choice i (below s hs i e)))
 
     long_x : length x ≡ length t.taken + length (forth x)
     long_x = minus_length 0 x t.taken hx.rises w.taken_rises hx.taken ∙ ap (λ n. length t.taken + n) (ap length (rest_same x hx) ∙ length-map (forth x) (pick t.live))
@@ -162,17 +162,17 @@ module _ (t : Table) (w : IsTable t) (rows : List (List ℕ)) (weights : List �
     sum_x : sum_over count x ≡ sum_over count t.taken + sum_over own (forth x)
     sum_x = minus_sum count 0 x t.taken hx.rises w.taken_rises hx.taken ∙ ap (λ n. sum_over count t.taken + n) (ap (sum_over count) (rest_same x hx) ∙ sum_map count own (pick t.live) (forth x) (λ i e. counts choice i (below (forth x) (forth_cover x hx) i e)))
 
-    agree : (m : ℕ) → ((i : ℕ) → i < length t.live → pick t.live i ≡ m → has i s ≡ has i (forth x)) → has m (join t.taken (back s)) ≡ has m x
-    agree m e = same_bool (has m (join t.taken (back s))) (has m x)
-        (λ h. elim (join_only m t.taken (back s) h) [
+    agree : (m : ℕ) → ((i : ℕ) → i < length t.live → pick t.live i ≡ m → has i s ≡ has i (forth x)) → has m (union_of t.taken (back s)) ≡ has m x
+    agree m e = same_bool (has m (union_of t.taken (back s))) (has m x)
+        (λ h. elim (union_only m t.taken (back s) h) [
           | inl g ↦ hx.taken m g
           | inr g ↦ (let p = map_only (pick t.live) m s g in
               subst (λ n. has n x ≡ true) p.2 (filter_parts (λ i. has (pick t.live i) x) p.0 (range_with_len 0 (length weights)) (sym (e p.0 (below s hs p.0 p.1) p.2) ∙ p.1)).1)
         ])
         (λ h. elim (or_cases (has m t.taken) (has m t.live) (hx.only m h)) [
-          | inl g ↦ join_left m t.taken (back s) g
+          | inl g ↦ union_left m t.taken (back s) g
           | inr g ↦ (let p = place_of m t.live g in
-              join_right m t.taken (back s) (subst (λ n. has n (back s) ≡ true) p.2 (map_keeps (pick t.live) p.0 s (e p.0 p.1 p.2 ∙ forth_has x p.0 p.1 (subst (λ n. has n x ≡ true) (sym p.2) h)))))
+              union_right m t.taken (back s) (subst (λ n. has n (back s) ≡ true) p.2 (map_keeps (pick t.live) p.0 s (e p.0 p.1 p.2 ∙ forth_has x p.0 p.1 (subst (λ n. has n x ≡ true) (sym p.2) h)))))
         ])
 
     lower : (i c : ℕ) → i < length t.live → c < length t.live → pick t.live i < pick t.live c → i < c
@@ -182,8 +182,8 @@ module _ (t : Table) (w : IsTable t) (rows : List (List ℕ)) (weights : List �
       | inr (inr e) ↦ absurd (let f = pick_rises 0 t.live c i w.live_rises e l in omega arith)
     ]
 
-    back_first : (s ≡ forth x) ⊎ Precedes own s (forth x) → (join t.taken (back s) ≡ x) ⊎ Precedes count (join t.taken (back s)) x
-    back_first (inl e) = inl (same_list 0 (join t.taken (back s)) x (join_rises t.taken (back s) w.taken_rises) hx.rises
+    back_first : (s ≡ forth x) ⊎ Precedes own s (forth x) → (union_of t.taken (back s) ≡ x) ⊎ Precedes count (union_of t.taken (back s)) x
+    back_first (inl e) = inl (same_list 0 (union_of t.taken (back s)) x (union_rises t.taken (back s) w.taken_rises) hx.rises
         (λ n h. sym (agree n (λ i l k. ap (has i) e)) ∙ h)
         (λ n h. agree n (λ i l k. ap (has i) e) ∙ h))
     back_first (inr (inl l)) = let a = long_s in let b = long_x in inr (inl (omega arith))
@@ -192,7 +192,7 @@ module _ (t : Table) (w : IsTable t) (rows : List (List ℕ)) (weights : List �
         let b = long_x in
         let c = sum_s in
         let d = sum_x in
-        let e : length (join t.taken (back s)) ≡ length x = omega (arith, h.0) in
+        let e : length (union_of t.taken (back s)) ≡ length x = omega (arith, h.0) in
         inr (inr (
           e,
           elim h.1 [
@@ -202,15 +202,15 @@ module _ (t : Table) (w : IsTable t) (rows : List (List ℕ)) (weights : List �
               (
                   let f = difference 0 s (forth x) hs.rises (forth_cover x hx).rises h.0 l.1 in
                   let in_live = below s hs f.0 f.1 in
-                  first_by_sets (pick t.live f.0) 0 (join t.taken (back s)) x (join_rises t.taken (back s) w.taken_rises) hx.rises e
-                  (join_right (pick t.live f.0) t.taken (back s) (map_keeps (pick t.live) f.0 s f.1))
+                  first_by_sets (pick t.live f.0) 0 (union_of t.taken (back s)) x (union_rises t.taken (back s) w.taken_rises) hx.rises e
+                  (union_right (pick t.live f.0) t.taken (back s) (map_keeps (pick t.live) f.0 s f.1))
                   (elim (cases_Bool (has (pick t.live f.0) x)) [ inr g ↦ g | inl g ↦ absurd (both_ways _ f.2 (forth_has x f.0 in_live g)) ])
                   (λ m under. agree m (λ i g k. f.3 i (lower i f.0 g in_live (omega arith))))),
             )
           ],
         ))
 
-  back_least : (choice : Choice) (s : List ℕ) → IsLeast choice (fresh rows weights) s → IsLeast choice t (join t.taken (back s))
+  back_least : (choice : Choice) (s : List ℕ) → IsLeast choice (fresh rows weights) s → IsLeast choice t (union_of t.taken (back s))
   back_least choice s h = record { cover = back_cover s h.cover; first = λ x g. back_first choice s x h.cover g (h.first (forth x) (forth_cover x g)) }
 
 pub renumbered : (t : Table) → IsTable t → (rows : List (List ℕ)) (weights : List ℕ) → map (map (pick t.live)) rows ≡ t.rows → weights ≡ map (λ c. slice_index_or t.weights c 0) t.live

@@ -11,12 +11,12 @@ use Rattle.std.proofs.lemmas.List.Filters.{length-filter_both}
 use Rattle.covering.specs.declared.choice.Choice.{Choice}
 use Rattle.covering.specs.Table.{Table, has, RisesFrom, IsWithin, IsTable}
 use Rattle.covering.specs.Cover.{meets, IsCover, counted, sum_over, Precedes, IsLeast}
-use Rattle.covering.specs.Choices.{join}
+use Rattle.covering.specs.Choices.{union_of}
 use Rattle.covering.specs.Parts.{part_of}
 use Rattle.covering.proofs.Sets.{has_cases, filter_parts, filter_keeps, filter_rises, meets_at, meets_from, first_by_sets}
-use Rattle.covering.proofs.Subsets.{same_list, join_rises, join_left, join_right, join_only, rows_within}
+use Rattle.covering.proofs.Subsets.{same_list, union_rises, union_left, union_right, union_only, rows_within}
 use Rattle.covering.proofs.Covers.{rows_weaker, rows_weaker2}
-use Rattle.covering.proofs.BestChoice.{difference, join_length, join_sum}
+use Rattle.covering.proofs.BestChoice.{difference, union_length, union_sum}
 
 -- ---- two lists
 
@@ -60,13 +60,13 @@ module _ (count : ℕ → ℕ) (side : ℕ → Bool) (s r x : List ℕ) (rises_s
   part_of_x : (n : ℕ) → has n x ≡ true → (has n (filter side x) ≡ true) ⊎ (has n (filter rest x) ≡ true)
   part_of_x n h = elim (cases_Bool (side n)) [ inl e ↦ inl (filter_keeps side n x h e) | inr e ↦ inr (filter_keeps rest n x h (not_from_false (side n) e)) ]
 
-  agree : (m : ℕ) → has m s ≡ has m (filter side x) → has m r ≡ has m (filter rest x) → has m (join s r) ≡ has m x
-  agree m e f = same_bool (has m (join s r)) (has m x)
-      (λ h. elim (join_only m s r h) [ inl g ↦ (filter_parts side m x (sym e ∙ g)).0 | inr g ↦ (filter_parts rest m x (sym f ∙ g)).0 ])
-      (λ h. elim (part_of_x m h) [ inl g ↦ join_left m s r (e ∙ g) | inr g ↦ join_right m s r (f ∙ g) ])
+  agree : (m : ℕ) → has m s ≡ has m (filter side x) → has m r ≡ has m (filter rest x) → has m (union_of s r) ≡ has m x
+  agree m e f = same_bool (has m (union_of s r)) (has m x)
+      (λ h. elim (union_only m s r h) [ inl g ↦ (filter_parts side m x (sym e ∙ g)).0 | inr g ↦ (filter_parts rest m x (sym f ∙ g)).0 ])
+      (λ h. elim (part_of_x m h) [ inl g ↦ union_left m s r (e ∙ g) | inr g ↦ union_right m s r (f ∙ g) ])
 
-  less : length (join s r) ≡ length x → (c : ℕ) → has c (join s r) ≡ true → has c x ≡ false → ((m : ℕ) → m < c → has m s ≡ has m (filter side x)) → ((m : ℕ) → m < c → has m r ≡ has m (filter rest x)) → slice_cmp nat_cmp (join s r) x ≡ Less
-  less long c h k e f = first_by_sets c 0 (join s r) x (join_rises s r rises_s) rises_x long h k (λ m l. agree m (e m l) (f m l))
+  less : length (union_of s r) ≡ length x → (c : ℕ) → has c (union_of s r) ≡ true → has c x ≡ false → ((m : ℕ) → m < c → has m s ≡ has m (filter side x)) → ((m : ℕ) → m < c → has m r ≡ has m (filter rest x)) → slice_cmp nat_cmp (union_of s r) x ≡ Less
+  less long c h k e f = first_by_sets c 0 (union_of s r) x (union_rises s r rises_s) rises_x long h k (λ m l. agree m (e m l) (f m l))
 
   not_on : (c : ℕ) → has c s ≡ true → has c (filter side x) ≡ false → has c x ≡ false
   not_on c h k = elim (cases_Bool (has c x)) [ inr e ↦ e | inl e ↦ absurd (both_ways _ k (filter_keeps side c x e (on c h))) ]
@@ -74,42 +74,42 @@ module _ (count : ℕ → ℕ) (side : ℕ → Bool) (s r x : List ℕ) (rises_s
   not_off : (c : ℕ) → has c r ≡ true → has c (filter rest x) ≡ false → has c x ≡ false
   not_off c h k = elim (cases_Bool (has c x)) [ inr e ↦ e | inl e ↦ absurd (both_ways _ k (filter_keeps rest c x e (not_from_false (side c) (off c h)))) ]
 
-  tied : length (join s r) ≡ length x → (s ≡ filter side x) ⊎ Differs s (filter side x) → (r ≡ filter rest x) ⊎ Differs r (filter rest x) → (join s r ≡ x) ⊎ (slice_cmp nat_cmp (join s r) x ≡ Less)
-  tied long (inl e) (inl f) = inl (same_list 0 (join s r) x (join_rises s r rises_s) rises_x
+  tied : length (union_of s r) ≡ length x → (s ≡ filter side x) ⊎ Differs s (filter side x) → (r ≡ filter rest x) ⊎ Differs r (filter rest x) → (union_of s r ≡ x) ⊎ (slice_cmp nat_cmp (union_of s r) x ≡ Less)
+  tied long (inl e) (inl f) = inl (same_list 0 (union_of s r) x (union_rises s r rises_s) rises_x
       (λ n h. sym (agree n (ap (has n) e) (ap (has n) f)) ∙ h)
       (λ n h. agree n (ap (has n) e) (ap (has n) f) ∙ h))
-  tied long (inl e) (inr g) = inr (less long g.0 (join_right g.0 s r g.1) (not_off g.0 g.1 g.2) (λ m l. ap (has m) e) g.3)
-  tied long (inr d) (inl f) = inr (less long d.0 (join_left d.0 s r d.1) (not_on d.0 d.1 d.2) d.3 (λ m l. ap (has m) f))
+  tied long (inl e) (inr g) = inr (less long g.0 (union_right g.0 s r g.1) (not_off g.0 g.1 g.2) (λ m l. ap (has m) e) g.3)
+  tied long (inr d) (inl f) = inr (less long d.0 (union_left d.0 s r d.1) (not_on d.0 d.1 d.2) d.3 (λ m l. ap (has m) f))
   tied long (inr d) (inr g) = inr (elim (cases_lt d.0 g.0) [
-    | inl l ↦ less long d.0 (join_left d.0 s r d.1) (not_on d.0 d.1 d.2) d.3 (λ m k. g.3 m (omega arith))
-    | inr l ↦ less long g.0 (join_right g.0 s r g.1) (not_off g.0 g.1 g.2) (λ m k. d.3 m (omega arith)) g.3
+    | inl l ↦ less long d.0 (union_left d.0 s r d.1) (not_on d.0 d.1 d.2) d.3 (λ m k. g.3 m (omega arith))
+    | inr l ↦ less long g.0 (union_right g.0 s r g.1) (not_off g.0 g.1 g.2) (λ m k. d.3 m (omega arith)) g.3
   ])
 
-  pub both_first : (s ≡ filter side x) ⊎ Precedes count s (filter side x) → (r ≡ filter (λ n. not (side n)) x) ⊎ Precedes count r (filter (λ n. not (side n)) x) → (join s r ≡ x) ⊎ Precedes count (join s r) x
+  pub both_first : (s ≡ filter side x) ⊎ Precedes count s (filter side x) → (r ≡ filter (λ n. not (side n)) x) ⊎ Precedes count r (filter (λ n. not (side n)) x) → (union_of s r ≡ x) ⊎ Precedes count (union_of s r) x
   both_first h k =
       let one = is_first count s (filter side x) rises_s (filter_rises side 0 x rises_x) h in
       let two = is_first count r (filter rest x) rises_r (filter_rises rest 0 x rises_x) k in
       let apart : (n : ℕ) → has n r ≡ true → has n s ≡ false = λ n e. elim (cases_Bool (has n s)) [ inr f ↦ f | inl f ↦ absurd (both_ways _ (off n e) (on n f)) ] in
-      let long : length (join s r) ≡ length s + length r = join_length 0 s r rises_r apart in
-      let sum : sum_over count (join s r) ≡ sum_over count s + sum_over count r = join_sum count 0 s r rises_r apart in
+      let long : length (union_of s r) ≡ length s + length r = union_length 0 s r rises_r apart in
+      let sum : sum_over count (union_of s r) ≡ sum_over count s + sum_over count r = union_sum count 0 s r rises_r apart in
       let long_x : length (filter side x) + length (filter rest x) ≡ length x = length-filter_both side rest (λ n. refl) x in
       let sum_x : sum_over count (filter side x) + sum_over count (filter rest x) ≡ sum_over count x = sum_filter_both count side x in
       let long_one = one.long in
       let long_two = two.long in
-      elim (cases_lt (length (join s r)) (length x)) [
+      elim (cases_lt (length (union_of s r)) (length x)) [
         | inl l ↦ inr (inl l)
         | inr l ↦ (
             let same_one : length s ≡ length (filter side x) = omega arith in
             let same_two : length r ≡ length (filter rest x) = omega arith in
-            let same : length (join s r) ≡ length x = omega arith in
+            let same : length (union_of s r) ≡ length x = omega arith in
             let counts_one = one.counts same_one in
             let counts_two = two.counts same_two in
-            elim (cases_lt (sum_over count (join s r)) (sum_over count x)) [
+            elim (cases_lt (sum_over count (union_of s r)) (sum_over count x)) [
               | inl m ↦ inr (inr (same, inl m))
               | inr m ↦ (
                   let even_one : sum_over count s ≡ sum_over count (filter side x) = omega arith in
                   let even_two : sum_over count r ≡ sum_over count (filter rest x) = omega arith in
-                  let even : sum_over count (join s r) ≡ sum_over count x = omega arith in
+                  let even : sum_over count (union_of s r) ≡ sum_over count x = omega arith in
                   elim (tied same (one.differs same_one even_one) (two.differs same_two even_two)) [ inl e ↦ inl e | inr e ↦ inr (inr (same, inr (even, e))) ])
             ])
       ]
@@ -195,20 +195,20 @@ module _ (t : Table) (p q : ℕ → Bool) (w : IsTable t) (other : (c : ℕ) →
         (λ row e f. let m = meets_at x row f.0 in meets_from m.0 (filter (λ n. not (side n)) x) row (filter_keeps (λ n. not (side n)) m.0 x m.1 (not_from_false (side m.0) (off_side m.0 (f.1 m.0 m.2) (all_has q m.0 row e m.2)))) m.2) (met x h);
   }
 
-  cover_both : (s x : List ℕ) → IsCover (part_of p t.taken t) s → IsCover (part_of q [] t) x → IsCover t (join s x)
+  cover_both : (s x : List ℕ) → IsCover (part_of p t.taken t) s → IsCover (part_of q [] t) x → IsCover t (union_of s x)
   cover_both s x h k = record {
-    rises = join_rises s x h.rises;
-    taken = λ n e. join_left n s x (h.taken n e);
-    only = λ n e. elim (join_only n s x e) [
+    rises = union_rises s x h.rises;
+    taken = λ n e. union_left n s x (h.taken n e);
+    only = λ n e. elim (union_only n s x e) [
       | inl f ↦ elim (or_cases (has n t.taken) (has n (filter p t.live)) (h.only n f)) [ inl g ↦ or_left _ _ g | inr g ↦ or_right (has n t.taken) _ (filter_parts p n t.live g).0 ]
       | inr f ↦ or_right (has n t.taken) _ (filter_parts q n t.live (k.only n f)).0
     ];
-    rows = rows_of_both (λ row. meets (join s x) row ≡ true) (list_all p) (list_all q) t.rows parted
-        (rows_weaker (λ row. meets s row ≡ true) (λ row. meets (join s x) row ≡ true) (filter (list_all p) t.rows) (λ row e. let m = meets_at s row e in meets_from m.0 (join s x) row (join_left m.0 s x m.1) m.2) h.rows)
-        (rows_weaker (λ row. meets x row ≡ true) (λ row. meets (join s x) row ≡ true) (filter (list_all q) t.rows) (λ row e. let m = meets_at x row e in meets_from m.0 (join s x) row (join_right m.0 s x m.1) m.2) k.rows);
+    rows = rows_of_both (λ row. meets (union_of s x) row ≡ true) (list_all p) (list_all q) t.rows parted
+        (rows_weaker (λ row. meets s row ≡ true) (λ row. meets (union_of s x) row ≡ true) (filter (list_all p) t.rows) (λ row e. let m = meets_at s row e in meets_from m.0 (union_of s x) row (union_left m.0 s x m.1) m.2) h.rows)
+        (rows_weaker (λ row. meets x row ≡ true) (λ row. meets (union_of s x) row ≡ true) (filter (list_all q) t.rows) (λ row e. let m = meets_at x row e in meets_from m.0 (union_of s x) row (union_right m.0 s x m.1) m.2) k.rows);
   }
 
-  pub parts_least : (choice : Choice) (s x : List ℕ) → IsLeast choice (part_of p t.taken t) s → IsLeast choice (part_of q [] t) x → IsLeast choice t (join s x)
+  pub parts_least : (choice : Choice) (s x : List ℕ) → IsLeast choice (part_of p t.taken t) s → IsLeast choice (part_of q [] t) x → IsLeast choice t (union_of s x)
   parts_least choice s x h k = record {
     cover = cover_both s x h.cover k.cover;
     first = λ y g. both_first (counted choice t.weights) side s x y h.cover.rises k.cover.rises g.rises

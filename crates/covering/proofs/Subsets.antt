@@ -5,7 +5,7 @@ use Rattle.std.proofs.lemmas.Bool.{cases_Bool, or_left, or_right, or_parts, both
 use Rattle.covering.specs.Table.{Table, has, RisesFrom, IsWithin, IsTable}
 use Rattle.covering.specs.Cover.{meets, IsCover, sum_over}
 use Rattle.covering.specs.Steps.{without, put}
-use Rattle.covering.specs.Choices.{join}
+use Rattle.covering.specs.Choices.{union_of}
 use Rattle.covering.proofs.Sets.{has_here, has_later, has_cases, rises_above, without_only, without_keeps, without_lacks, without_rises, without_length, sum_without, put_has, put_keeps, put_only, put_rises, meets_at, meets_from}
 
 -- rising lists with the same numbers are equal
@@ -72,41 +72,41 @@ rows_within t (row ∷ rows) h = (h.0.2, rows_within t rows h.1)
 
 -- ---- there is a cover
 
-pub join_rises : (ts xs : List ℕ) → RisesFrom 0 ts → RisesFrom 0 (join ts xs)
-join_rises ts [] r = r
-join_rises ts (x ∷ xs) r = put_rises x 0 (join ts xs) (omega arith) (join_rises ts xs r)
+pub union_rises : (ts xs : List ℕ) → RisesFrom 0 ts → RisesFrom 0 (union_of ts xs)
+union_rises ts [] r = r
+union_rises ts (x ∷ xs) r = put_rises x 0 (union_of ts xs) (omega arith) (union_rises ts xs r)
 
-pub join_left : (n : ℕ) (ts xs : List ℕ) → has n ts ≡ true → has n (join ts xs) ≡ true
-join_left n ts [] h = h
-join_left n ts (x ∷ xs) h = put_keeps n x (join ts xs) (join_left n ts xs h)
+pub union_left : (n : ℕ) (ts xs : List ℕ) → has n ts ≡ true → has n (union_of ts xs) ≡ true
+union_left n ts [] h = h
+union_left n ts (x ∷ xs) h = put_keeps n x (union_of ts xs) (union_left n ts xs h)
 
-pub join_right : (n : ℕ) (ts xs : List ℕ) → has n xs ≡ true → has n (join ts xs) ≡ true
-join_right n ts [] h = absurd (true≢false (sym h))
-join_right n ts (x ∷ xs) h = elim (has_cases n x xs h) [ inl e ↦ subst (λ m. has m (put x (join ts xs)) ≡ true) (sym e) (put_has x (join ts xs)) | inr e ↦ put_keeps n x (join ts xs) (join_right n ts xs e) ]
+pub union_right : (n : ℕ) (ts xs : List ℕ) → has n xs ≡ true → has n (union_of ts xs) ≡ true
+union_right n ts [] h = absurd (true≢false (sym h))
+union_right n ts (x ∷ xs) h = elim (has_cases n x xs h) [ inl e ↦ subst (λ m. has m (put x (union_of ts xs)) ≡ true) (sym e) (put_has x (union_of ts xs)) | inr e ↦ put_keeps n x (union_of ts xs) (union_right n ts xs e) ]
 
-pub join_only : (n : ℕ) (ts xs : List ℕ) → has n (join ts xs) ≡ true → (has n ts ≡ true) ⊎ (has n xs ≡ true)
-join_only n ts [] h = inl h
-join_only n ts (x ∷ xs) h = elim (put_only n x (join ts xs) h) [
+pub union_only : (n : ℕ) (ts xs : List ℕ) → has n (union_of ts xs) ≡ true → (has n ts ≡ true) ⊎ (has n xs ≡ true)
+union_only n ts [] h = inl h
+union_only n ts (x ∷ xs) h = elim (put_only n x (union_of ts xs) h) [
   | inl e ↦ inr (has_here n x xs e)
-  | inr e ↦ elim (join_only n ts xs e) [ inl f ↦ inl f | inr f ↦ inr (has_later n x xs f) ]
+  | inr e ↦ elim (union_only n ts xs e) [ inl f ↦ inl f | inr f ↦ inr (has_later n x xs f) ]
 ]
 
 rises_length : (l n : ℕ) (xs : List ℕ) → l ≤ n → RisesFrom l xs → ((m : ℕ) → has m xs ≡ true → m < n) → length xs + l ≤ n
 rises_length l n [] h r f = omega arith
 rises_length l n (x ∷ xs) h r f = let one = f x (has_here x x xs refl) in let k = rises_length (suc x) n xs (omega arith) r.1 (λ m e. f m (has_later m x xs e)) in omega arith
 
-rows_all : (ts live : List ℕ) (rows : List (List ℕ)) → AllByRecursion (λ row. (row ≢ []) × RisesFrom 0 row × IsWithin row live) rows → AllByRecursion (λ row. meets (join ts live) row ≡ true) rows
+rows_all : (ts live : List ℕ) (rows : List (List ℕ)) → AllByRecursion (λ row. (row ≢ []) × RisesFrom 0 row × IsWithin row live) rows → AllByRecursion (λ row. meets (union_of ts live) row ≡ true) rows
 rows_all ts live [] h = tt
 rows_all ts live (row ∷ rows) h = (go row h.0.0 h.0.2, rows_all ts live rows h.1)
   where
-    go : (r : List ℕ) → r ≢ [] → IsWithin r live → meets (join ts live) r ≡ true
+    go : (r : List ℕ) → r ≢ [] → IsWithin r live → meets (union_of ts live) r ≡ true
     go [] e k = absurd (e refl)
-    go (c ∷ cs) e k = meets_from c (join ts live) (c ∷ cs) (join_right c ts live (k c (has_here c c cs refl))) (has_here c c cs refl)
+    go (c ∷ cs) e k = meets_from c (union_of ts live) (c ∷ cs) (union_right c ts live (k c (has_here c c cs refl))) (has_here c c cs refl)
 
-pub all_cover : (t : Table) → IsTable t → IsCover t (join t.taken t.live)
+pub all_cover : (t : Table) → IsTable t → IsCover t (union_of t.taken t.live)
 all_cover t w = record {
-  rises = join_rises t.taken t.live w.taken_rises;
-  taken = λ n h. join_left n t.taken t.live h;
-  only = λ n h. elim (join_only n t.taken t.live h) [ inl f ↦ or_left _ _ f | inr f ↦ or_right (has n t.taken) _ f ];
+  rises = union_rises t.taken t.live w.taken_rises;
+  taken = λ n h. union_left n t.taken t.live h;
+  only = λ n h. elim (union_only n t.taken t.live h) [ inl f ↦ or_left _ _ f | inr f ↦ or_right (has n t.taken) _ f ];
   rows = rows_all t.taken t.live t.rows w.rows;
 }

@@ -13,9 +13,9 @@ choices (suc k) [] = []
 choices (suc k) (x ∷ xs) = map (λ ys. x ∷ ys) (choices k xs) ++ choices (suc k) xs
 
 -- the rising list of both
-abbrev pub join : List ℕ → List ℕ → List ℕ
-join ts [] = ts
-join ts (x ∷ xs) = put x (join ts xs)
+abbrev pub union_of : List ℕ → List ℕ → List ℕ
+union_of ts [] = ts
+union_of ts (x ∷ xs) = put x (union_of ts xs)
 
 -- the better of the best so far and one more that passes: the earlier if they count alike
 abbrev pub better : (ℕ → ℕ) → Option (List ℕ) → List ℕ → Option (List ℕ)

@@ -4,7 +4,7 @@ use Rattle.std.specs.List.{list_all}
 use Rattle.covering.specs.declared.choice.Choice.{Choice}
 use Rattle.covering.specs.Table.{Table, table_of}
 use Rattle.covering.specs.Cover.{IsLeast}
-use Rattle.covering.specs.Choices.{join}
+use Rattle.covering.specs.Choices.{union_of}
 use Rattle.covering.specs.Search.{marked}
 
 -- the live columns that pass the test, and the rows of these alone, under some taken columns
@@ -19,7 +19,7 @@ is_on_one_side marks others row = list_all (marked marks) row || list_all (marke
 -- tables with fewer rows, of which the least covers together are the least cover of the first
 pub record AreParts (t one other : Table) : Type 0 where
   pub least : (choice : Choice) (s x : List ℕ) → IsLeast choice one s → IsLeast choice other x
-      → IsLeast choice t (join s x)
+      → IsLeast choice t (union_of s x)
   pub fewer : length one.rows < length t.rows
   pub other_fewer : length other.rows < length t.rows
 
@@ -31,5 +31,5 @@ pick live i = slice_index_or live i 0
 -- the taken columns
 pub record IsRenumbered (t u : Table) : Type 0 where
   pub least : (choice : Choice) (s : List ℕ) → IsLeast choice u s
-      → IsLeast choice t (join t.taken (map (pick t.live) s))
+      → IsLeast choice t (union_of t.taken (map (pick t.live) s))
   pub as_many : length u.rows ≡ length t.rows

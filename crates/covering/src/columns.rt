@@ -5,7 +5,7 @@ ghost use Rattle.std.specs.List.{list_all};
 ghost use Rattle.covering.specs.Table.{has, RisesFrom, is_rising, items_of};
 ghost use Rattle.covering.specs.Cover.{meets, counted, sum_over};
 ghost use Rattle.covering.specs.Steps.{put};
-ghost use Rattle.covering.specs.Choices.{join};
+ghost use Rattle.covering.specs.Choices.{union_of};
 ghost use Rattle.covering.specs.Reduce.{holds_all};
 ghost use Rattle.covering.specs.Search.{is_blank};
 
@@ -56,23 +56,23 @@ pub(crate) fn with_column(
 }
 
 /// The rising list of both.
-pub(crate) fn join(
+pub(crate) fn union_of(
     alloc: Global,
     taken: &[usize],
     choice: &[usize],
 ) -> Result<Vec<usize>, AllocError>
     requires { RisesFrom 0 taken.now }
-    ensures { IfOk result (λ v. v.items ≡ join taken.now choice.now) }
+    ensures { IfOk result (λ v. v.items ≡ union_of taken.now choice.now) }
 {
     if choice.is_empty() {
         return copy_of(alloc, taken);
     }
-    let rest = join(alloc, taken, &choice[1..])?;
+    let rest = union_of(alloc, taken, &choice[1..])?;
     with_column(alloc, &rest, choice[0])
 }
 
 /// Whether the rising list has the number.
-pub(crate) fn holds(row: &[usize], number: usize) -> bool
+pub(crate) fn rising_contains(row: &[usize], number: usize) -> bool
     requires { RisesFrom 0 row.now }
     ensures { result ≡ has number row.now }
 {
@@ -84,7 +84,7 @@ pub fn is_within(row: &[usize], other: &[usize]) -> bool
     requires { RisesFrom 0 other.now }
     ensures { result ≡ holds_all other.now row.now }
 {
-    row.iter().all(|number| holds(other, *number))
+    row.iter().all(|number| rising_contains(other, *number))
 }
 
 /// Whether the numbers rise and are below `end`.

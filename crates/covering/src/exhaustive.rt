@@ -6,10 +6,10 @@ ghost use Rattle.itertools.specs.Odometer.{ways};
 ghost use Rattle.itertools.specs.Pool.{ascending_low, ascending_high, combination_can, combination_left};
 ghost use Rattle.covering.specs.Table.{IsTable};
 ghost use Rattle.covering.specs.Cover.{meets, counted, IsLeast};
-ghost use Rattle.covering.specs.Choices.{choices, join, better, best_of, best_choice};
+ghost use Rattle.covering.specs.Choices.{choices, union_of, better, best_of, best_choice};
 
 use crate::choice::Choice;
-use crate::columns::{all_met, join, total_cost};
+use crate::columns::{all_met, total_cost, union_of};
 use crate::table::Table;
 use itertools::{Combinations, Itertools};
 use std::alloc::{AllocError, Global};
@@ -88,9 +88,9 @@ impl Table {
 
     /// The rising list of the taken columns and these.
     fn with_taken(&self, alloc: Global, columns: &[usize]) -> Result<Vec<usize>, AllocError>
-        ensures { IfOk result (λ v. v.items ≡ join self.now.taken columns.now) }
+        ensures { IfOk result (λ v. v.items ≡ union_of self.now.taken columns.now) }
     {
-        join(alloc, &self.taken, columns)
+        union_of(alloc, &self.taken, columns)
     }
 }
 

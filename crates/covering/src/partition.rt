@@ -15,7 +15,7 @@ ghost use Rattle.covering.specs.Search.{marked};
 ghost use Rattle.covering.specs.Parts.{AreParts, is_on_one_side, part_of};
 
 use crate::choice::Choice;
-use crate::columns::{copy_of, join};
+use crate::columns::{copy_of, union_of};
 use crate::marks::{all_kept, marked_columns, others, untouched_rows};
 use crate::table::Table;
 use heuristics::{Effort, side_hint};
@@ -111,7 +111,7 @@ impl Table {
             Some(Parts { one, other }) => {
                 let first = one.least_renumbered(alloc, choice, effort)?;
                 let second = other.least_renumbered(alloc, choice, effort)?;
-                join(alloc, &first, &second)
+                union_of(alloc, &first, &second)
             }
         }
     }

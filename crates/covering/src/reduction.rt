@@ -15,7 +15,7 @@ ghost use Rattle.covering.specs.Search.{IsWeakStep, IsWeaklyReduced, marked};
 ghost use Rattle.covering.specs.Reduce.{UnmarksEssentialColumn, MarksInessentialColumns, HasNoEssentialColumn, Shrinks};
 
 use crate::choice::Choice;
-use crate::columns::holds;
+use crate::columns::rising_contains;
 use crate::marks::{all_marked, is_marked, marked_columns, unmark, untouched_rows};
 use crate::table::Table;
 use std::alloc::{AllocError, Global};
@@ -56,7 +56,7 @@ pub(crate) fn with_unmarked(
         (range_with_len 0 columns)) }
 {
     (0..columns)
-        .filter(|n| holds(taken, *n) || !is_marked(keep, *n))
+        .filter(|n| rising_contains(taken, *n) || !is_marked(keep, *n))
         .collect(alloc)
 }
 

@@ -6,11 +6,11 @@
 
 ghost use Rattle.std.specs.Prelude.{◌≡◌, IfOk, IfSome, map, slice_index_or};
 ghost use Rattle.covering.specs.Table.{items_of};
-ghost use Rattle.covering.specs.Choices.{join};
+ghost use Rattle.covering.specs.Choices.{union_of};
 ghost use Rattle.covering.specs.Parts.{IsRenumbered, pick};
 
 use crate::choice::Choice;
-use crate::columns::{cost, join};
+use crate::columns::{cost, union_of};
 use crate::table::Table;
 use std::alloc::{AllocError, Global};
 
@@ -115,10 +115,10 @@ impl Table {
         alloc: Global,
         numbers: &[usize],
     ) -> Result<Vec<usize>, AllocError>
-        ensures { IfOk result (λ v. v.items ≡ join self.now.taken
+        ensures { IfOk result (λ v. v.items ≡ union_of self.now.taken
             (map (pick self.now.live) numbers.now)) }
     {
         let columns = columns_of(alloc, self.live_columns(), numbers)?;
-        join(alloc, self.taken_columns(), &columns)
+        union_of(alloc, self.taken_columns(), &columns)
     }
 }

@@ -16,7 +16,7 @@ ghost use Rattle.covering.specs.Search.{NoneWithin, Answers, IsAnswer, IsPruned,
 
 use crate::bound::{Budget, columns_within_gap, limit_of, scaled_costs};
 use crate::choice::Choice;
-use crate::columns::{contains, copy_of, cost, holds, is_blank, total_cost, with_column};
+use crate::columns::{contains, copy_of, cost, is_blank, rising_contains, total_cost, with_column};
 use crate::lagrangian::lagrangian;
 use crate::marks::{all_kept, all_marked, is_marked, marked_columns, rows_of_marked};
 use crate::table::Table;
@@ -115,24 +115,25 @@ fn taken_and_marked(
         (λ n. has n taken.now || (marked marks.now n && has n live.now)) (range_with_len 0 end)) }
 {
     (0..end)
-        .filter(|n| holds(taken, *n) || (is_marked(marks, *n) && holds(live, *n)))
+        .filter(|n| rising_contains(taken, *n)
+            || (is_marked(marks, *n) && rising_contains(live, *n)))
         .collect(alloc)
 }
 
 /// Whether the row has a column of the list, which rises.
-fn is_held(columns: &[usize], row: &[usize]) -> bool
+fn rising_meets(columns: &[usize], row: &[usize]) -> bool
     requires { RisesFrom 0 columns.now }
     ensures { result ≡ meets columns.now row.now }
 {
-    row.iter().any(|c| holds(columns, *c))
+    row.iter().any(|c| rising_contains(columns, *c))
 }
 
 /// Whether each row has a column of the list, which rises.
-fn all_held(columns: &[usize], rows: &[Vec<usize>]) -> bool
+fn rising_meets_all(columns: &[usize], rows: &[Vec<usize>]) -> bool
     requires { RisesFrom 0 columns.now }
     ensures { result ≡ list_all (λ row. meets columns.now row.items) rows.now }
 {
-    rows.iter().all(|row| is_held(columns, row))
+    rows.iter().all(|row| rising_meets(columns, row))
 }
 
 /// The cost of each live column, for hints.
@@ -472,7 +473,7 @@ impl Table {
         if budget.cost < total_cost(choice, self.literals(), &cover) {
             return Ok(None);
         }
-        if !all_held(&cover, self.row_lists()) {
+        if !rising_meets_all(&cover, self.row_lists()) {
             return Ok(None);
         }
         Ok(Some(cover))

@@ -17,7 +17,7 @@ ghost use Rattle.covering.specs.Steps.{with_rows};
 
 use crate::bound::Budget;
 use crate::choice::Choice;
-use crate::columns::{contains, copy_of, copy_rows, cost, join, total_cost};
+use crate::columns::{contains, copy_of, copy_rows, cost, total_cost, union_of};
 use crate::exhaustive::least_cover_plain;
 use crate::marks::{all_but, marked_columns, others};
 use crate::search::{Stop, UNLIMITED};
@@ -211,7 +211,7 @@ impl Partial {
     }
 
     /// Drops the columns that row weights show to be in no cover within the budget.
-    fn drop_outside_once(
+    fn drop_columns_over_budget_once(
         self,
         alloc: Global,
         choice: Choice,
@@ -233,7 +233,7 @@ impl Partial {
     }
 
     /// Drops columns that are in no cover within the budget, until row weights show few more.
-    fn drop_outside(
+    fn drop_columns_over_budget(
         self,
         alloc: Global,
         choice: Choice,
@@ -248,7 +248,7 @@ impl Partial {
         let mut partial = self;
         loop {
             let live = partial.table.live_columns().len();
-            partial = partial.drop_outside_once(alloc, choice, budget, questions)?;
+            partial = partial.drop_columns_over_budget_once(alloc, choice, budget, questions)?;
             let still_live = partial.table.live_columns().len();
             if live <= still_live || !is_worth_a_bound(live, still_live) {
                 return Ok(partial);
@@ -277,13 +277,13 @@ impl Partial {
         }
         let partial = self.ask_for_many(alloc, choice, budget, column, questions)?;
         if !contains(partial.table.live_columns(), column) {
-            return partial.drop_outside(alloc, choice, budget, questions);
+            return partial.drop_columns_over_budget(alloc, choice, budget, questions);
         }
         if contains(&partial.witness, column) {
             return partial.ask_for_one(alloc, choice, budget, column, questions);
         }
         let partial = partial.ask_for_one(alloc, choice, budget, column, questions)?;
-        partial.drop_outside(alloc, choice, budget, questions)
+        partial.drop_columns_over_budget(alloc, choice, budget, questions)
     }
 }
 
@@ -334,7 +334,7 @@ impl Table {
             table: self.copy(alloc)?,
             witness: best,
         };
-        partial = partial.drop_outside(alloc, choice, budget, questions)?;
+        partial = partial.drop_columns_over_budget(alloc, choice, budget, questions)?;
         questions.warm_start.hurry();
         for column in 0..self.columns() {
             if partial.table.is_solved() {
@@ -349,7 +349,7 @@ impl Table {
     fn all_columns(&self, alloc: Global) -> Result<Vec<usize>, AllocError>
         ensures { IfOk result (λ v. IsCover self.now v.items) }
     {
-        join(alloc, self.taken_columns(), self.live_columns())
+        union_of(alloc, self.taken_columns(), self.live_columns())
     }
 
     /// The best cover of a local search of `steps` steps a row, which ends early at a cover of

@@ -424,7 +424,7 @@ impl Ascent {
 
     /// Polishes the best weights. If they end just short of the goal, the steps are restarted once.
     /// Answers whether the steps are over.
-    pub(crate) fn polish_best_or_restart(
+    pub(crate) fn end_or_restart(
         &mut self,
         alloc: Global,
         table: &Compact,

@@ -274,7 +274,7 @@ impl WarmStart {
             }
             ascent.note(value);
             let over = if ascent.is_over(step, &mut course) {
-                ascent.polish_best_or_restart(alloc, table, goal, step, &mut course)?
+                ascent.end_or_restart(alloc, table, goal, step, &mut course)?
             } else {
                 ascent.go_on(alloc, table, goal, step, value)?
             };

@@ -15,7 +15,7 @@ use Rattle.cover.specs.Marks.{cube_at}
 use Rattle.cover.proofs.Lists.{list_any_from}
 use Rattle.pla.specs.Sets.{SetLists}
 use Rattle.covering.specs.Search.{marked}
-use Rattle.minimum.specs.PrimeRows.{spans}
+use Rattle.minimum.specs.PrimeRows.{contains_region}
 use Rattle.minimum.specs.EssentialPrimes.{HasOther, UnmarksCandidate, AreNonCandidates}
 use Rattle.minimum.specs.Primes.{primes_of, care_on, others, is_essential}
 use Rattle.minimum.proofs.Numbers.{numbered, holds_at-below, cube_at-all, cube_at-member, places_at}
@@ -26,7 +26,7 @@ non_candidates_next primes on i old new before step k lt n n_lt m s = elim (case
   | inl low ↦ before k low n n_lt (step.falls n m) s
   | inr high ↦ (
       let same : k ≡ i = omega arith in
-      subst (λ j. HasOther primes (cube_at on j) n) (sym same) (step.others n n_lt m (subst (λ j. spans primes (cube_at on j) n ≡ true) same s)))
+      subst (λ j. HasOther primes (cube_at on j) n) (sym same) (step.others n n_lt m (subst (λ j. contains_region primes (cube_at on j) n ≡ true) same s)))
 ]
 
 -- ---- what that says of essential primes
@@ -66,7 +66,7 @@ module _ (sets : SetLists) (on_are : AreCubes sets.size sets.on) (n : ℕ) (n_lt
           | inl same ↦ (
               let within : IsSubset (holds d) (holds (cube_at all n)) = subst (λ j. IsSubset (holds d) (holds (cube_at all j))) same (subst (λ c. IsSubset (holds d) (holds c)) (sym is_m) over.2) in
               let other = non_candidates k k_lt n n_lt mark (is_subset-from_fact (size_of d) (holds d) (holds (cube_at all n)) within) in
-              in_others other.number p other.below other.apart (IsSubset-from_test (size_of d) d (holds (cube_at all other.number)) (refl, refl) other.spans p at.1))
+              in_others other.number p other.below other.apart (IsSubset-from_test (size_of d) d (holds (cube_at all other.number)) (refl, refl) other.contains_region p at.1))
         ]
 
     pub not_essential : is_essential sets all (cube_at all n) ≡ false

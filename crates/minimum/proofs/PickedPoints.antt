@@ -31,9 +31,9 @@ use Rattle.pla.specs.Sets.{SetLists}
 use Rattle.covering.specs.Table.{has, RisesFrom}
 use Rattle.covering.specs.Search.{is_blank}
 use Rattle.minimum.specs.Primes.{care_on, primes_of}
-use Rattle.minimum.specs.PrimeRows.{touches, spans, HasOneOutput, AreCandidates}
+use Rattle.minimum.specs.PrimeRows.{intersects_region, contains_region, HasOneOutput, AreCandidates}
 use Rattle.minimum.specs.declared.signatures.source.Source.{Source}
-use Rattle.minimum.specs.Points.{Function, function_of, function_by, source_primes, IsSource, StandsFor, IsPointAt, IsWantedPoint, AreHolders, Forces, AreForced, AreFound, AreSigned, AddsPoints, IsOnePoint, IsPointOf, IsPart, AreLists}
+use Rattle.minimum.specs.Points.{Function, function_of, function_by, source_primes, IsSource, StandsFor, IsPointAt, IsWantedPoint, AreHolders, Forces, AreForced, AreFound, AreInSignatures, AddsPoints, IsOnePoint, IsPointOf, IsPart, AreLists}
 use Rattle.covering.proofs.Sets.{has_here, filter_parts}
 use Rattle.minimum.proofs.Numbers.{has_member, places_at, numbered, holds_at-below}
 use Rattle.covering.proofs.Rising.{range_rises, range_has}
@@ -179,7 +179,7 @@ module _ (sets : SetLists) where
       within_part region half on dc h (subst (IsCube size) (sym e) (IsCube-with_symbol size region i s h.is_cube)) (ap (λ c. c.outputs) e)
       (λ p held. narrowed region i s (slice_get_within region.symbols i Dash dash) (get_or_from_slice_get region.symbols i Dash Dash dash) p (ap (λ c. holds c p) (sym e) ∙ held))
 
-  pub part_touched : (region : Cube) (on dc on' dc' : List ℕ) → IsPart sets region on dc → on' ≡ filter (touches sets.on region) on → dc' ≡ filter (touches sets.dc region) dc → IsPart sets region on' dc'
+  pub part_touched : (region : Cube) (on dc on' dc' : List ℕ) → IsPart sets region on dc → on' ≡ filter (intersects_region sets.on region) on → dc' ≡ filter (intersects_region sets.dc region) dc → IsPart sets region on' dc'
   part_touched region on dc on' dc' h e f = record {
     is_cube = h.is_cube;
     one = h.one;
@@ -194,10 +194,10 @@ module _ (sets : SetLists) where
 
   -- ---- whether a region is wanted
 
-  pub is_wanted-yes : (region : Cube) (on dc near : List ℕ) → IsPart sets region on dc → list_any (spans sets.on region) on ≡ true → near ≡ filter (touches sets.dc region) dc → is_blank near ≡ true
+  pub is_wanted-yes : (region : Cube) (on dc near : List ℕ) → IsPart sets region on dc → list_any (contains_region sets.on region) on ≡ true → near ≡ filter (intersects_region sets.dc region) dc → is_blank near ≡ true
       → (p : Place) → holds region p ≡ true → care_on sets p ≡ true
   is_wanted-yes region on dc near h some e blank p inside =
-      let w = list_any_witness (spans sets.on region) on some in
+      let w = list_any_witness (contains_region sets.on region) on some in
       let t = (candidates_touching sets.dc region dc near (sizes_for size sets.dc region h.dc_cubes h.is_cube) h.dc_candidates e).0 in
       let none' : near ≡ [] = blank_from sets.dc sets.on sets.dc near true (sym blank) refl in
       and_from (places sets.on p) (not (places sets.dc p)) (places_at sets.on w.0 p (spans_holds sets.on region w.0 w.2 p inside))
@@ -206,17 +206,17 @@ module _ (sets : SetLists) where
         | inr out ↦ not_from_false (places sets.dc p) out
       ])
 
-  pub is_wanted-no_on : (region : Cube) (on dc : List ℕ) → IsPart sets region on dc → list_any (spans sets.on region) on ≡ false → IsOnePoint region → (p : Place) → holds region p ≡ true → care_on sets p ≡ true → ⊥
+  pub is_wanted-no_on : (region : Cube) (on dc : List ℕ) → IsPart sets region on dc → list_any (contains_region sets.on region) on ≡ false → IsOnePoint region → (p : Place) → holds region p ≡ true → care_on sets p ≡ true → ⊥
   is_wanted-no_on region on dc h none' point p inside want =
       let n = numbered sets.on p (care_parts p want).0 in
       let member = h.on_candidates.all n.0 p inside n.1 in
       let sub : IsSubset (holds region) (holds (cube_at sets.on n.0)) = λ q held. ap (holds (cube_at sets.on n.0)) (one_place region q p point h.one held inside) ∙ n.1 in
-      false≢true (sym none' ∙ list_any_from (spans sets.on region) on n.0 (has_member n.0 on member) (is_subset-from_fact (size_of region) (holds region) (holds (cube_at sets.on n.0)) sub))
+      false≢true (sym none' ∙ list_any_from (contains_region sets.on region) on n.0 (has_member n.0 on member) (is_subset-from_fact (size_of region) (holds region) (holds (cube_at sets.on n.0)) sub))
 
-  pub is_wanted-no_dc : (region : Cube) (on dc near : List ℕ) → IsPart sets region on dc → near ≡ filter (touches sets.dc region) dc → is_blank near ≡ false → IsOnePoint region → (p : Place) → holds region p ≡ true → care_on sets p ≡ true → ⊥
+  pub is_wanted-no_dc : (region : Cube) (on dc near : List ℕ) → IsPart sets region on dc → near ≡ filter (intersects_region sets.dc region) dc → is_blank near ≡ false → IsOnePoint region → (p : Place) → holds region p ≡ true → care_on sets p ≡ true → ⊥
   is_wanted-no_dc region on dc [] h e some point p inside want = false≢true (sym some)
   is_wanted-no_dc region on dc (n ∷ near) h e some point p inside want =
-      let f = filter_parts (touches sets.dc region) n dc (ap (has n) (sym e) ∙ has_here n n near refl) in
+      let f = filter_parts (intersects_region sets.dc region) n dc (ap (has n) (sym e) ∙ has_here n n near refl) in
       false≢true (sym (not-true _ f.1) ∙ is_disjoint-from_fact (size_of region) (holds (cube_at sets.dc n)) (holds region) (λ q in_dc in_region.
       both_ways (places sets.dc p) (not-true (places sets.dc p) (care_parts p want).1)
       (places_at sets.dc n p (ap (holds (cube_at sets.dc n)) (one_place region p q point h.one inside in_region) ∙ in_dc))))
@@ -254,21 +254,21 @@ module _ (sets : SetLists) where
 
   -- ---- regions of which each wanted place is in a signature
 
-  pub signed_without_on : (signatures : List Cube) (region : Cube) (on dc : List ℕ) → IsPart sets region on dc → is_blank on ≡ true → AreSigned sets signatures (holds region)
+  pub signed_without_on : (signatures : List Cube) (region : Cube) (on dc : List ℕ) → IsPart sets region on dc → is_blank on ≡ true → AreInSignatures sets signatures (holds region)
   signed_without_on signatures region on dc h blank p inside want =
       let n = numbered sets.on p (care_parts p want).0 in
       absurd (false≢true (ap (has n.0) (sym (blank_from sets.dc sets.on sets.dc on true (sym blank) refl)) ∙ h.on_candidates.all n.0 p inside n.1))
 
-  pub signed_in_dc : (signatures : List Cube) (region : Cube) (dc : List ℕ) → list_any (spans sets.dc region) dc ≡ true → AreSigned sets signatures (holds region)
+  pub signed_in_dc : (signatures : List Cube) (region : Cube) (dc : List ℕ) → list_any (contains_region sets.dc region) dc ≡ true → AreInSignatures sets signatures (holds region)
   signed_in_dc signatures region dc some p inside want =
-      let w = list_any_witness (spans sets.dc region) dc some in
+      let w = list_any_witness (contains_region sets.dc region) dc some in
       absurd (both_ways (places sets.dc p) (not-true (places sets.dc p) (care_parts p want).1) (places_at sets.dc w.0 p (spans_holds sets.dc region w.0 w.2 p inside)))
 
-  pub signed_within : (signatures : List Cube) (region : Cube) → (s : Cube) × Contains signatures s × IsSubset (holds region) (holds s) → AreSigned sets signatures (holds region)
+  pub signed_within : (signatures : List Cube) (region : Cube) → (s : Cube) × Contains signatures s × IsSubset (holds region) (holds s) → AreInSignatures sets signatures (holds region)
   signed_within signatures region w p inside want = list_any_from (λ c. holds c p) signatures w.0 w.1 (w.2 p inside)
 
-  pub signed_or_free : (signatures held : List Cube) (region : Place → Bool) → held ≡ signatures ++ sets.dc → IsSubset region (places held) → AreSigned sets signatures region
-  signed_or_free signatures held region e sub p inside want =
+  pub signatures_and_dc : (signatures held : List Cube) (region : Place → Bool) → held ≡ signatures ++ sets.dc → IsSubset region (places held) → AreInSignatures sets signatures region
+  signatures_and_dc signatures held region e sub p inside want =
       let w = list_any_witness (λ c. holds c p) held (sub p inside) in
       elim (Contains-append_cases signatures sets.dc w.0 (subst (λ l. Contains l w.0) e w.1)) [
         | inl k ↦ list_any_from (λ c. holds c p) signatures w.0 k w.2
@@ -286,7 +286,7 @@ module _ (sets : SetLists) (source : Source) where
       let p = point_at sets.size point h.is_cube one h.one in
       record { is_cube = h.is_cube; place = p.0; at = p.1; wanted = want p.0 p.1.held }
 
-  pub forced_signed : (points columns signatures : List Cube) (region : Place → Bool) → AreFound function points columns signatures → AreSigned sets signatures region → AreForced function points region
+  pub forced_signed : (points columns signatures : List Cube) (region : Place → Bool) → AreFound function points columns signatures → AreInSignatures sets signatures region → AreForced function points region
   forced_signed points columns signatures region found signed p inside want =
       let w = list_any_witness (λ c. holds c p) signatures (signed p inside want) in
       let x = found.signs w.0 w.1 in

@@ -23,10 +23,10 @@ use Rattle.covering.specs.Choices.{join}
 use Rattle.covering.specs.Parts.{pick}
 use Rattle.covering.specs.Steps.{HasRow}
 use Rattle.minimum.specs.Primes.{primes_of, chosen, least_prime_cover, exact_of}
-use Rattle.minimum.specs.PrimeRows.{spans, IsDemand, AreRowsOf, AllHold}
+use Rattle.minimum.specs.PrimeRows.{contains_region, IsDemand, AreRowsOf, AllHold}
 use Rattle.minimum.specs.Points.{function_of, IsWantedPoint, AreHolders, Forces, AreForced, holders, point_table, HasExact}
 use Rattle.covering.proofs.Sets.{has_here, has_later, has_cases, filter_parts, filter_keeps, filter_rises, filter_length, meets_at, meets_from}
-use Rattle.covering.proofs.Subsets.{same_list, join_rises, join_right, join_only}
+use Rattle.covering.proofs.Subsets.{same_list, union_rises, union_right, union_only}
 use Rattle.covering.proofs.Rising.{range_rises, range_has, range_below}
 use Rattle.minimum.proofs.Numbers.{holds_at-below, cube_at-member}
 use Rattle.minimum.proofs.PrimeRows.{spans_holds}
@@ -231,7 +231,7 @@ module _ (sets : SetLists) (points columns : List Cube) (on_cubes : AreCubes set
 
   row_parts : (x : Cube) (k : ℕ) → has k (holders columns x) ≡ true → (k < length columns) × IsSubset (holds x) (holds (cube_at columns k))
   row_parts x k e =
-      let f = filter_parts (spans columns x) k (range_with_len 0 (length columns)) e in
+      let f = filter_parts (contains_region columns x) k (range_with_len 0 (length columns)) e in
       ((let l = range_below k 0 (length columns) f.0 in omega arith), spans_holds columns x k f.1)
 
   -- a prime that holds the place of a point is in its row
@@ -242,7 +242,7 @@ module _ (sets : SetLists) (points columns : List Cube) (on_cubes : AreCubes set
       let at : cube_at columns m.0 ≡ c = get_or_default columns m.0 (record { symbols = []; outputs = [] }) c m.1 ∙ m.2 in (
         m.0,
         m.1,
-        filter_keeps (spans columns x) m.0 (range_with_len 0 (length columns)) (range_has m.0 0 (length columns) (omega arith) (let l = m.1 in omega arith))
+        filter_keeps (contains_region columns x) m.0 (range_with_len 0 (length columns)) (range_has m.0 0 (length columns) (omega arith) (let l = m.1 in omega arith))
             (is_subset-from_fact (size_of x) (holds x) (holds (cube_at columns m.0)) (λ q e. ap (λ d. holds d q) at ∙ sub q e)),
         at,
       )
@@ -255,7 +255,7 @@ module _ (sets : SetLists) (points columns : List Cube) (on_cubes : AreCubes set
       true≢false (sym k.2 ∙ ap (has k.0) e)
 
   row_rises : (x : Cube) → RisesFrom 0 (holders columns x)
-  row_rises x = filter_rises (spans columns x) 0 (range_with_len 0 (length columns)) (range_rises 0 (length columns))
+  row_rises x = filter_rises (contains_region columns x) 0 (range_with_len 0 (length columns)) (range_rises 0 (length columns))
 
   pub are_point_rows : AreRows (length (map literals columns)) (map (holders columns) points)
   are_point_rows = all_mapped (λ row. (row ≢ []) × RisesFrom 0 row × ((c : ℕ) → has c row ≡ true → c < length (map literals columns))) (holders columns) points
@@ -344,10 +344,10 @@ module _ (sets : SetLists) (points columns : List Cube) (on_cubes : AreCubes set
     in_middle = (renumbered middle middle_table (map (holders columns) points) (map literals columns) refl same_weights (Some (point_table points columns)) (are_point_rows, refl)).least choice s least
 
     joined : join [] (map (pick live) s) ≡ map (pick live) s
-    joined = same_list 0 (join [] (map (pick live) s)) (map (pick live) s) (join_rises [] (map (pick live) s) tt)
+    joined = same_list 0 (join [] (map (pick live) s)) (map (pick live) s) (union_rises [] (map (pick live) s) tt)
         (map_rises live 0 0 s is.rises least.cover.rises (λ i e. let l = s_below i e in let m = long in omega arith) (λ i a b. omega arith))
-        (λ n e. elim (join_only n [] (map (pick live) s) e) [ inl f ↦ absurd (true≢false (sym f)) | inr f ↦ f ])
-        (λ n e. join_right n [] (map (pick live) s) e)
+        (λ n e. elim (union_only n [] (map (pick live) s) e) [ inl f ↦ absurd (true≢false (sym f)) | inr f ↦ f ])
+        (λ n e. union_right n [] (map (pick live) s) e)
 
     is_least_cover : map (pick live) s ≡ least_prime_cover choice sets
     is_least_cover =

@@ -22,14 +22,14 @@ use Rattle.covering.specs.Cover.{meets}
 use Rattle.covering.specs.Steps.{HasRow}
 use Rattle.covering.specs.Search.{is_blank}
 use Rattle.covering.specs.Reduce.{holds_all}
-use Rattle.minimum.specs.PrimeRows.{touches, spans, holds_at, HasNoneInside, AreCandidates, AreTouching, HasOneOutput, IsSplit, IsTouched, HasRowsFor, IsSettled, IsOpen, IsDemand, AddsRows}
+use Rattle.minimum.specs.PrimeRows.{intersects_region, contains_region, holds_at, HasNoneInside, AreCandidates, AreIntersecting, HasOneOutput, IsSplit, IsIntersecting, HasRowsFor, IsSettled, IsOpen, IsDemand, AddsRows}
 use Rattle.covering.proofs.Sets.{filter_parts, filter_keeps, filter_rises, meets_from}
 use Rattle.minimum.proofs.Numbers.{has_member, member_has, has_all, cube_at-all, places_at, numbered, holds_at-below}
 
 -- ---- the cubes near a region
 
 -- a cube that has a place of the region passes the test
-pub touches_from_place : (cubes : List Cube) (region : Cube) (i : ℕ) (p : Place) → All (λ d. SameSize d region) cubes → holds region p ≡ true → holds_at cubes i p ≡ true → touches cubes region i ≡ true
+pub touches_from_place : (cubes : List Cube) (region : Cube) (i : ℕ) (p : Place) → All (λ d. SameSize d region) cubes → holds region p ≡ true → holds_at cubes i p ≡ true → intersects_region cubes region i ≡ true
 touches_from_place cubes region i p sizes in_region in_cube =
     let size = cube_at-all (λ d. SameSize d region) cubes i (holds_at-below cubes i p in_cube) sizes in
     elim (cases_Bool (is_disjoint (size_of region) (holds (cube_at cubes i)) (holds region))) [
@@ -41,21 +41,21 @@ touches_from_place cubes region i p sizes in_region in_cube =
     IsDisjoint-test c region size test p in_c in_region = false≢true (sym (not-true (holds region p) (IsSubset-from_test (size_of region) c (λ q. not (holds region q)) size test p in_c)) ∙ in_region)
 
 pub candidates_touching : (cubes : List Cube) (region : Cube) (numbers kept : List ℕ) → All (λ d. SameSize d region) cubes → AreCandidates cubes region numbers
-    → kept ≡ filter (touches cubes region) numbers → AreCandidates cubes region kept × AreTouching cubes region kept
-candidates_touching cubes region numbers kept sizes candidates e = subst (λ l. AreCandidates cubes region l × AreTouching cubes region l) (sym e) (
+    → kept ≡ filter (intersects_region cubes region) numbers → AreCandidates cubes region kept × AreIntersecting cubes region kept
+candidates_touching cubes region numbers kept sizes candidates e = subst (λ l. AreCandidates cubes region l × AreIntersecting cubes region l) (sym e) (
   record {
-    rises = filter_rises (touches cubes region) 0 numbers candidates.rises;
-    below = All-filter (touches cubes region) (λ i. i < length cubes) numbers candidates.below;
-    all = λ i p in_region in_cube. filter_keeps (touches cubes region) i numbers (candidates.all i p in_region in_cube) (touches_from_place cubes region i p sizes in_region in_cube);
+    rises = filter_rises (intersects_region cubes region) 0 numbers candidates.rises;
+    below = All-filter (intersects_region cubes region) (λ i. i < length cubes) numbers candidates.below;
+    all = λ i p in_region in_cube. filter_keeps (intersects_region cubes region) i numbers (candidates.all i p in_region in_cube) (touches_from_place cubes region i p sizes in_region in_cube);
   },
-  λ i h. (filter_parts (touches cubes region) i numbers h).1,
+  λ i h. (filter_parts (intersects_region cubes region) i numbers h).1,
 )
 
-pub spans_holds : (cubes : List Cube) (region : Cube) (i : ℕ) → spans cubes region i ≡ true → IsSubset (holds region) (holds (cube_at cubes i))
+pub spans_holds : (cubes : List Cube) (region : Cube) (i : ℕ) → contains_region cubes region i ≡ true → IsSubset (holds region) (holds (cube_at cubes i))
 spans_holds cubes region i test = IsSubset-from_test (size_of region) region (holds (cube_at cubes i)) (refl, refl) test
 
--- a cube that touches a region of one output, and has no literal inside, holds it
-pub spans_from_outside : (cubes : List Cube) (region : Cube) (i : ℕ) → HasOneOutput region → SameSize (cube_at cubes i) region → touches cubes region i ≡ true
+-- a cube that intersects_region a region of one output, and has no literal inside, holds it
+pub spans_from_outside : (cubes : List Cube) (region : Cube) (i : ℕ) → HasOneOutput region → SameSize (cube_at cubes i) region → intersects_region cubes region i ≡ true
     → HasNoneInside (cube_at cubes i) region → IsSubset (holds region) (holds (cube_at cubes i))
 spans_from_outside cubes region i one size touched outside p in_region =
     let d = cube_at cubes i in
@@ -81,18 +81,18 @@ module _ (primes on dc : List Cube) where
       let n = numbered on p (and_parts (places on p) (not (places dc p)) want).0 in
       absurd (false≢true (ap (has n.0) (sym none') ∙ s.on_candidates.all n.0 p in_region n.1))
 
-  pub no_row_within_dc : (region : Cube) (np non ndc : List ℕ) (rows : List (List ℕ)) → list_any (spans dc region) ndc ≡ true → HasRowsFor primes on dc (holds region) rows
+  pub no_row_within_dc : (region : Cube) (np non ndc : List ℕ) (rows : List (List ℕ)) → list_any (contains_region dc region) ndc ≡ true → HasRowsFor primes on dc (holds region) rows
   no_row_within_dc region np non ndc rows some p in_region want =
-      let w = list_any_witness (spans dc region) ndc some in
+      let w = list_any_witness (contains_region dc region) ndc some in
       absurd (both_ways (places dc p) (not-true (places dc p) (and_parts (places on p) (not (places dc p)) want).1) (places_at dc w.0 p (spans_holds dc region w.0 w.2 p in_region)))
 
   -- ---- a row that asks for more
 
-  pub common_primes_spanning : (region : Cube) (np non ndc kept : List ℕ) → IsTouched primes on dc region np non ndc → kept ≡ filter (spans primes region) np
+  pub common_primes_spanning : (region : Cube) (np non ndc kept : List ℕ) → IsIntersecting primes on dc region np non ndc → kept ≡ filter (contains_region primes region) np
       → RisesFrom 0 kept × ((i : ℕ) (p : Place) → has i kept ≡ true → holds region p ≡ true → wants p ≡ true → holds_at primes i p ≡ true)
   common_primes_spanning region np non ndc kept t e = (
-    subst (RisesFrom 0) (sym e) (filter_rises (spans primes region) 0 np t.split.primes_candidates.rises),
-    λ i p h in_region want. spans_holds primes region i (filter_parts (spans primes region) i np (ap (has i) (sym e) ∙ h)).1 p in_region,
+    subst (RisesFrom 0) (sym e) (filter_rises (contains_region primes region) 0 np t.split.primes_candidates.rises),
+    λ i p h in_region want. spans_holds primes region i (filter_parts (contains_region primes region) i np (ap (has i) (sym e) ∙ h)).1 p in_region,
   )
 
   pub no_row_by_known : (region : Cube) (common_primes : List ℕ) (rows : List (List ℕ))
@@ -115,15 +115,15 @@ module _ (primes on dc : List Cube) where
   -- ---- the row of a region
 
   -- some place of an open region is wanted
-  some_care_on : (region : Cube) (np non ndc : List ℕ) → IsTouched primes on dc region np non ndc → non ≢ [] → ((p : Place) → holds region p ≡ true → places dc p ≡ false)
+  some_care_on : (region : Cube) (np non ndc : List ℕ) → IsIntersecting primes on dc region np non ndc → non ≢ [] → ((p : Place) → holds region p ≡ true → places dc p ≡ false)
       → ((p : Place) → holds region p ≡ true → wants p ≡ true → ⊥) → ⊥
   some_care_on region np [] ndc t some no_dc none' = some refl
   some_care_on region np (i ∷ rest) ndc t some no_dc none' =
-      false≢true (sym (not-true _ (t.on_touch i (member_has i (i ∷ rest) (0, omega arith, refl))))
+      false≢true (sym (not-true _ (t.on_intersect i (member_has i (i ∷ rest) (0, omega arith, refl))))
       ∙ is_disjoint-from_fact (size_of region) (holds (cube_at on i)) (holds region) (λ p in_on in_region.
       none' p in_region (and_from (places on p) (not (places dc p)) (places_at on i p in_on) (not_from_false (places dc p) (no_dc p in_region)))))
 
-  pub demand : (region : Cube) (np non ndc : List ℕ) → IsTouched primes on dc region np non ndc → non ≢ [] → IsSettled primes on dc region np → IsDemand primes on dc np
+  pub demand : (region : Cube) (np non ndc : List ℕ) → IsIntersecting primes on dc region np non ndc → non ≢ [] → IsSettled primes on dc region np → IsDemand primes on dc np
   demand region np non ndc t some settled = record {
     some = λ e. some_care_on region np non ndc t some settled.no_dc (λ p in_region want.
         let k = t.split.enough p want in
@@ -141,7 +141,7 @@ module _ (primes on dc : List Cube) where
   -- ---- when a region is settled
 
   -- a prime that is alone near the region holds each wanted place of it
-  pub alone_holds : (region : Cube) (np non ndc : List ℕ) → IsTouched primes on dc region np non ndc → length np ≡ 1
+  pub alone_holds : (region : Cube) (np non ndc : List ℕ) → IsIntersecting primes on dc region np non ndc → length np ≡ 1
       → (i : ℕ) (p : Place) → has i np ≡ true → holds region p ≡ true → wants p ≡ true → holds_at primes i p ≡ true
   alone_holds region np non ndc t one i p h in_region want =
       let k = t.split.enough p want in
@@ -155,7 +155,7 @@ module _ (primes on dc : List Cube) where
       only (x ∷ []) e a b h k = eqb-true a x (sole a x h) ∙ sym (eqb-true b x (sole b x k))
       only (x ∷ y ∷ xs) e a b h k = absurd (omega arith)
 
-  pub settled_alone : (region : Cube) (np non ndc : List ℕ) → IsTouched primes on dc region np non ndc → length np ≡ 1 → ndc ≡ [] → IsSettled primes on dc region np
+  pub settled_alone : (region : Cube) (np non ndc : List ℕ) → IsIntersecting primes on dc region np non ndc → length np ≡ 1 → ndc ≡ [] → IsSettled primes on dc region np
   settled_alone region np non ndc t one none' = record {
     no_dc = λ p in_region. elim (cases_Bool (places dc p)) [
       | inl there ↦ (let n = numbered dc p there in absurd (false≢true (ap (has n.0) (sym none') ∙ t.split.dc_candidates.all n.0 p in_region n.1)))
@@ -164,31 +164,31 @@ module _ (primes on dc : List Cube) where
     hold = λ p in_region want i h. alone_holds region np non ndc t one i p h in_region want;
   }
 
-  pub settled_inside : (region : Cube) (np non ndc : List ℕ) → IsTouched primes on dc region np non ndc → list_any (spans dc region) ndc ≡ false
+  pub settled_inside : (region : Cube) (np non ndc : List ℕ) → IsIntersecting primes on dc region np non ndc → list_any (contains_region dc region) ndc ≡ false
       → ((i : ℕ) → has i np ≡ true → HasNoneInside (cube_at primes i) region) → ((i : ℕ) → has i ndc ≡ true → HasNoneInside (cube_at dc i) region) → IsSettled primes on dc region np
-  settled_inside region np non ndc t no_span outside dc_outside = record {
+  settled_inside region np non ndc t none_contains outside dc_outside = record {
     no_dc = λ p in_region. elim (cases_Bool (places dc p)) [
       | inl there ↦ (
           let n = numbered dc p there in
           let candidates = t.split.dc_candidates.all n.0 p in_region n.1 in
           let size = cube_at-all (λ d. SameSize d region) dc n.0 (holds_at-below dc n.0 p n.1) t.split.dc_size in
-          let whole = spans_from_outside dc region n.0 t.split.one size (t.dc_touch n.0 candidates) (dc_outside n.0 candidates) in
-          absurd (false≢true (sym no_span ∙ list_any_from (spans dc region) ndc n.0 (has_member n.0 ndc candidates)
+          let whole = spans_from_outside dc region n.0 t.split.one size (t.dc_intersect n.0 candidates) (dc_outside n.0 candidates) in
+          absurd (false≢true (sym none_contains ∙ list_any_from (contains_region dc region) ndc n.0 (has_member n.0 ndc candidates)
           (is_subset-from_fact (size_of region) (holds region) (holds (cube_at dc n.0)) whole))))
       | inr out ↦ out
     ];
     hold = λ p in_region want i h.
         let size = cube_at-all (λ d. SameSize d region) primes i (has_all (λ k. k < length primes) i np t.split.primes_candidates.below h) t.split.primes_size in
-        spans_from_outside primes region i t.split.one size (t.primes_touch i h) (outside i h) p in_region;
+        spans_from_outside primes region i t.split.one size (t.primes_intersect i h) (outside i h) p in_region;
   }
 
   -- ---- an answer of each question
 
-  pub open_from : (region : Cube) (non ndc : List ℕ) (blank : Bool) (some : Bool) → blank ≡ is_blank non → blank ≡ false → some ≡ list_any (spans dc region) ndc → some ≡ false
+  pub open_from : (region : Cube) (non ndc : List ℕ) (blank : Bool) (some : Bool) → blank ≡ is_blank non → blank ≡ false → some ≡ list_any (contains_region dc region) ndc → some ≡ false
       → IsOpen dc region non ndc
-  open_from region non ndc blank some e off f no_span = record {
+  open_from region non ndc blank some e off f none_contains = record {
     some_on = λ none'. false≢true (sym off ∙ e ∙ ap is_blank none');
-    no_span = sym f ∙ no_span;
+    none_contains = sym f ∙ none_contains;
   }
 
   pub blank_from : (xs : List ℕ) (blank : Bool) → blank ≡ is_blank xs → blank ≡ true → xs ≡ []
@@ -213,7 +213,7 @@ module _ (primes on dc : List Cube) where
   demands_last row [] d h = (d, tt)
   demands_last row (r ∷ rows) d h = (h.0, demands_last row rows d h.1)
 
-  pub adds_row : (region : Cube) (np non ndc : List ℕ) (rows new : List (List ℕ)) → IsTouched primes on dc region np non ndc → non ≢ [] → IsSettled primes on dc region np
+  pub adds_row : (region : Cube) (np non ndc : List ℕ) (rows new : List (List ℕ)) → IsIntersecting primes on dc region np non ndc → non ≢ [] → IsSettled primes on dc region np
       → new ≡ rows ++ np ∷ [] → AddsRows primes on dc (holds region) rows new
   adds_row region np non ndc rows new t some settled e = subst (AddsRows primes on dc (holds region) rows) (sym e) (record {
     kept = λ row h. row_kept row rows (np ∷ []) h;
@@ -222,7 +222,7 @@ module _ (primes on dc : List Cube) where
   })
 
   -- a half of the region
-  pub split_half : (region half : Cube) (np non ndc : List ℕ) (i : ℕ) (s : Symbol) → IsTouched primes on dc region np non ndc → slice_get region.symbols i ≡ Some Dash → half ≡ with_symbol region i s
+  pub split_half : (region half : Cube) (np non ndc : List ℕ) (i : ℕ) (s : Symbol) → IsIntersecting primes on dc region np non ndc → slice_get region.symbols i ≡ Some Dash → half ≡ with_symbol region i s
       → IsSplit primes on dc half np non ndc
   split_half region half np non ndc i s t dash e = subst (λ c. IsSplit primes on dc c np non ndc) (sym e) (
       let lt = slice_get_within region.symbols i Dash dash in

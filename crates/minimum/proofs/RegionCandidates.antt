@@ -16,17 +16,17 @@ use Rattle.cover.proofs.Everywhere.{same_test, is_subset-iff}
 use Rattle.cover.proofs.Meeting.{is_disjoint-from_answer}
 use Rattle.cover.proofs.Lists.{list_any_from}
 use Rattle.covering.specs.Table.{has}
-use Rattle.minimum.specs.PrimeRows.{touches, spans, HasNoneInside}
+use Rattle.minimum.specs.PrimeRows.{intersects_region, contains_region, HasNoneInside}
 
 module _ (cubes : List Cube) (region : Cube) (sizes : All (λ d. SameSize d region) cubes) (i : ℕ) (lt : i < length cubes) (d : Cube) (at : d ≡ get_or cubes i d) where
   own_size : SameSize d region
   own_size = subst (λ x. SameSize x region) (sym at) (sizes i d lt)
 
-  pub touches-from_answer : (r : Bool) → (IsTrue r ↔ IsDisjoint (holds d) (holds region)) → not r ≡ touches cubes region i
-  touches-from_answer r h = ap not (sym (is_disjoint-from_answer d region r own_size h)) ∙ ap (λ c. touches (c ∷ []) region 0) (cube_at-is cubes i d lt at)
+  pub intersects_region-from_answer : (r : Bool) → (IsTrue r ↔ IsDisjoint (holds d) (holds region)) → not r ≡ intersects_region cubes region i
+  intersects_region-from_answer r h = ap not (sym (is_disjoint-from_answer d region r own_size h)) ∙ ap (λ c. intersects_region (c ∷ []) region 0) (cube_at-is cubes i d lt at)
 
-  pub spans-from_answer : (r : Bool) → (IsTrue r ↔ IsSubset (holds region) (holds d)) → r ≡ spans cubes region i
-  spans-from_answer r h =
+  pub contains_region-from_answer : (r : Bool) → (IsTrue r ↔ IsSubset (holds region) (holds d)) → r ≡ contains_region cubes region i
+  contains_region-from_answer r h =
       same_test r (is_subset (size_of region) (holds region) (holds d)) h (is_subset-iff (size_of region) region (holds d) (refl, refl))
       ∙ ap (λ c. is_subset (size_of region) (holds region) (holds c)) (cube_at-is cubes i d lt at)
 

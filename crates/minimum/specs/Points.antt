@@ -17,7 +17,7 @@ use Rattle.minimum.specs.declared.signatures.picked_points.PickedPoints.{PickedP
 use Rattle.covering.specs.Table.{Table, fresh}
 use Rattle.covering.specs.Cover.{IsLeast}
 use Rattle.minimum.specs.Primes.{primes_of, care_on, chosen, exact_of}
-use Rattle.minimum.specs.PrimeRows.{spans, HasOneOutput, AreCandidates}
+use Rattle.minimum.specs.PrimeRows.{contains_region, HasOneOutput, AreCandidates}
 
 -- a function as minimisation sees it: its primes, and the places that a cover has to hold
 pub record Function : Type 0 where
@@ -78,7 +78,7 @@ AreForced f points region = (p : Place) → region p ≡ true → f.wanted p ≡
 
 -- the numbers of the columns that contain the point
 abbrev pub holders : List Cube → Cube → List ℕ
-holders columns x = filter (spans columns x) (range_with_len 0 (length columns))
+holders columns x = filter (contains_region columns x) (range_with_len 0 (length columns))
 
 -- a row for each point, and a column for each of the primes that contain one
 abbrev pub point_table : List Cube → List Cube → Table
@@ -116,8 +116,8 @@ abbrev pub IsFound : Function → PickedPoints → Type 0
 IsFound f found = AreFound f found.points.items found.columns.items found.signatures.items
 
 -- each wanted place of the region is in a signature
-abbrev pub AreSigned : SetLists → List Cube → (Place → Bool) → Type 0
-AreSigned sets signatures region = (p : Place) → region p ≡ true → care_on sets p ≡ true
+abbrev pub AreInSignatures : SetLists → List Cube → (Place → Bool) → Type 0
+AreInSignatures sets signatures region = (p : Place) → region p ≡ true → care_on sets p ≡ true
     → places signatures p ≡ true
 
 -- more points, which force the wanted places of the region

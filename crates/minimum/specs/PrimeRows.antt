@@ -1,4 +1,4 @@
--- How the places of regions become rows of a table. Public clauses cite `spans` alone.
+-- How the places of regions become rows of a table. Public clauses cite `contains_region` alone.
 use Rattle.std.specs.Prelude.{◌≡◌, ◌≢◌, ℕ, nat_lt, ◌<◌, Bool, true, false, not, List, [], length, slice_index_or, slice_get, Some, All}
 use Rattle.std.specs.List.{AllByRecursion, list_any}
 use Rattle.cube.specs.declared.symbol.Symbol.TheVariants.{Dash}
@@ -15,12 +15,12 @@ abbrev pub holds_at : List Cube → ℕ → Place → Bool
 holds_at cubes i p = holds (cube_at cubes i) p
 
 -- whether it has a place of the region
-abbrev pub touches : List Cube → Cube → ℕ → Bool
-touches cubes region i = not (is_disjoint (size_of region) (holds (cube_at cubes i)) (holds region))
+abbrev pub intersects_region : List Cube → Cube → ℕ → Bool
+intersects_region cubes region i = not (is_disjoint (size_of region) (holds (cube_at cubes i)) (holds region))
 
 -- whether it holds the region
-abbrev pub spans : List Cube → Cube → ℕ → Bool
-spans cubes region i = is_subset (size_of region) (holds region) (holds (cube_at cubes i))
+abbrev pub contains_region : List Cube → Cube → ℕ → Bool
+contains_region cubes region i = is_subset (size_of region) (holds region) (holds (cube_at cubes i))
 
 -- rising numbers of cubes, of all that have a place of the region and maybe others
 pub record AreCandidates (cubes : List Cube) (region : Cube) (numbers : List ℕ) : Type 0 where
@@ -30,8 +30,8 @@ pub record AreCandidates (cubes : List Cube) (region : Cube) (numbers : List ℕ
       → has i numbers ≡ true
 
 -- each of the cubes has a place of the region
-abbrev pub AreTouching : List Cube → Cube → List ℕ → Type 0
-AreTouching cubes region numbers = (i : ℕ) → has i numbers ≡ true → touches cubes region i ≡ true
+abbrev pub AreIntersecting : List Cube → Cube → List ℕ → Type 0
+AreIntersecting cubes region numbers = (i : ℕ) → has i numbers ≡ true → intersects_region cubes region i ≡ true
 
 -- at most one output
 abbrev pub HasOneOutput : Cube → Type 0
@@ -56,12 +56,12 @@ pub record IsSplit (primes on dc : List Cube) (region : Cube)
   pub dc_candidates : AreCandidates dc region candidate_dc
 
 -- such a region, of which each of the candidates has a place
-pub record IsTouched (primes on dc : List Cube) (region : Cube)
+pub record IsIntersecting (primes on dc : List Cube) (region : Cube)
     (candidate_primes candidate_on candidate_dc : List ℕ) : Type 0 where
   pub split : IsSplit primes on dc region candidate_primes candidate_on candidate_dc
-  pub primes_touch : AreTouching primes region candidate_primes
-  pub on_touch : AreTouching on region candidate_on
-  pub dc_touch : AreTouching dc region candidate_dc
+  pub primes_intersect : AreIntersecting primes region candidate_primes
+  pub on_intersect : AreIntersecting on region candidate_on
+  pub dc_intersect : AreIntersecting dc region candidate_dc
 
 -- each of the primes holds the place
 abbrev pub AllHold : List Cube → List ℕ → Place → Type 0
@@ -89,7 +89,7 @@ pub record IsSettled (primes on dc : List Cube) (region : Cube)
 pub record IsOpen (dc : List Cube) (region : Cube)
     (candidate_on candidate_dc : List ℕ) : Type 0 where
   pub some_on : candidate_on ≢ []
-  pub no_span : list_any (spans dc region) candidate_dc ≡ false
+  pub none_contains : list_any (contains_region dc region) candidate_dc ≡ false
 
 -- a rising list of primes, one of which is in each list that holds the wanted places
 pub record IsDemand (primes on dc : List Cube) (row : List ℕ) : Type 0 where

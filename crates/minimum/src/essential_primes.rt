@@ -7,7 +7,7 @@ ghost use Rattle.cover.specs.Cubes.{AreCubes};
 ghost use Rattle.cover.specs.Places.{places};
 ghost use Rattle.cover.specs.Marks.{cube_at};
 ghost use Rattle.minimum.specs.Primes.{primes_of, essential_of, is_essential};
-ghost use Rattle.minimum.specs.EssentialPrimes.{touches_cube, is_rival, AreNonCandidates};
+ghost use Rattle.minimum.specs.EssentialPrimes.{intersects_cube, is_rival, AreNonCandidates};
 
 mod candidates;
 
@@ -31,9 +31,9 @@ pub(crate) fn add_copy(list: &mut Cover, cube: &Cube) -> Result<(), AllocError>
 }
 
 /// Whether the cube has a place of the prime.
-fn touches_cube(prime: &Cube, cube: &Cube) -> bool
+fn intersects_cube(prime: &Cube, cube: &Cube) -> bool
     requires { SameSize cube.now prime.now }
-    ensures { result ≡ touches_cube prime.now cube.now }
+    ensures { result ≡ intersects_cube prime.now cube.now }
 {
     !cube.disjoint(prime)
 }
@@ -43,16 +43,16 @@ fn is_rival(prime: &Cube, cube: &Cube) -> bool
     requires { SameSize cube.now prime.now }
     ensures { result ≡ is_rival prime.now cube.now }
 {
-    touches_cube(prime, cube) && !cube.row_cmp(prime).is_eq()
+    intersects_cube(prime, cube) && !cube.row_cmp(prime).is_eq()
 }
 
-fn touching_cubes(alloc: Global, cubes: &[Cube], prime: &Cube) -> Result<Vec<Cube>, AllocError>
+fn intersecting_cubes(alloc: Global, cubes: &[Cube], prime: &Cube) -> Result<Vec<Cube>, AllocError>
     requires { All (λ d. SameSize d prime.now) cubes.now }
-    ensures { IfOk result (λ v. v.items ≡ filter (touches_cube prime.now) cubes.now) }
+    ensures { IfOk result (λ v. v.items ≡ filter (intersects_cube prime.now) cubes.now) }
 {
     let mut kept = Vec::new(alloc);
     for cube in cubes {
-        if touches_cube(prime, cube) {
+        if intersects_cube(prime, cube) {
             kept.push(cube.try_clone()?)?;
         }
     }
@@ -87,7 +87,7 @@ fn is_essential(
     ensures { IfOk result (λ b. b ≡ is_essential sets.now primes.now.cubes prime.now) }
 {
     let mut rest = rivals(alloc, primes.as_slice(), prime)?;
-    let mut dc = touching_cubes(alloc, sets.dc().as_slice(), prime)?;
+    let mut dc = intersecting_cubes(alloc, sets.dc().as_slice(), prime)?;
     rest.append(&mut dc)?;
     let held = Cover::from_cubes(primes.shape(), rest).holds_cube(prime)?;
     Ok(!held)

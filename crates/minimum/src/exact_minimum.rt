@@ -17,7 +17,7 @@ ghost use Rattle.minimum.specs.Primes.{chosen, exact_of, primes_of};
 use crate::essential_primes::add_copy;
 use crate::prime_implicants::{on_and_dc, primes};
 use crate::prime_table::OfPrimes;
-use crate::signatures::picks::{places_of_primes, places_outside};
+use crate::signatures::picks::{proposals_by_off, proposals_by_primes};
 use crate::signatures::source::{Source, Stop};
 use crate::signatures::table_of_points;
 use cover::{Budget, Cover, outside};
@@ -134,7 +134,7 @@ fn exact_outside(
     ensures { IfOk result (λ o. IfSome o (λ list. list ≡ record
         { size = sets.now.size; cubes = exact_of choice sets.now })) }
 {
-    let places = places_outside(alloc, sets, &off, false)?;
+    let places = proposals_by_off(alloc, sets, &off, false)?;
     exact_by_points(alloc, sets, &Source::Outside(off), &places, choice)
 }
 
@@ -152,7 +152,7 @@ fn exact_among(
     if !uses_points_of_primes(sets) {
         return Ok(None);
     }
-    let places = places_of_primes(alloc, sets, primes, false)?;
+    let places = proposals_by_primes(alloc, sets, primes, false)?;
     let source = Source::Primes(primes.try_clone()?);
     exact_by_points(alloc, sets, &source, &places, choice)
 }

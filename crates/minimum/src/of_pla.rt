@@ -11,7 +11,7 @@ use crate::essential_by_neighbours::{find_essential, find_essential_outside};
 use crate::essential_primes::essential;
 use crate::exact_minimum::{exact, exact_by_points, uses_points};
 use crate::prime_implicants::primes;
-use crate::signatures::picks::{places_of_primes, places_outside};
+use crate::signatures::picks::{proposals_by_off, proposals_by_primes};
 use crate::signatures::source::Source;
 use cover::{Budget, Cover, subtract};
 use covering::Choice;
@@ -206,7 +206,7 @@ fn exact_outside_off(
     if !uses_points(&samples) {
         return Ok(None);
     }
-    let places = places_outside(alloc, &samples, off, true)?;
+    let places = proposals_by_off(alloc, &samples, off, true)?;
     let source = Source::Outside(off.try_clone()?);
     exact_by_points(alloc, &samples, &source, &places, choice)
 }
@@ -229,7 +229,7 @@ fn exact_among_primes(
 {
     let samples = samples_of(alloc, pla)?;
     let primes = primes_outside(off)?;
-    let places = places_of_primes(alloc, &samples, &primes, true)?;
+    let places = proposals_by_primes(alloc, &samples, &primes, true)?;
     exact_by_points(alloc, &samples, &Source::Primes(primes), &places, choice)
 }
 

@@ -30,7 +30,7 @@ pub(crate) mod picks;
 pub(crate) mod regions;
 pub(crate) mod source;
 
-use crate::prime_table::rows::numbers_spanning;
+use crate::prime_table::rows::numbers_containing;
 use crate::prime_table::weights;
 use crate::signatures::picked_points::PickedPoints;
 use crate::signatures::regions::{add_cube, pick_point};
@@ -88,7 +88,7 @@ fn add_place(
     let Some(point) = point_of_place(alloc, sets.on().shape(), place)? else {
         return Ok(());
     };
-    if found.is_signed(&point) {
+    if found.is_in_signature(&point) {
         return Ok(());
     }
     pick_point(alloc, sets, source, on, dc, &point, found)
@@ -134,7 +134,7 @@ fn copy_of(alloc: Global, cubes: &[Cube]) -> Result<Vec<Cube>, AllocError>
 }
 
 /// The signatures and the DC cubes.
-fn signed_or_free(alloc: Global, sets: &Sets, found: &PickedPoints) -> Result<Cover, AllocError>
+fn signatures_and_dc(alloc: Global, sets: &Sets, found: &PickedPoints) -> Result<Cover, AllocError>
     requires { AreCubes sets.now.size found.now.signatures.items }
     ensures size { IfOk result (λ held. held.size ≡ sets.now.size) }
     ensures cubes { IfOk result (λ held. held.cubes ≡ found.now.signatures.items ++ sets.now.dc) }
@@ -160,7 +160,7 @@ fn add_cubes(
 {
     let on = all_numbers(alloc, sets.on())?;
     let dc = all_numbers(alloc, sets.dc())?;
-    let held = signed_or_free(alloc, sets, found)?;
+    let held = signatures_and_dc(alloc, sets, found)?;
     let cubes = sets.on().as_slice();
     let are_held = held.holds_cubes(cubes)?;
     for k in 0..cubes.len() {
@@ -202,7 +202,7 @@ fn point_table(alloc: Global, points: &[Cube], columns: &Cover) -> Result<Table,
     let all = numbers(alloc, columns.len())?;
     let mut rows = Vec::new(alloc);
     for point in points {
-        rows.push(numbers_spanning(alloc, columns.as_slice(), point, &all)?)?;
+        rows.push(numbers_containing(alloc, columns.as_slice(), point, &all)?)?;
     }
     let weights = weights(alloc, columns)?;
     match Table::new(alloc, rows, weights)? {

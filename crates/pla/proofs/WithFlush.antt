@@ -7,7 +7,7 @@ use Rattle.pla.specs.declared.fault.ReadKind.TheVariants.{WriteFailed, OutOfMemo
 use Rattle.pla.specs.declared.fault.ReadFault.{ReadFault}
 use Rattle.pla.specs.Device.{AppendsFront, Writes}
 use Rattle.pla.specs.Reads.{MatchCause, WritesDue, WritesGrowth}
-use Rattle.pla.specs.Steps.{with_flush, buffered_kind}
+use Rattle.pla.specs.Steps.{result_after_flush, buffered_kind}
 use Rattle.pla.proofs.Causes.{cause_map}
 use Rattle.pla.proofs.Moves.{front_before}
 
@@ -38,13 +38,13 @@ front_of old new buffered rest w is a = subst (AppendsFront old new) (sym is) (f
 whole_front : (old new : Option (List ℕ)) (buffered w : List ℕ) → AppendsFront (Some []) (Some buffered) w → Appends old new buffered → AppendsFront old new w
 whole_front old new buffered w a p = (a.0, a.1, a.2, subst (Appends old new) a.3 p)
 
-flushed_due : {T U E : Type 0} (old new : Option (List ℕ)) (buffered w : List ℕ) (r : Result T ReadFault) (h : Result U E) → WritesDue (Some []) (Some buffered) r w → Writes old new h buffered → WritesDue old new (with_flush r h) w
+flushed_due : {T U E : Type 0} (old new : Option (List ℕ)) (buffered w : List ℕ) (r : Result T ReadFault) (h : Result U E) → WritesDue (Some []) (Some buffered) r w → Writes old new h buffered → WritesDue old new (result_after_flush r h) w
 flushed_due old new buffered w r (Err e) p k = let f = buffered_front r buffered w p in front_of old new buffered f.0 w f.1 k
 flushed_due old new buffered w (Ok x) (Ok u) p k = subst (Appends old new) p k
 flushed_due old new buffered w (Err f) (Ok u) p k =
     cause_buffered (AppendsFront old new w) (AppendsFront old new w) (Appends old new w) f.kind (cause_map f.kind (λ a. whole_front old new buffered w a k) (λ a. whole_front old new buffered w a k) (λ a. subst (Appends old new) a k) p)
 
 pub flushed_growth : {T U E : Type 0} (old new : Option (List ℕ)) (empty buffered before now : List ℕ) (r : Result T ReadFault) (h : Result U E) → empty ≡ []
-    → WritesGrowth (Some empty) (Some buffered) r before now → Writes old new h buffered → WritesGrowth old new (with_flush r h) before now
+    → WritesGrowth (Some empty) (Some buffered) r before now → Writes old new h buffered → WritesGrowth old new (result_after_flush r h) before now
 flushed_growth old new empty buffered before now r h none g k =
     (g.0, g.1, flushed_due old new buffered g.0 r h (subst (λ (e : List ℕ). WritesDue (Some e) (Some buffered) r g.0) none g.2) k)

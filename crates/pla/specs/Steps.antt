@@ -54,7 +54,7 @@ buffered_kind WriteFailed = OutOfMemory
 buffered_kind kind = kind
 
 -- what a step answers whose echoes were buffered, once the flush of these has answered
-abbrev pub with_flush : {T U E : Type 0} → Result T ReadFault → Result U E → Result T ReadFault
-with_flush done (Err e) = Err (record { line = 0; kind = WriteFailed })
-with_flush (Ok x) (Ok u) = Ok x
-with_flush (Err fault) (Ok u) = Err (record fault { kind = buffered_kind fault.kind })
+abbrev pub result_after_flush : {T U E : Type 0} → Result T ReadFault → Result U E → Result T ReadFault
+result_after_flush done (Err e) = Err (record { line = 0; kind = WriteFailed })
+result_after_flush (Ok x) (Ok u) = Ok x
+result_after_flush (Err fault) (Ok u) = Err (record fault { kind = buffered_kind fault.kind })

@@ -7,7 +7,7 @@ ghost use Rattle.pla.specs.Echoes.{due};
 ghost use Rattle.pla.specs.Fault.{fault_of, open_fault};
 ghost use Rattle.pla.specs.Reads.{Answers, CountsWrites, IsTold, Reads, WritesGrowth};
 ghost use Rattle.pla.specs.Scan.{StandsFor};
-ghost use Rattle.pla.specs.Steps.{with_flush as with_flush_of, buffered_kind as buffered_kind_of, position_in};
+ghost use Rattle.pla.specs.Steps.{result_after_flush as result_after_flush_of, buffered_kind as buffered_kind_of, position_in};
 
 use crate::description::Pla;
 use crate::device::{Broken, Input, Output};
@@ -77,7 +77,7 @@ fn feed<W: Output>(
 {
     let fed = scan.feed(piece, echoes);
     let flushed = echoes.flush_to(output);
-    with_flush(fed, flushed)
+    result_after_flush(fed, flushed)
 }
 
 /// Ends as [`Scan::finish`] does, and writes the last echo.
@@ -97,16 +97,16 @@ fn finish<W: Output>(
 {
     let finished = scan.finish(ending, echoes);
     let flushed = echoes.flush_to(output);
-    with_flush(finished, flushed)
+    result_after_flush(finished, flushed)
 }
 
 /// The answer of a step whose echoes were put in the buffer, `done`, once the buffer was flushed: a
 /// failed flush comes first.
-fn with_flush<T: Drop>(
+fn result_after_flush<T: Drop>(
     done: Result<T, ReadFault>,
     flushed: Result<(), WriteFault>,
 ) -> Result<T, ReadFault>
-    ensures { result ≡ with_flush_of done flushed }
+    ensures { result ≡ result_after_flush_of done flushed }
 {
     match flushed {
         Err(WriteFault) => Err(ReadFault {

@@ -9,7 +9,7 @@ use crate::command::Command;
 use crate::failure::Failure;
 use crate::line::Line;
 use crate::printing::{judge, print_lists, print_with};
-use crate::second_source::{Second, read_other};
+use crate::reading::{SecondSource, read_other};
 use crate::status::Status;
 use crate::verify::verify;
 use cover::{contain, difference, intersect};
@@ -19,7 +19,7 @@ use std::alloc::Global;
 
 // Prints what the line's command answers, behind a first file with this description. A command on
 // two files reads the second.
-pub(crate) fn answer<S: Second, W: Output>(
+pub(crate) fn answer<S: SecondSource, W: Output>(
     alloc: Global,
     line: &Line,
     pla: &Pla,

@@ -8,7 +8,7 @@ use crate::line::LineFault;
 /// What [`Line::read`](crate::Line::read), [`run`](crate::run) and [`refuse`](crate::refuse)
 /// promise one by one is together what the tool answers: if the words say a line, its outcome on
 /// the files, and otherwise the usage.
-pub fn tool_in_parts()
+pub fn tool_is_outcome_or_refusal()
     ensures lines { (words : List Text) (line : Request) → line_of words ≡ Some line
         → (first second : File)
         → tool words first second ≡ outcome_of line first second }

@@ -58,14 +58,14 @@ mod line;
 mod parser;
 mod printing;
 mod program;
+mod reading;
 mod run_files;
-mod second_source;
 mod sources;
 mod status;
 mod verify;
 
 pub use command::Command;
-pub use laws::tool_in_parts;
+pub use laws::tool_is_outcome_or_refusal;
 pub use line::{Line, LineFault};
 use pla::Writing;
 pub use program::execute;

@@ -48,25 +48,25 @@ pub(crate) fn print_lists<W: Output>(
     ensures { PutsOut (printed_with pla.now out_type on.now.cubes)
         (trace (W.taken out.old) (W.taken out.new) (W.calls out.old) (W.calls out.new)) result }
 {
-    match open_lists(alloc, pla, out_type) {
-        Ok(open) => {
-            let dc = lent(&open.dc, pla.dc());
-            let off = lent(&open.off, pla.off());
+    match computed_lists(alloc, pla, out_type) {
+        Ok(computed) => {
+            let dc = computed_or_given(&computed.dc, pla.dc());
+            let off = computed_or_given(&computed.off, pla.off());
             print_covers(pla, out_type, on, dc, off, out)
         }
         Err(_) => Err(Failure::OutOfMemory),
     }
 }
 
-// The lists that were computed; `None` where the description's own is lent.
+// The lists that were computed; `None` where the description's own is computed_or_given.
 #[derive(Drop)]
-struct Open {
+struct Computed {
     dc: Option<Cover>,
     off: Option<Cover>,
 }
 
 // Those that are printed and not the description's own.
-fn open_lists(alloc: Global, pla: &Pla, out_type: OutType) -> Result<Open, AllocError>
+fn computed_lists(alloc: Global, pla: &Pla, out_type: OutType) -> Result<Computed, AllocError>
     ensures dc { IfOk result
         (λ lists. unwrap_or lists.dc (record { size = pla.now.size; cubes = pla.now.dc })
         ≡ record {
@@ -82,7 +82,7 @@ fn open_lists(alloc: Global, pla: &Pla, out_type: OutType) -> Result<Open, Alloc
 {
     let dc = dc_unless_given(alloc, pla, is_dc_printed(out_type))?;
     let off = off_unless_given(alloc, pla, is_off_printed(out_type))?;
-    Ok(Open { dc, off })
+    Ok(Computed { dc, off })
 }
 
 // The description with these lists.
@@ -127,7 +127,7 @@ fn is_off_printed(out_type: OutType) -> bool
 }
 
 // The list that was computed, or the given one if none was.
-pub(crate) fn lent<'a>(computed: &'a Option<Cover>, given: &'a Cover) -> &'a Cover
+pub(crate) fn computed_or_given<'a>(computed: &'a Option<Cover>, given: &'a Cover) -> &'a Cover
     ensures { result.now ≡ unwrap_or computed.now given.now }
 {
     match computed {

@@ -10,7 +10,7 @@ ghost use Rattle.tool.specs.Words.{takes_two};
 use crate::answer::answer;
 use crate::failure::{Failure, Operand};
 use crate::line::{Line, LineFault};
-use crate::second_source::{Second, read_source};
+use crate::reading::{SecondSource, read_source};
 use crate::sources::{Source, after_first, name_in_messages};
 use crate::status::Status;
 use pla::{Broken, Input, Output, write_bytes};
@@ -73,7 +73,7 @@ pub fn run<R: Input, W: Output, E: Output>(
 }
 
 // Runs the line on a first source and whatever gives the second.
-pub(crate) fn run_on<R: Input, S: Second, W: Output, E: Output>(
+pub(crate) fn run_on<R: Input, S: SecondSource, W: Output, E: Output>(
     alloc: Global,
     line: &Line,
     first: &mut Source<R>,
@@ -102,7 +102,7 @@ pub(crate) fn run_on<R: Input, S: Second, W: Output, E: Output>(
 }
 
 // Reads the sources in their order, and prints what the command answers.
-fn read_and_answer<R: Input, S: Second, W: Output>(
+fn read_and_answer<R: Input, S: SecondSource, W: Output>(
     alloc: Global,
     line: &Line,
     first: &mut Source<R>,

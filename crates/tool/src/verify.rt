@@ -10,7 +10,7 @@ ghost use Rattle.tool.specs.Steps.{PutsOutTwo};
 
 use crate::command::Command;
 use crate::failure::Failure;
-use crate::printing::{judge, lent};
+use crate::printing::{computed_or_given, judge};
 use crate::status::Status;
 use cover::{Cover, are_meets_within_either, is_within_either};
 use minimum::Choice;
@@ -44,8 +44,8 @@ fn listed_dc(alloc: Global, pla: &Pla, other: &Pla) -> Result<Cover, AllocError>
 {
     let dc = dc_unless_given(alloc, pla, false)?;
     let other_dc = dc_unless_given(alloc, other, false)?;
-    let mut free = lent(&dc, pla.dc()).try_clone()?;
-    free.append(lent(&other_dc, other.dc()))?;
+    let mut free = computed_or_given(&dc, pla.dc()).try_clone()?;
+    free.append(computed_or_given(&other_dc, other.dc()))?;
     Ok(free)
 }
 

@@ -8,7 +8,7 @@ ghost use Rattle.tool.specs.Words.{takes_two};
 use pla::{Ending, Given, Taken};
 use std::alloc::Global;
 use std::test::Fail;
-use tool::{Line, LineFault, Source, Status, after_first, refuse, run, source_name, tool_in_parts};
+use tool::{Line, LineFault, Source, Status, after_first, refuse, run, source_name, tool_is_outcome_or_refusal};
 
 const TEXT: &[u8] = b"# a\n.i 2\n.o 1\n11 1\n.e\n";
 
@@ -156,7 +156,7 @@ fn words_are_read(rt: HostRuntime) -> Result<(), Fail> {
 #[test]
 fn no_words_are_refused(rt: HostRuntime) -> Result<(), Fail> {
     assert!(rt; Line::read(rt.alloc(), &[]).err() == Some(LineFault::Usage));
-    tool_in_parts();
+    tool_is_outcome_or_refusal();
     Ok(())
 }
 

@@ -175,7 +175,7 @@ pub(crate) fn holds_each_region(
 }
 
 // Whether the lists are related, row by row.
-fn are_related_row_by_row(
+fn are_related_without_splits(
     alloc: Global,
     shape: Shape,
     relation: Relation,
@@ -308,10 +308,10 @@ pub(crate) fn are_related(
         (λ held. IsTrue held ↔ AreRelated relation (behind rows.now) (behind others.now)) }
 {
     if depth == 0 || rows.len() <= SMALL || others.len() <= SMALL {
-        return are_related_row_by_row(alloc, shape, relation, rows, others);
+        return are_related_without_splits(alloc, shape, relation, rows, others);
     }
     let Some(i) = split_input_of_pairs(alloc, shape, relation, rows, others)? else {
-        return are_related_row_by_row(alloc, shape, relation, rows, others);
+        return are_related_without_splits(alloc, shape, relation, rows, others);
     };
     let rest = depth - 1;
     if !are_related_at(

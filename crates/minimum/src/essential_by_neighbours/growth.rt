@@ -13,7 +13,7 @@ ghost use Rattle.cover.specs.Places.{places};
 ghost use Rattle.minimum.specs.Neighbours.{on_side, Grows, IsGrown, IsSettledInput, IsSettledOutput, AreNear, AreReached, near_or};
 
 use crate::essential_by_neighbours::near_rows::{rows_near, rows_to_ask};
-use crate::essential_by_neighbours::reached_outputs::{is_off, outputs_at, part_of};
+use crate::essential_by_neighbours::reached_outputs::{is_refused, outputs_at, part_of};
 use crate::prime_table::one_output;
 use cover::Cover;
 use cube::{Cube, Symbol};
@@ -131,7 +131,7 @@ fn with_output(
     if cube.output(j) {
         return Ok(Growth { cube, near });
     }
-    if is_off(side, reached, j) {
+    if is_refused(side, reached, j) {
         return Ok(Growth { cube, near });
     }
     let output = one_output(alloc, rows.shape(), j)?;

@@ -44,7 +44,7 @@ pub(crate) fn outputs_at(rows: &Cover, region: Cube) -> Result<Cube, AllocError>
 }
 
 /// Whether the places under the output are off that side, by the outputs that are reached.
-pub(crate) fn is_off(side: Side, reached: &Cube, j: usize) -> bool
+pub(crate) fn is_refused(side: Side, reached: &Cube, j: usize) -> bool
     requires { j < length reached.now.outputs }
     ensures { (rows : List Row) → (p : Place)
         → places rows p ≡ slice_index_or reached.now.outputs j false

@@ -7,10 +7,10 @@
 
 ghost use Rattle.std.specs.Prelude.{◌≡◌, ◌<◌, ◌≤◌, ◌+◌, ℕ, true, false, IfOk, All, length};
 ghost use Rattle.cube.specs.Cube.{SameSize};
-ghost use Rattle.minimum.specs.PrimeRows.{spans};
+ghost use Rattle.minimum.specs.PrimeRows.{contains_region};
 ghost use Rattle.minimum.specs.EssentialPrimes.{UnmarksCandidate, AreNonCandidates};
 
-use crate::prime_table::rows::spans;
+use crate::prime_table::rows::contains_region;
 use covering::{all_marked, unmark};
 use cube::Cube;
 use std::alloc::{AllocError, Global};
@@ -21,11 +21,11 @@ fn containing_prime(primes: &[Cube], cube: &Cube, from: usize) -> usize
     requires size { All (λ d. SameSize d cube.now) primes.now }
     requires from { from ≤ length primes.now }
     ensures range { (from ≤ result) × (result ≤ length primes.now) }
-    ensures before { (n : ℕ) → from ≤ n → n < result → spans primes.now cube.now n ≡ false }
-    ensures holds { result < length primes.now → spans primes.now cube.now result ≡ true }
+    ensures before { (n : ℕ) → from ≤ n → n < result → contains_region primes.now cube.now n ≡ false }
+    ensures holds { result < length primes.now → contains_region primes.now cube.now result ≡ true }
 {
     for number in from..primes.len() {
-        if spans(primes, cube, number) {
+        if contains_region(primes, cube, number) {
             return number;
         }
     }

@@ -14,7 +14,7 @@ ghost use Rattle.cover.specs.Places.{places};
 ghost use Rattle.cover.specs.Marks.{cube_at};
 ghost use Rattle.covering.specs.Table.{has, RisesFrom, items_of};
 ghost use Rattle.covering.specs.Reduce.{holds_all};
-ghost use Rattle.minimum.specs.PrimeRows.{touches, spans, holds_at, HasNoneInside, IsFree, IsSplit, IsTouched, IsSettled, IsOpen, HasRowsFor, AddsRows};
+ghost use Rattle.minimum.specs.PrimeRows.{intersects_region, contains_region, holds_at, HasNoneInside, IsFree, IsSplit, IsIntersecting, IsSettled, IsOpen, HasRowsFor, AddsRows};
 
 use crate::prime_table::halving_input::halving_input;
 use covering::{copy_of, is_blank, is_within};
@@ -38,25 +38,25 @@ pub(crate) struct Candidates {
 }
 
 /// Whether the cube has a place of the region.
-fn touches(cubes: &[Cube], region: &Cube, number: usize) -> bool
+fn intersects_region(cubes: &[Cube], region: &Cube, number: usize) -> bool
     requires size { All (λ d. SameSize d region.now) cubes.now }
     requires below { number < length cubes.now }
-    ensures { result ≡ touches cubes.now region.now number }
+    ensures { result ≡ intersects_region cubes.now region.now number }
 {
     !cubes[number].disjoint(region)
 }
 
 /// Whether the cube holds the region.
-pub(crate) fn spans(cubes: &[Cube], region: &Cube, number: usize) -> bool
+pub(crate) fn contains_region(cubes: &[Cube], region: &Cube, number: usize) -> bool
     requires size { All (λ d. SameSize d region.now) cubes.now }
     requires below { number < length cubes.now }
-    ensures { result ≡ spans cubes.now region.now number }
+    ensures { result ≡ contains_region cubes.now region.now number }
 {
     cubes[number].contains(region)
 }
 
 /// Those of the cubes that have a place of the region.
-pub(crate) fn numbers_touching(
+pub(crate) fn numbers_intersecting(
     alloc: Global,
     cubes: &[Cube],
     region: &Cube,
@@ -64,11 +64,11 @@ pub(crate) fn numbers_touching(
 ) -> Result<Vec<usize>, AllocError>
     requires size { All (λ d. SameSize d region.now) cubes.now }
     requires below { All (λ i. i < length cubes.now) numbers.now }
-    ensures { IfOk result (λ v. v.items ≡ filter (touches cubes.now region.now) numbers.now) }
+    ensures { IfOk result (λ v. v.items ≡ filter (intersects_region cubes.now region.now) numbers.now) }
 {
     let mut kept = Vec::new(alloc);
     for number in numbers {
-        if touches(cubes, region, *number) {
+        if intersects_region(cubes, region, *number) {
             kept.push(*number)?;
         }
     }
@@ -76,7 +76,7 @@ pub(crate) fn numbers_touching(
 }
 
 /// Those of the cubes that hold the region.
-pub(crate) fn numbers_spanning(
+pub(crate) fn numbers_containing(
     alloc: Global,
     cubes: &[Cube],
     region: &Cube,
@@ -84,11 +84,11 @@ pub(crate) fn numbers_spanning(
 ) -> Result<Vec<usize>, AllocError>
     requires size { All (λ d. SameSize d region.now) cubes.now }
     requires below { All (λ i. i < length cubes.now) numbers.now }
-    ensures { IfOk result (λ v. v.items ≡ filter (spans cubes.now region.now) numbers.now) }
+    ensures { IfOk result (λ v. v.items ≡ filter (contains_region cubes.now region.now) numbers.now) }
 {
     let mut kept = Vec::new(alloc);
     for number in numbers {
-        if spans(cubes, region, *number) {
+        if contains_region(cubes, region, *number) {
             kept.push(*number)?;
         }
     }
@@ -96,13 +96,13 @@ pub(crate) fn numbers_spanning(
 }
 
 /// Whether one of the cubes holds the region.
-pub(crate) fn any_spans(cubes: &[Cube], region: &Cube, numbers: &[usize]) -> bool
+pub(crate) fn any_contains(cubes: &[Cube], region: &Cube, numbers: &[usize]) -> bool
     requires size { All (λ d. SameSize d region.now) cubes.now }
     requires below { All (λ i. i < length cubes.now) numbers.now }
-    ensures { result ≡ list_any (spans cubes.now region.now) numbers.now }
+    ensures { result ≡ list_any (contains_region cubes.now region.now) numbers.now }
 {
     for number in numbers {
-        if spans(cubes, region, *number) {
+        if contains_region(cubes, region, *number) {
             return true;
         }
     }
@@ -168,13 +168,13 @@ impl<'a> Lists<'a> {
     ) -> Result<Candidates, AllocError>
         requires { IsSplit self.now.primes.now self.now.on.now self.now.dc.now region.now
             candidates.now.primes.items candidates.now.on.items candidates.now.dc.items }
-        ensures { IfOk result (λ n. IsTouched self.now.primes.now self.now.on.now self.now.dc.now
+        ensures { IfOk result (λ n. IsIntersecting self.now.primes.now self.now.on.now self.now.dc.now
             region.now n.primes.items n.on.items n.dc.items) }
     {
         Ok(Candidates {
-            primes: numbers_touching(alloc, self.primes, region, &candidates.primes)?,
-            on: numbers_touching(alloc, self.on, region, &candidates.on)?,
-            dc: numbers_touching(alloc, self.dc, region, &candidates.dc)?,
+            primes: numbers_intersecting(alloc, self.primes, region, &candidates.primes)?,
+            on: numbers_intersecting(alloc, self.on, region, &candidates.on)?,
+            dc: numbers_intersecting(alloc, self.dc, region, &candidates.dc)?,
         })
     }
 
@@ -185,7 +185,7 @@ impl<'a> Lists<'a> {
         candidates: &Candidates,
         region: &Cube,
     ) -> Result<Vec<usize>, AllocError>
-        requires { IsTouched self.now.primes.now self.now.on.now self.now.dc.now region.now
+        requires { IsIntersecting self.now.primes.now self.now.on.now self.now.dc.now region.now
             candidates.now.primes.items candidates.now.on.items candidates.now.dc.items }
         ensures rises { IfOk result (λ v. RisesFrom 0 v.items) }
         ensures hold { IfOk result (λ v. (i : ℕ) (p : Place) → has i v.items ≡ true
@@ -195,7 +195,7 @@ impl<'a> Lists<'a> {
         if is_alone(&candidates.primes) {
             return copy_of(alloc, &candidates.primes);
         }
-        numbers_spanning(alloc, self.primes, region, &candidates.primes)
+        numbers_containing(alloc, self.primes, region, &candidates.primes)
     }
 
     /// Whether no place of the region is wanted, or a row asks for more than its places do.
@@ -206,13 +206,13 @@ impl<'a> Lists<'a> {
         region: &Cube,
         rows: &[Vec<usize>],
     ) -> Result<bool, AllocError>
-        requires { IsTouched self.now.primes.now self.now.on.now self.now.dc.now region.now
+        requires { IsIntersecting self.now.primes.now self.now.on.now self.now.dc.now region.now
             candidates.now.primes.items candidates.now.on.items candidates.now.dc.items }
         ensures { IfOk result (λ b. MatchBool b (HasRowsFor self.now.primes.now self.now.on.now
             self.now.dc.now (holds region.now) (items_of rows.now))
             (IsOpen self.now.dc.now region.now candidates.now.on.items candidates.now.dc.items)) }
     {
-        if is_blank(&candidates.on) || any_spans(self.dc, region, &candidates.dc) {
+        if is_blank(&candidates.on) || any_contains(self.dc, region, &candidates.dc) {
             return Ok(true);
         }
         let common_primes = self.common_primes(alloc, candidates, region)?;
@@ -221,7 +221,7 @@ impl<'a> Lists<'a> {
 
     /// An input to split the region at; `None` if its wanted places are in the same primes.
     fn split(&self, candidates: &Candidates, region: &Cube) -> Option<usize>
-        requires touched { IsTouched self.now.primes.now self.now.on.now self.now.dc.now region.now
+        requires touched { IsIntersecting self.now.primes.now self.now.on.now self.now.dc.now region.now
             candidates.now.primes.items candidates.now.on.items candidates.now.dc.items }
         requires open { IsOpen self.now.dc.now region.now candidates.now.on.items
             candidates.now.dc.items }

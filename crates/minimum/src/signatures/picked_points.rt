@@ -38,7 +38,7 @@ impl PickedPoints {
     }
 
     /// Whether a signature holds the region.
-    pub(crate) fn is_signed(&self, region: &Cube) -> bool
+    pub(crate) fn is_in_signature(&self, region: &Cube) -> bool
         requires { All (λ d. SameSize d region.now) self.now.signatures.items }
         ensures { result ≡ true → (s : Row) × Contains self.now.signatures.items s
             × IsSubset (holds region.now) (holds s) }

@@ -49,7 +49,7 @@ fn rows_of(alloc: Global, list: &Cover) -> Result<Rows, AllocError>
 
 /// Places whose signatures lie in no larger ones, if the search finds them. With `sampled` all that
 /// is neither in the ON list nor in `off` is in the DC-set.
-pub(crate) fn places_outside(
+pub(crate) fn proposals_by_off(
     alloc: Global,
     sets: &Sets,
     off: &Cover,
@@ -64,7 +64,7 @@ pub(crate) fn places_outside(
 }
 
 /// The same by a list of all primes.
-pub(crate) fn places_of_primes(
+pub(crate) fn proposals_by_primes(
     alloc: Global,
     sets: &Sets,
     primes: &Cover,

@@ -10,10 +10,10 @@ ghost use Rattle.cube.specs.Cube.{HasSize, SameSize, Cube as Row, Place, holds};
 ghost use Rattle.cover.specs.Cubes.{AreCubes};
 ghost use Rattle.minimum.specs.Primes.{care_on};
 ghost use Rattle.minimum.specs.PrimeRows.{IsFree};
-ghost use Rattle.minimum.specs.Points.{AddsPoints, AreForced, AreLists, AreSigned, IsSource, function_by, IsFound, IsOnePoint, IsPart, IsPointOf};
+ghost use Rattle.minimum.specs.Points.{AddsPoints, AreForced, AreLists, AreInSignatures, IsSource, function_by, IsFound, IsOnePoint, IsPart, IsPointOf};
 
 use crate::prime_table::one_output;
-use crate::prime_table::rows::{any_spans, first_inside, literal_inside, numbers_touching};
+use crate::prime_table::rows::{any_contains, first_inside, literal_inside, numbers_intersecting};
 use crate::signatures::picked_points::{PickedPoints, add_point};
 use crate::signatures::source::{Source, Stop};
 use covering::is_blank;
@@ -48,10 +48,10 @@ fn is_wanted(
     ensures no { IfOk result (λ b. b ≡ false → IsOnePoint region.now → (p : Place)
         → holds region.now p ≡ true → care_on sets.now p ≡ true → ⊥) }
 {
-    if !any_spans(sets.on().as_slice(), region, on) {
+    if !any_contains(sets.on().as_slice(), region, on) {
         return Ok(false);
     }
-    let near = numbers_touching(alloc, sets.dc().as_slice(), region, dc)?;
+    let near = numbers_intersecting(alloc, sets.dc().as_slice(), region, dc)?;
     Ok(is_blank(&near))
 }
 
@@ -59,9 +59,9 @@ fn is_wanted(
 fn is_done(sets: &Sets, on: &[usize], dc: &[usize], region: &Cube, found: &PickedPoints) -> bool
     requires part { IsPart sets.now region.now on.now dc.now }
     requires found { AreCubes sets.now.size found.now.signatures.items }
-    ensures { result ≡ true → AreSigned sets.now found.now.signatures.items (holds region.now) }
+    ensures { result ≡ true → AreInSignatures sets.now found.now.signatures.items (holds region.now) }
 {
-    is_blank(on) || any_spans(sets.dc().as_slice(), region, dc) || found.is_signed(region)
+    is_blank(on) || any_contains(sets.dc().as_slice(), region, dc) || found.is_in_signature(region)
 }
 
 /// Picks a point of the region, if it is wanted.
@@ -185,8 +185,8 @@ fn add_points(
     ensures adds { OnOk result (AddsPoints (function_by sets.now source.now) (holds region.now) found.old.points.items
         found.new.points.items) }
 {
-    let on = numbers_touching(alloc, sets.on().as_slice(), region, on)?;
-    let dc = numbers_touching(alloc, sets.dc().as_slice(), region, dc)?;
+    let on = numbers_intersecting(alloc, sets.on().as_slice(), region, on)?;
+    let dc = numbers_intersecting(alloc, sets.dc().as_slice(), region, dc)?;
     let Some(i) = next_input(alloc, sets, source, &on, &dc, region, found)? else {
         return Ok(());
     };

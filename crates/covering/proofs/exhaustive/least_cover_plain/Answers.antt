@@ -2,7 +2,7 @@ use Rattle.std.proofs.Common.{rules, ◌≡◌, ◌∙◌, ◌+◌, ◌≤◌, �
 use Rattle.std.specs.Prelude.{option_map}
 use Rattle.std.proofs.lemmas.Result.{IfOk-weaker}
 use Rattle.covering.specs.Cover.{IsLeast}
-use Rattle.covering.specs.Choices.{best_choice, join}
+use Rattle.covering.specs.Choices.{best_choice, union_of}
 use Rattle.covering.proofs.BestChoice.{none_more, none_below, exhaustive_least}
 use Rattle.covering.proofs.exhaustive.least_cover_plain.Goals as goal
 
@@ -10,7 +10,7 @@ pub returns-in-Some : goal.returns-in-Some
 returns-in-Some c =
     let found : best_choice c.args.choice c.args.table.now c.loop-best.size ≡ Some c.in-Some.best.items = sym c.in_ok-best.ensures.found ∙ ap (option_map (λ (v : Vec ℕ Global). v.items)) c.in-Some.is in
     let least = exhaustive_least c.args.choice c.args.table.now c.loop-best.size c.in-Some.best.items c.in_ok-best.ensures.table found c.loop-best.invariant in
-    IfOk-weaker c.with_taken.result _ _ (λ v h. subst (IsLeast c.args.choice c.args.table.now) (sym (h ∙ ap (join c.args.table.now.taken) c.deref.ensures.value)) least) c.with_taken.ensures
+    IfOk-weaker c.with_taken.result _ _ (λ v h. subst (IsLeast c.args.choice c.args.table.now) (sym (h ∙ ap (union_of c.args.table.now.taken) c.deref.ensures.value)) least) c.with_taken.ensures
 
 pub overflow_add-size : goal.overflow_add-size
 overflow_add-size c =

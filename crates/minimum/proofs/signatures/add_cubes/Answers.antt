@@ -6,7 +6,7 @@ use Rattle.cube.specs.Sum.{is_subset}
 use Rattle.cube.proofs.SumLemmas.{implied_at, IsPlace-from_holds}
 use Rattle.cover.specs.Places.{places}
 use Rattle.minimum.specs.Points.{AddsPoints, AreForced, Function, function_by, IsFound}
-use Rattle.minimum.proofs.PickedPoints.{cubes_more, forced_signed, signed_or_free}
+use Rattle.minimum.proofs.PickedPoints.{cubes_more, forced_signed, signatures_and_dc}
 use Rattle.minimum.proofs.signatures.add_cubes.Goals as goal
 use Rattle.minimum.proofs.signatures.add_cubes.Goals.{then-not-index+in_ok-add_cube, else-not-index}
 
@@ -46,7 +46,7 @@ loop-k-preserved c =
             implied_at held.size (holds cube) (places held.cubes) all p
             (IsPlace-from_holds held.size cube p (subst (λ z. HasSize cube z) cover (subst (λ d. HasSize d c.on-2.result.now.size) (sym c.index-cubes-k.is) own.has_size)) inside) inside in
             let forced = forced_signed sets source start.points.items start.columns.items start.signatures.items (holds cube) c.requires.found
-            (signed_or_free sets start.signatures.items held.cubes (holds cube) c.in_ok-held.ensures.cubes sub) in
+            (signatures_and_dc sets start.signatures.items held.cubes (holds cube) c.in_ok-held.ensures.cubes sub) in
             let adds : AddsPoints function (holds cube) mid.points.items mid.points.items = record {
               kept = λ x h. h;
               forced = λ p inside want. let r = forced p inside want in (r.0, before.kept r.0 r.1, r.2);

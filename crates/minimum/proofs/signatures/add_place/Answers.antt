@@ -3,8 +3,8 @@ use Rattle.cube.specs.Cube.{IsCube}
 use Rattle.minimum.proofs.PickedPoints.{point_part, sizes_for}
 use Rattle.minimum.proofs.signatures.add_place.Goals as goal
 
-pub is_signed-requires : goal.is_signed-requires
-is_signed-requires c =
+pub is_in_signature-requires : goal.is_in_signature-requires
+is_in_signature-requires c =
     let sets = c.args.sets.now in
     let shape : c.shape.result ≡ sets.size = c.shape.ensures.size ∙ ap (λ l. l.size) c.on.ensures in
     let cube : IsCube c.shape.result c.in-Some.point = rw c.in-Some.is at c.in_ok-point.ensures.cube in

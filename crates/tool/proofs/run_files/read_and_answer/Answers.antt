@@ -17,7 +17,7 @@ returns-in_err-pla g c = let read = c.read_source.ensures in
     let stopped = named line First (name_of c.args.first.now) (first_name line.files) read.0 out (Err fault) c.requires.first_name (rw c.in_err-pla.was at read.2) in (
       taken,
       read.1,
-      asks_none (g.S.Second.asked line) line read.0 _ c.args.second.now (rw (p.1, p.2) (stopped_before line First (first_name line.files) read.0 out fault stopped)),
+      asks_none (g.S.SecondSource.asked line) line read.0 _ c.args.second.now (rw (p.1, p.2) (stopped_before line First (first_name line.files) read.0 out fault stopped)),
       rw (p.1, p.2) (first_stopped line taken _ _ _ _ fault stopped),
     )
 

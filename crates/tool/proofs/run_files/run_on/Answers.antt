@@ -20,7 +20,7 @@ returns-clause-ends g c = let ran = c.read_and_answer-done.ensures in
     record {
       taken = taken;
       first = ran.1;
-      second = asks_since (g.S.Second.asked line) line taken.first _ _
+      second = asks_since (g.S.SecondSource.asked line) line taken.first _ _
           (λ stopped. why_unopened line taken (names_said line) _ _ _ done closes reports (stopped_over taken.first c.read_and_answer-done.result done c.flush_last-done.ensures.stopped stopped))
           c.args.second.now c.read_and_answer-done.new.second taken.second ran.2;
       ends = ends line taken (names_said line) _ _ _ done closes reports;

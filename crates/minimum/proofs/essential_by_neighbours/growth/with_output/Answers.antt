@@ -94,13 +94,13 @@ returns-clause-settled c =
     (all_to_near c.args.growth.cube rows c.rows_to_ask.result.now (subst (AreNear c.args.growth.cube rows) (sym c.rows_to_ask.ensures) c.requires.near) c.args.side c.in_ok-rest.rest (beside_rest rows.size (on_side c.args.side rows.cubes) c.args.growth.cube c.requires.is_cube c.args.j c.requires.output c.in_ok-output.output (is_output s) c.in-Some.wide (wide_cube t) (stacked t)
     c.in_ok-rest.rest c.in_ok-rest.ensures.value) sub)))
 
-pub is_off-requires : goal.is_off-requires
-is_off-requires c = let size = c.requires.reached.size.1 in let long = c.requires.is_cube.has_size.1 in let lt = c.requires.output in omega (arith, size, long, lt)
+pub is_refused-requires : goal.is_refused-requires
+is_refused-requires c = let size = c.requires.reached.size.1 in let long = c.requires.is_cube.has_size.1 in let lt = c.requires.output in omega (arith, size, long, lt)
 
-pub returns-then-is_off-clause-settled : goal.returns-then-is_off-clause-settled
-returns-then-is_off-clause-settled c =
+pub returns-then-is_refused-clause-settled : goal.returns-then-is_refused-clause-settled
+returns-then-is_refused-clause-settled c =
     let rows = c.args.rows.now in
     let cube = c.args.growth.cube in
     off_settles rows.size (on_side c.args.side rows.cubes) cube c.args.reached.now rows.cubes c.args.j c.requires.is_cube c.requires.reached
     (get_or_from_slice_get cube.outputs c.args.j c.output.result false c.output.ensures ∙ c.if-output.false)
-    (λ p same. c.is_off.ensures rows.cubes p same ∙ ap not c.if-is_off.true)
+    (λ p same. c.is_refused.ensures rows.cubes p same ∙ ap not c.if-is_refused.true)

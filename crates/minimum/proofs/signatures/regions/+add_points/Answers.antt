@@ -3,7 +3,7 @@ use Rattle.std.proofs.lemmas.Option.{slice_get_within}
 use Rattle.std.proofs.lemmas.Result.{IfOk-weaker}
 use Rattle.cube.specs.declared.symbol.Symbol.TheVariants.{Dash, Zero, One}
 use Rattle.cover.proofs.Regions.{fewer_dashes, zero_literal, one_literal}
-use Rattle.minimum.specs.PrimeRows.{touches}
+use Rattle.minimum.specs.PrimeRows.{intersects_region}
 use Rattle.minimum.proofs.PickedPoints.{part_touched, part_half, forced_halves}
 use Rattle.minimum.proofs.signatures.regions.+add_points.Goals as goal
 
@@ -14,8 +14,8 @@ next_input-requires-clause-part t c =
     let on = c.as_slice.ensures.value ∙ ap (λ l. l.cubes) c.on.ensures in
     let dc = c.as_slice-2.ensures.value ∙ ap (λ l. l.cubes) c.dc.ensures in
     part_touched sets region c.args.on.now c.args.dc.now c.deref.result.now c.deref-2.result.now c.requires.part
-    (c.deref.ensures.value ∙ c.in_ok-on.ensures ∙ ap (λ l. filter (touches l region) c.args.on.now) on)
-    (c.deref-2.ensures.value ∙ c.in_ok-dc.ensures ∙ ap (λ l. filter (touches l region) c.args.dc.now) dc)
+    (c.deref.ensures.value ∙ c.in_ok-on.ensures ∙ ap (λ l. filter (intersects_region l region) c.args.on.now) on)
+    (c.deref-2.ensures.value ∙ c.in_ok-dc.ensures ∙ ap (λ l. filter (intersects_region l region) c.args.dc.now) dc)
 
 pub with_symbol-requires : goal.with_symbol-requires
 with_symbol-requires t c = slice_get_within c.args.region.now.symbols c.in-Some.i Dash (rw c.in-Some.is at c.in_ok-i.ensures.input)
@@ -28,8 +28,8 @@ add_points-requires t c =
     let on = c.as_slice.ensures.value ∙ ap (λ l. l.cubes) c.on.ensures in
     let dc = c.as_slice-2.ensures.value ∙ ap (λ l. l.cubes) c.dc.ensures in
     let part = part_touched sets region c.args.on.now c.args.dc.now c.deref-3.result.now c.deref-4.result.now c.requires.part
-    (c.deref-3.ensures.value ∙ c.in_ok-on.ensures ∙ ap (λ l. filter (touches l region) c.args.on.now) on)
-    (c.deref-4.ensures.value ∙ c.in_ok-dc.ensures ∙ ap (λ l. filter (touches l region) c.args.dc.now) dc) in
+    (c.deref-3.ensures.value ∙ c.in_ok-on.ensures ∙ ap (λ l. filter (intersects_region l region) c.args.on.now) on)
+    (c.deref-4.ensures.value ∙ c.in_ok-dc.ensures ∙ ap (λ l. filter (intersects_region l region) c.args.dc.now) dc) in
     let less = fewer_dashes region c.in-Some.i Zero c.in_ok-low.low dash zero_literal c.in_ok-low.ensures.value in (
       omega arith,
       (c.requires.source, (part_half sets region c.in_ok-low.low c.deref-3.result.now c.deref-4.result.now c.in-Some.i Zero part dash c.in_ok-low.ensures.value, c.in_ok-i.ensures.found)),
@@ -46,8 +46,8 @@ add_points-requires-2 t c =
     let on = c.as_slice.ensures.value ∙ ap (λ l. l.cubes) c.on.ensures in
     let dc = c.as_slice-2.ensures.value ∙ ap (λ l. l.cubes) c.dc.ensures in
     let part = part_touched sets region c.args.on.now c.args.dc.now c.deref-5.result.now c.deref-6.result.now c.requires.part
-    (c.deref-5.ensures.value ∙ c.in_ok-on.ensures ∙ ap (λ l. filter (touches l region) c.args.on.now) on)
-    (c.deref-6.ensures.value ∙ c.in_ok-dc.ensures ∙ ap (λ l. filter (touches l region) c.args.dc.now) dc) in
+    (c.deref-5.ensures.value ∙ c.in_ok-on.ensures ∙ ap (λ l. filter (intersects_region l region) c.args.on.now) on)
+    (c.deref-6.ensures.value ∙ c.in_ok-dc.ensures ∙ ap (λ l. filter (intersects_region l region) c.args.dc.now) dc) in
     let less = fewer_dashes region c.in-Some.i One c.in_ok-high.high dash one_literal c.in_ok-high.ensures.value in (
       omega arith,
       (c.requires.source, (part_half sets region c.in_ok-high.high c.deref-5.result.now c.deref-6.result.now c.in-Some.i One part dash c.in_ok-high.ensures.value, c.in_ok-add_points.ensures.found)),

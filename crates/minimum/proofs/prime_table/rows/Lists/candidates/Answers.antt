@@ -1,5 +1,5 @@
 use Rattle.std.proofs.Common.{◌∙◌, ap, filter}
-use Rattle.minimum.specs.PrimeRows.{touches}
+use Rattle.minimum.specs.PrimeRows.{intersects_region}
 use Rattle.minimum.proofs.PrimeRows.{candidates_touching}
 use Rattle.minimum.proofs.prime_table.rows.Lists.candidates.Goals as goal
 
@@ -8,12 +8,12 @@ returns c =
     let lists = c.args.self.now in
     let region = c.args.region.now in
     let candidates = c.args.candidates.now in
-    let a = candidates_touching lists.primes.now region candidates.primes.items c.in_ok-numbers_touching.field-0.items c.requires.primes_size c.requires.primes_candidates
-    (c.in_ok-numbers_touching.ensures ∙ ap (filter (touches lists.primes.now region)) c.deref.ensures.value) in
-    let b = candidates_touching lists.on.now region candidates.on.items c.in_ok-numbers_touching-2.field-0.items c.requires.on_size c.requires.on_candidates
-    (c.in_ok-numbers_touching-2.ensures ∙ ap (filter (touches lists.on.now region)) c.deref-2.ensures.value) in
-    let d = candidates_touching lists.dc.now region candidates.dc.items c.in_ok-numbers_touching-3.field-0.items c.requires.dc_size c.requires.dc_candidates
-    (c.in_ok-numbers_touching-3.ensures ∙ ap (filter (touches lists.dc.now region)) c.deref-3.ensures.value) in
+    let a = candidates_touching lists.primes.now region candidates.primes.items c.in_ok-numbers_intersecting.field-0.items c.requires.primes_size c.requires.primes_candidates
+    (c.in_ok-numbers_intersecting.ensures ∙ ap (filter (intersects_region lists.primes.now region)) c.deref.ensures.value) in
+    let b = candidates_touching lists.on.now region candidates.on.items c.in_ok-numbers_intersecting-2.field-0.items c.requires.on_size c.requires.on_candidates
+    (c.in_ok-numbers_intersecting-2.ensures ∙ ap (filter (intersects_region lists.on.now region)) c.deref-2.ensures.value) in
+    let d = candidates_touching lists.dc.now region candidates.dc.items c.in_ok-numbers_intersecting-3.field-0.items c.requires.dc_size c.requires.dc_candidates
+    (c.in_ok-numbers_intersecting-3.ensures ∙ ap (filter (intersects_region lists.dc.now region)) c.deref-3.ensures.value) in
     record {
       split = record {
         one = c.requires.one;
@@ -25,7 +25,7 @@ returns c =
         on_candidates = b.0;
         dc_candidates = d.0;
       };
-      primes_touch = a.1;
-      on_touch = b.1;
-      dc_touch = d.1;
+      primes_intersect = a.1;
+      on_intersect = b.1;
+      dc_intersect = d.1;
     }

@@ -2,7 +2,7 @@ use Rattle.std.proofs.Common.{◌∙◌, ap, sym, filter, eqb, length}
 use Rattle.std.proofs.lemmas.Bool.{eqb-true}
 use Rattle.std.proofs.lemmas.Result.{IfOk-weaker}
 use Rattle.covering.specs.Table.{has}
-use Rattle.minimum.specs.PrimeRows.{spans}
+use Rattle.minimum.specs.PrimeRows.{contains_region}
 use Rattle.minimum.proofs.PrimeRows.{alone_holds, common_primes_spanning}
 use Rattle.minimum.proofs.prime_table.rows.Lists.common_primes.Goals as goal
 
@@ -18,16 +18,16 @@ pub returns-clause-rises : goal.returns-clause-rises
 returns-clause-rises c =
     let lists = c.args.self.now in
     let candidates = c.args.candidates.now in
-    IfOk-weaker c.numbers_spanning.result _ _
+    IfOk-weaker c.numbers_containing.result _ _
     (λ v same. (common_primes_spanning lists.primes.now lists.on.now lists.dc.now c.args.region.now candidates.primes.items candidates.on.items candidates.dc.items v.items c.requires
-    (same ∙ ap (filter (spans lists.primes.now c.args.region.now)) c.deref-2.ensures.value)).0)
-    c.numbers_spanning.ensures
+    (same ∙ ap (filter (contains_region lists.primes.now c.args.region.now)) c.deref-2.ensures.value)).0)
+    c.numbers_containing.ensures
 
 pub returns-clause-hold : goal.returns-clause-hold
 returns-clause-hold c =
     let lists = c.args.self.now in
     let candidates = c.args.candidates.now in
-    IfOk-weaker c.numbers_spanning.result _ _
+    IfOk-weaker c.numbers_containing.result _ _
     (λ v same. (common_primes_spanning lists.primes.now lists.on.now lists.dc.now c.args.region.now candidates.primes.items candidates.on.items candidates.dc.items v.items c.requires
-    (same ∙ ap (filter (spans lists.primes.now c.args.region.now)) c.deref-2.ensures.value)).1)
-    c.numbers_spanning.ensures
+    (same ∙ ap (filter (contains_region lists.primes.now c.args.region.now)) c.deref-2.ensures.value)).1)
+    c.numbers_containing.ensures

@@ -20,7 +20,7 @@ returns-in-None c =
     let lists = c.args.self.now in
     let candidates = c.args.candidates.now in
     go _ _ (IsFree c.args.region.now) c.first_inside-in-None.result
-    (λ h. settled_inside lists.primes.now lists.on.now lists.dc.now c.args.region.now candidates.primes.items candidates.on.items candidates.dc.items c.requires.touched c.requires.open.no_span
+    (λ h. settled_inside lists.primes.now lists.on.now lists.dc.now c.args.region.now candidates.primes.items candidates.on.items candidates.dc.items c.requires.touched c.requires.open.none_contains
     (λ i k. c.in-None.ensures i (ap (has i) c.deref-2.ensures.value ∙ k)) (λ i k. h i (ap (has i) c.deref-in-None.ensures.value ∙ k)))
     c.first_inside-in-None.ensures
   where

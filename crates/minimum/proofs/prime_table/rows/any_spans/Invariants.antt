@@ -1,7 +1,0 @@
-use Rattle.std.proofs.Common.{◌≡◌, take, false}
-use Rattle.std.specs.List.{list_any}
-use Rattle.minimum.specs.PrimeRows.{spans}
-use Rattle.minimum.proofs.prime_table.rows.any_spans.Given as goal
-
-abbrev pub invariant-loop-number : goal.invariant-loop-number
-invariant-loop-number l = list_any (spans l.cubes l.region) (take l.number-index l.numbers) ≡ false

@@ -1,6 +1,0 @@
-use Rattle.std.proofs.Common.{◌≡◌, take, filter}
-use Rattle.minimum.specs.PrimeRows.{touches}
-use Rattle.minimum.proofs.prime_table.rows.numbers_touching.Given as goal
-
-abbrev pub invariant-loop-number : goal.invariant-loop-number
-invariant-loop-number l = l.kept.items ≡ filter (touches l.cubes l.region) (take l.number-index l.numbers)

@@ -1,5 +1,0 @@
-use Rattle.minimum.proofs.RegionCandidates.{spans-from_answer}
-use Rattle.minimum.proofs.prime_table.rows.spans.Goals as goal
-
-pub returns : goal.returns
-returns c = spans-from_answer c.args.cubes.now c.args.region.now c.requires.size c.args.number c.requires.below c.index-cubes-number.result c.index-cubes-number.is c.contains.result c.contains.ensures
