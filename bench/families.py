@@ -15,9 +15,10 @@ from control import (DECODED, KNOWN, WIDE, Listing, control, first_request, gran
 
 @dataclass(frozen=True)
 class Size:
-    """One member of a family: what it is called, and what makes its files (the paths, when they are asked for)."""
+    """One size of a family: what it is called, and for each of its functions what makes the files (their paths, when they
+    are asked for)."""
     label: str
-    files: Callable
+    files: list
     listing: Listing = None        # of functions of many outputs: the shape, and the number of primes
 
 
@@ -152,9 +153,12 @@ def points_and_joined(name, function):
     return points_of(name, function), file_of(f"peers-{name}-joined", inputs, outputs, joined(*function))
 
 
-def random_points(inputs, outputs, ones, dashes, seed):
+DRAWS = 5                          # functions a size, where one that is drawn may be much harder than the next
+
+
+def random_points(inputs, outputs, ones, dashes, draw):
     """Each output of each point is 1 or a don't-care, in these shares."""
-    chance = random.Random(seed)
+    chance = random.Random(inputs + 1000 * draw)
 
     def rows():
         for point in range(2 ** inputs):
@@ -162,12 +166,12 @@ def random_points(inputs, outputs, ones, dashes, seed):
                               for share in (chance.random() for _ in range(outputs)))
             if symbols.strip("0"):
                 yield f"{point:0{inputs}b} {symbols}"
-    return file_of(f"peers-points-{inputs}-{outputs}-{ones}-{dashes}", inputs, outputs, rows(), (".type fd",))
+    return file_of(f"peers-points-{inputs}-{outputs}-{ones}-{dashes}-{draw}", inputs, outputs, rows(), (".type fd",))
 
 
-def random_cubes(rows):
+def random_cubes(rows, draw):
     """Random cubes of ten inputs and two outputs, of which four symbols in ten are dashes."""
-    return file_of(f"peers-cubes-{rows}", 10, 2, sparse_rows(rows, 10, 2, 0.4, rows))
+    return file_of(f"peers-cubes-{rows}-{draw}", 10, 2, sparse_rows(rows, 10, 2, 0.4, rows + 1000 * draw))
 
 
 def ring_file(count):
@@ -183,7 +187,14 @@ def shuffled_cubes(rows):
 
 
 def family(name, told, sizes, label, files):
-    return Family(name, told, [Size(label(size), lambda size=size: files(size)) for size in sizes])
+    return Family(name, told, [Size(label(size), [lambda size=size: files(size)]) for size in sizes])
+
+
+def drawn_family(name, told, sizes, label, files):
+    """A family of some functions a size: `files` has the number of the draw too."""
+    return Family(name, f"{told}; {DRAWS} functions a size",
+                  [Size(label(size), [lambda size=size, draw=draw: files(size, draw) for draw in range(DRAWS)])
+                   for size in sizes])
 
 
 def inputs_label(inputs):
@@ -275,12 +286,12 @@ def for_exact():
     return [
         *(family(name, told, sizes, label, lambda n, name=name, make=make: (points_of(f"{name}-{n}", make(n)),))
           for name, told, sizes, label, make in points),
-        family("random points", "one output: 40 % are 1 and 20 % don't-cares", range(5, 14), inputs_label,
-               lambda n: (random_points(n, 1, 0.4, 0.2, n),)),
-        family("random points, two outputs", "30 % are 1 and 30 % don't-cares", range(4, 12), inputs_label,
-               lambda n: (random_points(n, 2, 0.3, 0.3, n),)),
-        family("random cubes", "ten inputs and two outputs, four symbols in ten are dashes",
-               (5, 10, 20, 30, 40, 60, 80, 120, 160), cubes_label, lambda n: (random_cubes(n),)),
+        drawn_family("random points", "one output: 40 % are 1 and 20 % don't-cares", range(5, 14), inputs_label,
+                     lambda n, draw: (random_points(n, 1, 0.4, 0.2, draw),)),
+        drawn_family("random points, two outputs", "30 % are 1 and 30 % don't-cares", range(4, 12), inputs_label,
+                     lambda n, draw: (random_points(n, 2, 0.3, 0.3, draw),)),
+        drawn_family("random cubes", "ten inputs and two outputs, four symbols in ten are dashes",
+                     (5, 10, 20, 30, 40, 60, 80, 120, 160), cubes_label, lambda n, draw: (random_cubes(n, draw),)),
         family("rings", "six points of three inputs, side by side: six primes each, none essential",
                (1, 2, 4, 8, 16, 32, 64, 128, 256), ring_label, lambda n: (ring_file(n),)),
     ]
@@ -301,7 +312,7 @@ def for_single_outputs():
         *(family(name, told, sizes, label, lambda n, name=name, make=make: (points_of(f"one-{name}-{n}", make(n)),))
           for name, told, sizes, label, make in points),
         family("random points", "40 % are 1 and 20 % don't-cares", range(4, 13), inputs_label,
-               lambda n: (random_points(n, 1, 0.4, 0.2, n),)),
+               lambda n: (random_points(n, 1, 0.4, 0.2, 0),)),
         family("rings", "six points of three inputs, side by side: six primes each, none essential",
                (1, 2, 4, 8, 16, 32, 64, 128), ring_label, lambda n: (ring_file(n),)),
     ]
@@ -317,7 +328,7 @@ def listed(name, listing):
 
 
 def listing_family(name, told, listings):
-    return Family(name, told, [Size(f"{len(it.rows)} rows", lambda it=it: listed(name, it), it) for it in listings])
+    return Family(name, told, [Size(f"{len(it.rows)} rows", [lambda it=it: listed(name, it)], it) for it in listings])
 
 
 # Inputs, outputs and rows of control logic, and how many primes it has; with don't-cares, and how many it has then.

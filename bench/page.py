@@ -33,8 +33,8 @@ def ratio(number):
 
 def time_of(row, tool):
     """The seconds of a tool at a size, None where it gave no answer or was not asked."""
-    outcome = row.outcomes.get(tool.label) if tool else None
-    return outcome.seconds if outcome else None
+    total = row.totals.get(tool.label) if tool else None
+    return total.seconds if total else None
 
 
 def ours(tools):
@@ -72,7 +72,7 @@ def table(head, lines, left=1):
 
 
 def cell(row, tool):
-    if tool.label not in row.outcomes:
+    if tool.label not in row.totals:
         return "–"
     return "*none*" if time_of(row, tool) is None else figure(time_of(row, tool))
 
@@ -146,7 +146,7 @@ def series_of(tools):
 
 def drawn(comparison, tools, results, limit):
     def line(result, tool):
-        return [(row.rows, time_of(row, tool)) for row in result.rows if tool.label in row.outcomes]
+        return [(row.rows, time_of(row, tool)) for row in result.rows if tool.label in row.totals]
     panels = [Panel(result.family.name, [line(result, tool) for tool in tools]) for result in results]
     return picture(f"{capital(comparison.title)}: seconds over rows", series_of(tools), panels, limit)
 
@@ -155,8 +155,8 @@ def drawn(comparison, tools, results, limit):
 
 def primes_of(row):
     """How many primes there are: as many as were found, or as are known; None where neither is."""
-    listed = row.outcomes["primes"].answer if "primes" in row.outcomes else None
-    return row.listing.primes if listed is None else len(listed)
+    listed = row.totals["primes"].answers if "primes" in row.totals else None
+    return row.listing.primes if listed is None else len(listed[0])
 
 
 def count_of_primes(row):
@@ -178,8 +178,8 @@ def logic_table(comparison, tools, result):
 
 def over_primes(result, label):
     """The seconds of a command over the number of primes, by that number."""
-    points = [(primes_of(row), row.outcomes[label].seconds) for row in result.rows
-              if primes_of(row) and label in row.outcomes]
+    points = [(primes_of(row), row.totals[label].seconds) for row in result.rows
+              if primes_of(row) and label in row.totals]
     return sorted(points, key=lambda point: point[0])
 
 
@@ -259,7 +259,8 @@ HOW = """## How it was measured
 On a machine of {cores} cores ({processor}{speed}) and {memory} of memory, under {system}; its load was {load} at the end.
 {running} at a time, each on one core. The time of a process is from its start to its end, including the reading
 of the files: the least of three runs, or that of one run if it takes more than {short:g} seconds. A tool is dropped from a
-family at the first size that it does not answer within {limit:g} seconds and {bytes:.0f} GiB.
+family at the first size that it does not answer within {limit:g} seconds and {bytes:.0f} GiB. Where a size has several functions,
+the limit holds for each, and times, rows and answers are sums.
 
 In the tables, times are in seconds, *none* means no answer within these limits, and – a size on which a tool was not run. The
 ratio is the other tool's time divided by this one's, in bold where the other is faster. Wherever two tools answered, their

@@ -47,8 +47,15 @@ class Outcome:
 
 
 @dataclass(frozen=True)
+class Total:
+    """What a tool answered of each function of a size, and in what time together; no time where it left one unanswered."""
+    seconds: float = None
+    answers: list = None
+
+
+@dataclass(frozen=True)
 class Tool:
-    """`run` gives the outcome, by a limit and the paths of a size's files, or None where the tool cannot be asked."""
+    """`run` gives the outcome, by a limit and the paths of a function's files, or None where the tool cannot be asked."""
     label: str
     run: Callable
     needs: str = ""                # what has to be installed
@@ -63,19 +70,19 @@ class Comparison:
     title: str
     tools: list
     families: list
-    agree: Callable                # by the paths of a size's files and, of functions of many outputs, their listing
-    shown: Callable                # the answers in a few words
+    agree: Callable                # by the paths of a function's files and, of functions of many outputs, their listing
+    shown: Callable                # the answers of all functions of a size in a few words
     counted: str                   # what these words are
     told: str                      # what was compared, for the page
 
 
 @dataclass
 class Row:
-    """One size of a family: its files' rows, the outcome of each tool by label, whether the answers agree (None where
-    fewer than two were given), and the answer in words."""
+    """One size of a family: its files' rows, the total of each tool by label, whether the answers agree (None where
+    fewer than two were given), and the answers in words."""
     label: str
     rows: int
-    outcomes: dict
+    totals: dict
     agree: object
     shown: str
     listing: object = None
@@ -307,14 +314,13 @@ def equal(answers, paths, listing):
 
 
 def words_for(yes, no):
-    return lambda answers: next((yes if answer else no for answer in answers.values()), "")
+    return lambda answers: next((yes if of_each[0] else no for of_each in answers.values()), "")
 
 
 def sizes_shown(*labels):
-    def shown(answers):
-        found = [answers.get(label) for label in labels]
-        return " / ".join("–" if x is None else str(x if isinstance(x, int) else len(x)) for x in found)
-    return shown
+    def in_sum(of_each):
+        return "–" if of_each is None else str(sum(x if isinstance(x, int) else len(x) for x in of_each))
+    return lambda answers: " / ".join(in_sum(answers.get(label)) for label in labels)
 
 
 def comparisons(program):
@@ -379,10 +385,27 @@ def installed(tool):
     return False
 
 
-def seconds_told(outcome):
-    if outcome is None:
-        return "not asked"
-    return "no answer" if outcome.seconds is None else f"{outcome.seconds:.3f} s"
+def seconds_told(total):
+    return "no answer" if total.seconds is None else f"{total.seconds:.3f} s"
+
+
+def total_of(tool, limit, files):
+    """What the tool answers of functions, given by the paths of their files; None where it cannot be asked of one."""
+    found = []
+    for paths in files:
+        outcome = tool.run(limit, paths)
+        if outcome is None or outcome.seconds is None:
+            return outcome and Total()
+        found.append(outcome)
+    return Total(sum(outcome.seconds for outcome in found), [outcome.answer for outcome in found])
+
+
+def do_agree(comparison, answers, files, listing):
+    """Whether the tools' answers of each function agree; None where fewer than two tools gave them."""
+    if len(answers) < 2:
+        return None
+    return all(comparison.agree({label: of_each[k] for label, of_each in answers.items()}, paths, listing)
+               for k, paths in enumerate(files))
 
 
 def measured(comparison, tools, family, limit):
@@ -390,15 +413,15 @@ def measured(comparison, tools, family, limit):
     found = []
     running = list(tools)
     for size in family.sizes:
-        paths = size.files()
-        outcomes = {tool.label: tool.run(limit, paths) for tool in running}
-        outcomes = {label: outcome for label, outcome in outcomes.items() if outcome}
-        running = [tool for tool in running if tool.label in outcomes and outcomes[tool.label].seconds is not None]
-        answers = {label: outcome.answer for label, outcome in outcomes.items() if outcome.answer is not None}
-        agree = comparison.agree(answers, paths, size.listing) if len(answers) > 1 else None
-        rows = len(size.listing.rows) if size.listing else sum(len(rows_of(path)) for path in paths)
-        found.append(Row(size.label, rows, outcomes, agree, comparison.shown(answers), size.listing))
-        told = ", ".join(f"{label} {seconds_told(outcome)}" for label, outcome in outcomes.items())
+        files = [make() for make in size.files]
+        totals = {tool.label: total_of(tool, limit, files) for tool in running}
+        totals = {label: total for label, total in totals.items() if total}
+        running = [tool for tool in running if tool.label in totals and totals[tool.label].seconds is not None]
+        answers = {label: total.answers for label, total in totals.items() if total.answers}
+        agree = do_agree(comparison, answers, files, size.listing)
+        rows = len(size.listing.rows) if size.listing else sum(len(rows_of(path)) for paths in files for path in paths)
+        found.append(Row(size.label, rows, totals, agree, comparison.shown(answers), size.listing))
+        told = ", ".join(f"{label} {seconds_told(total)}" for label, total in totals.items())
         differ = ": THE ANSWERS DIFFER" if agree is False else ""
         print(f"{comparison.name}, {family.name}, {size.label}: {told}{differ}", flush=True)
         if not running:

@@ -1,7 +1,7 @@
-//! Why cubes hold every place of a region: a cube that holds the region, and of which they hold
-//! each place (an implicant of the list).
+//! Whether a list holds a region, with the reason: an implicant of the list that contains the
+//! region.
 //!
-//! A region is a cube. A row that contains it is such a cube. Else the region is split at an input,
+//! A region is a cube. A row that contains it is such an implicant. Else the region is split at an input,
 //! and each half is asked for by itself. If the cube for one half has no literal at that input, it
 //! holds the whole region, and the other half is never asked for: so a split that had no part in an
 //! answer is undone at once, wherever it was made (Marques-Silva and Sakallah 1996). Else the
@@ -10,8 +10,8 @@
 //! one of the halves, so that the other decides (Davis, Logemann and Loveland 1962). If a row has
 //! no open literal, the region is asked for without the outputs of the row.
 //!
-//! Each question looks at the rows once. While some rows of a region have few open literals, its
-//! halves look at those rows alone, and at all rows that meet the region only once these have more.
+//! Each question looks at the rows once. The halves of a region look first at the rows alone that
+//! had fewest open literals in it, and at all rows that meet the region once those have more.
 //!
 //! Splits may look at a limited number of rows. Once that is spent, `holds_by_splits_or_search`
 //! asks a search that learns (`learned`).
@@ -338,7 +338,8 @@ fn reason_by_step(
     }
 }
 
-// The reason, found from that of the region without the outputs of a row without open literals.
+// The reason, where the row has no open literal: it holds the region at its outputs, so the region
+// is asked for without these.
 #[cycle(reason)]
 fn reason_by_outputs(
     allowance: Allowance,
@@ -374,7 +375,7 @@ fn reason_by_outputs(
     Ok(row.output_consensus(&other)?)
 }
 
-// The reason, found by the two halves of the region at an input. That with the literal is first.
+// The reason, found by the two halves of the region at an input, first that with the literal.
 #[cycle(reason)]
 fn reason_by_split(
     allowance: Allowance,
@@ -454,24 +455,6 @@ pub(crate) fn holds_region(alloc: Global, rows: &[&Cube], region: &Cube) -> Resu
     holds_by_splits_or_search(alloc, rows, &[], 0, region, &mut learned)
 }
 
-// Whether the rows hold each place of the region, by splits alone.
-fn holds_by_splits(
-    allowance: Allowance,
-    rows: &[&Cube],
-    near: &[&Cube],
-    bound: u32,
-    region: &Cube,
-    row_budget: &mut u64,
-) -> Result<bool, Stop>
-    requires sizes { All (λ d. SameSize d.now region.now) rows.now }
-    requires near { AreAmong near.now rows.now }
-    ensures held { IfOk result
-        (λ held. IsTrue held ↔ IsSubset (holds region.now) (places (behind rows.now))) }
-    ensures spent { IfErr result (λ stop. stop ≡ Stop.Spent → IsTrue allowance.limited) }
-{
-    Ok(reason(allowance, rows, near, bound, region, row_budget)?.is_some())
-}
-
 /// Whether splits that look at no more than `row_budget` rows show that the rows hold each place of
 /// the region.
 pub(crate) fn is_seen_to_hold(
@@ -489,8 +472,8 @@ pub(crate) fn is_seen_to_hold(
         limited: true,
     };
     let mut left = row_budget as u64;
-    match holds_by_splits(allowance, rows, &[], 0, region, &mut left) {
-        Ok(held) => Ok(held),
+    match reason(allowance, rows, &[], 0, region, &mut left) {
+        Ok(found) => Ok(found.is_some()),
         Err(Stop::Memory) => Err(AllocError),
         Err(Stop::Spent) => Ok(false),
     }
@@ -514,8 +497,8 @@ fn holds_by_unlimited_splits(
         limited: false,
     };
     let mut row_budget = 0;
-    match holds_by_splits(allowance, rows, near, bound, region, &mut row_budget) {
-        Ok(held) => Ok(held),
+    match reason(allowance, rows, near, bound, region, &mut row_budget) {
+        Ok(found) => Ok(found.is_some()),
         Err(Stop::Memory) => Err(AllocError),
         Err(Stop::Spent) => unreachable!(),
     }
@@ -526,7 +509,7 @@ fn holds_by_unlimited_splits(
 ///
 /// Most questions are answered by splits. Once the splits of all questions about the rows have
 /// spent the row budget of `learned`, a search is asked, and what it learns of the rows is kept. If
-/// it finds no answer within its limits, or one that is not shown, splits begin again without
+/// it finds no answer within its limits, or one that fails the check, splits begin again without
 /// limit.
 pub(crate) fn holds_by_splits_or_search(
     alloc: Global,
@@ -549,7 +532,7 @@ pub(crate) fn holds_by_splits_or_search(
         alloc,
         limited: true,
     };
-    match holds_by_splits(
+    match reason(
         allowance,
         rows,
         near,
@@ -557,7 +540,7 @@ pub(crate) fn holds_by_splits_or_search(
         region,
         &mut learned.row_budget,
     ) {
-        Ok(held) => return Ok(held),
+        Ok(found) => return Ok(found.is_some()),
         Err(Stop::Memory) => return Err(AllocError),
         Err(Stop::Spent) => (),
     }

@@ -21,16 +21,17 @@
 //! A reduction costs some passes over all rows, in each of which a row or a column is compared with
 //! those that share its rarest column or its shortest row (Rudell, Logic synthesis for VLSI design,
 //! 1989). The least cover is found by its length first: shorter covers are asked for until there is
-//! none, and with literals covers with fewer. Then its columns are decided in list order, by a
-//! witness, a cover within the budget, or by the question whether some cover within it has the
-//! column. A question is answered by a search that branches on any column; each of its tables is
-//! reduced, also by weak column dominance, and bounded by weights of its rows in whole numbers
-//! (Coudert, On solving covering problems, 1996). Weights, witnesses and branches are hints, which
-//! are checked before they are used. Rows that fall into parts which share no column are solved part
-//! by part, each renumbered (the first of two lists of one length has the least number in which they
-//! differ, so that the parts' least covers make the least cover); if all columns of a part cost the
-//! same its size decides. A search holds a copy of the table for each branch that is open, as many
-//! as columns are decided on one path. A search may take exponentially many branches.
+//! none, and with literals covers with fewer. Then its columns are decided in list order: one of
+//! the witness, a known cover within the budget, is taken, and of any other it is asked whether a
+//! cover within the budget has it. A question is answered by a search that branches on any column;
+//! each of its tables is reduced, also by weak column dominance, and bounded by weights of its rows
+//! in whole numbers (Coudert, On solving covering problems, 1996). Weights, witnesses and branches
+//! are hints, which are checked before they are used. Rows that fall into parts which share no
+//! column are solved part by part, each renumbered (the first of two lists of one length has the
+//! least number in which they differ, so that the parts' least covers make the least cover); if all
+//! columns of a part cost the same its size decides. A search holds a copy of the table for each
+//! branch that is open, as many as columns are decided on one path. A search may take exponentially
+//! many branches.
 #![tactic(auto)]
 
 mod bound;

@@ -43,8 +43,7 @@ fn are_apart(rows: &[Vec<usize>], marks: &[bool], others: &[bool]) -> bool
 }
 
 impl Table {
-    /// The table of the marked live columns and of the rows that have no others, with these columns
-    /// taken.
+    /// The marked live columns with the rows that have no others; its taken columns are these.
     fn part(&self, alloc: Global, taken: Vec<usize>, marks: &[bool]) -> Result<Table, AllocError>
         requires rises { RisesFrom 0 taken.items }
         requires taken { IsWithin taken.items self.now.taken }
@@ -55,8 +54,8 @@ impl Table {
         self.with(alloc, taken, live, rows)
     }
 
-    /// Two tables, of about half of the rows each where no part has more, if the rows fall into
-    /// parts that share no column.
+    /// If the rows fall into parts that share no column: two tables of whole parts, each with about
+    /// half of the rows unless one part has more.
     fn parts(&self, alloc: Global) -> Result<Option<Parts>, AllocError>
         ensures { IfOk result (λ o. IfSome o (λ p. AreParts self.now p.one p.other)) }
     {

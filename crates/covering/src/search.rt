@@ -2,8 +2,8 @@
 //!
 //! A budget is a number of columns and a cost. A search answers a cover within it, or that there is
 //! none: it prunes the table, branches on a column, first taken and then dropped, and prunes on. A
-//! table is pruned by the steps of a reduction, by dropping columns that another one dominates which
-//! costs no more, and by weights of its rows (the dual bound): if the weights are more than the
+//! table is pruned by the steps of a reduction, by dropping columns that another one dominates and
+//! that cost no less, and by weights of its rows (the dual bound): if the weights are more than the
 //! budget there is no cover within it, and a column with more slack than the remaining gap is in
 //! none. Any cover within the budget is a right answer, so any order of branches serves.
 
@@ -248,7 +248,7 @@ impl Table {
         Compact::of(alloc, self.row_lists(), live, self.columns(), costs)
     }
 
-    /// A mark for every column: what a bound says that excludes none.
+    /// All columns marked, as by a bound that excludes none.
     fn all_columns_marked(&self, alloc: Global) -> Result<Vec<bool>, AllocError>
         ensures { IfOk result (λ v. (c : ℕ) → has c self.now.live ≡ true
             → marked v.items c ≡ true) }
@@ -297,8 +297,8 @@ impl Table {
         Ok(Some(columns_within_gap(alloc, &scaled_costs, &loads.loads, limit - loads.total)?))
     }
 
-    /// Marks the columns that a cover within the budget may have, as far as multipliers show that
-    /// subgradient steps find; `None` if they show that there is no such cover.
+    /// Marks the columns that a cover within the budget may have, as far as the multipliers that
+    /// subgradient steps find show it; `None` if they show that there is no such cover.
     pub(crate) fn columns_within_budget(
         &self,
         alloc: Global,
@@ -374,7 +374,11 @@ impl Table {
     }
 
     /// A live column to branch on: the likeliest one of a shortest row.
-    fn likeliest(&self, alloc: Global, warm_start: &WarmStart) -> Result<Option<usize>, AllocError>
+    fn branching_column(
+        &self,
+        alloc: Global,
+        warm_start: &WarmStart,
+    ) -> Result<Option<usize>, AllocError>
         ensures live { IfOk result (λ o. MatchOption o (self.now.live ≡ [])
             (λ c. has c self.now.live ≡ true)) }
         ensures table { IsTable self.now }
@@ -388,8 +392,8 @@ impl Table {
     }
 
     /// A cover within the budget, or none if there is none: prunes and branches. It looks at no more
-    /// than `tables_left` tables, and takes from them those that it looked at. What it learns of row
-    /// weights goes back to the warm start once it is over.
+    /// than `tables_left` tables, and subtracts those that it looked at. What it learns of row weights
+    /// goes back to the warm start once it is over.
     #[cycle(search)]
     fn search(
         &self,
@@ -416,8 +420,8 @@ impl Table {
         found
     }
 
-    /// A cover within the budget, or none if there is none: takes a live column, and if no such cover
-    /// has it drops it.
+    /// A cover within the budget, or none if there is none: branches on a live column, which is first
+    /// taken, and dropped if no such cover has it.
     #[cycle(search)]
     fn branch(
         &self,
@@ -436,7 +440,7 @@ impl Table {
         if self.is_solved() {
             return Ok(Some(copy_of(alloc, self.taken_columns())?));
         }
-        let Some(column) = self.likeliest(alloc, warm_start)? else {
+        let Some(column) = self.branching_column(alloc, warm_start)? else {
             return Ok(None);
         };
         let with = self.take(alloc, column)?;

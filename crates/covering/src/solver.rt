@@ -5,8 +5,8 @@
 //! one, in list order. If the witness, a cover within the budget, has the next column, so has the
 //! least cover; else it is asked whether some cover within the budget has it, which gives a new
 //! witness or drops the column. A batch of columns is asked for at once, by a further row of them: if
-//! no cover has one of them all are dropped. Such a question may look at a few tables only; if they
-//! do not suffice the first column is asked for alone.
+//! then no cover is within the budget, all are dropped. Such a question may look at a few tables only;
+//! if they do not suffice the first column is asked for alone.
 
 ghost use Rattle.std.specs.Prelude.{◌≡◌, ◌≢◌, ◌≤◌, ◌<◌, ◌+◌, ◌++◌, ◌∷◌, [], ℕ, List, IfOk, IfSome, MatchOption, filter, length, map, option_map, ◌==◌, true, false};
 ghost use Rattle.std.specs.List.{list_all, list_any};
@@ -120,8 +120,8 @@ fn all_cost(choice: Choice, literals: &[u32], columns: &[usize], same: u32) -> b
 }
 
 impl Partial {
-    /// The table with no columns but the marked ones, of which each row has one.
-    fn without_columns(self, alloc: Global, keep: &[bool]) -> Result<Partial, AllocError>
+    /// The table with the marked columns alone, of which each row has one.
+    fn keep_columns_marked(self, alloc: Global, keep: &[bool]) -> Result<Partial, AllocError>
         requires { list_any is_blank (map (filter (marked keep.now)) self.table.rows) ≡ false }
         ensures { IfOk result (λ s. (s.table ≡ keep_columns (marked keep.now) self.table)
             × (s.witness ≡ self.witness)) }
@@ -169,7 +169,7 @@ impl Partial {
             }),
             None => {
                 let keep = others(alloc, &marks, self.table.columns())?;
-                self.without_columns(alloc, &keep)
+                self.keep_columns_marked(alloc, &keep)
             }
         }
     }
@@ -205,7 +205,7 @@ impl Partial {
             }),
             None => {
                 let keep = all_but(alloc, column, self.table.columns())?;
-                self.without_columns(alloc, &keep)
+                self.keep_columns_marked(alloc, &keep)
             }
         }
     }
@@ -227,7 +227,7 @@ impl Partial {
             .table
             .columns_within_budget(alloc, choice, budget, &mut questions.warm_start)?
         {
-            Some(keep) => self.without_columns(alloc, &keep),
+            Some(keep) => self.keep_columns_marked(alloc, &keep),
             None => unreachable!(),
         }
     }
@@ -353,7 +353,7 @@ impl Table {
     }
 
     /// The best cover of a local search of `steps` steps a row, which ends early at a cover of
-    /// `columns` columns that costs nothing. All columns if it finds none.
+    /// no more than `columns` columns and cost 0. All columns if it finds none.
     fn some_cover(
         &self,
         alloc: Global,
@@ -379,8 +379,8 @@ impl Table {
         }
     }
 
-    /// A lower bound on the length of covers, where one of `columns` columns is known: a hint, as row
-    /// weights show it.
+    /// A hint, from row weights: a lower bound on the length of covers, of which one has `columns`
+    /// columns.
     fn length_bound_hint(
         &self,
         alloc: Global,
@@ -484,8 +484,8 @@ impl Table {
         }
     }
 
-    /// A lower bound on the literals of covers of `columns` columns, where one of this cost is known: a
-    /// hint, as row weights show it.
+    /// A hint, from row weights: a lower bound on the literals of covers of `columns` columns, of which
+    /// one has this cost.
     fn literals_bound_hint(
         &self,
         alloc: Global,

@@ -438,12 +438,12 @@ impl Ascent {
             return Ok(true);
         }
         course.restart(step);
-        self.kick(alloc)?;
+        self.restart_near_best(alloc)?;
         Ok(false)
     }
 
     /// Moves from the best weights a quarter of the way to their mean, for a restart.
-    fn kick(&mut self, alloc: Global) -> Result<(), AllocError> {
+    fn restart_near_best(&mut self, alloc: Global) -> Result<(), AllocError> {
         let number = self.top_weights.len();
         let mean = match i64::try_from(number.max(1)) {
             Ok(number) => total(&self.top_weights).wrapping_div(number.max(1)),

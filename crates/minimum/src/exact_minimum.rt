@@ -42,8 +42,8 @@ fn cubes_at(alloc: Global, list: &Cover, numbers: &[usize]) -> Result<Cover, All
     Ok(picked)
 }
 
-// At most this many cubes with the places outside are made for an output on average: where many
-// functions are joined in one output there are far more, the primes are few, and all are listed.
+// At most this many cubes with the places outside are made for an output on average. Where many
+// functions are joined in one output there are far more, but few primes, and all of these are listed.
 const MOST_OF_AN_OUTPUT: usize = 250;
 
 // At most this many such cubes are made for all outputs together.
@@ -54,7 +54,7 @@ const MOST_OUTSIDE: usize = 40000;
 // were seen to take a tenth of these rows.
 const MOST_ROWS_OF_AN_OUTPUT: usize = 1_000_000;
 
-/// How far cubes with the places outside these are looked for.
+/// The budget for cubes with the places that this list does not hold.
 fn budget_outside(all: &Cover) -> Budget {
     let outputs = all.shape().outputs();
     let rows = all.len().saturating_mul(MOST_OF_AN_OUTPUT);
@@ -174,9 +174,9 @@ fn exact_by_table(
     cubes_at(alloc, primes, &least)
 }
 
-/// The least cover by primes: of the lists of primes that together hold each place of the ON-set
-/// that is not in the DC-set, the first of the shortest, in row order; with `Choice::Literals`, of
-/// those with the fewest literals.
+/// The least cover by primes: the shortest list of primes that together hold each place of the ON-set
+/// that is not in the DC-set; of several, the first in row order, with `Choice::Literals` of those
+/// with the fewest literals.
 ///
 /// With many inputs and several outputs it lists no more primes than contain some picked points,
 /// unless a budget is spent. Else its cost is that of [`primes`], with few inputs that of

@@ -18,14 +18,14 @@ use covering::Choice;
 use pla::{FileType, Pla, Sets};
 use std::alloc::{AllocError, Global};
 
-// At most this many cubes are made of one OFF row without the ON list; else a DC list is made.
+// Taking the ON list from one OFF row makes at most this many cubes; past that a DC list is made.
 const MOST_OF_OFF: usize = 200_000;
 
 // At most this many rows are looked at for all OFF rows, besides each ON row once for each OFF row:
 // a wide OFF row over many ON rows takes far more, and then a DC list is made sooner.
 const MOST_ROWS_OF_OFF: usize = 4_000_000;
 
-// How far the ON list is taken from the OFF list.
+// The budget for taking the ON list from the OFF list.
 fn budget_of_off(pla: &Pla) -> Budget {
     let pairs = pla.off().len().saturating_mul(pla.on().len());
     Budget {
@@ -211,7 +211,8 @@ fn exact_outside_off(
     exact_by_points(alloc, &samples, &source, &places, choice)
 }
 
-// The least cover under fr by points, from a list of all primes, of which none has these places.
+// The least cover under fr by points that are picked by a list of all primes: the largest cubes that
+// avoid these places.
 fn exact_among_primes(
     alloc: Global,
     pla: &Pla,

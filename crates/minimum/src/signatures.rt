@@ -33,7 +33,7 @@ pub(crate) mod source;
 use crate::prime_table::rows::numbers_containing;
 use crate::prime_table::weights;
 use crate::signatures::picked_points::PickedPoints;
-use crate::signatures::regions::{add_cube, pick_point};
+use crate::signatures::regions::{add_points_of_cube, pick_point};
 use crate::signatures::source::{Source, Stop};
 use cover::{Cover, in_row_order};
 use covering::{Table, numbers};
@@ -147,7 +147,7 @@ fn signatures_and_dc(alloc: Global, sets: &Sets, found: &PickedPoints) -> Result
 }
 
 /// Adds points for what the signatures leave out of the ON cubes.
-fn add_cubes(
+fn add_points_of_cubes(
     alloc: Global,
     sets: &Sets,
     source: &Source,
@@ -166,7 +166,7 @@ fn add_cubes(
     for k in 0..cubes.len() {
         let cube = &cubes[k];
         if !are_held[k] {
-            add_cube(alloc, sets, source, &on, &dc, cube, found)?;
+            add_points_of_cube(alloc, sets, source, &on, &dc, cube, found)?;
         }
     }
     Ok(())
@@ -186,7 +186,7 @@ fn find_points(
 {
     let mut found = PickedPoints::new(alloc);
     add_places(alloc, sets, source, places, &mut found)?;
-    add_cubes(alloc, sets, source, &mut found)?;
+    add_points_of_cubes(alloc, sets, source, &mut found)?;
     Ok(found)
 }
 

@@ -286,7 +286,7 @@ impl Rows {
 
     /// Whether the code is seen to begin with a whole row, with a blank between inputs and outputs.
     /// It may answer `false` for such a row.
-    fn begins_row(&self, code: &[u8]) -> bool
+    fn begins_whole_row(&self, code: &[u8]) -> bool
         ensures { result ≡ true → BeginsRow self.now code.now }
     {
         let (n, m) = (self.shape.inputs(), self.shape.outputs());
@@ -310,7 +310,7 @@ impl Rows {
         ensures read { IfOk result (λ rest. read_code file_type self.old code.now
             ≡ read_code file_type self.new rest.now) }
     {
-        if !self.begins_row(code) {
+        if !self.begins_whole_row(code) {
             return Ok(code);
         }
         let (n, m) = (self.shape.inputs(), self.shape.outputs());

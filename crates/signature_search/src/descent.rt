@@ -81,7 +81,7 @@ impl Finder<'_> {
     ) -> Result<Option<Signature>, AllocError> {
         let place = point_of(self.alloc, near, self.function.inputs)?;
         let words = self.function.output_words;
-        let cube = Cube::with_output(self.alloc, &place, output, words)?;
+        let cube = Cube::of_output(self.alloc, &place, output, words)?;
         match self.signature_cube(&cube)? {
             Some((cube, rows)) => Ok(Some(Signature {
                 cube,
@@ -102,7 +102,7 @@ impl Finder<'_> {
         output: usize,
     ) -> Result<Option<Signature>, AllocError> {
         let words = self.function.output_words;
-        let cube = Cube::with_output(self.alloc, near, output, words)?;
+        let cube = Cube::of_output(self.alloc, near, output, words)?;
         let first = match self.signature_of(&cube)? {
             Some(signature) => Some(signature),
             None => self.signature_at_point(near, output)?,
@@ -110,7 +110,7 @@ impl Finder<'_> {
         let Some(mut best) = first else {
             return Ok(None);
         };
-        let wide = Cube::with_output(self.alloc, wide, output, words)?;
+        let wide = Cube::of_output(self.alloc, wide, output, words)?;
         let inputs = missing_inputs_by_weight(self.alloc, &best, &wide.literals)?;
         let literals = best.cube.literals.to_vec(self.alloc)?;
         let mut least: usize = 0;

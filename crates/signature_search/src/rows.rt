@@ -169,7 +169,7 @@ impl Cube {
     }
 
     /// These literals with one output.
-    pub(crate) fn with_output(
+    pub(crate) fn of_output(
         alloc: Global,
         literals: &[Literals],
         output: usize,

@@ -70,7 +70,7 @@ pub use line::{Line, LineFault};
 use pla::Writing;
 pub use program::execute;
 pub use run_files::{refuse, run};
-use sources::{Files, words_of};
+use sources::{Files, process_words};
 pub use sources::{Opener, Source, after_first, source_name};
 pub use status::Status;
 use std::process::ExitCode;
@@ -81,5 +81,12 @@ pub fn start(rt: &HostRuntime) -> ExitCode {
     let mut out = Writing::new(rt.stdout());
     let mut err = Writing::new(rt.stderr());
     let mut files = Files { rt };
-    ExitCode::from(execute(rt.alloc(), words_of(rt), &mut files, &mut out, &mut err).code())
+    ExitCode::from(execute(
+        rt.alloc(),
+        process_words(rt),
+        &mut files,
+        &mut out,
+        &mut err,
+    )
+    .code())
 }

@@ -14,8 +14,9 @@ use pla::Output;
 use std::alloc::{AllocError, Global};
 
 /// Acts on the words that a process was started with, the program's name first, and returns how it
-/// ends: if they say a line, it is run on its files, and otherwise it is said why not. So output,
-/// message and status are those of `tool`, unless memory runs out or an output fails.
+/// ends: if they are a command line, it is run on its files, and otherwise a message says why they
+/// are none. So output, message and status are those of `tool`, unless memory runs out or an output
+/// fails.
 ///
 /// No file word, or `-`, is standard input; any other word is the file of that name, or a closed
 /// source if it cannot be opened. The opener is called once for each source, and for nothing else:

@@ -1,5 +1,5 @@
-//! Opening a source (`open_source`), reading it (`read_source`), and the second source of a run,
-//! one that is there or one to be opened, which has to be of the first's size (`read_other`).
+//! Opening a source (`open_source`), reading it (`read_source`), and reading the second file of a run
+//! (`read_other`): its source is given or opened first, and its sizes have to be those of the first.
 ghost use Rattle.std.specs.Prelude.{◌≡◌, IfErr, IfOk, Option, Some, map, string_bytes, true};
 ghost use Rattle.tool.specs.Program.{IsOpenedAs, named_file};
 ghost use Rattle.tool.specs.Run.{Intake, Takes, name_of, trace};
@@ -18,7 +18,7 @@ pub(crate) trait SecondSource {
     // It can give the second source of this line.
     ghost fits: { Request → Self → Type 0 };
 
-    // From the first state to the last, this was taken of the second source of this line.
+    // Between these two states this was read of the second source of this line.
     ghost asked: { Request → Self → Intake → Self → Type 0 };
 
     // Reads the second source of a line whose command takes two.

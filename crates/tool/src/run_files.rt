@@ -42,10 +42,10 @@ pub fn refuse<E: Output>(fault: &LineFault, err: &mut E) -> Status
 /// The first source is read to its end or its first fault, then the second if there is one, and
 /// their comments and unknown keyword lines go out after each piece; then the sizes of two files
 /// are compared, the command's text is printed, and the output is flushed, once and last. The first
-/// that stops the run ends it: it is said in one line on `err`, whose own failures are ignored, and
-/// what comes after it is left alone. After a write that failed nothing more is written, and after
-/// a read that failed nothing more is read. No input is asked for more than a piece beyond the line
-/// that ends its description or has a fault.
+/// failure ends the run: one line on `err` reports it, whose own failures are ignored, and no later
+/// step is taken. After a write that failed nothing more is written, and after a read that failed
+/// nothing more is read. Beyond the line that ends a description or has a fault, at most a piece is
+/// read.
 ///
 /// A second source is there if the command takes two files. The sources have the names of the
 /// line's files, `(stdin)` for none or `-`, and keep them.

@@ -103,7 +103,7 @@ impl<F: Read, I: Read> Read for Content<F, I> {
 }
 
 // The words of the process, the program's name first.
-pub(crate) fn words_of<R: Env + AllocGlobal>(rt: &R) -> Result<Vec<String>, LineFault> {
+pub(crate) fn process_words<R: Env + AllocGlobal>(rt: &R) -> Result<Vec<String>, LineFault> {
     words_in(rt.alloc(), env::args(rt))
 }
 

@@ -50,7 +50,7 @@ fn listed_dc(alloc: Global, pla: &Pla, other: &Pla) -> Result<Cover, AllocError>
 }
 
 // Whether each place of the first ON-set that the other settles is in the other ON-set or listed as
-// a don't-care.
+// a don't-care. A file settles each place, and one of type fr those of its ON and its OFF list.
 fn is_held(pla: &Pla, other: &Pla, free: &Cover) -> Result<bool, AllocError>
     requires other { other.now.size ≡ pla.now.size }
     requires free { free.now.size ≡ pla.now.size }
@@ -68,8 +68,8 @@ fn is_held(pla: &Pla, other: &Pla, free: &Cover) -> Result<bool, AllocError>
 }
 
 // Whether each place that is in neither DC-set is in both ON-sets or in neither. Under fr no DC list
-// is made: a place of one ON-set alone counts if the other's OFF list has it and no listed DC cube
-// does.
+// is made: a place of one ON-set alone is a difference only if the other's OFF list has it and no
+// listed DC cube does.
 fn agree(alloc: Global, pla: &Pla, other: &Pla) -> Result<bool, AllocError>
     requires { other.now.size ≡ pla.now.size }
     ensures { IfOk result (λ holds. holds ≡ agree_of pla.now other.now) }

@@ -199,7 +199,7 @@ fn add_points(
 }
 
 /// Adds points that force all wanted places of the ON cube, output by output.
-pub(crate) fn add_cube(
+pub(crate) fn add_points_of_cube(
     alloc: Global,
     sets: &Sets,
     source: &Source,

@@ -12,7 +12,7 @@ use std::alloc::AllocError;
 /// What tells the primes of a function.
 #[derive(Drop)]
 pub(crate) enum Source {
-    /// Cubes with the places outside all primes, which are the largest cubes that avoid them.
+    /// Cubes with the places in no prime; the primes are the largest cubes that avoid these.
     Outside(Cover),
     /// All primes.
     Primes(Cover),

@@ -24,22 +24,22 @@ out c d l e =
     let none = subst (λ (o : Option (Vec ℕ Global)). Answers c.args.choice c.in-Some.extended c.args.budget.columns c.args.budget.cost (option_map (λ v. v.items) o)) c.in-None.is (rw c.in-Some-2.is at c.in_ok-answer.ensures) in
     outside_extended c.args.choice t (filter (marked c.deref-2.result.now) t.live) c.args.budget.columns c.args.budget.cost d there (subst (λ g. NoneWithin c.args.choice g c.args.budget.columns c.args.budget.cost) extended none)
 
-pub without_columns-requires : goal.without_columns-requires
-without_columns-requires c =
+pub keep_columns_marked-requires : goal.keep_columns_marked-requires
+keep_columns_marked-requires c =
     rw c.deref-in-None-2.ensures.value
-    (some_left c.args.choice (marked c.in_ok-keep-in-None.keep.items) c.args.self.table c.args.budget.columns c.args.budget.cost c.args.self.witness.items c.columns-in-None.ensures.table c.requires (out (goal.at.without_columns-requires c).In_ok-keep-in-None))
+    (some_left c.args.choice (marked c.in_ok-keep-in-None.keep.items) c.args.self.table c.args.budget.columns c.args.budget.cost c.args.self.witness.items c.columns-in-None.ensures.table c.requires (out (goal.at.keep_columns_marked-requires c).In_ok-keep-in-None))
 
 pub returns-in_ok-keep-in-None-clause-partial : goal.returns-in_ok-keep-in-None-clause-partial
 returns-in_ok-keep-in-None-clause-partial c =
-    let left = rw c.deref-in-None-2.ensures.value at c.without_columns.ensures in
-    IfOk-weaker c.without_columns.result _ _
+    let left = rw c.deref-in-None-2.ensures.value at c.keep_columns_marked.ensures in
+    IfOk-weaker c.keep_columns_marked.result _ _
     (λ s h. rw h.1 (partial_left c.args.choice (marked c.in_ok-keep-in-None.keep.items) c.args.self.table c.args.budget.columns c.args.budget.cost c.args.self.witness.items c.columns-in-None.ensures.table c.requires (out (goal.at.returns-in_ok-keep-in-None-clause-partial c).In_ok-keep-in-None) s.table h.0))
     left
 
 pub returns-in_ok-keep-in-None-clause-next : goal.returns-in_ok-keep-in-None-clause-next
 returns-in_ok-keep-in-None-clause-next c =
-    let left = rw c.deref-in-None-2.ensures.value at c.without_columns.ensures in
-    IfOk-weaker c.without_columns.result _ _
+    let left = rw c.deref-in-None-2.ensures.value at c.keep_columns_marked.ensures in
+    IfOk-weaker c.keep_columns_marked.result _ _
     (λ s h. next_left c.args.choice (marked c.in_ok-keep-in-None.keep.items) c.args.self.table c.args.budget.columns c.args.budget.cost c.args.self.witness.items c.columns-in-None.ensures.table c.requires (out (goal.at.returns-in_ok-keep-in-None-clause-next c).In_ok-keep-in-None) s.table h.0)
     left
 

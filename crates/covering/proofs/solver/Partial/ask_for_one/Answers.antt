@@ -50,29 +50,29 @@ out c d l e =
     let gone = outside_taken c.args.choice c.args.self.table c.args.column c.args.budget.columns c.args.budget.cost (subst (λ g. NoneWithin c.args.choice g c.args.budget.columns c.args.budget.cost) c.in_ok-with.ensures.taken none) in
     λ x g there. gone x g (subst (λ n. has n x ≡ true) same there)
 
-pub without_columns-requires : goal.without_columns-requires
-without_columns-requires c =
+pub keep_columns_marked-requires : goal.keep_columns_marked-requires
+keep_columns_marked-requires c =
     rw c.deref-in-None.ensures.value
-    (some_left c.args.choice (marked c.in_ok-keep-in-None.keep.items) c.args.self.table c.args.budget.columns c.args.budget.cost c.args.self.witness.items c.columns.ensures.table c.requires.partial (out (goal.at.without_columns-requires c).In_ok-keep-in-None))
+    (some_left c.args.choice (marked c.in_ok-keep-in-None.keep.items) c.args.self.table c.args.budget.columns c.args.budget.cost c.args.self.witness.items c.columns.ensures.table c.requires.partial (out (goal.at.keep_columns_marked-requires c).In_ok-keep-in-None))
 
 pub returns-in_ok-keep-in-None-clause-partial : goal.returns-in_ok-keep-in-None-clause-partial
 returns-in_ok-keep-in-None-clause-partial c =
-    let left = rw c.deref-in-None.ensures.value at c.without_columns.ensures in
-    IfOk-weaker c.without_columns.result _ _
+    let left = rw c.deref-in-None.ensures.value at c.keep_columns_marked.ensures in
+    IfOk-weaker c.keep_columns_marked.result _ _
     (λ s h. rw h.1 (partial_left c.args.choice (marked c.in_ok-keep-in-None.keep.items) c.args.self.table c.args.budget.columns c.args.budget.cost c.args.self.witness.items c.columns.ensures.table c.requires.partial (out (goal.at.returns-in_ok-keep-in-None-clause-partial c).In_ok-keep-in-None) s.table h.0))
     left
 
 pub returns-in_ok-keep-in-None-clause-next : goal.returns-in_ok-keep-in-None-clause-next
 returns-in_ok-keep-in-None-clause-next c =
-    let left = rw c.deref-in-None.ensures.value at c.without_columns.ensures in
-    IfOk-weaker c.without_columns.result _ _
+    let left = rw c.deref-in-None.ensures.value at c.keep_columns_marked.ensures in
+    IfOk-weaker c.keep_columns_marked.result _ _
     (λ s h. next_left c.args.choice (marked c.in_ok-keep-in-None.keep.items) c.args.self.table c.args.budget.columns c.args.budget.cost c.args.self.witness.items c.columns.ensures.table c.requires.partial (out (goal.at.returns-in_ok-keep-in-None-clause-next c).In_ok-keep-in-None) s.table h.0)
     left
 
 pub returns-in_ok-keep-in-None-clause-gone : goal.returns-in_ok-keep-in-None-clause-gone
 returns-in_ok-keep-in-None-clause-gone c =
-    let left = rw c.deref-in-None.ensures.value at c.without_columns.ensures in
-    IfOk-weaker c.without_columns.result _ _
+    let left = rw c.deref-in-None.ensures.value at c.keep_columns_marked.ensures in
+    IfOk-weaker c.keep_columns_marked.result _ _
     (λ s h. lacks_marked c.args.self.table.live s.table.live c.in_ok-keep-in-None.keep.items c.args.column (ap (λ (t : Table). t.live) h.0)
     (λ l. marked_but c.args.self.table c.in_ok-keep-in-None.keep.items c.columns.result c.args.column c.args.column c.columns.ensures.table c.columns.ensures.count c.in_ok-keep-in-None.ensures l))
     left

@@ -9,7 +9,7 @@ returns-clause-read c =
     let code = c.args.code.now in
     let n = c.inputs-n.result in
     let m = c.outputs-m.result in
-    let begins = subst (λ (r : RowsRead). BeginsRow r code) (sym c.self.view_is) (c.begins_row.ensures c.if-not-begins_row.false) in
+    let begins = subst (λ (r : RowsRead). BeginsRow r code) (sym c.self.view_is) (c.begins_whole_row.ensures c.if-not-begins_whole_row.false) in
     rw (← c.self.view_is) (read_row_front c.args.file_type _ _ code _ _ _ begins
     (ap (λ k. take k code) c.inputs-n.ensures.value)
     (ap (λ k. take k (drop (n + 1) code)) (omega arith) ∙ ap (λ k. take k (drop (n + 1) code)) c.outputs-m.ensures.value ∙ ap (λ k. take c.self.inside.shape.outputs (drop (k + 1) code)) c.inputs-n.ensures.value)

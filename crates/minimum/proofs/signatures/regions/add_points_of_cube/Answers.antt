@@ -5,8 +5,8 @@ use Rattle.cube.specs.Cube.{Cube, IsCube, holds}
 use Rattle.cover.proofs.Found.{meet_IsCube}
 use Rattle.minimum.specs.Points.{AddsPoints, Function, function_by, IsFound}
 use Rattle.minimum.proofs.PickedPoints.{cube_part, outputs_more, outputs_apart}
-use Rattle.minimum.proofs.signatures.regions.add_cube.Goals as goal
-use Rattle.minimum.proofs.signatures.regions.add_cube.Goals.{in-Some+in_ok-add_points+in-Heap-1, in-Some+in_ok-add_points+in-Inline-1, in_default}
+use Rattle.minimum.proofs.signatures.regions.add_points_of_cube.Goals as goal
+use Rattle.minimum.proofs.signatures.regions.add_points_of_cube.Goals.{in-Some+in_ok-add_points+in-Heap-1, in-Some+in_ok-add_points+in-Inline-1, in_default}
 
 pub add_points-requires-clause-part : goal.add_points-requires-clause-part
 add_points-requires-clause-part c =

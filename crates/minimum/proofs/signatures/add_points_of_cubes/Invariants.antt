@@ -3,7 +3,7 @@ use Rattle.std.specs.List.{Contains}
 use Rattle.cube.specs.Cube.{Cube}
 use Rattle.cover.specs.Places.{places}
 use Rattle.minimum.specs.Points.{AreForced, function_by, IsFound}
-use Rattle.minimum.proofs.signatures.add_cubes.Given as goal
+use Rattle.minimum.proofs.signatures.add_points_of_cubes.Given as goal
 
 abbrev pub invariant-loop-k : goal.invariant-loop-k
 invariant-loop-k l = record {

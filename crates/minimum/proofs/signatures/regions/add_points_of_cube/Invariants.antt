@@ -1,7 +1,7 @@
 use Rattle.std.proofs.Common.{ltb, ◌&&◌}
 use Rattle.cube.specs.Cube.{holds}
 use Rattle.minimum.specs.Points.{AddsPoints, function_by, IsFound}
-use Rattle.minimum.proofs.signatures.regions.add_cube.Given as goal
+use Rattle.minimum.proofs.signatures.regions.add_points_of_cube.Given as goal
 
 abbrev pub invariant-loop-j : goal.invariant-loop-j
 invariant-loop-j l = record {

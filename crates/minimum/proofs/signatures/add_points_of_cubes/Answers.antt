@@ -7,8 +7,8 @@ use Rattle.cube.proofs.SumLemmas.{implied_at, IsPlace-from_holds}
 use Rattle.cover.specs.Places.{places}
 use Rattle.minimum.specs.Points.{AddsPoints, AreForced, Function, function_by, IsFound}
 use Rattle.minimum.proofs.PickedPoints.{cubes_more, forced_signed, signatures_and_dc}
-use Rattle.minimum.proofs.signatures.add_cubes.Goals as goal
-use Rattle.minimum.proofs.signatures.add_cubes.Goals.{then-not-index+in_ok-add_cube, else-not-index}
+use Rattle.minimum.proofs.signatures.add_points_of_cubes.Goals as goal
+use Rattle.minimum.proofs.signatures.add_points_of_cubes.Goals.{then-not-index+in_ok-add_points_of_cube, else-not-index}
 
 pub loop-k-preserved : goal.loop-k-preserved
 loop-k-preserved c =
@@ -24,16 +24,16 @@ loop-k-preserved c =
     let before = c.loop-k.invariant in
     record {
       found = elim c.if-not-index.branch [
-        | then-not-index+in_ok-add_cube w ↦ subst (IsFound function) (sym w.found-is) w.in_ok-add_cube.ensures.found
+        | then-not-index+in_ok-add_points_of_cube w ↦ subst (IsFound function) (sym w.found-is) w.in_ok-add_points_of_cube.ensures.found
         | else-not-index w ↦ subst (IsFound function) (sym w.found-is) before.found
       ];
       kept = λ x h. elim c.if-not-index.branch [
-        | then-not-index+in_ok-add_cube w ↦ subst (λ f. Contains f.points.items x) (sym w.found-is) (w.in_ok-add_cube.ensures.adds.kept x (before.kept x h))
+        | then-not-index+in_ok-add_points_of_cube w ↦ subst (λ f. Contains f.points.items x) (sym w.found-is) (w.in_ok-add_points_of_cube.ensures.adds.kept x (before.kept x h))
         | else-not-index w ↦ subst (λ f. Contains f.points.items x) (sym w.found-is) (before.kept x h)
       ];
       forced = elim c.if-not-index.branch [
-        | then-not-index+in_ok-add_cube w ↦ subst (λ f. AreForced function f.points.items (places (take (i + 1) cubes))) (sym w.found-is)
-            (cubes_more sets source cubes i cube mid.points.items w.add_cube.new.found.points.items lt c.index-cubes-k.is before.forced w.in_ok-add_cube.ensures.adds)
+        | then-not-index+in_ok-add_points_of_cube w ↦ subst (λ f. AreForced function f.points.items (places (take (i + 1) cubes))) (sym w.found-is)
+            (cubes_more sets source cubes i cube mid.points.items w.add_points_of_cube.new.found.points.items lt c.index-cubes-k.is before.forced w.in_ok-add_points_of_cube.ensures.adds)
         | else-not-index w ↦ (
             let held = c.in_ok-held.held in
             let f : Cube → Bool = λ d. is_subset held.size (holds d) (places held.cubes) in
