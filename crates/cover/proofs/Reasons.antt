@@ -419,9 +419,3 @@ row_leads rows near region sizes among meets k row h at =
         ),
       ),
     )
-
--- an answer decides whether the region is held
-pub decides : (rows : List Cube) (region : Cube) (found : Option Cube) (held : Bool) → Explains region rows found → held ≡ is_some found
-    → IsTrue held ↔ IsSubset (holds region) (places rows)
-decides rows region None held h e = (λ on. absurd (false≢true (sym e ∙ on)), λ all. absurd (h all))
-decides rows region (Some c) held h e = (λ _ p in_region. h.within p (h.above p in_region), λ _. e)

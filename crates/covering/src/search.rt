@@ -505,7 +505,7 @@ impl Table {
     }
 
     /// A cover within the budget, or none if there is none: local searches look for one first, and
-    /// then a search by branches, which looks at no more than `most_tables` tables.
+    /// then a search that branches into no more than `most_tables` tables.
     pub(crate) fn find_or_refute(
         &self,
         alloc: Global,

@@ -66,7 +66,7 @@ impl Questions {
         }
     }
 
-    /// A cover within the budget, or none if there is none; looks at no more than `most_tables`
+    /// A cover within the budget, or none if there is none; branches into no more than `most_tables`
     /// tables.
     fn ask(
         &mut self,
