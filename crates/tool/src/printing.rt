@@ -58,7 +58,7 @@ pub(crate) fn print_lists<W: Output>(
     }
 }
 
-// The lists that were computed; `None` where the description's own is computed_or_given.
+// The lists that were computed; `None` where the description's own is printed.
 #[derive(Drop)]
 struct Computed {
     dc: Option<Cover>,
