@@ -6,8 +6,8 @@ ghost use Rattle.pla.specs.Keywords.{is_unknown as is_unknown_line, is_one_of, s
 ghost use Rattle.pla.specs.Echoes.{echo_of, kept_comment};
 
 use crate::device::Output;
-use crate::header::{is, is_end, is_refused_keyword};
-use crate::line::{begins_keyword, keyword_code_of, keyword_of};
+use crate::header::{is_end, is_refused_keyword};
+use crate::line::{begins_keyword, is, keyword_code_of, keyword_of};
 use crate::writing::{WriteFault, write_bytes, write_next};
 
 /// Whether comments are passed on.

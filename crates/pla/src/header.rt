@@ -1,6 +1,6 @@
 //! What the keyword lines so far have set (`.i`, `.o`, `.ilb`, `.ob`, `.type`), and the tests of
 //! the next line against it, in the order of their faults.
-ghost use Rattle.std.specs.Prelude.{◌≡◌, ℕ, ◌<◌, ◌≤◌, [], ◌∷◌, IfOk, OnOk, OnErr, Some, None, List, slice_index_or, drop, false, bytes_eq};
+ghost use Rattle.std.specs.Prelude.{◌≡◌, ℕ, ◌<◌, ◌≤◌, [], ◌∷◌, IfOk, OnOk, OnErr, Some, None, List, slice_index_or, drop, false};
 ghost use Rattle.std.specs.Option.{ForSome};
 ghost use Rattle.cube.specs.Limits.{format_limits};
 ghost use Rattle.pla.specs.Keywords.{texts, is_one_of, endings, refused_keywords, type_by};
@@ -11,7 +11,7 @@ ghost use Rattle.pla.specs.Names.{name_bytes};
 
 use crate::fault::ReadKind;
 use crate::file_type::FileType;
-use crate::line::number_in;
+use crate::line::{is, number_in};
 use cube::Shape;
 use cube::limits::{INPUTS, LINE_BYTES, LINES, OUTPUTS};
 use std::alloc::{AllocError, Global};
@@ -57,13 +57,6 @@ fn is_other_count(count: usize, wanted: Option<usize>) -> bool
         Some(n) => count != n,
         None => false,
     }
-}
-
-/// Whether a word is this text.
-pub(crate) fn is(word: &[u8], text: &[u8]) -> bool
-    ensures { result ≡ bytes_eq word.now text.now }
-{
-    word == text
 }
 
 /// The type that a word names, if it names one.

@@ -1,5 +1,5 @@
 //! What a line holds.
-ghost use Rattle.std.specs.Prelude.{◌≡◌, [], slice_index_or, ◌<◌, ◌^◌, IfOk, find, position, ◌==◌, not, filter};
+ghost use Rattle.std.specs.Prelude.{◌≡◌, [], slice_index_or, ◌<◌, ◌^◌, IfOk, find, position, ◌==◌, not, filter, bytes_eq};
 ghost use Rattle.std.specs.List.{list_any};
 ghost use Rattle.pla.specs.Lines.{is_blank, is_row_blank, is_keyword_line, words, is_empty, row_code, keyword_code, keyword};
 ghost use Rattle.pla.specs.Keywords.{texts, number_within};
@@ -45,6 +45,13 @@ pub fn words_of(alloc: Global, line: &[u8]) -> Result<Vec<&[u8]>, AllocError>
     line.split(|b| blank(*b))
         .filter(|word| !word.is_empty())
         .collect(alloc)
+}
+
+/// Whether a word is this text.
+pub(crate) fn is(word: &[u8], text: &[u8]) -> bool
+    ensures { result ≡ bytes_eq word.now text.now }
+{
+    word == text
 }
 
 /// Whether a row line's code has a symbol.

@@ -5,7 +5,7 @@ ghost use Rattle.pla.specs.Device.{CountsOn, PutsOn};
 ghost use Rattle.pla.specs.Text.{row_text};
 
 use crate::device::Output;
-use crate::row::{ROW_BYTES, put_row};
+use crate::printed_row::{ROW_BYTES, put_row};
 use crate::writing::{WriteFault, write_next};
 use cube::Cube;
 use std::marker::Model;

@@ -2,7 +2,7 @@ use Rattle.std.proofs.Common.{arith, ◌≡◌, ◌+◌, ◌-◌, ◌<◌, [], �
 use Rattle.std.specs.Prelude.{if◌then◌else◌}
 use Rattle.std.proofs.lemmas.List.{length-map, take_at, take_more_set}
 use Rattle.pla.specs.Text.{symbol_byte}
-use Rattle.pla.proofs.row.put_row.Goals as goal
+use Rattle.pla.proofs.printed_row.put_row.Goals as goal
 
 -- a list, a byte, a list behind it, and a byte at the end
 row : (a b s o x y z : List ℕ) (i m sep end : ℕ) → a ≡ s ++ x → b ≡ o ++ y → length s ≡ i → length o ≡ m → i < length a → m < length b
