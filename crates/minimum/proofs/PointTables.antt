@@ -19,7 +19,7 @@ use Rattle.pla.specs.Sets.{SetLists}
 use Rattle.covering.specs.declared.choice.Choice.{Choice}
 use Rattle.covering.specs.Table.{Table, has, RisesFrom, IsWithin, IsTable, AreRows, fresh, table_of}
 use Rattle.covering.specs.Cover.{meets, IsCover, IsLeast, Precedes, counted}
-use Rattle.covering.specs.Choices.{join}
+use Rattle.covering.specs.Choices.{union_of}
 use Rattle.covering.specs.Parts.{pick}
 use Rattle.covering.specs.Steps.{HasRow}
 use Rattle.minimum.specs.Primes.{primes_of, chosen, least_prime_cover, exact_of}
@@ -340,11 +340,11 @@ module _ (sets : SetLists) (points columns : List Cube) (on_cubes : AreCubes set
     s_below : (i : ℕ) → has i s ≡ true → i < length columns
     s_below i e = let l = range_below i 0 (length (map literals columns)) (least.cover.only i e) in let m = length-map columns literals in omega arith
 
-    in_middle : IsLeast choice middle (join [] (map (pick live) s))
+    in_middle : IsLeast choice middle (union_of [] (map (pick live) s))
     in_middle = (renumbered middle middle_table (map (holders columns) points) (map literals columns) refl same_weights (Some (point_table points columns)) (are_point_rows, refl)).least choice s least
 
-    joined : join [] (map (pick live) s) ≡ map (pick live) s
-    joined = same_list 0 (join [] (map (pick live) s)) (map (pick live) s) (union_rises [] (map (pick live) s) tt)
+    joined : union_of [] (map (pick live) s) ≡ map (pick live) s
+    joined = same_list 0 (union_of [] (map (pick live) s)) (map (pick live) s) (union_rises [] (map (pick live) s) tt)
         (map_rises live 0 0 s is.rises least.cover.rises (λ i e. let l = s_below i e in let m = long in omega arith) (λ i a b. omega arith))
         (λ n e. elim (union_only n [] (map (pick live) s) e) [ inl f ↦ absurd (true≢false (sym f)) | inr f ↦ f ])
         (λ n e. union_right n [] (map (pick live) s) e)
