@@ -1,8 +1,8 @@
 //! The essential primes, from a list of all primes. `essential_by_neighbours` finds them without
 //! that list.
 
-ghost use Rattle.std.specs.Prelude.{◌≡◌, ◌<◌, ◌++◌, ◌∷◌, ◌||◌, [], IfOk, OnOk, All, filter, length};
-ghost use Rattle.cube.specs.Cube.{HasSize, SameSize, IsCube, IsSubset, holds};
+ghost use Rattle.std.specs.Prelude.{◌≡◌, ◌<◌, ◌||◌, IfOk, All, filter, length};
+ghost use Rattle.cube.specs.Cube.{SameSize, IsCube, IsSubset, holds};
 ghost use Rattle.cover.specs.Cubes.{AreCubes};
 ghost use Rattle.cover.specs.Places.{places};
 ghost use Rattle.cover.specs.Marks.{cube_at};
@@ -11,24 +11,13 @@ ghost use Rattle.minimum.specs.EssentialPrimes.{intersects_cube, is_rival, AreNo
 
 mod candidates;
 
+use crate::cubes::add_copy;
 use crate::essential_primes::candidates::non_candidates;
 use cover::Cover;
 use covering::is_marked;
 use cube::Cube;
 use pla::Sets;
 use std::alloc::{AllocError, Global};
-
-/// Adds a copy of the cube.
-pub(crate) fn add_copy(list: &mut Cover, cube: &Cube) -> Result<(), AllocError>
-    requires { HasSize cube.now list.old.size }
-    ensures size { OnOk result (list.new.size ≡ list.old.size) }
-    ensures cubes { OnOk result (list.new.cubes ≡ list.old.cubes ++ cube.now ∷ []) }
-{
-    match list.push(cube.try_clone()?) {
-        Ok(()) => Ok(()),
-        Err(_) => Err(AllocError),
-    }
-}
 
 /// Whether the cube has a place of the prime.
 fn intersects_cube(prime: &Cube, cube: &Cube) -> bool

@@ -14,7 +14,7 @@ ghost use Rattle.pla.specs.Sets.{SetLists};
 ghost use Rattle.minimum.specs.Points.{IsSource, StandsFor};
 ghost use Rattle.minimum.specs.Primes.{chosen, exact_of, primes_of};
 
-use crate::essential_primes::add_copy;
+use crate::cubes::add_copy;
 use crate::prime_implicants::{on_and_dc, primes};
 use crate::prime_table::OfPrimes;
 use crate::signatures::picks::{proposals_by_off, proposals_by_primes};

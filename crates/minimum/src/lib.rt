@@ -33,10 +33,12 @@
 //! finds depends on the function and not on the number of its primes.
 #![tactic(auto)]
 
+mod cubes;
 mod essential_by_neighbours;
 mod essential_primes;
 mod exact_minimum;
 mod laws;
+mod numbered_cubes;
 mod of_pla;
 mod prime_implicants;
 mod prime_table;

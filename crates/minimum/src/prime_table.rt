@@ -5,7 +5,7 @@
 //! cubes that are far apart never come together. It takes a look at each cube that is left for each
 //! region, and memory for the rows and for a list of numbers at each level of the splits.
 
-ghost use Rattle.std.specs.Prelude.{◌≡◌, ◌<◌, ◌≤◌, true, false, IfOk, length, map, replicate, slice_set};
+ghost use Rattle.std.specs.Prelude.{◌≡◌, ◌≤◌, IfOk, length, map};
 ghost use Rattle.cube.specs.Cube.{literals as literals_of};
 ghost use Rattle.cube.specs.Limits.{IsWithinLimits, format_limits};
 ghost use Rattle.cover.specs.Cubes.{AreCubes};
@@ -15,31 +15,15 @@ ghost use Rattle.minimum.specs.PrimeTable.{HasPrimeColumns, HasPrimeCovers};
 ghost use Rattle.minimum.specs.PrimeRows.{AreEnough, AreRowsOf};
 
 mod halving_input;
-pub(crate) mod rows;
+mod rows;
 
+use crate::cubes::one_output;
 use crate::prime_table::rows::{Candidates, Lists};
 use cover::Cover;
 use covering::{Table, numbers};
-use cube::{Cube, Shape, Symbol};
+use cube::{Cube, Shape};
 use pla::Sets;
 use std::alloc::{AllocError, Global};
-
-/// The cube of all places with this output.
-pub(crate) fn one_output(alloc: Global, shape: Shape, j: usize) -> Result<Cube, AllocError>
-    requires { j < shape.outputs }
-    ensures { IfOk result (λ c. c ≡ record {
-      symbols = replicate shape.inputs Symbol.Dash;
-      outputs = slice_set (replicate shape.outputs false) j true;
-    }) }
-{
-    let symbols = vec![in alloc; Symbol::Dash; shape.inputs()]?;
-    let mut outputs = vec![in alloc; false; shape.outputs()]?;
-    outputs[j] = true;
-    match Cube::from_symbols(alloc, shape, &symbols, &outputs)? {
-        Some(cube) => Ok(cube),
-        None => unreachable!(),
-    }
-}
 
 /// The number of literals.
 fn weight(cube: &Cube) -> u32

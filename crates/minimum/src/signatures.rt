@@ -30,7 +30,7 @@ pub(crate) mod picks;
 pub(crate) mod regions;
 pub(crate) mod source;
 
-use crate::prime_table::rows::numbers_containing;
+use crate::numbered_cubes::numbers_containing;
 use crate::prime_table::weights;
 use crate::signatures::picked_points::PickedPoints;
 use crate::signatures::regions::{add_points_of_cube, pick_point};

@@ -5,25 +5,18 @@
 //! region is in each of the lists is asked row by row: the region becomes its part in a row, which
 //! is looked for in the next list. A part that meets no row of some list is given up at once.
 
-ghost use Rattle.std.specs.Prelude.{◌≡◌, ◌≢◌, ◌<◌, ◌↔◌, IsTrue, true, false, All, IfOk, slice_index_or};
+ghost use Rattle.std.specs.Prelude.{◌≡◌, ◌≢◌, ◌<◌, IsTrue, true, false, All, IfOk, slice_index_or};
 ghost use Rattle.std.specs.List.{list_any};
 ghost use Rattle.cube.specs.Cube.{HasSize, IsCube};
 ghost use Rattle.minimum.specs.declared.essential_by_neighbours.growth.Side.{Side};
 ghost use Rattle.minimum.specs.Neighbours.{on_side, IsAlone, IsAloneByInputs};
 ghost use Rattle.minimum.specs.Blocking.{AreBlocking, Blocks, flip_in, under_in, HasCommon};
 
-use crate::essential_by_neighbours::growth::are_apart;
+use crate::cubes::{are_apart, is_same};
 use crate::essential_by_neighbours::neighbours::add_meeting;
 use cover::Cover;
 use cube::{Cube, Symbol};
 use std::alloc::{AllocError, Global};
-
-/// Whether the symbols are one.
-fn is_same(one: Symbol, other: Symbol) -> bool
-    ensures { IsTrue result ↔ one ≡ other }
-{
-    one == other
-}
 
 /// The blocking list of the step at a literal.
 fn blocking_input(alloc: Global, off: &Cover, prime: &Cube, i: usize) -> Result<Cover, AllocError>

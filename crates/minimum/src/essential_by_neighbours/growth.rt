@@ -5,16 +5,13 @@
 //! what the step adds is asked for, and only of the rows near the cube: where it lost a literal,
 //! these are looked for again. Most outputs are refused by what the rows reach in a part of the cube.
 
-ghost use Rattle.std.specs.Prelude.{◌≡◌, ◌<◌, ◌↔◌, IsTrue, IfOk};
-ghost use Rattle.cube.specs.Cube.{HasSize, IsCube, IsSubset, IsDisjoint, holds, size_of};
-ghost use Rattle.cube.specs.Sharp.{opposite as opposite_of};
-ghost use Rattle.cover.specs.Cubes.{AreCubes};
-ghost use Rattle.cover.specs.Places.{places};
+ghost use Rattle.std.specs.Prelude.{◌<◌, ◌↔◌, IsTrue, IfOk};
+ghost use Rattle.cube.specs.Cube.{HasSize, IsCube, IsSubset, holds};
 ghost use Rattle.minimum.specs.Neighbours.{on_side, Grows, IsGrown, IsSettledInput, IsSettledOutput, AreNear, AreReached, near_or};
 
+use crate::cubes::{are_apart, one_output, opposite};
 use crate::essential_by_neighbours::near_rows::{rows_near, rows_to_ask};
 use crate::essential_by_neighbours::reached_outputs::{is_refused, outputs_at, part_of};
-use crate::prime_table::one_output;
 use cover::Cover;
 use cube::{Cube, Symbol};
 use std::alloc::{AllocError, Global};
@@ -26,30 +23,6 @@ pub(crate) enum Side {
     Inside,
     /// The list is OFF: an implicant meets no cube of it.
     Outside,
-}
-
-/// The other literal.
-fn opposite(symbol: Symbol) -> Symbol
-    ensures { result ≡ opposite_of symbol }
-{
-    match symbol {
-        Symbol::Dash => Symbol::Dash,
-        Symbol::Zero => Symbol::One,
-        Symbol::One => Symbol::Zero,
-    }
-}
-
-/// Whether no cube has a place of the region.
-pub(crate) fn are_apart(cubes: &[Cube], region: &Cube) -> bool
-    requires { AreCubes (size_of region.now) cubes.now }
-    ensures { IsTrue result ↔ IsDisjoint (holds region.now) (places cubes.now) }
-{
-    for cube in cubes {
-        if !cube.disjoint(region) {
-            return false;
-        }
-    }
-    true
 }
 
 /// Whether the cube lies on that side of the list.

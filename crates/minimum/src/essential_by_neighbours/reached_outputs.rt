@@ -9,8 +9,8 @@ ghost use Rattle.cube.specs.Cube.{Cube as Row, HasSize, Place};
 ghost use Rattle.cover.specs.Places.{places};
 ghost use Rattle.minimum.specs.Neighbours.{on_side, IsPartOf, AreReached};
 
+use crate::cubes::point_of;
 use crate::essential_by_neighbours::growth::Side;
-use crate::signatures::regions::point_of;
 use cover::Cover;
 use cube::Cube;
 use std::alloc::AllocError;

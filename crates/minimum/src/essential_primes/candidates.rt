@@ -10,7 +10,7 @@ ghost use Rattle.cube.specs.Cube.{SameSize};
 ghost use Rattle.minimum.specs.PrimeRows.{contains_region};
 ghost use Rattle.minimum.specs.EssentialPrimes.{UnmarksCandidate, AreNonCandidates};
 
-use crate::prime_table::rows::contains_region;
+use crate::numbered_cubes::contains_region;
 use covering::{all_marked, unmark};
 use cube::Cube;
 use std::alloc::{AllocError, Global};

@@ -7,15 +7,15 @@
 //! primes that are left are the row of its wanted places. Else the region is split at such a
 //! literal. So places that the same primes hold are looked at together, and mostly once.
 
-ghost use Rattle.std.specs.Prelude.{◌≡◌, ◌<◌, ◌+◌, ◌==◌, ℕ, true, false, IfOk, OnOk, MatchOption, MatchBool, IfSome, All, length, filter};
+ghost use Rattle.std.specs.Prelude.{◌≡◌, ◌==◌, ℕ, true, IfOk, OnOk, MatchOption, MatchBool, IfSome, length};
 ghost use Rattle.std.specs.List.{list_any};
-ghost use Rattle.cube.specs.Cube.{SameSize, Place, holds, difference};
+ghost use Rattle.cube.specs.Cube.{Place, holds, difference};
 ghost use Rattle.cover.specs.Places.{places};
-ghost use Rattle.cover.specs.Marks.{cube_at};
 ghost use Rattle.covering.specs.Table.{has, RisesFrom, items_of};
 ghost use Rattle.covering.specs.Reduce.{holds_all};
-ghost use Rattle.minimum.specs.PrimeRows.{intersects_region, contains_region, holds_at, HasNoneInside, IsFree, IsSplit, IsIntersecting, IsSettled, IsOpen, HasRowsFor, AddsRows};
+ghost use Rattle.minimum.specs.PrimeRows.{holds_at, IsFree, IsSplit, IsIntersecting, IsSettled, IsOpen, HasRowsFor, AddsRows};
 
+use crate::numbered_cubes::{any_contains, first_inside, numbers_containing, numbers_intersecting};
 use crate::prime_table::halving_input::halving_input;
 use covering::{copy_of, is_blank, is_within};
 use cube::{Cube, Symbol};
@@ -35,112 +35,6 @@ pub(crate) struct Candidates {
     pub(crate) primes: Vec<usize>,
     pub(crate) on: Vec<usize>,
     pub(crate) dc: Vec<usize>,
-}
-
-/// Whether the cube has a place of the region.
-fn intersects_region(cubes: &[Cube], region: &Cube, number: usize) -> bool
-    requires size { All (λ d. SameSize d region.now) cubes.now }
-    requires below { number < length cubes.now }
-    ensures { result ≡ intersects_region cubes.now region.now number }
-{
-    !cubes[number].disjoint(region)
-}
-
-/// Whether the cube holds the region.
-pub(crate) fn contains_region(cubes: &[Cube], region: &Cube, number: usize) -> bool
-    requires size { All (λ d. SameSize d region.now) cubes.now }
-    requires below { number < length cubes.now }
-    ensures { result ≡ contains_region cubes.now region.now number }
-{
-    cubes[number].contains(region)
-}
-
-/// Those of the cubes that have a place of the region.
-pub(crate) fn numbers_intersecting(
-    alloc: Global,
-    cubes: &[Cube],
-    region: &Cube,
-    numbers: &[usize],
-) -> Result<Vec<usize>, AllocError>
-    requires size { All (λ d. SameSize d region.now) cubes.now }
-    requires below { All (λ i. i < length cubes.now) numbers.now }
-    ensures { IfOk result (λ v. v.items ≡ filter (intersects_region cubes.now region.now) numbers.now) }
-{
-    let mut kept = Vec::new(alloc);
-    for number in numbers {
-        if intersects_region(cubes, region, *number) {
-            kept.push(*number)?;
-        }
-    }
-    Ok(kept)
-}
-
-/// Those of the cubes that hold the region.
-pub(crate) fn numbers_containing(
-    alloc: Global,
-    cubes: &[Cube],
-    region: &Cube,
-    numbers: &[usize],
-) -> Result<Vec<usize>, AllocError>
-    requires size { All (λ d. SameSize d region.now) cubes.now }
-    requires below { All (λ i. i < length cubes.now) numbers.now }
-    ensures { IfOk result (λ v. v.items ≡ filter (contains_region cubes.now region.now) numbers.now) }
-{
-    let mut kept = Vec::new(alloc);
-    for number in numbers {
-        if contains_region(cubes, region, *number) {
-            kept.push(*number)?;
-        }
-    }
-    Ok(kept)
-}
-
-/// Whether one of the cubes holds the region.
-pub(crate) fn any_contains(cubes: &[Cube], region: &Cube, numbers: &[usize]) -> bool
-    requires size { All (λ d. SameSize d region.now) cubes.now }
-    requires below { All (λ i. i < length cubes.now) numbers.now }
-    ensures { result ≡ list_any (contains_region cubes.now region.now) numbers.now }
-{
-    for number in numbers {
-        if contains_region(cubes, region, *number) {
-            return true;
-        }
-    }
-    false
-}
-
-/// An input at which the region has a dash and the cube a literal.
-pub(crate) fn literal_inside(cube: &Cube, region: &Cube) -> Option<usize>
-    requires { SameSize cube.now region.now }
-    ensures { MatchOption result (HasNoneInside cube.now region.now) (IsFree region.now) }
-{
-    let inputs = region.shape().inputs();
-    let mut from = 0;
-    while from < inputs {
-        let Some(i) = cube.next_literal(from) else {
-            return None;
-        };
-        if region.symbol(i) == Symbol::Dash {
-            return Some(i);
-        }
-        from = i + 1;
-    }
-    None
-}
-
-/// An input at which the region has a dash and one of these cubes a literal.
-pub(crate) fn first_inside(cubes: &[Cube], region: &Cube, numbers: &[usize]) -> Option<usize>
-    requires size { All (λ d. SameSize d region.now) cubes.now }
-    requires below { All (λ i. i < length cubes.now) numbers.now }
-    ensures { MatchOption result ((n : ℕ) → has n numbers.now ≡ true
-        → HasNoneInside (cube_at cubes.now n) region.now) (IsFree region.now) }
-{
-    for number in numbers {
-        if let Some(i) = literal_inside(&cubes[*number], region) {
-            return Some(i);
-        }
-    }
-    None
 }
 
 /// Whether there is one number.

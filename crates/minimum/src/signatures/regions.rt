@@ -10,29 +10,16 @@ ghost use Rattle.cube.specs.Cube.{HasSize, SameSize, Cube as Row, Place, holds};
 ghost use Rattle.cover.specs.Cubes.{AreCubes};
 ghost use Rattle.minimum.specs.Primes.{care_on};
 ghost use Rattle.minimum.specs.PrimeRows.{IsFree};
-ghost use Rattle.minimum.specs.Points.{AddsPoints, AreForced, AreLists, AreInSignatures, IsSource, function_by, IsFound, IsOnePoint, IsPart, IsPointOf};
+ghost use Rattle.minimum.specs.Points.{AddsPoints, AreForced, AreLists, AreInSignatures, IsSource, function_by, IsFound, IsOnePoint, IsPart};
 
-use crate::prime_table::one_output;
-use crate::prime_table::rows::{any_contains, first_inside, literal_inside, numbers_intersecting};
+use crate::cubes::{one_output, point_of};
+use crate::numbered_cubes::{any_contains, first_inside, literal_inside, numbers_intersecting};
 use crate::signatures::picked_points::{PickedPoints, add_point};
 use crate::signatures::source::{Source, Stop};
 use covering::is_blank;
 use cube::{Cube, Symbol};
 use pla::Sets;
 use std::alloc::{AllocError, Global};
-
-/// A point of the region with all of its outputs.
-pub(crate) fn point_of(region: &Cube) -> Result<Cube, AllocError>
-    ensures { IfOk result (IsPointOf region.now) }
-{
-    let mut point = region.try_clone()?;
-    for i in 0..region.shape().inputs() {
-        if point.symbol(i) == Symbol::Dash {
-            point.set_symbol(i, Symbol::Zero);
-        }
-    }
-    Ok(point)
-}
 
 /// Whether each place of the region is wanted.
 fn is_wanted(
@@ -56,7 +43,13 @@ fn is_wanted(
 }
 
 /// Whether it is plain that each wanted place of the region is in a signature.
-fn is_done(sets: &Sets, on: &[usize], dc: &[usize], region: &Cube, found: &PickedPoints) -> bool
+fn needs_no_point(
+    sets: &Sets,
+    on: &[usize],
+    dc: &[usize],
+    region: &Cube,
+    found: &PickedPoints,
+) -> bool
     requires part { IsPart sets.now region.now on.now dc.now }
     requires found { AreCubes sets.now.size found.now.signatures.items }
     ensures { result ≡ true → AreInSignatures sets.now found.now.signatures.items (holds region.now) }
@@ -155,14 +148,14 @@ fn next_input(
     ensures input { IfOk result (λ o. MatchOption o
         (AreForced (function_by sets.now source.now) found.new.points.items (holds region.now)) (IsFree region.now)) }
 {
-    if is_done(sets, on, dc, region, found) {
+    if needs_no_point(sets, on, dc, region, found) {
         return Ok(None);
     }
     if let Some(i) = split_input(sets, on, dc, region, &found.signatures) {
         return Ok(Some(i));
     }
     pick_point(alloc, sets, source, on, dc, region, found)?;
-    if is_done(sets, on, dc, region, found) {
+    if needs_no_point(sets, on, dc, region, found) {
         return Ok(None);
     }
     Ok(last_input(region, &found.signatures))

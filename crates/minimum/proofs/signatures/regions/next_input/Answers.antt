@@ -2,12 +2,12 @@ use Rattle.cube.specs.Cube.{holds}
 use Rattle.minimum.proofs.PickedPoints.{forced_signed}
 use Rattle.minimum.proofs.signatures.regions.next_input.Goals as goal
 
-pub returns-then-is_done-clause-input : goal.returns-then-is_done-clause-input
-returns-then-is_done-clause-input c =
+pub returns-then-needs_no_point-clause-input : goal.returns-then-needs_no_point-clause-input
+returns-then-needs_no_point-clause-input c =
     let found = c.args.found.now in
-    forced_signed c.args.sets.now c.args.source.now found.points.items found.columns.items found.signatures.items (holds c.args.region.now) c.requires.found (c.is_done.ensures c.if-is_done.true)
+    forced_signed c.args.sets.now c.args.source.now found.points.items found.columns.items found.signatures.items (holds c.args.region.now) c.requires.found (c.needs_no_point.ensures c.if-needs_no_point.true)
 
-pub returns-then-is_done-2-clause-input : goal.returns-then-is_done-2-clause-input
-returns-then-is_done-2-clause-input c =
+pub returns-then-needs_no_point-2-clause-input : goal.returns-then-needs_no_point-2-clause-input
+returns-then-needs_no_point-2-clause-input c =
     let found = c.pick_point.new.found in
-    forced_signed c.args.sets.now c.args.source.now found.points.items found.columns.items found.signatures.items (holds c.args.region.now) c.in_ok-pick_point.ensures.found (c.is_done-2.ensures c.if-is_done-2.true)
+    forced_signed c.args.sets.now c.args.source.now found.points.items found.columns.items found.signatures.items (holds c.args.region.now) c.in_ok-pick_point.ensures.found (c.needs_no_point-2.ensures c.if-needs_no_point-2.true)

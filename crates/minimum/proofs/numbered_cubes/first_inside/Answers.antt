@@ -2,7 +2,7 @@ use Rattle.std.proofs.Common.{ap, ◌∙◌}
 use Rattle.std.proofs.lemmas.List.{take_all}
 use Rattle.covering.specs.Table.{has}
 use Rattle.minimum.proofs.RegionCandidates.{outside_next}
-use Rattle.minimum.proofs.prime_table.rows.first_inside.Goals as goal
+use Rattle.minimum.proofs.numbered_cubes.first_inside.Goals as goal
 
 pub loop-number-preserved : goal.loop-number-preserved
 loop-number-preserved c =

@@ -1,8 +1,8 @@
 use Rattle.std.proofs.Common.{ap, ◌∙◌}
 use Rattle.minimum.specs.PrimeRows.{intersects_region}
 use Rattle.minimum.proofs.RegionCandidates.{filter-kept, filter-skipped}
-use Rattle.minimum.proofs.prime_table.rows.numbers_intersecting.Goals as goal
-use Rattle.minimum.proofs.prime_table.rows.numbers_intersecting.Goals.{then-intersects_region+in_ok-push, else-intersects_region}
+use Rattle.minimum.proofs.numbered_cubes.numbers_intersecting.Goals as goal
+use Rattle.minimum.proofs.numbered_cubes.numbers_intersecting.Goals.{then-intersects_region+in_ok-push, else-intersects_region}
 
 pub loop-number-preserved : goal.loop-number-preserved
 loop-number-preserved c =

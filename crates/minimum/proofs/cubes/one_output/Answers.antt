@@ -2,7 +2,7 @@ use Rattle.std.proofs.Common.{rules, ◌≡◌, sym, subst, true, false, replica
 use Rattle.std.specs.List.{Contains}
 use Rattle.std.proofs.lemmas.Bool.{false≢true}
 use Rattle.minimum.proofs.PrimeTables.{one_set}
-use Rattle.minimum.proofs.prime_table.one_output.Goals as goal
+use Rattle.minimum.proofs.cubes.one_output.Goals as goal
 
 pub unreachable-requires : goal.unreachable-requires
 unreachable-requires c =

@@ -2,8 +2,8 @@ use Rattle.std.proofs.Common.{rules, ◌≡◌, ◌∙◌, ◌+◌, sym, subst, 
 use Rattle.std.proofs.lemmas.Bool.{true≢false}
 use Rattle.cube.specs.declared.symbol.Symbol.TheVariants.{Dash}
 use Rattle.minimum.proofs.PickedPoints.{PointSoFar, point_none, point_literal, point_dash, point_made}
-use Rattle.minimum.proofs.signatures.regions.point_of.Goals as goal
-use Rattle.minimum.proofs.signatures.regions.point_of.Goals.{then-eq, else-eq}
+use Rattle.minimum.proofs.cubes.point_of.Goals as goal
+use Rattle.minimum.proofs.cubes.point_of.Goals.{then-eq, else-eq}
 
 pub loop-i-init : goal.loop-i-init
 loop-i-init c = point_none c.args.region.now c.in_ok-point.point c.in_ok-point.ensures.value

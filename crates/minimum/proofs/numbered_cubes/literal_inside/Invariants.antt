@@ -1,6 +1,6 @@
 use Rattle.std.proofs.Common.{◌≡◌, ◌<◌, ◌≤◌, ◌-◌, ℕ, length, slice_index_or}
 use Rattle.cube.specs.declared.symbol.Symbol.TheVariants.{Dash}
-use Rattle.minimum.proofs.prime_table.rows.literal_inside.Given as goal
+use Rattle.minimum.proofs.numbered_cubes.literal_inside.Given as goal
 
 abbrev pub invariant-loop-from : goal.invariant-loop-from
 invariant-loop-from l = (l.from ≤ length l.cube.symbols) × ((k : ℕ) → k < l.from → slice_index_or l.region.symbols k Dash ≡ Dash → slice_index_or l.cube.symbols k Dash ≡ Dash)

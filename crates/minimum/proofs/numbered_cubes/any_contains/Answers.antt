@@ -1,6 +1,6 @@
 use Rattle.minimum.specs.PrimeRows.{contains_region}
 use Rattle.minimum.proofs.RegionCandidates.{any-next, any-here}
-use Rattle.minimum.proofs.prime_table.rows.any_contains.Goals as goal
+use Rattle.minimum.proofs.numbered_cubes.any_contains.Goals as goal
 
 pub returns-then-contains_region : goal.returns-then-contains_region
 returns-then-contains_region c =

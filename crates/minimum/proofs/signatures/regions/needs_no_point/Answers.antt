@@ -2,8 +2,8 @@ use Rattle.std.proofs.Common.{◌≡◌, ◌∙◌, ap, sym}
 use Rattle.std.specs.List.{list_any}
 use Rattle.minimum.specs.PrimeRows.{contains_region}
 use Rattle.minimum.proofs.PickedPoints.{signed_without_on, signed_in_dc, signed_within}
-use Rattle.minimum.proofs.signatures.regions.is_done.Goals as goal
-use Rattle.minimum.proofs.signatures.regions.is_done.Goals.{then-is_blank, else-is_blank}
+use Rattle.minimum.proofs.signatures.regions.needs_no_point.Goals as goal
+use Rattle.minimum.proofs.signatures.regions.needs_no_point.Goals.{then-is_blank, else-is_blank}
 
 pub returns-then-any_contains : goal.returns-then-any_contains
 returns-then-any_contains c = λ _.

@@ -1,8 +1,8 @@
 use Rattle.std.proofs.Common.{ap, ◌∙◌}
 use Rattle.minimum.specs.PrimeRows.{contains_region}
 use Rattle.minimum.proofs.RegionCandidates.{filter-kept, filter-skipped}
-use Rattle.minimum.proofs.prime_table.rows.numbers_containing.Goals as goal
-use Rattle.minimum.proofs.prime_table.rows.numbers_containing.Goals.{then-contains_region+in_ok-push, else-contains_region}
+use Rattle.minimum.proofs.numbered_cubes.numbers_containing.Goals as goal
+use Rattle.minimum.proofs.numbered_cubes.numbers_containing.Goals.{then-contains_region+in_ok-push, else-contains_region}
 
 pub loop-number-preserved : goal.loop-number-preserved
 loop-number-preserved c =

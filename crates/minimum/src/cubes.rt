@@ -1,0 +1,85 @@
+//! Small questions about cubes and symbols, and small steps: a cube of one output, a point, a copy.
+
+ghost use Rattle.std.specs.Prelude.{◌≡◌, ◌<◌, ◌↔◌, ◌++◌, ◌∷◌, [], IsTrue, true, false, IfOk, OnOk, replicate, slice_set};
+ghost use Rattle.cube.specs.Cube.{HasSize, IsDisjoint, holds, size_of};
+ghost use Rattle.cube.specs.Sharp.{opposite as opposite_of};
+ghost use Rattle.cover.specs.Cubes.{AreCubes};
+ghost use Rattle.cover.specs.Places.{places};
+ghost use Rattle.minimum.specs.Points.{IsPointOf};
+
+use cover::Cover;
+use cube::{Cube, Shape, Symbol};
+use std::alloc::{AllocError, Global};
+
+/// Whether the symbols are one.
+pub(crate) fn is_same(one: Symbol, other: Symbol) -> bool
+    ensures { IsTrue result ↔ one ≡ other }
+{
+    one == other
+}
+
+/// The other literal.
+pub(crate) fn opposite(symbol: Symbol) -> Symbol
+    ensures { result ≡ opposite_of symbol }
+{
+    match symbol {
+        Symbol::Dash => Symbol::Dash,
+        Symbol::Zero => Symbol::One,
+        Symbol::One => Symbol::Zero,
+    }
+}
+
+/// Whether no cube has a place of the region.
+pub(crate) fn are_apart(cubes: &[Cube], region: &Cube) -> bool
+    requires { AreCubes (size_of region.now) cubes.now }
+    ensures { IsTrue result ↔ IsDisjoint (holds region.now) (places cubes.now) }
+{
+    for cube in cubes {
+        if !cube.disjoint(region) {
+            return false;
+        }
+    }
+    true
+}
+
+/// The cube of all places with this output.
+pub(crate) fn one_output(alloc: Global, shape: Shape, j: usize) -> Result<Cube, AllocError>
+    requires { j < shape.outputs }
+    ensures { IfOk result (λ c. c ≡ record {
+      symbols = replicate shape.inputs Symbol.Dash;
+      outputs = slice_set (replicate shape.outputs false) j true;
+    }) }
+{
+    let symbols = vec![in alloc; Symbol::Dash; shape.inputs()]?;
+    let mut outputs = vec![in alloc; false; shape.outputs()]?;
+    outputs[j] = true;
+    match Cube::from_symbols(alloc, shape, &symbols, &outputs)? {
+        Some(cube) => Ok(cube),
+        None => unreachable!(),
+    }
+}
+
+/// A point of the region with all of its outputs.
+pub(crate) fn point_of(region: &Cube) -> Result<Cube, AllocError>
+    ensures { IfOk result (IsPointOf region.now) }
+{
+    let mut point = region.try_clone()?;
+    for i in 0..region.shape().inputs() {
+        if point.symbol(i) == Symbol::Dash {
+            point.set_symbol(i, Symbol::Zero);
+        }
+    }
+    Ok(point)
+}
+
+/// Adds a copy of the cube.
+pub(crate) fn add_copy(list: &mut Cover, cube: &Cube) -> Result<(), AllocError>
+    requires { HasSize cube.now list.old.size }
+    ensures size { OnOk result (list.new.size ≡ list.old.size) }
+    ensures cubes { OnOk result (list.new.cubes ≡ list.old.cubes ++ cube.now ∷ []) }
+{
+    match list.push(cube.try_clone()?) {
+        Ok(()) => Ok(()),
+        Err(_) => Err(AllocError),
+    }
+}
