@@ -1,7 +1,7 @@
 //! A cube, kept in words.
-ghost use Rattle.std.specs.Prelude.{◌≡◌, ℕ, ◌+◌, ◌-◌, ◌*◌, max, ◌<◌, ◌≤◌, ◌↔◌, IsTrue, IsOk, IsSome, IsNone, IfOk, IfSome, IfNone, OnOk, MatchOption, if◌then◌else◌, ◌++◌, length, map, take, drop, slice_get, slice_index_or, Some, Contains, not, true, false, List, Bool, ◌&&◌, ◌||◌};
-ghost use Rattle.cube.specs.Cube.{HasSize, IsCube, SameSize, IsSubset, IsDisjoint, Place, holds, intersection, difference, word_count, size_of, with_symbol as cube_with_symbol, literals as literals_of, IsUniversal, IsNextLiteral, IsPlace};
-ghost use Rattle.cube.specs.Pattern.{agrees, matches};
+ghost use Rattle.std.specs.Prelude.{◌≡◌, ℕ, ◌+◌, ◌-◌, ◌*◌, max, ◌<◌, ◌≤◌, ◌↔◌, IsTrue, IsOk, IsSome, IsNone, IfOk, IfSome, IfNone, OnOk, MatchOption, if◌then◌else◌, ◌++◌, length, map, take, drop, slice_get, slice_index_or, Some, Contains, true, false, List, Bool, ◌&&◌, ◌||◌};
+ghost use Rattle.cube.specs.Cube.{HasSize, IsCube, SameSize, IsSubset, IsDisjoint, Place, holds, intersection, difference, word_count, size_of, with_symbol as cube_with_symbol, IsUniversal, IsPlace};
+ghost use Rattle.cube.specs.Pattern.{matches};
 ghost use Rattle.cube.specs.Size.{words_of_size};
 ghost use Rattle.std.specs.Int.{bit_at};
 ghost use Rattle.cube.specs.Words.{IsBitDifference, freed_bit};
@@ -12,19 +12,18 @@ ghost use Rattle.cube.specs.Bytes.{byte_symbol, has_mark, symbol_byte};
 ghost use Rattle.cube.specs.Sum.{complete_sum};
 ghost use Rattle.std.specs.List.{list_any};
 ghost use Rattle.cube.specs.Order.{row_cmp as row_order};
+ghost use Rattle.cube.specs.Literals.{IsOrderKey};
 ghost use Rattle.cube.specs.Packing.{Packs, PacksInputs, PacksOutputs};
 
 use crate::bytes::{has_any_mark, two_words_of, words_of};
-use crate::groups::group_by_bits;
+use crate::groups::{byte_by_bits, group_by_bits};
 use crate::lanes::{covers_by_lanes, pairs_meet_by_lanes};
-use crate::pack::{
-    byte_by_bits, input_word, input_words, is_in_two_words, output_word, output_words,
-};
+use crate::pack::{input_word, input_words, is_in_two_words, output_word, output_words};
 use crate::shape::Shape;
 use crate::symbol::Symbol;
 use crate::words::{
-    clear_from, copied_words, count_clear, covers_words, first_clear, first_difference, freed_word,
-    has_all, has_bit, minus_word, or_not_word, set_word, share_bit, with_bit, with_word, zip_words,
+    copied_words, covers_word_by_word, first_difference, freed_word, has_all, has_bit, minus_word,
+    or_not_word, reversal, set_word, share_bit, with_bit, with_word, zip_words,
 };
 use smallvec::SmallVec;
 use std::alloc::{AllocError, Global};
@@ -203,47 +202,6 @@ impl Cube {
         for j in 0..self.shape().outputs() {
             let bit = (words[j / 64] >> (j % 64)) & 1;
             row[j] = if bit == 1 { present } else { absent };
-        }
-    }
-
-    /// The number of literals: how many inputs have `0` or `1`.
-    pub fn literals(&self) -> usize
-        ensures value { result ≡ literals_of self.now }
-        ensures at_most { result ≤ length self.now.symbols }
-    {
-        let words = self.input_part();
-        count_clear(words)
-    }
-
-    /// The first input from `from` on that has a literal, or `None` if each of them has `-`.
-    ///
-    /// It costs a look at each word on the way, not at each symbol.
-    pub fn next_literal(&self, from: usize) -> Option<usize>
-        requires { from ≤ length self.now.symbols }
-        ensures found { IfSome result (λ i. IsNextLiteral self.now from i) }
-        ensures none { IfNone result
-            ((k : ℕ) → from ≤ k → slice_index_or self.now.symbols k Symbol.Dash ≡ Symbol.Dash) }
-    {
-        let words = self.input_part();
-        match first_clear(words, 2 * from) {
-            Some(at) => Some(at / 2),
-            None => None,
-        }
-    }
-
-    /// The literals at the 32 inputs from `32 w` on, as bits: `0` at input `32 w + k` is bit
-    /// `2 k + 1`, and `1` bit `2 k`. So lists can count their literals word by word.
-    pub fn literal_bits(&self, w: usize) -> u64
-        ensures zeros { (k : ℕ) → k < 32 → bit_at result (2 * k + 1)
-            ≡ (if not (agrees (slice_index_or self.now.symbols (32 * w + k) Symbol.Dash) true)
-            then 1 else 0) }
-        ensures ones { (k : ℕ) → k < 32 → bit_at result (2 * k)
-            ≡ (if not (agrees (slice_index_or self.now.symbols (32 * w + k) Symbol.Dash) false)
-            then 1 else 0) }
-    {
-        match self.input_part().get(w) {
-            Some(word) => clear_from(*word, 0),
-            None => 0,
         }
     }
 
@@ -484,6 +442,14 @@ impl Cube {
         }
     }
 
+    /// The symbols at the first 32 inputs as a number, greater for symbols that are later in row
+    /// order. Further inputs and the outputs do not count.
+    pub fn order_key_of_32_inputs(&self) -> u64
+        ensures { IsOrderKey self.now result }
+    {
+        reversal(self.literal_bits(0))
+    }
+
     /// Whether the cubes are one: of one shape, with the same symbols and outputs.
     pub fn is_equal(&self, other: &Cube) -> bool
         ensures { IsTrue result ↔ self.now ≡ other.now }
@@ -574,7 +540,7 @@ impl Cube {
         ensures { IsTrue result
             ↔ IsTrue (list_any (λ b. b) (minus self.now.outputs other.now.outputs)) }
     {
-        !covers_words(other.output_part(), self.output_part())
+        !covers_word_by_word(other.output_part(), self.output_part())
     }
 
     /// This cube without the outputs of the other.

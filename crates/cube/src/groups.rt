@@ -1,8 +1,21 @@
-//! Symbols as bytes, four at a time.
+//! Symbols as bytes, one by its two bits or four at a time.
 ghost use Rattle.std.specs.Prelude.{◌≡◌, ◌<◌, ◌+◌, ◌*◌, ℕ, slice_index};
 ghost use Rattle.std.specs.Int.{bit_at};
 ghost use Rattle.cube.specs.Bytes.{symbol_byte};
 ghost use Rattle.cube.specs.Packing.{symbol_of};
+
+/// The byte of the symbol that these two bits say.
+pub(crate) fn byte_by_bits(low: u64, high: u64, dash: u8, zero: u8, one: u8) -> u8
+    ensures { result ≡ symbol_byte dash zero one (symbol_of low high) }
+{
+    if low == high {
+        dash
+    } else if low == 1 {
+        zero
+    } else {
+        one
+    }
+}
 
 // The four symbols that eight bits of a word say, two bits a symbol.
 static GROUPS: [[u8; 4]; 256] = [

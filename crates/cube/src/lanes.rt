@@ -5,7 +5,7 @@ ghost use Rattle.std.specs.Prelude.{◌≡◌, ℕ, ◌↔◌, ◌<◌, ◌/◌,
 ghost use Rattle.std.specs.Int.{bit_not, w64};
 ghost use Rattle.cube.specs.Words.{CoversWords, HasNoEmptyPair, PairsMeet};
 
-use crate::words::{covers_words, pairs_meet};
+use crate::words::{covers_word_by_word, pairs_meet_word_by_word};
 use std::simd::prelude::*;
 
 // The lower bit of each pair.
@@ -53,7 +53,7 @@ pub(crate) fn covers_by_lanes(a: &[u64], b: &[u64]) -> bool
         return false;
     }
     if a.len() < MANY {
-        return covers_words(a, b);
+        return covers_word_by_word(a, b);
     }
     let (mine, my_rest) = a.as_chunks::<4>();
     let (theirs, their_rest) = b.as_chunks::<4>();
@@ -62,7 +62,7 @@ pub(crate) fn covers_by_lanes(a: &[u64], b: &[u64]) -> bool
             return false;
         }
     }
-    covers_words(my_rest, their_rest)
+    covers_word_by_word(my_rest, their_rest)
 }
 
 /// Whether each pair of bits has one that is in both. The first word decides for most cubes.
@@ -74,7 +74,7 @@ pub(crate) fn pairs_meet_by_lanes(a: &[u64], b: &[u64]) -> bool
         return false;
     }
     if a.len() < MANY {
-        return pairs_meet(a, b);
+        return pairs_meet_word_by_word(a, b);
     }
     let (mine, my_rest) = a.as_chunks::<4>();
     let (theirs, their_rest) = b.as_chunks::<4>();
@@ -83,5 +83,5 @@ pub(crate) fn pairs_meet_by_lanes(a: &[u64], b: &[u64]) -> bool
             return false;
         }
     }
-    pairs_meet(my_rest, their_rest)
+    pairs_meet_word_by_word(my_rest, their_rest)
 }

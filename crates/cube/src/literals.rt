@@ -1,17 +1,21 @@
-//! Where a cube has literals, and where those of two cubes are opposite or only in one.
+//! Where a cube has literals and how many, and where those of two cubes are opposite or only in
+//! one.
 //!
 //! The literals of 32 inputs stand in a word, so that a call looks at a word for each 32 inputs.
 //! Inputs past the last count as `-`.
-ghost use Rattle.std.specs.Prelude.{◌≡◌, ℕ, ◌+◌, ◌-◌, ◌*◌, ◌<◌, ◌≤◌, IfSome, IfNone, min, max, if◌then◌else◌, false, length};
+ghost use Rattle.std.specs.Prelude.{◌≡◌, ℕ, ◌+◌, ◌*◌, ◌<◌, ◌≤◌, IfSome, IfNone, if◌then◌else◌, not, true, false, length, slice_index_or};
 ghost use Rattle.std.specs.Int.{bit_at};
-ghost use Rattle.cube.specs.Literals.{has_literal as has_literal_of, has_one, is_opposite, is_beyond, count_inputs, IsNextInput, IsInputSet, IsOrderKey};
-ghost use Rattle.cube.specs.Cube.{Cube as Row};
+ghost use Rattle.cube.specs.Literals.{has_literal as has_literal_of, has_one, is_opposite, is_beyond, count_inputs, IsNextInput, IsInputSet};
+ghost use Rattle.cube.specs.Cube.{Cube as Row, literals as literals_of, IsNextLiteral};
 ghost use Rattle.cube.specs.Packing.{PacksInputs};
+ghost use Rattle.cube.specs.Pattern.{agrees};
 ghost use Rattle.cube.specs.Words.{Marks};
 
 use crate::cube::Cube;
 use crate::symbol::Symbol;
-use crate::words::{clear_from, empty_pairs, even_bits, from_pair, minus_word, reversal};
+use crate::words::{
+    clear_from, count_clear, empty_pairs, even_bits, first_clear, from_pair, minus_word,
+};
 
 // The inputs of word `w` at which the two have opposite literals, as lower bits of their pairs.
 fn opposite_marks(mine: &[u64], theirs: &[u64], w: usize) -> u64
@@ -44,6 +48,47 @@ impl Cube {
         ensures { result ≡ has_literal_of self.now i }
     {
         i < self.shape().inputs() && self.symbol(i) != Symbol::Dash
+    }
+
+    /// The number of literals: how many inputs have `0` or `1`.
+    pub fn literals(&self) -> usize
+        ensures value { result ≡ literals_of self.now }
+        ensures at_most { result ≤ length self.now.symbols }
+    {
+        let words = self.input_part();
+        count_clear(words)
+    }
+
+    /// The first input from `from` on that has a literal, or `None` if each of them has `-`.
+    ///
+    /// It costs a look at each word on the way, not at each symbol.
+    pub fn next_literal(&self, from: usize) -> Option<usize>
+        requires { from ≤ length self.now.symbols }
+        ensures found { IfSome result (λ i. IsNextLiteral self.now from i) }
+        ensures none { IfNone result
+            ((k : ℕ) → from ≤ k → slice_index_or self.now.symbols k Symbol.Dash ≡ Symbol.Dash) }
+    {
+        let words = self.input_part();
+        match first_clear(words, 2 * from) {
+            Some(at) => Some(at / 2),
+            None => None,
+        }
+    }
+
+    /// The literals at the 32 inputs from `32 w` on, as bits: `0` at input `32 w + k` is bit
+    /// `2 k + 1`, and `1` bit `2 k`. So lists can count their literals word by word.
+    pub fn literal_bits(&self, w: usize) -> u64
+        ensures zeros { (k : ℕ) → k < 32 → bit_at result (2 * k + 1)
+            ≡ (if not (agrees (slice_index_or self.now.symbols (32 * w + k) Symbol.Dash) true)
+            then 1 else 0) }
+        ensures ones { (k : ℕ) → k < 32 → bit_at result (2 * k)
+            ≡ (if not (agrees (slice_index_or self.now.symbols (32 * w + k) Symbol.Dash) false)
+            then 1 else 0) }
+    {
+        match self.input_part().get(w) {
+            Some(word) => clear_from(*word, 0),
+            None => 0,
+        }
     }
 
     /// The inputs from `32 w` on that have a literal, as a set of 32: input `32 w + k` is bit
@@ -122,13 +167,5 @@ impl Cube {
             count += beyond_marks(mine, theirs, w).count_ones();
         }
         count
-    }
-
-    /// The symbols at the first 32 inputs as a number, greater for symbols that are later in row
-    /// order. Further inputs and the outputs do not count.
-    pub fn order_key_of_32_inputs(&self) -> u64
-        ensures { IsOrderKey self.now result }
-    {
-        reversal(self.literal_bits(0))
     }
 }

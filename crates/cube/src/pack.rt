@@ -6,8 +6,7 @@
 //! After the words of the inputs, output `j` is bit `j mod 64` of word `j div 64`, set if the
 //! cube has the output; the spare bits of the last word are clear. So equal cubes have equal words.
 ghost use Rattle.std.specs.Prelude.{◌≡◌, ◌<◌, ◌^◌, true};
-ghost use Rattle.cube.specs.Packing.{input_words as input_words_of, output_words as output_words_of, IsInputWord, IsOutputWord, symbol_of};
-ghost use Rattle.cube.specs.Bytes.{symbol_byte};
+ghost use Rattle.cube.specs.Packing.{input_words as input_words_of, output_words as output_words_of, IsInputWord, IsOutputWord};
 ghost use Rattle.cube.specs.Limits.{IsWithinLimits, format_limits};
 
 use crate::shape::Shape;
@@ -64,17 +63,4 @@ pub(crate) fn output_word(outputs: &[bool], w: usize) -> u64
         word = with_bit(word, k, outputs[64 * w + k]);
     }
     word
-}
-
-/// The byte of the symbol that these two bits say.
-pub(crate) fn byte_by_bits(low: u64, high: u64, dash: u8, zero: u8, one: u8) -> u8
-    ensures { result ≡ symbol_byte dash zero one (symbol_of low high) }
-{
-    if low == high {
-        dash
-    } else if low == 1 {
-        zero
-    } else {
-        one
-    }
 }

@@ -1,5 +1,5 @@
 //! Kernels over words, which know nothing of symbols. Each looks at each word once.
-ghost use Rattle.std.specs.Prelude.{◌≡◌, ◌==◌, ℕ, ◌↔◌, ◌≤◌, ◌<◌, ◌+◌, ◌^◌, IsTrue, IsOk, IfOk, IfSome, IfNone, length, slice_index, slice_set, ◌≢◌, if◌then◌else◌, min, max, ◌-◌, ◌*◌, sum_by};
+ghost use Rattle.std.specs.Prelude.{◌≡◌, ◌==◌, ℕ, ◌↔◌, ◌≤◌, ◌<◌, ◌+◌, ◌^◌, IsTrue, IsOk, IfOk, IfSome, IfNone, length, slice_index, slice_set, ◌≢◌, if◌then◌else◌, max, ◌-◌, ◌*◌, sum_by};
 ghost use Rattle.std.specs.Int.{bit_at, count_zeros, w64};
 ghost use Rattle.cube.specs.Words.{CoversWords, PairsMeet, ShareBit, IsBitDifference, IsExchangeMask, exchanged, freed_bit, HasAll, DiffersFirstAt, IsFirstClear, bit_of_words};
 
@@ -10,7 +10,7 @@ use std::alloc::{AllocError, Global};
 const LOWER_BITS: u64 = 0x5555_5555_5555_5555;
 
 /// Whether each bit of `b` is in `a`.
-pub(crate) fn covers_words(a: &[u64], b: &[u64]) -> bool
+pub(crate) fn covers_word_by_word(a: &[u64], b: &[u64]) -> bool
     requires { length a.now ≡ length b.now }
     ensures { IsTrue result ↔ CoversWords a.now b.now }
 {
@@ -23,7 +23,7 @@ pub(crate) fn covers_words(a: &[u64], b: &[u64]) -> bool
 }
 
 /// Whether each pair of bits has one that is in both.
-pub(crate) fn pairs_meet(a: &[u64], b: &[u64]) -> bool
+pub(crate) fn pairs_meet_word_by_word(a: &[u64], b: &[u64]) -> bool
     requires { length a.now ≡ length b.now }
     ensures { IsTrue result ↔ PairsMeet a.now b.now }
 {

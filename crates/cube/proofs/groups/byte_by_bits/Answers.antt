@@ -1,7 +1,7 @@
 use Rattle.std.proofs.Common.{ap, sym}
 use Rattle.cube.specs.Bytes.{symbol_byte}
 use Rattle.cube.proofs.PackingLemmas.{symbol_of-same, symbol_of-low, symbol_of-high}
-use Rattle.cube.proofs.pack.byte_by_bits.Goals as goal
+use Rattle.cube.proofs.groups.byte_by_bits.Goals as goal
 
 pub returns-then-low-high : goal.returns-then-low-high
 returns-then-low-high c = ap (symbol_byte c.args.dash c.args.zero c.args.one) (sym (symbol_of-same _ _ c.if-low-high.true))

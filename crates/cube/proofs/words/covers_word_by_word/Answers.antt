@@ -1,7 +1,7 @@
 use Rattle.std.proofs.Common.{arith, below_more}
 use Rattle.std.proofs.lemmas.Bool.{false≢true}
 use Rattle.cube.proofs.WordLemmas.{bits_from_covers, covers_from_bits}
-use Rattle.cube.proofs.words.covers_words.Goals as goal
+use Rattle.cube.proofs.words.covers_word_by_word.Goals as goal
 
 pub returns-then-b-k-ne0 : goal.returns-then-b-k-ne0
 returns-then-b-k-ne0 c = (
