@@ -41,6 +41,7 @@ mod literal_counts;
 mod outside_within_budget;
 mod references;
 mod region;
+mod row_hash;
 mod sums;
 mod symbols;
 mod tautology;

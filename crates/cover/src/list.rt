@@ -1,6 +1,6 @@
-//! A list of cubes of one shape.
-ghost use Rattle.std.specs.Prelude.{◌≡◌, ◌==◌, ◌∷◌, ◌++◌, [], length, slice_get, option_copied, IfOk, OnOk, OnErr, IfErr, IfSome};
-ghost use Rattle.cube.specs.Cube.{HasSize, IsCube};
+//! A list of cubes of one shape, copies of lists, and whether a cube of one meets another.
+ghost use Rattle.std.specs.Prelude.{◌≡◌, ◌==◌, ◌∷◌, ◌++◌, [], length, slice_get, option_copied, false, All, IfOk, OnOk, OnErr, IfErr, IfSome};
+ghost use Rattle.cube.specs.Cube.{HasSize, IsCube, SameSize, IsDisjoint, holds};
 ghost use Rattle.cover.specs.Cubes.{AreCubes};
 ghost use Rattle.cover.specs.Places.{behind};
 
@@ -150,4 +150,17 @@ pub(crate) fn clone_referents(alloc: Global, rows: &[&Cube]) -> Result<Vec<Cube>
         copies.push(row.try_clone()?)?;
     }
     Ok(copies)
+}
+
+/// Whether some cube has a place of the row.
+pub(crate) fn any_meets(cubes: &[Cube], row: &Cube) -> bool
+    requires { All (λ d. SameSize d row.now) cubes.now }
+    ensures { result ≡ false → All (λ d. IsDisjoint (holds d) (holds row.now)) cubes.now }
+{
+    for cube in cubes {
+        if !cube.disjoint(row) {
+            return true;
+        }
+    }
+    false
 }

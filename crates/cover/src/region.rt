@@ -16,6 +16,7 @@
 //! Splits may look at a limited number of rows. Once that is spent, `holds_by_splits_or_search`
 //! asks a search that learns (`learned`).
 pub(crate) mod learned;
+pub(crate) mod nearest_first;
 pub(crate) mod nearest_rows;
 pub(crate) mod open_literals;
 pub(crate) mod step_hint;
@@ -23,13 +24,13 @@ pub(crate) mod step_hint;
 ghost use Rattle.std.specs.Prelude.{◌≡◌, ◌≢◌, ◌↔◌, ℕ, ◌≤◌, ◌<◌, false, IsTrue, IfOk, IfErr, IfSome, IfNone, OnOk, ◌++◌, ◌∷◌, [], length, slice_get, slice_index_or, Some, Contains, All};
 ghost use Rattle.std.specs.List.{list_any};
 ghost use Rattle.cube.specs.Cube.{Cube as Row, SameSize, IsSubset, IsDisjoint, holds, with_symbol, size_of};
-ghost use Rattle.cube.specs.Sharp.{opposite as opposite_of};
 ghost use Rattle.cover.specs.Places.{places, meeting as meeting_of, behind};
 ghost use Rattle.cover.specs.Reason.{IsReason, Explains, Joins, IsClosed, Leads, Share, AreAmong, AreKnown};
 
 use crate::region::learned::{Learned, holds_by_search};
 use crate::region::open_literals::count_open_literals;
 use crate::region::step_hint::{Hint, next_step_hint};
+use crate::symbols::opposite;
 use cube::{Cube, Symbol};
 use std::alloc::{AllocError, Global};
 
@@ -162,17 +163,6 @@ fn next_step(rows: &[&Cube], near: &[&Cube], fewest: u32, region: &Cube) -> Step
     match first_open_input(near[0], region) {
         None => Step::Row(0),
         Some(i) => Step::Split(i, Symbol::Zero),
-    }
-}
-
-// The other literal, or `-` for `-`.
-pub(crate) fn opposite(symbol: Symbol) -> Symbol
-    ensures { result ≡ opposite_of symbol }
-{
-    match symbol {
-        Symbol::Dash => Symbol::Dash,
-        Symbol::Zero => Symbol::One,
-        Symbol::One => Symbol::Zero,
     }
 }
 

@@ -51,19 +51,22 @@ use crate::cubes::universal_cube;
 use crate::list::Cover;
 use crate::sums::absorb::{absorb, absorb_if_short, drop_absorbed_by_if_short};
 use crate::sums::branch::{
-    Branches, absorbed_cofactor_at, branches_at, literal_of_value, smoothing_at,
+    Branches, absorbed_cofactor_at, branches_at, combine_branches, smoothing_at,
 };
 use crate::sums::by_symbol::has_symbol;
 use crate::sums::computed_table::{ComputedTable, hash_of_lists};
 use crate::sums::constant_outputs::{
     constant_row, with_constant_outputs, without_constant_outputs,
 };
-use crate::sums::ends::{has_universal_row, is_unate, sum_without_literals};
-use crate::sums::independent_parts::{Parts, has_row_without_literals, independent_parts};
+use crate::sums::ends::{
+    has_row_without_literals, has_universal_row, is_unate, sum_without_literals,
+};
+use crate::sums::independent_parts::{Parts, each_has_literal, independent_parts};
 use crate::sums::meets::meets;
-use crate::sums::rows::{combine_branches, merge, sort_rows};
-use crate::sums::split_input::{each_has_literal, input_order_hint, split_input_of_lists};
+use crate::sums::rows::{merge, sort_rows};
+use crate::sums::split_input::{input_order_hint, split_input_of_lists};
 use crate::sums::two_rows::sum_of_two_rows;
+use crate::symbols::literal_of_value;
 use cube::{Cube, Shape};
 use std::alloc::{AllocError, Global};
 

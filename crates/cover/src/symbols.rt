@@ -1,6 +1,9 @@
-//! Tests of symbols, and rows chosen by their symbol at an input.
+//! Symbols: the literal of a value, opposite literals, tests, and rows chosen by their symbol at an
+//! input.
 ghost use Rattle.std.specs.Prelude.{◌≡◌, ◌<◌, IfOk, All, length, slice_index_or, filter};
 ghost use Rattle.cube.specs.Pattern.{agrees};
+ghost use Rattle.cube.specs.Sharp.{opposite as opposite_of};
+ghost use Rattle.cover.specs.Complete.{literal as literal_of};
 ghost use Rattle.cover.specs.Marks.{is_symbol, is_over, is_compatible};
 
 use cube::{Cube, Symbol};
@@ -28,6 +31,24 @@ pub(crate) fn is_same_symbol(one: Symbol, other: Symbol) -> bool
         (Symbol::One, Symbol::One) => true,
         _ => false,
     }
+}
+
+/// The other literal, or `-` for `-`.
+pub(crate) fn opposite(symbol: Symbol) -> Symbol
+    ensures { result ≡ opposite_of symbol }
+{
+    match symbol {
+        Symbol::Dash => Symbol::Dash,
+        Symbol::Zero => Symbol::One,
+        Symbol::One => Symbol::Zero,
+    }
+}
+
+/// The symbol that agrees with this bit alone.
+pub(crate) fn literal_of_value(value: bool) -> Symbol
+    ensures { result ≡ literal_of value }
+{
+    if value { Symbol::One } else { Symbol::Zero }
 }
 
 /// Whether a row has this symbol at input `i`.

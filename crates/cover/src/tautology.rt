@@ -1,15 +1,15 @@
-//! The questions to a list: whether its cubes hold every place, or a given cube. `region` answers
-//! them.
+//! The questions to a list: whether its cubes hold every place (`tautology`), a given cube
+//! (`holds_cube`), or each of several (`holds_cubes`). `region` answers them.
 ghost use Rattle.std.specs.Prelude.{◌≡◌, IfOk, All, map};
 ghost use Rattle.cube.specs.Cube.{HasSize, holds};
 ghost use Rattle.cube.specs.Sum.{is_subset};
 ghost use Rattle.cover.specs.Places.{places, holds_all};
 
-use crate::compare::pairwise::holds_each_region;
 use crate::cubes::universal_cube;
 use crate::list::Cover;
 use crate::references::{references, references_to};
 use crate::region::holds_region;
+use crate::region::nearest_first::holds_each_region;
 use cube::Cube;
 use std::alloc::AllocError;
 

@@ -7,7 +7,7 @@ ghost use Rattle.std.specs.Prelude.{IsTrue, IfOk, Contains, ◌++◌};
 ghost use Rattle.cover.specs.Places.{behind};
 ghost use Rattle.cover.specs.Reason.{AreAmong};
 
-use crate::sums::computed_table::row_hash;
+use crate::row_hash::row_hash;
 use cube::{Cube, Shape};
 use std::alloc::{AllocError, Global};
 

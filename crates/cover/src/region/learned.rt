@@ -16,7 +16,7 @@ use crate::compare::pairwise::is_disjoint_from_all;
 use crate::cubes::cube_of_output;
 use crate::list::clone_referents;
 use crate::region::open_literals::first_open_literal;
-use crate::region::opposite;
+use crate::symbols::opposite;
 use cube::{Cube, Shape, Symbol};
 use sat_search::{Answer, Limits, Refutation, Search};
 use std::alloc::{AllocError, Global};

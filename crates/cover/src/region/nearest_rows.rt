@@ -11,7 +11,6 @@
 ghost use Rattle.std.specs.Prelude.{IfOk, OnOk};
 ghost use Rattle.cover.specs.Reason.{AreAmong};
 
-use crate::region::open_literals::fewest_literals;
 use cube::{Cube, Shape, Symbol};
 use std::alloc::{AllocError, Global};
 
@@ -30,6 +29,15 @@ pub(crate) struct RowBits {
     words: usize,
     // The fewest literals of a row.
     fewest: u32,
+}
+
+// The fewest literals of a row.
+fn fewest_literals(rows: &[&Cube]) -> u32 {
+    let mut fewest = u32::MAX;
+    for row in rows {
+        fewest = fewest.min(u32::try_from(row.literals()).unwrap_or(u32::MAX));
+    }
+    fewest
 }
 
 // `count` columns without a row, of `words` words each.

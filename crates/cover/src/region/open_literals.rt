@@ -4,7 +4,6 @@
 //! them.
 
 use cube::{Cube, Shape, Symbol};
-use std::alloc::{AllocError, Global};
 
 /// The open literals of a row at the 32 inputs of word `w`, as bits like those of
 /// `Cube::literal_bits`.
@@ -30,41 +29,6 @@ pub(crate) fn count_open_literals(shape: Shape, row: &Cube, region: &Cube, enoug
         return count;
     }
     count.saturating_add(lacks_output(shape, row, region) as u32)
-}
-
-/// The fewest literals of a row.
-pub(crate) fn fewest_literals(rows: &[&Cube]) -> u32 {
-    let mut fewest = u32::MAX;
-    for row in rows {
-        fewest = fewest.min(u32::try_from(row.literals()).unwrap_or(u32::MAX));
-    }
-    fewest
-}
-
-/// The words of the cube's literals that are not empty, each with its index.
-pub(crate) fn literal_words(
-    alloc: Global,
-    shape: Shape,
-    cube: &Cube,
-) -> Result<Vec<(usize, u64)>, AllocError> {
-    let mut words = Vec::new(alloc);
-    for w in 0..shape.inputs() / 32 + 1 {
-        let bits = cube.literal_bits(w);
-        if bits != 0 {
-            words.push((w, bits))?;
-        }
-    }
-    Ok(words)
-}
-
-/// Whether a row has one of the literals that [`literal_words`] answered.
-pub(crate) fn shares_literal(row: &Cube, words: &[(usize, u64)]) -> bool {
-    for (w, bits) in words {
-        if row.literal_bits(*w) & *bits != 0 {
-            return true;
-        }
-    }
-    false
 }
 
 /// The first open literal of a row, with its input.

@@ -10,6 +10,7 @@ ghost use Rattle.cube.specs.Sum.{complete_sum as complete_sum_of};
 ghost use Rattle.cover.specs.Places.{places};
 
 use crate::list::clone_cubes;
+use crate::row_hash::row_hash;
 use cube::{Cube, Shape};
 use std::alloc::{AllocError, Global};
 use std::mem;
@@ -208,23 +209,6 @@ fn list_hash(shape: Shape, rows: &[Cube], seed: u64) -> u64 {
         hash = row_hash(shape, row, hash);
     }
     hash
-}
-
-/// The hash of a row, from a seed. With one seed equal rows have equal hashes, and other rows hardly
-/// ever do.
-pub(crate) fn row_hash(shape: Shape, row: &Cube, seed: u64) -> u64 {
-    let mut hash = seed;
-    for w in 0..(shape.inputs() / 32).max(shape.outputs() / 64) + 1 {
-        hash = mix(mix(hash ^ row.literal_bits(w)) ^ row.output_bits(w));
-    }
-    hash
-}
-
-// A number that each bit of the word changes in many bits: an odd factor, and the higher half upon
-// the lower.
-fn mix(word: u64) -> u64 {
-    let product = word.wrapping_mul(0x9E37_79B9_7F4A_7C15);
-    product ^ (product >> 32)
 }
 
 // Whether the lists are equal.

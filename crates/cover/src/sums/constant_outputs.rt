@@ -14,7 +14,7 @@ ghost use Rattle.cover.specs.Free.{IsFreePart, IsRest, AreWider};
 ghost use Rattle.cover.specs.Places.{places};
 ghost use Rattle.cover.specs.Sizes.{HaveOneSize};
 
-use crate::sums::independent_parts::has_row_without_literals;
+use crate::sums::ends::has_row_without_literals;
 use crate::sums::rows::sort_rows;
 use cube::Cube;
 use std::alloc::{AllocError, Global};

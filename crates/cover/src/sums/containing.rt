@@ -12,7 +12,7 @@
 ghost use Rattle.std.specs.Prelude.{◌≡◌, false, All, IfOk, IfSome, not, filter};
 ghost use Rattle.std.specs.List.{Contains};
 ghost use Rattle.cube.specs.Size.{Size};
-ghost use Rattle.cube.specs.Cube.{HasSize, SameSize, IsDisjoint, Cube as Row, holds, difference, size_of};
+ghost use Rattle.cube.specs.Cube.{HasSize, SameSize, Cube as Row, holds, difference, size_of};
 ghost use Rattle.cube.specs.Sum.{complete_sum};
 ghost use Rattle.cover.specs.Cubes.{AreCubes};
 ghost use Rattle.cover.specs.Sizes.{HaveOneSize, ShareOneSize};
@@ -23,7 +23,7 @@ ghost use Rattle.cover.specs.Reduced.{HasSameCubes, IsPartlyAbsorbed};
 ghost use Rattle.cover.specs.Containing.{Cuts, lies_in_larger as is_in_larger, largest as largest_of, sum_containing as sum_containing_of};
 
 use crate::cubes::universal_cube;
-use crate::list::Cover;
+use crate::list::{Cover, any_meets};
 use crate::sums::absorb::{absorb, drop_absorbed_by};
 use cube::{Cube, Shape};
 use std::alloc::{AllocError, Global};
@@ -68,19 +68,6 @@ fn pieces_containing(
 {
     let rest = cube.sharp(row)?;
     select_containing(alloc, region, &rest)
-}
-
-/// Whether some cube has a place of the row.
-pub(crate) fn any_meets(cubes: &[Cube], row: &Cube) -> bool
-    requires { All (λ d. SameSize d row.now) cubes.now }
-    ensures { result ≡ false → All (λ d. IsDisjoint (holds d) (holds row.now)) cubes.now }
-{
-    for cube in cubes {
-        if !cube.disjoint(row) {
-            return true;
-        }
-    }
-    false
 }
 
 // Whether the row has one output. False if the shape has more than 64.

@@ -1,10 +1,11 @@
-//! The ends of the recursion but for that of two rows: a row that holds everything, a unate list,
-//! and lists without a literal.
+//! The ends of the recursion but for that of two rows: a row that holds everything, a row without a
+//! literal, a unate list, and lists without a literal.
 ghost use Rattle.std.specs.Prelude.{◌≡◌, ℕ, ◌<◌, ◌&&◌, ◌||◌, IfOk, IsTrue, All, Contains, length, slice_index_or, true, false};
 ghost use Rattle.std.specs.List.{list_any};
 ghost use Rattle.cube.specs.Size.{Size};
 ghost use Rattle.cube.specs.Cube.{IsCube, SameSize, IsPlace, Place, holds, difference, Cube as Row};
 ghost use Rattle.cube.specs.Sum.{complete_sum};
+ghost use Rattle.cover.specs.Apart.{IsFree};
 ghost use Rattle.cover.specs.Cubes.{AreCubes};
 ghost use Rattle.cover.specs.Places.{places};
 ghost use Rattle.cover.specs.Parts.{has_literal};
@@ -65,6 +66,19 @@ pub(crate) fn has_universal_row(rows: &[Cube]) -> bool
 {
     for row in rows {
         if row.is_universal() {
+            return true;
+        }
+    }
+    false
+}
+
+/// Whether some row has no literal.
+pub(crate) fn has_row_without_literals(rows: &[Cube]) -> bool
+    ensures some { IsTrue result → (c : Row) × Contains rows.now c × IsFree c }
+    ensures none { result ≡ false → All (λ c. IsFree c → ⊥) rows.now }
+{
+    for row in rows {
+        if row.next_literal(0).is_none() {
             return true;
         }
     }

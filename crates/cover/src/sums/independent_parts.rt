@@ -4,15 +4,15 @@
 //! outside the one and a point outside the other, then the first point's values at the inputs of
 //! the one with the second's elsewhere would make a point outside both. So the complete sum of the
 //! rows has the cubes of both parts' sums, or is that of one part, if that part holds every point.
-ghost use Rattle.std.specs.Prelude.{◌≡◌, IfOk, IfSome, IsTrue, All, Contains, length, false};
+ghost use Rattle.std.specs.Prelude.{◌≡◌, ◌<◌, IfOk, IfSome, IsTrue, All, length};
 ghost use Rattle.cube.specs.Size.{Size};
-ghost use Rattle.cube.specs.Cube.{Cube as Row};
 ghost use Rattle.cover.specs.Cubes.{AreCubes};
-ghost use Rattle.cover.specs.Apart.{IsFree, IsOnSide, IsDivided, IsInParts, HasSomeLiteral};
+ghost use Rattle.cover.specs.Apart.{IsOnSide, IsDivided, IsInParts, HasSomeLiteral};
 
 use crate::sums::ends::have_same_outputs;
 use crate::sums::input_groups::groups_hint;
-use cube::{Cube, Shape};
+use crate::symbols::has_symbol_at;
+use cube::{Cube, Shape, Symbol};
 use std::alloc::{AllocError, Global};
 
 /// Two parts of a list.
@@ -74,6 +74,19 @@ fn first_row_has_literal(rows: &[Cube]) -> bool
     }
 }
 
+/// Whether each row has a literal at input `i`. If so, the rows have no two parts without a common
+/// input.
+pub(crate) fn each_has_literal(rows: &[Cube], i: usize) -> bool
+    requires { All (λ c. i < length c.symbols) rows.now }
+{
+    for row in rows {
+        if has_symbol_at(row, i, Symbol::Dash) {
+            return false;
+        }
+    }
+    true
+}
+
 /// Two parts of the rows that have no input in common, each with a literal, if there are any and
 /// all rows have the same outputs.
 pub(crate) fn independent_parts(
@@ -99,17 +112,4 @@ pub(crate) fn independent_parts(
         return Ok(None);
     }
     Ok(Some(parts))
-}
-
-/// Whether some row has no literal.
-pub(crate) fn has_row_without_literals(rows: &[Cube]) -> bool
-    ensures some { IsTrue result → (c : Row) × Contains rows.now c × IsFree c }
-    ensures none { result ≡ false → All (λ c. IsFree c → ⊥) rows.now }
-{
-    for row in rows {
-        if row.next_literal(0).is_none() {
-            return true;
-        }
-    }
-    false
 }

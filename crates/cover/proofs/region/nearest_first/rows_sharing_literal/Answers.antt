@@ -2,8 +2,8 @@ use Rattle.std.proofs.Common.{sym, subst}
 use Rattle.cover.specs.Reason.{AreAmong}
 use Rattle.cover.proofs.Lists.{behind_member}
 use Rattle.cover.proofs.Reasons.{among_added}
-use Rattle.cover.proofs.compare.pairwise.rows_sharing_literal.Goals as goal
-use Rattle.cover.proofs.compare.pairwise.rows_sharing_literal.Goals.{then-shares_literal+in_ok-push, else-shares_literal}
+use Rattle.cover.proofs.region.nearest_first.rows_sharing_literal.Goals as goal
+use Rattle.cover.proofs.region.nearest_first.rows_sharing_literal.Goals.{then-shares_literal+in_ok-push, else-shares_literal}
 
 pub loop-row-preserved : goal.loop-row-preserved
 loop-row-preserved c =

@@ -5,7 +5,7 @@ use Rattle.cube.specs.Sum.{is_subset}
 use Rattle.cover.specs.Places.{places, behind}
 use Rattle.cover.proofs.Everywhere.{same_test, is_subset-iff}
 use Rattle.cover.proofs.Halves.{known_at}
-use Rattle.cover.proofs.compare.pairwise.holds_each_region.Goals as goal
+use Rattle.cover.proofs.region.nearest_first.holds_each_region.Goals as goal
 
 pub loop-region-preserved : goal.loop-region-preserved
 loop-region-preserved c =

@@ -2,7 +2,7 @@ use Rattle.std.proofs.Common.{All, sym, subst, refl}
 use Rattle.cube.specs.Cube.{SameSize, IsSubset, holds}
 use Rattle.cover.specs.Places.{places, behind}
 use Rattle.cover.proofs.Reasons.{sizes_among, within_among}
-use Rattle.cover.proofs.compare.pairwise.holds_region_nearest_first.Goals as goal
+use Rattle.cover.proofs.region.nearest_first.holds_region_nearest_first.Goals as goal
 
 pub is_seen_to_hold-requires : goal.is_seen_to_hold-requires
 is_seen_to_hold-requires c =

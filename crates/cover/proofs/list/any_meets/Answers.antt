@@ -2,7 +2,7 @@ use Rattle.std.proofs.Common.{subst, arith, All}
 use Rattle.std.proofs.lemmas.List.{take_all}
 use Rattle.std.proofs.lemmas.List.Elements.{All-more}
 use Rattle.cube.specs.Cube.{Cube, IsDisjoint, holds}
-use Rattle.cover.proofs.sums.containing.any_meets.Goals as goal
+use Rattle.cover.proofs.list.any_meets.Goals as goal
 
 pub loop-cube-preserved : goal.loop-cube-preserved
 loop-cube-preserved c =

@@ -7,7 +7,7 @@ use Rattle.cube.specs.Cube.{Cube, HasSize, IsSubset, holds, size_of}
 use Rattle.cover.specs.Places.{places, behind}
 use Rattle.cover.proofs.Halves.{known_at}
 use Rattle.cover.proofs.Agreement.{IsSubset-row, IsSubset-rows}
-use Rattle.cover.proofs.compare.pairwise.are_held_one_by_one.Goals as goal
+use Rattle.cover.proofs.region.nearest_first.are_held_one_by_one.Goals as goal
 
 pub returns-then-not-branch : goal.returns-then-not-branch
 returns-then-not-branch c = (

@@ -4,7 +4,7 @@ use Rattle.std.proofs.lemmas.List.Elements.{All-more}
 use Rattle.cube.specs.Cube.{Cube}
 use Rattle.cover.specs.Apart.{IsFree}
 use Rattle.cover.proofs.Dividing.{not_free}
-use Rattle.cover.proofs.sums.independent_parts.has_row_without_literals.Goals as goal
+use Rattle.cover.proofs.sums.ends.has_row_without_literals.Goals as goal
 
 abbrev IsBound : Cube → Type 0
 IsBound d = IsFree d → ⊥
