@@ -1,8 +1,8 @@
 -- A cube that a call found has an output, since it has a place.
-use Rattle.std.proofs.Common.{◌≡◌, ◌∙◌, Bool, true, false, ◌&&◌, ◌||◌, IsTrue, IsNone, ◌↔◌, get_or, length, sym, subst, refl, inl, inr}
+use Rattle.std.proofs.Common.{◌≡◌, ◌∙◌, Bool, true, false, ◌&&◌, IsTrue, IsNone, ◌↔◌, get_or, length, sym, subst, refl, inl, inr}
 use Rattle.std.specs.Prelude.{Option, Some, None, Result, Ok, Err, IsSome, IfSome, IfOk, List}
 use Rattle.std.specs.List.{Contains, list_any}
-use Rattle.std.proofs.lemmas.Bool.{cases_Bool, false≢true, and_parts, and_from, or_right}
+use Rattle.std.proofs.lemmas.Bool.{cases_Bool, false≢true, and_parts, and_from}
 use Rattle.cube.specs.declared.symbol.Symbol.{Symbol}
 use Rattle.cube.specs.Size.{Size}
 use Rattle.cube.specs.Pattern.{matches}

@@ -1,5 +1,5 @@
 -- The complete sum of a list with outputs that a row without a literal has.
-use Rattle.std.proofs.Common.{◌≡◌, ℕ, ◌+◌, ◌<◌, ◌≤◌, Bool, true, false, not, ◌&&◌, ◌||◌, List, [], ◌∷◌, ◌++◌, length, map, take, get_or, refl, ap, sym, subst, ◌∙◌, arith, inl, inr, ◌⊎◌, IsTrue, ◌↔◌}
+use Rattle.std.proofs.Common.{◌≡◌, ℕ, ◌+◌, ◌<◌, ◌≤◌, Bool, true, false, not, ◌&&◌, ◌||◌, List, [], ◌∷◌, ◌++◌, length, map, take, get_or, refl, ap, sym, subst, ◌∙◌, inl, inr, IsTrue, ◌↔◌}
 use Rattle.std.specs.List.{Contains, list_any}
 use Rattle.std.specs.List.Sorted.{IsStrictlySortedBy}
 use Rattle.std.specs.Simd.Lanes.{zip2}
@@ -7,7 +7,6 @@ use Rattle.std.proofs.lemmas.Bool.{cases_Bool, false≢true, and_parts, and_from
 use Rattle.std.proofs.lemmas.List.{take_more}
 use Rattle.std.proofs.lemmas.List.Elements.{Contains-append_left, Contains-append_right, Contains-append_cases}
 use Rattle.std.proofs.lemmas.Simd.{length-zip2}
-use Rattle.cube.specs.declared.symbol.Symbol.{Symbol}
 use Rattle.cube.specs.declared.symbol.Symbol.TheVariants.{Dash}
 use Rattle.cube.specs.Size.{Size}
 use Rattle.cube.specs.Order.{row_cmp}
@@ -20,7 +19,6 @@ use Rattle.cube.proofs.Members.{Contains-here, Contains-nil, Contains-cases}
 use Rattle.cube.proofs.ZipLemmas.{get_or-zip2_any}
 use Rattle.cube.proofs.SharpLemmas.{some_true, true_some, get_or-minus, length-minus, same_from_places}
 use Rattle.cube.proofs.SumLemmas.{Contains-complete_sum, complete_sum-over, complete_sum-from_members}
-use Rattle.cover.specs.Cubes.{AreCubes}
 use Rattle.cover.specs.Places.{places}
 use Rattle.cover.specs.Parts.{has_literal, live}
 use Rattle.cover.specs.Reduced.{HasSameCubes}

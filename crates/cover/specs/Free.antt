@@ -1,5 +1,5 @@
 -- Outputs that rows without a literal have. No public clause cites this module.
-use Rattle.std.specs.Prelude.{◌≡◌, ℕ, Bool, false, not, ◌&&◌, ◌||◌, List, slice_index_or, Contains}
+use Rattle.std.specs.Prelude.{◌≡◌, ℕ, false, not, ◌&&◌, ◌||◌, List, slice_index_or, Contains}
 use Rattle.cube.specs.Size.{Size}
 use Rattle.cube.specs.Pattern.{matches}
 use Rattle.cube.specs.Cube.{Cube, Place, holds, IsCube, IsSubset}

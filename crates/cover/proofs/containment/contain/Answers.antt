@@ -1,4 +1,4 @@
-use Rattle.std.proofs.Common.{◌≡◌, ◌∙◌, length, ap, sym, subst, replicate, false, get_or, rules, arith}
+use Rattle.std.proofs.Common.{◌≡◌, ◌∙◌, length, ap, sym, subst, replicate, false, get_or, arith}
 use Rattle.std.specs.List.{range_with_len}
 use Rattle.cover.specs.Cubes.{AreCubes}
 use Rattle.cover.specs.Marks.{Marks}

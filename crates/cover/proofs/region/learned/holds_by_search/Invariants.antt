@@ -1,4 +1,4 @@
-use Rattle.cube.specs.Cube.{holds, size_of}
+use Rattle.cube.specs.Cube.{size_of}
 use Rattle.cover.specs.Places.{places, behind}
 use Rattle.cover.specs.Reason.{AreKnown}
 use Rattle.cover.proofs.Halves.{AreHeldBefore}

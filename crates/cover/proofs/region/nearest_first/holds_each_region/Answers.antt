@@ -1,4 +1,4 @@
-use Rattle.std.proofs.Common.{◌≡◌, ◌∙◌, ◌++◌, ◌∷◌, [], Bool, ap, sym, subst, map, take}
+use Rattle.std.proofs.Common.{◌∙◌, ◌++◌, ◌∷◌, [], Bool, ap, sym, subst, map, take}
 use Rattle.std.proofs.lemmas.List.{map_more, take_all}
 use Rattle.cube.specs.Cube.{Cube, HasSize, holds, size_of}
 use Rattle.cube.specs.Sum.{is_subset}

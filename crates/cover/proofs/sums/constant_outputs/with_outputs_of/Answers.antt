@@ -1,4 +1,4 @@
-use Rattle.std.proofs.Common.{◌≡◌, ◌∙◌, ◌+◌, ◌&&◌, ◌||◌, IfSome, IfNone, IsTrue, List, Bool, false, get_or, take, sym, subst}
+use Rattle.std.proofs.Common.{◌≡◌, ◌+◌, ◌&&◌, ◌||◌, IfSome, IfNone, IsTrue, List, Bool, false, get_or, take, sym, subst}
 use Rattle.std.proofs.lemmas.List.{take_all}
 use Rattle.cube.specs.Pattern.{matches}
 use Rattle.cube.specs.Cube.{Place, SameSize, IsCube, holds}

@@ -1,8 +1,7 @@
-use Rattle.std.proofs.Common.{◌≡◌, ◌∙◌, ap, sym, subst, filter}
+use Rattle.std.proofs.Common.{◌∙◌, ap, sym, subst, filter}
 use Rattle.std.proofs.lemmas.List.Elements.{All-filter}
-use Rattle.cube.specs.Size.{Size}
-use Rattle.cube.specs.Cube.{IsCube, HasSize, size_of}
-use Rattle.cover.specs.Cubes.{AreCubes, Cubes}
+use Rattle.cube.specs.Cube.{IsCube, size_of}
+use Rattle.cover.specs.Cubes.{AreCubes}
 use Rattle.cover.specs.Contained.{is_within}
 use Rattle.cover.proofs.OverRegion.{size_of-is}
 use Rattle.cover.proofs.sums.containing.cubes_containing.Goals as goal

@@ -1,6 +1,6 @@
-use Rattle.std.proofs.Common.{◌≡◌, ◌∙◌, ◌++◌, ◌∷◌, [], ap, sym, Bool, filter, not, true, false}
+use Rattle.std.proofs.Common.{◌≡◌, ◌∙◌, ◌++◌, ◌∷◌, [], ap, sym, Bool, filter, not}
 use Rattle.std.proofs.lemmas.List.{take_all}
-use Rattle.cube.specs.Cube.{Cube, IsCube, size_of}
+use Rattle.cube.specs.Cube.{Cube, IsCube}
 use Rattle.cover.specs.Containing.{lies_in_larger}
 use Rattle.cover.proofs.Chosen.{chosen, left_out}
 use Rattle.cover.proofs.Lists.{all_members}
