@@ -5,8 +5,7 @@ ghost use Rattle.std.specs.List.{range_with_len};
 ghost use Rattle.covering.specs.Cover.{counted};
 ghost use Rattle.covering.specs.Weights.{at};
 
-use crate::choice::Choice;
-use crate::columns::cost;
+use crate::choice::{Choice, cost};
 use std::alloc::{AllocError, Global};
 
 /// What a cover may have at most.

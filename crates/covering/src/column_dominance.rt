@@ -11,11 +11,10 @@ ghost use Rattle.covering.specs.Cover.{counted};
 ghost use Rattle.covering.specs.Search.{IsWeakStep};
 ghost use Rattle.covering.specs.Reduce.{row_at, IsTranspose, LeavesNoDominatedColumn, is_preferred, dominates, HasNoDominatedColumn, Shrinks};
 
-use crate::choice::Choice;
-use crate::columns::{copy_of, cost, is_within};
+use crate::choice::{Choice, cost};
+use crate::columns::{copy_of, entry, is_within};
 use crate::marks::{all_marked, is_marked, marked_columns, rows_of_marked, unmark};
 use crate::table::Table;
-use crate::transpose::entry;
 use std::alloc::{AllocError, Global};
 
 /// Which columns may replace another one.

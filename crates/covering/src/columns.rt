@@ -1,15 +1,14 @@
-//! Rising lists of columns.
+//! Lists of columns, most of them rising: what they have, and lists made of them.
 
-ghost use Rattle.std.specs.Prelude.{◌≡◌, ◌<◌, ◌*◌, ◌+◌, IfOk, filter, ◌==◌, ◌||◌, true, false, ◌-◌, Vec};
-ghost use Rattle.std.specs.List.{list_all};
+ghost use Rattle.std.specs.Prelude.{◌≡◌, IfOk};
+ghost use Rattle.std.specs.List.{list_all, range_with_len};
 ghost use Rattle.covering.specs.Table.{has, RisesFrom, is_rising, items_of};
-ghost use Rattle.covering.specs.Cover.{meets, counted, sum_over};
+ghost use Rattle.covering.specs.Cover.{meets};
 ghost use Rattle.covering.specs.Steps.{put};
 ghost use Rattle.covering.specs.Choices.{union_of};
-ghost use Rattle.covering.specs.Reduce.{holds_all};
+ghost use Rattle.covering.specs.Reduce.{holds_all, row_at};
 ghost use Rattle.covering.specs.Search.{is_blank};
 
-use crate::choice::Choice;
 use std::alloc::{AllocError, Global};
 
 pub(crate) fn contains(row: &[usize], column: usize) -> bool
@@ -79,6 +78,22 @@ pub(crate) fn rising_contains(row: &[usize], number: usize) -> bool
     row.binary_search(&number).is_ok()
 }
 
+/// Whether the row has a column of the list, which rises.
+fn rising_meets(columns: &[usize], row: &[usize]) -> bool
+    requires { RisesFrom 0 columns.now }
+    ensures { result ≡ meets columns.now row.now }
+{
+    row.iter().any(|c| rising_contains(columns, *c))
+}
+
+/// Whether each row has a column of the list, which rises.
+pub(crate) fn rising_meets_all(columns: &[usize], rows: &[Vec<usize>]) -> bool
+    requires { RisesFrom 0 columns.now }
+    ensures { result ≡ list_all (λ row. meets columns.now row.items) rows.now }
+{
+    rows.iter().all(|row| rising_meets(columns, row))
+}
+
 /// Whether the second list, which rises, has each number of the first.
 pub fn is_within(row: &[usize], other: &[usize]) -> bool
     requires { RisesFrom 0 other.now }
@@ -101,35 +116,22 @@ pub(crate) fn rises(row: &[usize], end: usize) -> bool
     true
 }
 
-/// The cost of a column under the choice: 0, or its literals.
-pub(crate) fn cost(choice: Choice, literals: &[u32], column: usize) -> u32
-    ensures { result ≡ counted choice literals.now column }
+/// The numbers below the end.
+pub fn numbers(alloc: Global, end: usize) -> Result<Vec<usize>, AllocError>
+    ensures { IfOk result (λ v. v.items ≡ range_with_len 0 end) }
 {
-    match choice {
-        Choice::First => 0,
-        Choice::Literals => literals.get(column).copied().unwrap_or(0),
-    }
+    (0..end).collect(alloc)
 }
 
-/// The cost of all columns of the list together.
-pub(crate) fn total_cost(choice: Choice, literals: &[u32], columns: &[usize]) -> u128
-    ensures { result ≡ sum_over (counted choice literals.now) columns.now }
+/// The list at the place, empty if there is none.
+pub(crate) fn entry(lists: &[Vec<usize>], place: usize) -> &[usize]
+    ensures { result.now ≡ row_at (items_of lists.entry.now) place }
 {
-    let mut total: u128 = 0;
-    for column in columns {
-        total += u128::from(cost(choice, literals, *column));
+    if place < lists.len() {
+        &lists[place]
+    } else {
+        &[]
     }
-    total
-}
-
-pub(crate) fn copy_rows(alloc: Global, rows: &[Vec<usize>]) -> Result<Vec<Vec<usize>>, AllocError>
-    ensures { IfOk result (λ v. items_of v.items ≡ items_of rows.now) }
-{
-    let mut kept = Vec::new(alloc);
-    for row in rows {
-        kept.push(copy_of(alloc, row)?)?;
-    }
-    Ok(kept)
 }
 
 /// Whether there is no number.

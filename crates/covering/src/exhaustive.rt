@@ -8,8 +8,8 @@ ghost use Rattle.covering.specs.Table.{IsTable};
 ghost use Rattle.covering.specs.Cover.{meets, counted, IsLeast};
 ghost use Rattle.covering.specs.Choices.{choices, union_of, better, best_of, best_choice};
 
-use crate::choice::Choice;
-use crate::columns::{all_met, total_cost, union_of};
+use crate::choice::{Choice, total_cost};
+use crate::columns::{all_met, union_of};
 use crate::table::Table;
 use itertools::{Combinations, Itertools};
 use std::alloc::{AllocError, Global};
@@ -97,8 +97,8 @@ impl Table {
 /// The first of the shortest covers under the choice, by trying all choices of live columns in
 /// rising size.
 ///
-/// It looks at every choice of the least size, so that it serves only small tables; it stands for
-/// comparison.
+/// It looks at every choice of the least size, so that it serves only small tables: the solver
+/// calls it where no more than eight columns are live. It also stands for comparison.
 pub fn least_cover_plain(table: &Table, choice: Choice) -> Result<Vec<usize>, AllocError>
     ensures { IfOk result (λ v. IsLeast choice table.now v.items) }
 {

@@ -9,8 +9,8 @@ ghost use Rattle.covering.specs.Table.{items_of};
 ghost use Rattle.covering.specs.Choices.{union_of};
 ghost use Rattle.covering.specs.Parts.{IsRenumbered, pick};
 
-use crate::choice::Choice;
-use crate::columns::{cost, union_of};
+use crate::choice::{Choice, cost};
+use crate::columns::union_of;
 use crate::table::Table;
 use std::alloc::{AllocError, Global};
 

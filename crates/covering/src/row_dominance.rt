@@ -7,10 +7,9 @@ ghost use Rattle.covering.specs.Table.{items_of, has};
 ghost use Rattle.covering.specs.Reduce.{row_at, AreRising, IsTranspose, UnmarksDominatingRows, LeavesNoDominatingRow, is_dominating_row, HasNoDominatingRow, Shrinks};
 
 use crate::choice::Choice;
-use crate::columns::{copy_of, is_within};
+use crate::columns::{copy_of, entry, is_within};
 use crate::marks::{all_marked, is_full, is_marked, marked_rows, unmark};
 use crate::table::Table;
-use crate::transpose::entry;
 use std::alloc::{AllocError, Global};
 
 /// The column of the row that is in the fewest rows.

@@ -7,23 +7,18 @@
 //! budget there is no cover within it, and a column with more slack than the remaining gap is in
 //! none. Any cover within the budget is a right answer, so any order of branches serves.
 
-ghost use Rattle.std.specs.Prelude.{◌≡◌, ◌≤◌, ◌<◌, ◌*◌, ◌-◌, ℕ, Vec, IfOk, IfSome, MatchOption, MatchBool, IsTrue, ◌↔◌, [], ◌==◌, ◌&&◌, ◌||◌, option_map, map, filter, not, length, true, false};
-ghost use Rattle.std.specs.List.{list_all, list_any, range_with_len};
-ghost use Rattle.covering.specs.Table.{IsTable, items_of, has, RisesFrom};
-ghost use Rattle.covering.specs.Cover.{counted, meets, sum_over};
-ghost use Rattle.covering.specs.Steps.{without, take_column, drop_column};
-ghost use Rattle.covering.specs.Search.{NoneWithin, Answers, IsAnswer, IsPruned, IsForced, IsOutside, keep_columns, marked, is_blank};
+ghost use Rattle.std.specs.Prelude.{◌≡◌, ◌≤◌, ◌-◌, ℕ, [], IfOk, MatchOption, MatchBool, option_map, length, true, false};
+ghost use Rattle.covering.specs.Table.{IsTable, has};
+ghost use Rattle.covering.specs.Cover.{counted, sum_over};
+ghost use Rattle.covering.specs.Search.{NoneWithin, Answers, IsPruned, IsOutside, marked};
 
 use crate::bound::{Budget, columns_within_gap, limit_of, scaled_costs};
-use crate::choice::Choice;
-use crate::columns::{contains, copy_of, cost, is_blank, rising_contains, total_cost, with_column};
+use crate::choice::{Choice, cost, total_cost};
+use crate::columns::{contains, copy_of};
 use crate::lagrangian::lagrangian;
-use crate::marks::{all_kept, all_marked, is_marked, marked_columns, rows_of_marked};
+use crate::marks::{all_kept, all_marked};
 use crate::table::Table;
-use heuristics::{
-    Compact, Goal, Multipliers, WarmStart, is_worth_a_bound, likeliest, local_search, marks_of,
-    row_counts,
-};
+use heuristics::{Compact, Goal, Multipliers, WarmStart, is_worth_a_bound, likeliest, row_counts};
 use std::alloc::{AllocError, Global};
 
 /// More tables than any search looks at.
@@ -55,87 +50,6 @@ impl From<AllocError> for Stop {
     }
 }
 
-fn without_column(alloc: Global, xs: &[usize], column: usize) -> Result<Vec<usize>, AllocError>
-    ensures { IfOk result (λ v. v.items ≡ without column xs.now) }
-{
-    xs.iter()
-        .copied()
-        .filter(|x| !(column == *x))
-        .collect(alloc)
-}
-
-fn rows_without(
-    alloc: Global,
-    rows: &[Vec<usize>],
-    column: usize,
-) -> Result<Vec<Vec<usize>>, AllocError>
-    ensures { IfOk result (λ v. items_of v.items ≡ map (without column) (items_of rows.now)) }
-{
-    let mut kept = Vec::new(alloc);
-    for row in rows {
-        kept.push(without_column(alloc, row, column)?)?;
-    }
-    Ok(kept)
-}
-
-fn rows_lacking(
-    alloc: Global,
-    rows: &[Vec<usize>],
-    column: usize,
-) -> Result<Vec<Vec<usize>>, AllocError>
-    ensures { IfOk result (λ v. items_of v.items
-        ≡ filter (λ row. not (has column row)) (items_of rows.now)) }
-{
-    let mut kept = Vec::new(alloc);
-    for row in rows {
-        if !contains(row, column) {
-            kept.push(copy_of(alloc, row)?)?;
-        }
-    }
-    Ok(kept)
-}
-
-fn any_blank(rows: &[Vec<usize>]) -> bool
-    ensures { result ≡ list_any (λ row. is_blank row.items) rows.now }
-{
-    rows.iter().any(|row| is_blank(row))
-}
-
-/// The marked numbers of the second list and all of the first, below the end.
-fn taken_and_marked(
-    alloc: Global,
-    taken: &[usize],
-    live: &[usize],
-    marks: &[bool],
-    end: usize,
-) -> Result<Vec<usize>, AllocError>
-    requires taken { RisesFrom 0 taken.now }
-    requires live { RisesFrom 0 live.now }
-    ensures { IfOk result (λ v. v.items ≡ filter
-        (λ n. has n taken.now || (marked marks.now n && has n live.now)) (range_with_len 0 end)) }
-{
-    (0..end)
-        .filter(|n| rising_contains(taken, *n)
-            || (is_marked(marks, *n) && rising_contains(live, *n)))
-        .collect(alloc)
-}
-
-/// Whether the row has a column of the list, which rises.
-fn rising_meets(columns: &[usize], row: &[usize]) -> bool
-    requires { RisesFrom 0 columns.now }
-    ensures { result ≡ meets columns.now row.now }
-{
-    row.iter().any(|c| rising_contains(columns, *c))
-}
-
-/// Whether each row has a column of the list, which rises.
-fn rising_meets_all(columns: &[usize], rows: &[Vec<usize>]) -> bool
-    requires { RisesFrom 0 columns.now }
-    ensures { result ≡ list_all (λ row. meets columns.now row.items) rows.now }
-{
-    rows.iter().all(|row| rising_meets(columns, row))
-}
-
 /// The cost of each live column, for hints.
 fn live_costs(
     alloc: Global,
@@ -151,58 +65,6 @@ fn live_costs(
 }
 
 impl Table {
-    pub(crate) fn is_solved(&self) -> bool
-        ensures solved { IsTrue result ↔ (self.now.rows ≡ []) }
-        ensures table { IsTable self.now }
-    {
-        self.rows.is_empty()
-    }
-
-    pub(crate) fn take(&self, alloc: Global, column: usize) -> Result<Table, AllocError>
-        requires { has column self.now.live ≡ true }
-        ensures taken { IfOk result (λ t. t ≡ take_column column self.now) }
-        ensures table { IsTable self.now }
-    {
-        let taken = with_column(alloc, self.taken_columns(), column)?;
-        let live = without_column(alloc, self.live_columns(), column)?;
-        let rows = rows_lacking(alloc, self.row_lists(), column)?;
-        self.with(alloc, taken, live, rows)
-    }
-
-    /// The table without a live column, where each row keeps one.
-    fn drop_live(&self, alloc: Global, column: usize) -> Result<Option<Table>, AllocError>
-        ensures { IfOk result (λ o. MatchOption o (IsForced self.now column)
-            (λ t. t ≡ drop_column column self.now)) }
-    {
-        let rows = rows_without(alloc, self.row_lists(), column)?;
-        if any_blank(&rows) {
-            return Ok(None);
-        }
-        let taken = copy_of(alloc, self.taken_columns())?;
-        let live = without_column(alloc, self.live_columns(), column)?;
-        Ok(Some(self.with(alloc, taken, live, rows)?))
-    }
-
-    /// The table with no columns but the marked ones, where each row keeps one.
-    pub(crate) fn keep_marked(
-        &self,
-        alloc: Global,
-        keep: &[bool],
-    ) -> Result<Option<Table>, AllocError>
-        ensures kept { IfOk result (λ o. MatchOption o (list_any is_blank
-            (map (filter (marked keep.now)) self.now.rows) ≡ true)
-            (λ t. t ≡ keep_columns (marked keep.now) self.now)) }
-        ensures table { IsTable self.now }
-    {
-        let rows = rows_of_marked(alloc, self.row_lists(), keep)?;
-        if any_blank(&rows) {
-            return Ok(None);
-        }
-        let taken = copy_of(alloc, self.taken_columns())?;
-        let live = marked_columns(alloc, self.live_columns(), keep)?;
-        Ok(Some(self.with(alloc, taken, live, rows)?))
-    }
-
     /// Whether the taken columns alone go past the budget.
     fn is_over_budget(&self, choice: Choice, budget: Budget) -> bool
         ensures { MatchBool result (NoneWithin choice self.now budget.columns budget.cost)
@@ -240,7 +102,7 @@ impl Table {
     }
 
     /// The live columns and the rows, for hints.
-    fn compact(&self, alloc: Global, choice: Choice) -> Result<Compact, AllocError>
+    pub(crate) fn compact(&self, alloc: Global, choice: Choice) -> Result<Compact, AllocError>
         ensures { IsTable self.now }
     {
         let live = self.live_columns();
@@ -451,57 +313,6 @@ impl Table {
             None => Ok(None),
             Some(rest) => rest.search(alloc, choice, budget, warm_start, tables_left),
         }
-    }
-
-    /// The cover of the taken columns and the marked live ones, if it is one and within the budget.
-    fn cover_from_marks(
-        &self,
-        alloc: Global,
-        choice: Choice,
-        budget: Budget,
-        marks: &[bool],
-    ) -> Result<Option<Vec<usize>>, AllocError>
-        ensures { IfOk result (λ o. IfSome o (λ v. IsAnswer choice self.now budget.columns
-            budget.cost v.items)) }
-    {
-        let cover = taken_and_marked(
-            alloc,
-            self.taken_columns(),
-            self.live_columns(),
-            marks,
-            self.columns(),
-        )?;
-        if budget.columns < cover.len() {
-            return Ok(None);
-        }
-        if budget.cost < total_cost(choice, self.literals(), &cover) {
-            return Ok(None);
-        }
-        if !rising_meets_all(&cover, self.row_lists()) {
-            return Ok(None);
-        }
-        Ok(Some(cover))
-    }
-
-    /// A cover within the budget, if a local search of `steps` steps a row finds one.
-    pub(crate) fn find_by_local_search(
-        &self,
-        alloc: Global,
-        choice: Choice,
-        budget: Budget,
-        goal: Goal,
-        hint: &[usize],
-        steps: usize,
-    ) -> Result<Option<Vec<usize>>, AllocError>
-        ensures { IfOk result (λ o. IfSome o (λ v. IsAnswer choice self.now budget.columns
-            budget.cost v.items)) }
-    {
-        let compact = self.compact(alloc, choice)?;
-        let steps = steps.saturating_mul(self.row_lists().len()).min(100000);
-        let live = self.live_columns();
-        let found = local_search(alloc, &compact, live, self.columns(), hint, goal, steps)?;
-        let marks = marks_of(alloc, self.live_columns(), &found, self.columns())?;
-        self.cover_from_marks(alloc, choice, budget, &marks)
     }
 
     /// A cover within the budget, or none if there is none: local searches look for one first, and

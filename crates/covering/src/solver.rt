@@ -16,12 +16,12 @@ ghost use Rattle.covering.specs.Search.{Answers, Continues, HasFewer, IsBest, Is
 ghost use Rattle.covering.specs.Steps.{with_rows};
 
 use crate::bound::Budget;
-use crate::choice::Choice;
-use crate::columns::{contains, copy_of, copy_rows, cost, total_cost, union_of};
+use crate::choice::{Choice, cost, total_cost};
+use crate::columns::{contains, copy_of, union_of};
 use crate::exhaustive::least_cover_plain;
 use crate::marks::{all_but, marked_columns, others};
 use crate::search::{Stop, UNLIMITED};
-use crate::table::Table;
+use crate::table::{Table, copy_rows};
 use heuristics::{Effort, Goal, WarmStart, batch, is_worth_a_bound};
 use std::alloc::{AllocError, Global};
 
@@ -438,7 +438,7 @@ impl Table {
 
     /// A cover of `columns` columns with fewer literals; `None` if every cover is longer or has as
     /// many.
-    fn with_fewer(
+    fn cover_with_fewer_literals(
         &self,
         alloc: Global,
         columns: usize,
@@ -477,7 +477,7 @@ impl Table {
             let target = self.literals_bound_hint(alloc, columns, cost, warm_start)?;
             warm_start.set_hint(alloc, &cover)?;
             let limit = target.max(low + 1).min(cost);
-            match self.with_fewer(alloc, columns, limit, warm_start)? {
+            match self.cover_with_fewer_literals(alloc, columns, limit, warm_start)? {
                 None => low = limit,
                 Some(fewer) => cover = fewer,
             }

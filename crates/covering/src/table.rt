@@ -1,10 +1,10 @@
 //! The covering table.
 
-ghost use Rattle.std.specs.Prelude.{◌≡◌, ◌<◌, ◌&&◌, IfOk, MatchOption, length};
-ghost use Rattle.std.specs.List.{list_all, range_with_len};
+ghost use Rattle.std.specs.Prelude.{◌≡◌, ◌<◌, IfOk, MatchOption, length};
+ghost use Rattle.std.specs.List.{list_all};
 ghost use Rattle.covering.specs.Table.{Table as Matrix, IsTable, items_of, has, AreRows, fresh, is_row, table_of};
 
-use crate::columns::{contains, copy_of, copy_rows, rises};
+use crate::columns::{contains, copy_of, numbers, rises};
 use std::alloc::{AllocError, Global};
 use std::marker::Model;
 
@@ -21,11 +21,14 @@ fn are_rows(rows: &[Vec<usize>], columns: usize) -> bool
     rows.iter().all(|row| is_row(row, columns))
 }
 
-/// The numbers below the end.
-pub fn numbers(alloc: Global, end: usize) -> Result<Vec<usize>, AllocError>
-    ensures { IfOk result (λ v. v.items ≡ range_with_len 0 end) }
+pub(crate) fn copy_rows(alloc: Global, rows: &[Vec<usize>]) -> Result<Vec<Vec<usize>>, AllocError>
+    ensures { IfOk result (λ v. items_of v.items ≡ items_of rows.now) }
 {
-    (0..end).collect(alloc)
+    let mut kept = Vec::new(alloc);
+    for row in rows {
+        kept.push(copy_of(alloc, row)?)?;
+    }
+    Ok(kept)
 }
 
 /// A covering table: each cover has the taken columns and, of each row, one of its live columns.

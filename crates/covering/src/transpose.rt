@@ -1,23 +1,12 @@
 //! The transpose of a table: the rows of each column.
 
-ghost use Rattle.std.specs.Prelude.{◌≡◌, ◌<◌, [], IfOk, length};
+ghost use Rattle.std.specs.Prelude.{◌≡◌, [], IfOk, length};
 ghost use Rattle.covering.specs.Table.{RisesFrom, items_of};
-ghost use Rattle.covering.specs.Reduce.{row_at, AreRising, Appends, Enters, IsTranspose};
+ghost use Rattle.covering.specs.Reduce.{AreRising, Appends, Enters, IsTranspose};
 
 use crate::table::Table;
 use heuristics::row_counts;
 use std::alloc::{AllocError, Global};
-
-/// The list at the place, empty if there is none.
-pub(crate) fn entry(lists: &[Vec<usize>], place: usize) -> &[usize]
-    ensures { result.now ≡ row_at (items_of lists.entry.now) place }
-{
-    if place < lists.len() {
-        &lists[place]
-    } else {
-        &[]
-    }
-}
 
 /// Adds the number to the list at the place.
 fn append(lists: &mut Vec<Vec<usize>>, place: usize, number: usize) -> Result<(), AllocError>

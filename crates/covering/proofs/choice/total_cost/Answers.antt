@@ -2,7 +2,7 @@ use Rattle.std.proofs.Common.{rules, ◌∙◌, ◌+◌, ◌^◌, ◌<◌, ap, a
 use Rattle.std.proofs.lemmas.List.{take_all}
 use Rattle.covering.specs.Cover.{counted, sum_over}
 use Rattle.covering.proofs.Sets.{sum_more}
-use Rattle.covering.proofs.columns.total_cost.Goals as goal
+use Rattle.covering.proofs.choice.total_cost.Goals as goal
 
 pub loop-column-preserved : goal.loop-column-preserved
 loop-column-preserved c =

@@ -1,0 +1,89 @@
+//! Covers within a budget that a local search finds.
+//!
+//! The columns that a local search answers are a hint. With the taken ones they are an answer if
+//! they are a cover and within the budget, which is tested; if not, there may still be another one.
+
+ghost use Rattle.std.specs.Prelude.{◌≡◌, ◌&&◌, ◌||◌, IfOk, IfSome, filter};
+ghost use Rattle.std.specs.List.{range_with_len};
+ghost use Rattle.covering.specs.Table.{has, RisesFrom};
+ghost use Rattle.covering.specs.Search.{IsAnswer, marked};
+
+use crate::bound::Budget;
+use crate::choice::{Choice, total_cost};
+use crate::columns::{rising_contains, rising_meets_all};
+use crate::marks::is_marked;
+use crate::table::Table;
+use heuristics::{Goal, local_search, marks_of};
+use std::alloc::{AllocError, Global};
+
+/// The marked numbers of the second list and all of the first, below the end.
+fn taken_and_marked(
+    alloc: Global,
+    taken: &[usize],
+    live: &[usize],
+    marks: &[bool],
+    end: usize,
+) -> Result<Vec<usize>, AllocError>
+    requires taken { RisesFrom 0 taken.now }
+    requires live { RisesFrom 0 live.now }
+    ensures { IfOk result (λ v. v.items ≡ filter
+        (λ n. has n taken.now || (marked marks.now n && has n live.now)) (range_with_len 0 end)) }
+{
+    (0..end)
+        .filter(|n| rising_contains(taken, *n)
+            || (is_marked(marks, *n) && rising_contains(live, *n)))
+        .collect(alloc)
+}
+
+impl Table {
+    /// The cover of the taken columns and the marked live ones, if it is one and within the budget.
+    fn cover_from_marks(
+        &self,
+        alloc: Global,
+        choice: Choice,
+        budget: Budget,
+        marks: &[bool],
+    ) -> Result<Option<Vec<usize>>, AllocError>
+        ensures { IfOk result (λ o. IfSome o (λ v. IsAnswer choice self.now budget.columns
+            budget.cost v.items)) }
+    {
+        let cover = taken_and_marked(
+            alloc,
+            self.taken_columns(),
+            self.live_columns(),
+            marks,
+            self.columns(),
+        )?;
+        if budget.columns < cover.len() {
+            return Ok(None);
+        }
+        if budget.cost < total_cost(choice, self.literals(), &cover) {
+            return Ok(None);
+        }
+        if !rising_meets_all(&cover, self.row_lists()) {
+            return Ok(None);
+        }
+        Ok(Some(cover))
+    }
+
+    /// A cover within the budget, if a local search of `steps` steps a row finds one.
+    pub(crate) fn find_by_local_search(
+        &self,
+        alloc: Global,
+        choice: Choice,
+        budget: Budget,
+        goal: Goal,
+        hint: &[usize],
+        steps: usize,
+    ) -> Result<Option<Vec<usize>>, AllocError>
+        ensures { IfOk result (λ o. IfSome o (λ v. IsAnswer choice self.now budget.columns
+            budget.cost v.items)) }
+    {
+        let compact = self.compact(alloc, choice)?;
+        let steps = steps.saturating_mul(self.row_lists().len()).min(100000);
+        let live = self.live_columns();
+        let found = local_search(alloc, &compact, live, self.columns(), hint, goal, steps)?;
+        let marks = marks_of(alloc, self.live_columns(), &found, self.columns())?;
+        self.cover_from_marks(alloc, choice, budget, &marks)
+    }
+}

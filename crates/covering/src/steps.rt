@@ -1,0 +1,120 @@
+//! Steps on a table: a column is taken, a live one is dropped, or the marked ones alone are kept.
+//!
+//! Each step makes a further table. To take a column drops the rows that have it; to drop columns
+//! takes them from each row, and there is no such table if a row would have none left. A table
+//! without rows is solved.
+
+ghost use Rattle.std.specs.Prelude.{◌≡◌, ◌↔◌, [], IfOk, MatchOption, IsTrue, map, filter, not, true};
+ghost use Rattle.std.specs.List.{list_any};
+ghost use Rattle.covering.specs.Table.{IsTable, items_of, has};
+ghost use Rattle.covering.specs.Steps.{without, take_column, drop_column};
+ghost use Rattle.covering.specs.Search.{IsForced, keep_columns, marked, is_blank};
+
+use crate::columns::{contains, copy_of, is_blank, with_column};
+use crate::marks::{marked_columns, rows_of_marked};
+use crate::table::Table;
+use std::alloc::{AllocError, Global};
+
+fn without_column(alloc: Global, xs: &[usize], column: usize) -> Result<Vec<usize>, AllocError>
+    ensures { IfOk result (λ v. v.items ≡ without column xs.now) }
+{
+    xs.iter()
+        .copied()
+        .filter(|x| !(column == *x))
+        .collect(alloc)
+}
+
+fn rows_without(
+    alloc: Global,
+    rows: &[Vec<usize>],
+    column: usize,
+) -> Result<Vec<Vec<usize>>, AllocError>
+    ensures { IfOk result (λ v. items_of v.items ≡ map (without column) (items_of rows.now)) }
+{
+    let mut kept = Vec::new(alloc);
+    for row in rows {
+        kept.push(without_column(alloc, row, column)?)?;
+    }
+    Ok(kept)
+}
+
+fn rows_lacking(
+    alloc: Global,
+    rows: &[Vec<usize>],
+    column: usize,
+) -> Result<Vec<Vec<usize>>, AllocError>
+    ensures { IfOk result (λ v. items_of v.items
+        ≡ filter (λ row. not (has column row)) (items_of rows.now)) }
+{
+    let mut kept = Vec::new(alloc);
+    for row in rows {
+        if !contains(row, column) {
+            kept.push(copy_of(alloc, row)?)?;
+        }
+    }
+    Ok(kept)
+}
+
+fn any_blank(rows: &[Vec<usize>]) -> bool
+    ensures { result ≡ list_any (λ row. is_blank row.items) rows.now }
+{
+    rows.iter().any(|row| is_blank(row))
+}
+
+impl Table {
+    pub(crate) fn is_solved(&self) -> bool
+        ensures solved { IsTrue result ↔ (self.now.rows ≡ []) }
+        ensures table { IsTable self.now }
+    {
+        self.rows.is_empty()
+    }
+
+    pub(crate) fn take(&self, alloc: Global, column: usize) -> Result<Table, AllocError>
+        requires { has column self.now.live ≡ true }
+        ensures taken { IfOk result (λ t. t ≡ take_column column self.now) }
+        ensures table { IsTable self.now }
+    {
+        let taken = with_column(alloc, self.taken_columns(), column)?;
+        let live = without_column(alloc, self.live_columns(), column)?;
+        let rows = rows_lacking(alloc, self.row_lists(), column)?;
+        self.with(alloc, taken, live, rows)
+    }
+
+    /// The table without a live column, where each row keeps one.
+    pub(crate) fn drop_live(
+        &self,
+        alloc: Global,
+        column: usize,
+    ) -> Result<Option<Table>, AllocError>
+        ensures { IfOk result (λ o. MatchOption o (IsForced self.now column)
+            (λ t. t ≡ drop_column column self.now)) }
+    {
+        let rows = rows_without(alloc, self.row_lists(), column)?;
+        if any_blank(&rows) {
+            return Ok(None);
+        }
+        let taken = copy_of(alloc, self.taken_columns())?;
+        let live = without_column(alloc, self.live_columns(), column)?;
+        Ok(Some(self.with(alloc, taken, live, rows)?))
+    }
+
+    /// The table with no columns but the marked ones, where each row keeps one.
+    pub(crate) fn keep_marked(
+        &self,
+        alloc: Global,
+        keep: &[bool],
+    ) -> Result<Option<Table>, AllocError>
+        ensures kept { IfOk result (λ o. MatchOption o (list_any is_blank
+            (map (filter (marked keep.now)) self.now.rows) ≡ true)
+            (λ t. t ≡ keep_columns (marked keep.now) self.now)) }
+        ensures table { IsTable self.now }
+    {
+        let rows = rows_of_marked(alloc, self.row_lists(), keep)?;
+        if any_blank(&rows) {
+            return Ok(None);
+        }
+        let taken = copy_of(alloc, self.taken_columns())?;
+        let live = marked_columns(alloc, self.live_columns(), keep)?;
+        Ok(Some(self.with(alloc, taken, live, rows)?))
+    }
+}
