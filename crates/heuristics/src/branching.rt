@@ -1,25 +1,8 @@
-//! Which column a search branches on, which columns it asks for together, and whether a bound is
-//! worth computing again; also how many rows each column is in.
+//! Which column a search branches on, and which columns it asks for together; also how many rows
+//! each column is in.
 
 use crate::numbers::{at, mark};
 use std::alloc::{AllocError, Global};
-
-/// Marks the live columns at these indices of their list; the marks are one for each of `end`
-/// columns.
-pub fn marks_of(
-    alloc: Global,
-    live: &[usize],
-    indices: &[usize],
-    end: usize,
-) -> Result<Vec<bool>, AllocError> {
-    let mut marks = vec![in alloc; false; end]?;
-    for index in indices {
-        if *index < live.len() {
-            mark(&mut marks, live[*index], true);
-        }
-    }
-    Ok(marks)
-}
 
 /// Adds one at each column of the row.
 fn count_columns(numbers: &mut Vec<i64>, row: &[usize]) {
@@ -84,12 +67,6 @@ pub fn likeliest(rows: &[Vec<usize>], likely: &[i64], counts: &[i64]) -> usize {
         }
     }
     best
-}
-
-/// Whether to compute a bound again: `before` is how many columns there were at the last one, `now`
-/// how many are left, and at least an eighth has to be gone.
-pub fn is_worth_a_bound(before: usize, now: usize) -> bool {
-    now <= before.saturating_sub(before / 8)
 }
 
 /// Whether the list has the column.

@@ -1,7 +1,7 @@
 //! A table with its live columns renumbered.
 
-use crate::lists::{Lists, small};
-use crate::numbers::at;
+use crate::lists::Lists;
+use crate::numbers::{at, small};
 use std::alloc::{AllocError, Global};
 
 /// A table whose live columns are renumbered from 0 on, in their order.

@@ -15,8 +15,8 @@
 //! - [`likeliest`] proposes a column to branch on, and [`batch`] columns that one question asks for
 //!   together.
 //!
-//! Sums wrap or saturate, and each index is checked before it is used: no call has a precondition. Each
-//! call takes memory for a few numbers for each row, each column and each entry of a row.
+//! Sums wrap or saturate, and each index is checked before it is used: no call has a precondition.
+//! Each call takes memory for a few numbers for each row, each column and each entry of a row.
 #![tactic(auto)]
 
 mod branching;
@@ -30,11 +30,12 @@ mod subgradient;
 mod swaps;
 mod warm_start;
 
-pub use branching::{batch, is_worth_a_bound, likeliest, marks_of, row_counts};
+pub use branching::{batch, likeliest, row_counts};
 pub use compact::Compact;
 pub use components::side_hint;
 pub use effort::Effort;
 pub use goal::Goal;
+pub use numbers::marks_of;
 pub use subgradient::Multipliers;
 pub use swaps::local_search;
-pub use warm_start::WarmStart;
+pub use warm_start::{WarmStart, is_worth_a_bound};

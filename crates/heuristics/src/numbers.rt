@@ -1,4 +1,5 @@
-//! Reads and writes at indices that may be out of range, sums, and a fixed pseudo-random sequence.
+//! Lists of numbers and of marks: reads and writes at indices that may be out of range, sums, and
+//! marks at many indices. Also numbers in 32 bits, and a fixed pseudo-random sequence.
 
 use std::alloc::{AllocError, Global};
 
@@ -10,6 +11,11 @@ pub(crate) fn next_random(seed: u64) -> u64 {
     let a = seed ^ (seed << 13);
     let b = a ^ (a >> 7);
     b ^ (b << 17)
+}
+
+/// The number in 32 bits; a larger one becomes the largest of these.
+pub(crate) fn small(number: usize) -> u32 {
+    u32::try_from(number).unwrap_or(u32::MAX)
 }
 
 /// The number at the index, or 0 past the end.
@@ -29,7 +35,7 @@ pub(crate) fn put(numbers: &mut Vec<i64>, index: usize, number: i64) {
 }
 
 /// Adds `amount` to the number of each of the row's columns.
-pub(crate) fn shift(numbers: &mut Vec<i64>, row: &[u32], amount: i64) {
+pub(crate) fn add_to_each(numbers: &mut Vec<i64>, row: &[u32], amount: i64) {
     for column in row {
         let column = *column as usize;
         if column < numbers.len() {
@@ -91,6 +97,23 @@ pub(crate) fn marked(
     let mut marks = vec![in alloc; false; end]?;
     for index in indices {
         mark(&mut marks, *index, true);
+    }
+    Ok(marks)
+}
+
+/// Marks the live columns at these indices of their list; the marks are one for each of `end`
+/// columns.
+pub fn marks_of(
+    alloc: Global,
+    live: &[usize],
+    indices: &[usize],
+    end: usize,
+) -> Result<Vec<bool>, AllocError> {
+    let mut marks = vec![in alloc; false; end]?;
+    for index in indices {
+        if *index < live.len() {
+            mark(&mut marks, live[*index], true);
+        }
     }
     Ok(marks)
 }

@@ -11,7 +11,7 @@
 
 use crate::compact::Compact;
 use crate::goal::Goal;
-use crate::numbers::{at, overwrite, put, shift, total};
+use crate::numbers::{add_to_each, at, overwrite, put, total};
 use std::alloc::{AllocError, Global};
 
 /// The multiplier of a column where columns cost the same.
@@ -252,7 +252,7 @@ impl Ascent {
             let less = weight_decrease(row, weight, &self.loads, &self.scaled_costs);
             if less > 0 {
                 put(weights, *i, weight.wrapping_sub(less));
-                shift(&mut self.loads, row, 0i64.wrapping_sub(less));
+                add_to_each(&mut self.loads, row, 0i64.wrapping_sub(less));
             }
         }
     }
@@ -265,7 +265,7 @@ impl Ascent {
             if more > 0 {
                 let weight = at(weights, *i);
                 put(weights, *i, weight.wrapping_add(more));
-                shift(&mut self.loads, row, more);
+                add_to_each(&mut self.loads, row, more);
             }
         }
     }
@@ -310,7 +310,7 @@ impl Ascent {
             .enumerate()
         {
             if *load > *scaled_cost {
-                shift(&mut self.held, table.column_rows.list(i), 1);
+                add_to_each(&mut self.held, table.column_rows.list(i), 1);
                 number = number.wrapping_add(1);
             }
         }

@@ -8,7 +8,7 @@
 
 use crate::compact::Compact;
 use crate::goal::Goal;
-use crate::numbers::{SEED, at, flag, mark, marked, next_random, number, put, set, shift};
+use crate::numbers::{SEED, add_to_each, at, flag, mark, marked, next_random, number, put, set};
 use std::alloc::{AllocError, Global};
 
 /// The present list of columns, and the best one so far.
@@ -215,7 +215,7 @@ impl LocalSearch {
             let row = number(&self.open, i);
             let weight = at(&self.weights, row).wrapping_add(1);
             put(&mut self.weights, row, weight);
-            shift(&mut self.scores, table.rows.list(row), 1);
+            add_to_each(&mut self.scores, table.rows.list(row), 1);
         }
     }
 

@@ -1,4 +1,6 @@
-//! The multipliers that a search carries over from table to table.
+//! What a search carries over from table to table: its multipliers, how likely each column is, the
+//! last cover (`hint`, near which the next one is looked for), and how much work was done, which is
+//! counted here. Also whether a bound is worth computing again.
 //!
 //! The first weights are perturbed at random, since with even ones all columns of a symmetric table
 //! would be overloaded together. A later table starts with the weights of the table that it came
@@ -17,6 +19,12 @@ use std::alloc::{AllocError, Global};
 
 /// The highest likelihood of a column.
 const LIKELIEST: i64 = 1048576;
+
+/// Whether to compute a bound again: `before` is how many columns there were at the last one, `now`
+/// how many are left, and at least an eighth has to be gone.
+pub fn is_worth_a_bound(before: usize, now: usize) -> bool {
+    now <= before.saturating_sub(before / 8)
+}
 
 /// Whether the row is the other list without the columns that are not live.
 fn is_live_part_of(row: &[usize], other: &[u32], live: &[bool]) -> bool {
