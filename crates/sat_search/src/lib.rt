@@ -7,9 +7,8 @@
 //! assumptions are true and no nogood is, or a [`Refutation`]: further nogoods, each with those
 //! that show it, the last of which has literals of the assumptions alone; or, at its [`Limits`],
 //! [`Answer::Unknown`]. The caller checks the answer before it uses it: a poor one costs time
-//! alone. Each index is checked before it is used
-//! and no sum overflows, so no call has a precondition. The crate is proved to be safe and to end,
-//! and nothing more.
+//! alone. Each index is checked before it is used and no sum overflows, so no call has a
+//! precondition. The crate is proved to be safe and to end, and nothing more.
 //!
 //! 1. Propagation: a clause with one literal left that is not false sets it. It watches two of its
 //!    literals (Moskewicz, Madigan, Zhao, Zhang and Malik, Chaff: engineering an efficient SAT
@@ -34,8 +33,8 @@
 
 mod analysis;
 mod assignment;
-mod assumptions;
 mod clauses;
+mod decisions;
 mod hints;
 mod lists;
 mod minimisation;

@@ -72,12 +72,8 @@ fn luby(index: u64) -> u64 {
 }
 
 impl Search {
-    /// Restarts if that is due, and then drops clauses if that is due too. At level 0 each literal
-    /// gets a clause of its own before.
+    /// Restarts if that is due, and then drops clauses if that is due too.
     pub(crate) fn restart_if_due(&mut self) -> Result<(), AllocError> {
-        if self.assignment.current_level() == 0 {
-            self.learn_units()?;
-        }
         if self.pace.conflicts >= self.pace.next_restart {
             self.pace.schedule_restart();
             self.backjump(0)?;

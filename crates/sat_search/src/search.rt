@@ -191,6 +191,9 @@ impl Search {
                 self.handle_conflict(conflict)?;
                 continue;
             }
+            if self.assignment.current_level() == 0 {
+                self.learn_units()?;
+            }
             self.restart_if_due()?;
             if self.steps > last || self.clauses.size() > limits.size {
                 break;

@@ -1,5 +1,5 @@
-//! Decisions, of which assumptions come first (Een and Soerensson 2003), and the clause that is
-//! learned where an assumption is false.
+//! Decisions: assumptions come first (Een and Soerensson 2003), then literals of the search's own
+//! choice. Also the clause that is learned where an assumption is false.
 
 use crate::analysis::Mark;
 use crate::assignment::Value;
