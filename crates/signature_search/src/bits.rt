@@ -1,4 +1,5 @@
 //! Sets of bits as words, and the input parts of cubes as words of literals.
+ghost use Rattle.std.specs.Prelude.{◌<◌};
 
 use std::alloc::{AllocError, Global};
 
@@ -120,6 +121,14 @@ pub(crate) fn tail<T>(rows: &[T], begin: usize) -> &[T] {
     }
 }
 
+/// Whether an input has a literal.
+pub(crate) fn has_literal_at(row: &[Literals], input: usize) -> bool {
+    match row.get(input / 64) {
+        Some(word) => word.inputs() >> (input % 64) & 1 != 0,
+        None => false,
+    }
+}
+
 /// The literal at an input: whether it has one, and which.
 pub(crate) fn literal_at(row: &[Literals], input: usize) -> Option<bool> {
     let bit = 1 << (input % 64);
@@ -154,6 +163,13 @@ pub(crate) fn free_input(row: &mut Vec<Literals>, input: usize) {
     }
 }
 
+/// How many words hold this many bits; at least one.
+pub(crate) fn words_for(bits: usize) -> usize
+    ensures { 0 < result }
+{
+    (bits / 64).saturating_add((bits % 64 != 0) as usize).max(1)
+}
+
 /// Whether the bit at an index is set.
 pub(crate) fn has_bit(words: &[u64], index: usize) -> bool {
     match words.get(index / 64) {
@@ -167,6 +183,15 @@ pub(crate) fn put_bit(words: &mut Vec<u64>, index: usize) {
     if let Some(word) = words.get_mut(index / 64) {
         *word |= 1 << (index % 64);
     }
+}
+
+/// This many bits, all of them set.
+pub(crate) fn all_bits(alloc: Global, count: usize) -> Result<Vec<u64>, AllocError> {
+    let mut words: Vec<u64> = vec![in alloc; 0; words_for(count)]?;
+    for index in 0..count {
+        put_bit(&mut words, index);
+    }
+    Ok(words)
 }
 
 /// Whether each bit of the first set is in the second.
@@ -202,6 +227,13 @@ pub(crate) fn bit_count(words: &[u64]) -> u32 {
 pub(crate) fn join_bits(words: &mut Vec<u64>, others: &[u64]) {
     for (word, more) in words.iter_mut().zip(others.iter()) {
         *word |= *more;
+    }
+}
+
+/// Leaves the bits that are in both.
+pub(crate) fn meet_bits(words: &mut Vec<u64>, others: &[u64]) {
+    for (word, other) in words.iter_mut().zip(others.iter()) {
+        *word &= *other;
     }
 }
 

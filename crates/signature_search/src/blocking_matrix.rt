@@ -13,8 +13,8 @@ use crate::bits::{
     Few, Literals, bit_count, few_bits, has_bit, is_within, join_bits, put_bit, row_at, share_bit,
     tail,
 };
+use crate::cube::Cube;
 use crate::function::Function;
-use crate::rows::Cube;
 use std::alloc::{AllocError, Global};
 
 /// Rows of a blocking matrix: the inputs of their literals, and an output for some.

@@ -5,8 +5,8 @@
 //! maximal ones.
 
 use crate::bits::{free_input, has_bit, join_bits, put_bit};
+use crate::cube::Cube;
 use crate::finder::{Finder, Signature};
-use crate::rows::Cube;
 use std::alloc::AllocError;
 
 /// A literal that may be left out, by its input, or an output that may be added.

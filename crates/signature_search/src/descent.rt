@@ -7,8 +7,8 @@
 
 use crate::bits::{Literals, bit_indices, has_bit, literal_at, put_literal};
 use crate::blocking_matrix::BlockingRows;
+use crate::cube::Cube;
 use crate::finder::{Finder, Signature};
-use crate::rows::Cube;
 use std::alloc::{AllocError, Global};
 
 // The weight of a row, shared by its literals.

@@ -9,11 +9,12 @@
 //! this is outside ON and DC. Which ON and DC cubes hold an exchanged place depends only on the
 //! inputs where the cube has no literal; so the tests of all rows together are one question.
 
-use crate::bits::{Literals, has_bit, meets, narrow_to, push_cofactor, put_bit};
+use crate::bits::{Literals, all_bits, has_bit, meets, narrow_to, push_cofactor};
 use crate::blocking_matrix::{BlockingMatrix, BlockingRows};
+use crate::cube::Cube;
 use crate::function::Function;
 use crate::question::Question;
-use crate::rows::{Cube, Rows, words_for};
+use crate::rows::Rows;
 use std::alloc::{AllocError, Global};
 use std::collections::BTreeSet;
 
@@ -299,13 +300,4 @@ impl<'a> Finder<'a> {
         }
         Ok(false)
     }
-}
-
-/// This many bits, all of them set.
-pub(crate) fn all_bits(alloc: Global, count: usize) -> Result<Vec<u64>, AllocError> {
-    let mut words: Vec<u64> = vec![in alloc; 0; words_for(count)]?;
-    for index in 0..count {
-        put_bit(&mut words, index);
-    }
-    Ok(words)
 }

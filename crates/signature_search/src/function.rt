@@ -1,9 +1,9 @@
 //! A function by output, as lists of cubes over its inputs.
 
-use crate::bits::{Literals, has_bit};
+use crate::bits::{Literals, has_bit, words_for};
 use crate::complement::complement;
 use crate::lists::absorb_list;
-use crate::rows::{Rows, words_for};
+use crate::rows::Rows;
 use std::alloc::{AllocError, Global};
 
 /// A function by output.
@@ -42,11 +42,7 @@ fn rows_by_output(
 }
 
 /// The input parts of the rows that have an output.
-pub(crate) fn rows_of_output(
-    alloc: Global,
-    rows: &Rows,
-    output: usize,
-) -> Result<Vec<Literals>, AllocError> {
+fn rows_of_output(alloc: Global, rows: &Rows, output: usize) -> Result<Vec<Literals>, AllocError> {
     let mut list: Vec<Literals> = Vec::new(alloc);
     for row in 0..rows.len() {
         if has_bit(rows.outputs_of(row), output) {

@@ -21,6 +21,7 @@ mod bits;
 mod blocking_matrix;
 mod climb;
 mod complement;
+mod cube;
 mod descent;
 mod finder;
 mod function;
@@ -30,10 +31,7 @@ mod question;
 mod rows;
 mod search;
 
-use crate::bits::has_bit;
-use crate::function::{Function, rows_of_output};
-use crate::question::Question;
-use crate::rows::words_for;
+use crate::function::Function;
 use crate::search::Search;
 pub use rows::{Place, Rows};
 use std::alloc::{AllocError, Global};
@@ -69,26 +67,4 @@ pub fn places_by_primes(
 ) -> Result<Vec<Place>, AllocError> {
     let function = Function::without_off(alloc, on, dc, samples)?;
     Search::new(alloc, &function, Some(primes), limit)?.run(on)
-}
-
-/// A place of the row that no row of the list holds, if one is found within the budget, a number
-/// of regions that are looked at.
-pub fn place_outside(
-    alloc: Global,
-    rows: &Rows,
-    row: usize,
-    list: &Rows,
-    budget: u64,
-) -> Result<Option<Place>, AllocError> {
-    let mut question = Question::new(alloc, words_for(rows.inputs()))?;
-    let mut left = budget;
-    for output in 0..rows.outputs() {
-        if has_bit(rows.outputs_of(row), output) {
-            let held = rows_of_output(alloc, list, output)?;
-            if question.ask(rows.literals_of(row), &held, &mut left)? {
-                return Ok(Some(Place::of(alloc, question.answer(), output)?));
-            }
-        }
-    }
-    Ok(None)
 }

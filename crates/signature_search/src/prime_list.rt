@@ -3,23 +3,19 @@
 //! The signature cube of a cube is the meet of the primes that contain it, and a place of it is its
 //! own if it lies in no other prime. This is used where the primes are few and the OFF cubes many.
 
-use crate::bits::{Literals, contains, has_bit, is_within, meets, narrow_to, push_cofactor};
+use crate::bits::{
+    Literals, all_bits, contains, has_bit, is_within, meet_bits, meets, narrow_to, push_cofactor,
+};
 use crate::blocking_matrix::BlockingRows;
-use crate::finder::{Finder, all_bits};
-use crate::rows::{Cube, Rows};
+use crate::cube::Cube;
+use crate::finder::Finder;
+use crate::rows::Rows;
 use std::alloc::AllocError;
 
 /// Whether a prime contains the cube.
 fn prime_contains(primes: &Rows, prime: usize, cube: &Cube) -> bool {
     contains(primes.literals_of(prime), &cube.literals)
         && is_within(&cube.outputs, primes.outputs_of(prime))
-}
-
-/// Leaves the bits that are in both.
-fn meet_bits(words: &mut Vec<u64>, others: &[u64]) {
-    for (word, other) in words.iter_mut().zip(others.iter()) {
-        *word &= *other;
-    }
 }
 
 impl Finder<'_> {

@@ -8,8 +8,8 @@
 //! costs some passes over its cubes, and the number of regions is bounded by a budget.
 
 use crate::bits::{
-    Few, Literals, count_at, count_literals_of, has_literal, literal_count, meets, narrow_to,
-    push_cofactor, put_literal, row_at, tail,
+    Few, Literals, count_at, count_literals_of, has_literal, has_literal_at, literal_count, meets,
+    narrow_to, push_cofactor, put_literal, row_at, tail,
 };
 use std::alloc::{AllocError, Global};
 use std::mem::swap;
@@ -415,13 +415,5 @@ impl Question {
             }
             count_literals_of(row, &mut self.zeros, &mut self.ones);
         }
-    }
-}
-
-/// Whether an input has a literal.
-fn has_literal_at(row: &[Literals], input: usize) -> bool {
-    match row.get(input / 64) {
-        Some(word) => word.inputs() >> (input % 64) & 1 != 0,
-        None => false,
     }
 }

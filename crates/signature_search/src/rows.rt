@@ -1,15 +1,7 @@
 //! The rows that a search is given, and the places that it answers.
-ghost use Rattle.std.specs.Prelude.{◌<◌};
 
-use crate::bits::{Literals, has_bit, literal_at, put_bit, row_at};
+use crate::bits::{Literals, has_bit, row_at, words_for};
 use std::alloc::{AllocError, Global};
-
-/// How many words hold this many bits; at least one.
-pub(crate) fn words_for(bits: usize) -> usize
-    ensures { 0 < result }
-{
-    (bits / 64).saturating_add((bits % 64 != 0) as usize).max(1)
-}
 
 /// A list of cubes, each with its literals and its outputs.
 #[derive(Drop)]
@@ -139,77 +131,5 @@ impl Place {
     /// The output.
     pub fn output(&self) -> usize {
         self.output
-    }
-}
-
-/// One step of a hash over words (Knuth, The art of computer programming, volume 3).
-fn hash_step(number: u64, word: u64) -> u64 {
-    let next = (number ^ word).wrapping_mul(0x9E3779B97F4A7C15);
-    next ^ (next >> 29)
-}
-
-/// A cube by itself.
-#[derive(Drop)]
-pub(crate) struct Cube {
-    pub(crate) literals: Vec<Literals>,
-    pub(crate) outputs: Vec<u64>,
-}
-
-impl Cube {
-    /// These literals and outputs.
-    pub(crate) fn of(
-        alloc: Global,
-        literals: &[Literals],
-        outputs: &[u64],
-    ) -> Result<Cube, AllocError> {
-        Ok(Cube {
-            literals: literals.to_vec(alloc)?,
-            outputs: outputs.to_vec(alloc)?,
-        })
-    }
-
-    /// These literals with one output.
-    pub(crate) fn of_output(
-        alloc: Global,
-        literals: &[Literals],
-        output: usize,
-        words: usize,
-    ) -> Result<Cube, AllocError> {
-        let mut outputs: Vec<u64> = vec![in alloc; 0; words]?;
-        put_bit(&mut outputs, output);
-        Ok(Cube {
-            literals: literals.to_vec(alloc)?,
-            outputs,
-        })
-    }
-
-    /// The literals of this cube that the other lacks, as inputs.
-    pub(crate) fn inputs_beyond(
-        &self,
-        alloc: Global,
-        other: &[Literals],
-    ) -> Result<Vec<u64>, AllocError> {
-        let mut inputs: Vec<u64> = Vec::with_capacity(alloc, self.literals.len())?;
-        for (mine, theirs) in self.literals.iter().zip(other.iter()) {
-            inputs.push(mine.inputs() & !theirs.inputs())?;
-        }
-        Ok(inputs)
-    }
-
-    /// A hash of the cube.
-    pub(crate) fn hash(&self) -> u64 {
-        let mut number: u64 = 0;
-        for word in &self.literals {
-            number = hash_step(hash_step(number, word.zeros), word.ones);
-        }
-        for word in &self.outputs {
-            number = hash_step(number, *word);
-        }
-        number
-    }
-
-    /// Which literal an input has.
-    pub(crate) fn literal(&self, input: usize) -> Option<bool> {
-        literal_at(&self.literals, input)
     }
 }

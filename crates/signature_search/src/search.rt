@@ -2,9 +2,10 @@
 //! signature cubes that lie in others are dropped (`maximal_places`).
 
 use crate::bits::{Literals, bit_count, contains, has_bit, is_within, literal_count, meets};
+use crate::cube::Cube;
 use crate::finder::{Finder, Signature};
 use crate::function::Function;
-use crate::rows::{Cube, Place, Rows};
+use crate::rows::{Place, Rows};
 use std::alloc::{AllocError, Global};
 
 // At most this many regions are looked at for a place of an ON cube that no signature cube holds.

@@ -1,0 +1,77 @@
+//! A cube by itself: its literals and its outputs. The search makes such cubes; those that it is
+//! given are rows of a list.
+
+use crate::bits::{Literals, literal_at, put_bit};
+use std::alloc::{AllocError, Global};
+
+/// One step of a hash over words (Knuth, The art of computer programming, volume 3).
+fn hash_step(number: u64, word: u64) -> u64 {
+    let next = (number ^ word).wrapping_mul(0x9E3779B97F4A7C15);
+    next ^ (next >> 29)
+}
+
+/// A cube by itself.
+#[derive(Drop)]
+pub(crate) struct Cube {
+    pub(crate) literals: Vec<Literals>,
+    pub(crate) outputs: Vec<u64>,
+}
+
+impl Cube {
+    /// These literals and outputs.
+    pub(crate) fn of(
+        alloc: Global,
+        literals: &[Literals],
+        outputs: &[u64],
+    ) -> Result<Cube, AllocError> {
+        Ok(Cube {
+            literals: literals.to_vec(alloc)?,
+            outputs: outputs.to_vec(alloc)?,
+        })
+    }
+
+    /// These literals with one output.
+    pub(crate) fn of_output(
+        alloc: Global,
+        literals: &[Literals],
+        output: usize,
+        words: usize,
+    ) -> Result<Cube, AllocError> {
+        let mut outputs: Vec<u64> = vec![in alloc; 0; words]?;
+        put_bit(&mut outputs, output);
+        Ok(Cube {
+            literals: literals.to_vec(alloc)?,
+            outputs,
+        })
+    }
+
+    /// The literals of this cube that the other lacks, as inputs.
+    pub(crate) fn inputs_beyond(
+        &self,
+        alloc: Global,
+        other: &[Literals],
+    ) -> Result<Vec<u64>, AllocError> {
+        let mut inputs: Vec<u64> = Vec::with_capacity(alloc, self.literals.len())?;
+        for (mine, theirs) in self.literals.iter().zip(other.iter()) {
+            inputs.push(mine.inputs() & !theirs.inputs())?;
+        }
+        Ok(inputs)
+    }
+
+    /// A hash of the cube.
+    pub(crate) fn hash(&self) -> u64 {
+        let mut number: u64 = 0;
+        for word in &self.literals {
+            number = hash_step(hash_step(number, word.zeros), word.ones);
+        }
+        for word in &self.outputs {
+            number = hash_step(number, *word);
+        }
+        number
+    }
+
+    /// Which literal an input has.
+    pub(crate) fn literal(&self, input: usize) -> Option<bool> {
+        literal_at(&self.literals, input)
+    }
+}
