@@ -29,7 +29,7 @@ use std::alloc::{AllocError, Global};
 const FEW: usize = 8;
 
 /// A question about a batch of columns is given up after this many tables.
-const BATCH_TABLES: u64 = 200;
+const BATCH_TABLES: u64 = 600;
 
 /// How many columns the first batch has.
 const FIRST_BATCH: usize = 4;
