@@ -14,8 +14,8 @@ use crate::list::Cover;
 use crate::references::{references_to, references_to_both};
 use std::alloc::AllocError;
 
-/// Whether each place of `list` is in `other` or in `dc`. Rows that stand in `other` or `dc` too, in
-/// any order, are found and skipped in time linear in the lists.
+/// Whether each place of `list` is in `other` or in `dc`. Rows that stand in `other` or `dc` too,
+/// in any order, are found and skipped in time linear in the lists.
 ///
 /// # Errors
 ///
@@ -43,9 +43,9 @@ pub fn is_within_either(list: &Cover, other: &Cover, dc: &Cover) -> Result<bool,
     )
 }
 
-/// Whether the lists agree outside `dc`: each place that is in no cube of `dc` is in both
-/// lists or in neither (equivalence modulo don't-cares). Rows that both lists have, in any order, are
-/// found and skipped in time linear in the lists.
+/// Whether the lists agree outside `dc`: each place that is in no cube of `dc` is in both lists or
+/// in neither (equivalence modulo don't-cares). Rows that both lists have, in any order, are found
+/// and skipped in time linear in the lists.
 pub fn agree_outside(list: &Cover, other: &Cover, dc: &Cover) -> Result<bool, AllocError>
     requires other { other.now.size ≡ list.now.size }
     requires dc { dc.now.size ≡ list.now.size }

@@ -25,11 +25,12 @@
 //! No call lists points. `cofactor` looks at each cube once. `tautology`, `holds_cube(s)` and
 //! [`agree_outside`] split at inputs, each half answered by an implicant that says why it is held:
 //! so a split that has no part in the answer is undone at once. They take time in the number of
-//! cubes times that of the splits, which may be exponential in the inputs at worst. Where splits get
-//! many, a SAT search is asked (`sat_search`), and each clause that its answer needs is checked; the
-//! search ends unanswered before it takes 1.5 GB. `contain` looks at far fewer than all pairs of
-//! cubes if these have literals at many inputs, and at worst at all of them. Each takes memory for
-//! indices or references; `cofactor`, `contain` and `try_clone` also for the cubes of their answer.
+//! cubes times that of the splits, which may be exponential in the inputs at worst. Where splits
+//! get many, a SAT search is asked (`sat_search`), and each clause that its answer needs is
+//! checked; the search ends unanswered before it takes 1.5 GB. `contain` looks at far fewer than
+//! all pairs of cubes if these have literals at many inputs, and at worst at all of them. Each
+//! takes memory for indices or references; `cofactor`, `contain` and `try_clone` also for the cubes
+//! of their answer.
 #![tactic(auto)]
 
 mod cofactor;

@@ -1,14 +1,14 @@
 //! Whether a list holds a region, with the reason: an implicant of the list that contains the
 //! region.
 //!
-//! A region is a cube. A row that contains it is such an implicant. Else the region is split at an input,
-//! and each half is asked for by itself. If the cube for one half has no literal at that input, it
-//! holds the whole region, and the other half is never asked for: so a split that had no part in an
-//! answer is undone at once, wherever it was made (Marques-Silva and Sakallah 1996). Else the
-//! answer is the consensus of both cubes, which has `-` at the input and elsewhere the literals of
-//! both (Brayton et al. 1984). A row with one open literal and all outputs of the region contains
-//! one of the halves, so that the other decides (Davis, Logemann and Loveland 1962). If a row has
-//! no open literal, the region is asked for without the outputs of the row.
+//! A region is a cube. A row that contains it is such an implicant. Else the region is split at an
+//! input, and each half is asked for by itself. If the cube for one half has no literal at that
+//! input, it holds the whole region, and the other half is never asked for: so a split that had no
+//! part in an answer is undone at once, wherever it was made (Marques-Silva and Sakallah 1996).
+//! Else the answer is the consensus of both cubes, which has `-` at the input and elsewhere the
+//! literals of both (Brayton et al. 1984). A row with one open literal and all outputs of the
+//! region contains one of the halves, so that the other decides (Davis, Logemann and Loveland
+//! 1962). If a row has no open literal, the region is asked for without the outputs of the row.
 //!
 //! Each question looks at the rows once. The halves of a region look first at the rows alone that
 //! had fewest open literals in it, and at all rows that meet the region once those have more.

@@ -1,8 +1,8 @@
 //! Column dominance: drop a column if another is in all its rows and may replace it.
 //!
 //! In a reduction the other one costs less, or as much and has a smaller number. In a search within
-//! a budget, which asks for any cover, it costs no more. It is in each row of the dropped column, so
-//! candidates are looked for in a shortest one.
+//! a budget, which asks for any cover, it costs no more. It is in each row of the dropped column,
+//! so candidates are looked for in a shortest one.
 
 ghost use Rattle.std.specs.Prelude.{◌≡◌, ◌<◌, ◌==◌, ◌&&◌, ◌||◌, ℕ, [], IfOk, IfSome, MatchOption, length, true};
 ghost use Rattle.std.specs.List.{list_any};

@@ -1,8 +1,8 @@
 //! The Lagrangian bound, for any weights of rows.
 //!
-//! The load of a column is the weight of its rows; its overload is the load less its scaled cost, its
-//! slack the scaled cost less the load. A list that has a column of each row carries the weight of
-//! all rows, so that weight is at most the list's scaled costs and all overloads. The slack of a
+//! The load of a column is the weight of its rows; its overload is the load less its scaled cost,
+//! its slack the scaled cost less the load. A list that has a column of each row carries the weight
+//! of all rows, so that weight is at most the list's scaled costs and all overloads. The slack of a
 //! column of the list, or the overload of one outside it, can be added to the weight.
 
 ghost use Rattle.std.specs.Prelude.{◌≡◌, ◌≤◌, ◌<◌, ◌+◌, ◌-◌, ◌*◌, ◌^◌, ◌⊎◌, ℕ, IfOk, cond, length};

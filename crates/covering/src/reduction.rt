@@ -1,10 +1,10 @@
 //! The reductions of a table, in passes over all rows or all columns until none changes it.
 //!
-//! The rows of each column are listed first (the transpose). A row that has all columns of another is
-//! among the rows of that row's rarest column; a column that is in all rows of another is in that
-//! column's shortest row. So candidates are few, and each is tested by a binary search for each
-//! number. Rows or columns to drop are marked, and dropped together: each is dominated by one that
-//! is kept, so they could be dropped one by one. If a pass marks nothing, no step of its kind
+//! The rows of each column are listed first (the transpose). A row that has all columns of another
+//! is among the rows of that row's rarest column; a column that is in all rows of another is in
+//! that column's shortest row. So candidates are few, and each is tested by a binary search for
+//! each number. Rows or columns to drop are marked, and dropped together: each is dominated by one
+//! that is kept, so they could be dropped one by one. If a pass marks nothing, no step of its kind
 //! applies.
 
 ghost use Rattle.std.specs.Prelude.{◌≡◌, ◌<◌, ◌==◌, ◌||◌, IfOk, IfSome, MatchOption, not, filter};
@@ -145,10 +145,10 @@ impl Table {
     }
 }
 
-/// Reduces a table until no step applies. A row is dropped if it has all columns of another. The only
-/// column of a row is chosen, and its rows are dropped. A live column is dropped if another is in all
-/// its rows and is preferred: it has the smaller number, or with `Choice::Literals` fewer literals, or
-/// as many and the smaller number.
+/// Reduces a table until no step applies. A row is dropped if it has all columns of another. The
+/// only column of a row is chosen, and its rows are dropped. A live column is dropped if another is
+/// in all its rows and is preferred: it has the smaller number, or with `Choice::Literals` fewer
+/// literals, or as many and the smaller number.
 ///
 /// The least cover stays as it is. If memory is refused the table is gone.
 pub fn reduce(table: Table, choice: Choice) -> Result<Table, AllocError>

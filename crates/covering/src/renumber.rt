@@ -1,8 +1,8 @@
 //! A table with its live columns renumbered.
 //!
-//! Once the live columns are numbered in their order, what is done for each column is done for these
-//! alone. The least cover in the new numbers stands for the least cover, since the order of columns is
-//! kept.
+//! Once the live columns are numbered in their order, what is done for each column is done for
+//! these alone. The least cover in the new numbers stands for the least cover, since the order of
+//! columns is kept.
 
 ghost use Rattle.std.specs.Prelude.{◌≡◌, IfOk, IfSome, map, slice_index_or};
 ghost use Rattle.covering.specs.Table.{items_of};

@@ -253,9 +253,9 @@ impl Table {
         Ok(self.live.first().copied())
     }
 
-    /// A cover within the budget, or none if there is none: prunes and branches. It looks at no more
-    /// than `tables_left` tables, and subtracts those that it looked at. What it learns of row weights
-    /// goes back to the warm start once it is over.
+    /// A cover within the budget, or none if there is none: prunes and branches. It looks at no
+    /// more than `tables_left` tables, and subtracts those that it looked at. What it learns of row
+    /// weights goes back to the warm start once it is over.
     #[cycle(search)]
     fn search(
         &self,
@@ -282,8 +282,8 @@ impl Table {
         found
     }
 
-    /// A cover within the budget, or none if there is none: branches on a live column, which is first
-    /// taken, and dropped if no such cover has it.
+    /// A cover within the budget, or none if there is none: branches on a live column, which is
+    /// first taken, and dropped if no such cover has it.
     #[cycle(search)]
     fn branch(
         &self,

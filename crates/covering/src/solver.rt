@@ -4,9 +4,9 @@
 //! literals, covers with fewer are asked for in the same way. Then the columns are decided one by
 //! one, in list order. If the witness, a cover within the budget, has the next column, so has the
 //! least cover; else it is asked whether some cover within the budget has it, which gives a new
-//! witness or drops the column. A batch of columns is asked for at once, by a further row of them: if
-//! then no cover is within the budget, all are dropped. Such a question may look at a few tables only;
-//! if they do not suffice the first column is asked for alone.
+//! witness or drops the column. A batch of columns is asked for at once, by a further row of them:
+//! if then no cover is within the budget, all are dropped. Such a question may look at a few tables
+//! only; if they do not suffice the first column is asked for alone.
 
 ghost use Rattle.std.specs.Prelude.{◌≡◌, ◌≢◌, ◌≤◌, ◌<◌, ◌+◌, ◌++◌, ◌∷◌, [], ℕ, List, IfOk, IfSome, MatchOption, filter, length, map, option_map, ◌==◌, true, false};
 ghost use Rattle.std.specs.List.{list_all, list_any};
@@ -66,8 +66,8 @@ impl Questions {
         }
     }
 
-    /// A cover within the budget, or none if there is none; branches into no more than `most_tables`
-    /// tables.
+    /// A cover within the budget, or none if there is none; branches into no more than
+    /// `most_tables` tables.
     fn ask(
         &mut self,
         alloc: Global,
@@ -87,8 +87,9 @@ impl Questions {
         Ok(witness)
     }
 
-    /// What `ask` answers, if it takes no more than `BATCH_TABLES` tables; else `None`. A cover that has
-    /// one of many columns can be far harder to rule out than a cover that has the first of them.
+    /// What `ask` answers, if it takes no more than `BATCH_TABLES` tables; else `None`. A cover
+    /// that has one of many columns can be far harder to rule out than a cover that has the first
+    /// of them.
     fn ask_briefly(
         &mut self,
         alloc: Global,
@@ -484,8 +485,8 @@ impl Table {
         }
     }
 
-    /// A hint, from row weights: a lower bound on the literals of covers of `columns` columns, of which
-    /// one has this cost.
+    /// A hint, from row weights: a lower bound on the literals of covers of `columns` columns, of
+    /// which one has this cost.
     fn literals_bound_hint(
         &self,
         alloc: Global,
@@ -498,8 +499,8 @@ impl Table {
         Ok(cost.saturating_sub(u128::from(warm_start.shortfall())))
     }
 
-    /// The choice that decides: `First` if all live columns cost the same, since covers of one length
-    /// then do too.
+    /// The choice that decides: `First` if all live columns cost the same, since covers of one
+    /// length then do too.
     fn deciding_choice(&self, choice: Choice) -> Choice
         ensures { (s : List ℕ) → IsLeast result self.now s → IsLeast choice self.now s }
     {

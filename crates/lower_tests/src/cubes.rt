@@ -230,7 +230,8 @@ fn are_opposite(a: &Cube, b: &Cube, inputs: &[usize]) -> bool {
     a.next_opposite(b, from).is_none()
 }
 
-// Whether the inputs with literals that the second cube does not have are these, one after the other.
+// Whether the inputs with literals that the second cube does not have are these, one after the
+// other.
 fn are_beyond(a: &Cube, b: &Cube, inputs: &[usize]) -> bool {
     let mut from = 0;
     for i in inputs {

@@ -182,8 +182,8 @@ impl BlockingMatrix {
         }
     }
 
-    // Gathers the rows of OFF cubes: those of one literal as a set, and of the others those that have
-    // no literal of the set so far. `false` if one of the cubes meets this one.
+    // Gathers the rows of OFF cubes: those of one literal as a set, and of the others those that
+    // have no literal of the set so far. `false` if one of the cubes meets this one.
     fn gather_rows(&mut self, cube: &[Literals], off: &[Literals]) -> Result<bool, AllocError> {
         for other in off.chunks_exact(self.width.max(1)) {
             let begin = self.rows.len();
@@ -205,8 +205,8 @@ impl BlockingMatrix {
         Ok(true)
     }
 
-    // Adds the minimal ones of the rows of several literals that contain no single one and none of the
-    // first `longer` rows found.
+    // Adds the minimal ones of the rows of several literals that contain no single one and none of
+    // the first `longer` rows found.
     fn push_minimal_rows(
         &mut self,
         found: &mut BlockingRows,

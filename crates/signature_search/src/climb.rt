@@ -17,8 +17,8 @@ enum Step {
 }
 
 impl Finder<'_> {
-    // The inputs whose literals, and the absent outputs which, are a row by themselves: no implicant
-    // that contains the cube lacks such a literal or has such an output.
+    // The inputs whose literals, and the absent outputs which, are a row by themselves: no
+    // implicant that contains the cube lacks such a literal or has such an output.
     fn fixed_by_single_rows(
         &self,
         signature: &Signature,

@@ -1,7 +1,7 @@
 //! The outside of a list of cubes.
 //!
-//! The list is split at an input that occurs in both senses, one with most literals, until a cube is
-//! left (Shannon expansion: Brayton, Hachtel, McMullen and Sangiovanni-Vincentelli, Logic
+//! The list is split at an input that occurs in both senses, one with most literals, until a cube
+//! is left (Shannon expansion: Brayton, Hachtel, McMullen and Sangiovanni-Vincentelli, Logic
 //! minimization algorithms for VLSI synthesis, 1984). A cube of one half that lies in a cube of the
 //! other needs no literal of that input. The number of cubes that are made is bounded.
 
@@ -130,8 +130,8 @@ fn cube_of_literal(
     Ok(cube)
 }
 
-/// The complements of the halves as one list. Where the input occurs in one sense alone, all that is
-/// outside the half with its literal is outside the other half too.
+/// The complements of the halves as one list. Where the input occurs in one sense alone, all that
+/// is outside the half with its literal is outside the other half too.
 fn join_halves(
     alloc: Global,
     low: &[Literals],
@@ -155,8 +155,8 @@ fn join_halves(
     Ok(joined)
 }
 
-/// Cubes with the points outside the list, or `None` if more words of cubes are made on the way than
-/// the budget has; it is lowered by a part of those that are made.
+/// Cubes with the points outside the list, or `None` if more words of cubes are made on the way
+/// than the budget has; it is lowered by a part of those that are made.
 pub(crate) fn complement(
     alloc: Global,
     list: &[Literals],

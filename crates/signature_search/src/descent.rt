@@ -1,9 +1,9 @@
 //! From an ON cube toward a cube within it that no signature cube holds yet, as far as a place of
 //! its own shows.
 //!
-//! The smaller the cube, the likelier its signature cube has a place of its own, and that of a point
-//! has one always. So the literals that part the two cubes are put in an order, those of short rows
-//! first, and the least number of them that will do is found by binary search.
+//! The smaller the cube, the likelier its signature cube has a place of its own, and that of a
+//! point has one always. So the literals that part the two cubes are put in an order, those of
+//! short rows first, and the least number of them that will do is found by binary search.
 
 use crate::bits::{Literals, bit_indices, has_bit, literal_at, put_literal};
 use crate::blocking_matrix::BlockingRows;

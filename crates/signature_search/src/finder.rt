@@ -4,10 +4,10 @@
 //! and lacks the outputs that occur in minimal rows of the blocking matrix (McGeer, Sanghavi,
 //! Brayton and Sangiovanni-Vincentelli, Espresso-Signature: a new exact minimizer for logic
 //! functions, 1993). A wanted place of it is its own if only the primes that contain all of it hold
-//! the place. To test a place, exchange the literals of a minimal row for their opposites, under the
-//! output of the row if it has one: the place is an own one if for each row the place that comes of
-//! this is outside ON and DC. Which ON and DC cubes hold an exchanged place depends only on the
-//! inputs where the cube has no literal; so the tests of all rows together are one question.
+//! the place. To test a place, exchange the literals of a minimal row for their opposites, under
+//! the output of the row if it has one: the place is an own one if for each row the place that
+//! comes of this is outside ON and DC. Which ON and DC cubes hold an exchanged place depends only
+//! on the inputs where the cube has no literal; so the tests of all rows together are one question.
 
 use crate::bits::{Literals, all_bits, has_bit, meets, narrow_to, push_cofactor};
 use crate::blocking_matrix::{BlockingMatrix, BlockingRows};
@@ -228,8 +228,8 @@ impl<'a> Finder<'a> {
         Ok(true)
     }
 
-    // Gathers the ON and DC cubes of an output that the cube meets with a row exchanged. `false` if one
-    // of them contains the cube then.
+    // Gathers the ON and DC cubes of an output that the cube meets with a row exchanged. `false` if
+    // one of them contains the cube then.
     fn avoid_exchanged(
         &mut self,
         cube: &Cube,

@@ -24,8 +24,8 @@ pub(crate) struct Function {
     on_and_dc: Vec<Vec<Literals>>,
 }
 
-// At most about this many words of cubes are made, for all outputs, where ON with DC is the complement
-// of OFF.
+// At most about this many words of cubes are made, for all outputs, where ON with DC is the
+// complement of OFF.
 const COMPLEMENT_BUDGET: usize = 1 << 18;
 
 /// The rows of each output, without other outputs.
@@ -94,8 +94,8 @@ fn list_at(lists: &[Vec<Literals>], index: usize) -> &[Literals] {
 }
 
 impl Function {
-    /// The function of these rows. With `samples` DC is all that neither ON nor OFF holds. `None` if
-    /// the complement of OFF is past the budget.
+    /// The function of these rows. With `samples` DC is all that neither ON nor OFF holds. `None`
+    /// if the complement of OFF is past the budget.
     pub(crate) fn new(
         alloc: Global,
         on: &Rows,

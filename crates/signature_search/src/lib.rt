@@ -39,8 +39,8 @@ use std::alloc::{AllocError, Global};
 /// Wanted places, one for each maximal signature cube that is found, in any order.
 ///
 /// The OFF rows hold all places that neither ON nor DC holds, and no other. With `samples` DC is
-/// all that neither ON nor OFF holds, and the DC rows are empty. No more are looked for once `limit`
-/// signature cubes are found.
+/// all that neither ON nor OFF holds, and the DC rows are empty. No more are looked for once
+/// `limit` signature cubes are found.
 pub fn signature_places(
     alloc: Global,
     on: &Rows,

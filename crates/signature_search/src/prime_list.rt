@@ -19,8 +19,8 @@ fn prime_contains(primes: &Rows, prime: usize, cube: &Cube) -> bool {
 }
 
 impl Finder<'_> {
-    /// The meet of the primes that contain the cube, and rows by which each of its literals may be left
-    /// out. `None` if no prime contains the cube.
+    /// The meet of the primes that contain the cube, and rows by which each of its literals may be
+    /// left out. `None` if no prime contains the cube.
     pub(crate) fn meet_of_primes(
         &self,
         primes: &Rows,
@@ -65,8 +65,8 @@ impl Finder<'_> {
         Ok(rows)
     }
 
-    /// Whether former answers give a place of the cube that lies in no other prime and in no DC cube
-    /// under this output. It is then the answer of the question.
+    /// Whether former answers give a place of the cube that lies in no other prime and in no DC
+    /// cube under this output. It is then the answer of the question.
     pub(crate) fn guess_own_place_by_primes(
         &mut self,
         primes: &Rows,
@@ -88,8 +88,8 @@ impl Finder<'_> {
         Ok(!dc.any(|row| meets(row, guess)))
     }
 
-    /// Gathers the primes with the output that meet the cube and do not contain it. `false` if one of
-    /// them contains all of it under this output.
+    /// Gathers the primes with the output that meet the cube and do not contain it. `false` if one
+    /// of them contains all of it under this output.
     pub(crate) fn avoid_primes(
         &mut self,
         primes: &Rows,

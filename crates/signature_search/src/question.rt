@@ -54,8 +54,8 @@ pub(crate) struct Question {
     ones: Vec<u32>,
 }
 
-/// Notes that the literals of a cube occur, and what it forces if it has one literal. Whether it has
-/// any.
+/// Notes that the literals of a cube occur, and what it forces if it has one literal. Whether it
+/// has any.
 fn note_row(row: &[Literals], forced: &mut Vec<Literals>, occurring: &mut Vec<Literals>) -> bool {
     let mut few = Few::None;
     for (word, seen) in row.iter().zip(occurring.iter_mut()) {
@@ -136,8 +136,8 @@ impl Question {
         })
     }
 
-    /// Whether the cube has a place outside the list, which [`Question::answer`] then is in. `false`
-    /// too if the budget, a number of regions, is spent.
+    /// Whether the cube has a place outside the list, which [`Question::answer`] then is in.
+    /// `false` too if the budget, a number of regions, is spent.
     pub(crate) fn ask(
         &mut self,
         inside: &[Literals],
@@ -170,7 +170,8 @@ impl Question {
     }
 
     /// Narrows the cube to the literals of former answers, as an answer that may be one: parts of a
-    /// function that have no input in common are looked at once, and not for each cube of the others.
+    /// function that have no input in common are looked at once, and not for each cube of the
+    /// others.
     pub(crate) fn guess(&mut self, inside: &[Literals]) -> Result<(), AllocError> {
         self.rows.clear();
         self.regions.clear();
@@ -213,8 +214,8 @@ impl Question {
         }
     }
 
-    // Loads the first region: the cube, and the cubes of the list that meet it. `false` if one of them
-    // contains it.
+    // Loads the first region: the cube, and the cubes of the list that meet it. `false` if one of
+    // them contains it.
     fn load_rows(&mut self, inside: &[Literals], list: &[Literals]) -> Result<bool, AllocError> {
         self.rows.clear();
         self.regions.clear();
@@ -281,8 +282,8 @@ impl Question {
         }
     }
 
-    // Forces, at inputs where one literal alone occurs, the other one: the cubes with it then do not
-    // hold the place.
+    // Forces, at inputs where one literal alone occurs, the other one: the cubes with it then do
+    // not hold the place.
     fn force_pure_literals(&mut self) {
         for (force, seen) in self.forced.iter_mut().zip(self.occurring.iter()) {
             force.zeros = seen.ones & !seen.zeros;
@@ -290,7 +291,8 @@ impl Question {
         }
     }
 
-    // Narrows the last region to the forced literals: cubes that have one of their opposites drop out.
+    // Narrows the last region to the forced literals: cubes that have one of their opposites drop
+    // out.
     fn take_forced_literals(&mut self, begin: usize) {
         let width = self.width;
         narrow_at(&mut self.rows, begin, &self.forced);
@@ -364,8 +366,8 @@ impl Question {
         Ok(())
     }
 
-    // Leaves the last region, and goes on with the other half of the one before it. Whether there is
-    // one.
+    // Leaves the last region, and goes on with the other half of the one before it. Whether there
+    // is one.
     fn backtrack(&mut self) -> bool {
         if let Some(region) = self.regions.pop() {
             self.rows.truncate(region.begin);

@@ -1,5 +1,6 @@
-//! Opening a source (`open_source`), reading it (`read_source`), and reading the second file of a run
-//! (`read_other`): its source is given or opened first, and its sizes have to be those of the first.
+//! Opening a source (`open_source`), reading it (`read_source`), and reading the second file of a
+//! run (`read_other`): its source is given or opened first, and its sizes have to be those of the
+//! first.
 ghost use Rattle.std.specs.Prelude.{◌≡◌, IfErr, IfOk, Option, Some, map, string_bytes, true};
 ghost use Rattle.tool.specs.Program.{IsOpenedAs, named_file};
 ghost use Rattle.tool.specs.Run.{Intake, Takes, name_of, trace};

@@ -67,9 +67,9 @@ fn is_held(pla: &Pla, other: &Pla, free: &Cover) -> Result<bool, AllocError>
     }
 }
 
-// Whether each place that is in neither DC-set is in both ON-sets or in neither. Under fr no DC list
-// is made: a place of one ON-set alone is a difference only if the other's OFF list has it and no
-// listed DC cube does.
+// Whether each place that is in neither DC-set is in both ON-sets or in neither. Under fr no DC
+// list is made: a place of one ON-set alone is a difference only if the other's OFF list has it and
+// no listed DC cube does.
 fn agree(alloc: Global, pla: &Pla, other: &Pla) -> Result<bool, AllocError>
     requires { other.now.size ≡ pla.now.size }
     ensures { IfOk result (λ holds. holds ≡ agree_of pla.now other.now) }

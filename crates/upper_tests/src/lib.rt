@@ -4,8 +4,8 @@
 //! (`tool_tests`) do, since the crate that a test stands in is proved a second time with it.
 //!
 //! - Minima: `primes`, `tables` of rows, `solutions` of whole files; `descriptions` by `rules`, in
-//!   `small_cases` and `wide`, which also sets functions of a few inputs among many; `signatures` of
-//!   a decoder.
+//!   `small_cases` and `wide`, which also sets functions of a few inputs among many; `signatures`
+//!   of a decoder.
 //! - `large`: each call on long lists, wide rows and many columns.
 #![tactic(auto)]
 

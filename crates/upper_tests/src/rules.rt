@@ -16,7 +16,8 @@ pub(crate) enum Rule {
     Prime,
     // `0-` at each pair: what no prime of the above holds.
     Neither,
-    // Point k of those of the first ring, then of the second and so on: 000, 001, 010, 101, 110, 111.
+    // Point k of those of the first ring, then of the second and so on: 000, 001, 010, 101, 110,
+    // 111.
     Ring,
     // At each ring one of its two other points, by the bits of k.
     Gap,

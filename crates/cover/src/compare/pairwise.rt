@@ -107,8 +107,8 @@ fn count_opposite_pairs(rows: &LiteralCounts, others: &LiteralCounts, i: usize) 
 // If both lists are long, a split pays if it separates more than one pair in this many.
 const SHARE: u64 = 32;
 
-// The least number of sampled pairs that a split must separate to pay for one more pass. A row that is
-// left is compared with all others, so a split has to save two rows' worth of pairs, and
+// The least number of sampled pairs that a split must separate to pay for one more pass. A row that
+// is left is compared with all others, so a split has to save two rows' worth of pairs, and
 // `pairs / SHARE` where bits compare 64 rows at once. Disjoint lists are compared pair by pair, so
 // each split pays.
 fn least_opposite_pairs(relation: Relation, pairs: u64, rows: usize, others: usize) -> u64 {

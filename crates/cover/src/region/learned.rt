@@ -383,8 +383,8 @@ fn check_answer(
     }
 }
 
-// Whether the rows hold each place of the region, whose only output is this one; `None` if the search
-// gives no answer, or one that fails the check.
+// Whether the rows hold each place of the region, whose only output is this one; `None` if the
+// search gives no answer, or one that fails the check.
 fn holds_by_search_at(
     alloc: Global,
     rows: &[&Cube],

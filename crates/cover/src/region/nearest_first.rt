@@ -1,8 +1,8 @@
 //! Whether a list holds each of many regions.
 //!
 //! What a search learns of the list is kept from one region to the next. If there are many rows and
-//! many regions, the rows nearest to a region are asked first, and then of all rows those that share
-//! a literal with it are looked at before the others.
+//! many regions, the rows nearest to a region are asked first, and then of all rows those that
+//! share a literal with it are looked at before the others.
 ghost use Rattle.std.specs.Prelude.{◌≡◌, ◌↔◌, IsTrue, IfOk, OnOk, All, map};
 ghost use Rattle.cube.specs.Cube.{HasSize, SameSize, IsSubset, holds, size_of};
 ghost use Rattle.cube.specs.Sum.{is_subset};
