@@ -1,8 +1,8 @@
 //! The essential primes without a list of all primes.
 //!
-//! An essential prime holds a wanted place of some ON cube that no other prime holds. Each prime that
-//! contains the cube holds that place, so that the essential one alone contains the cube: to grow the
-//! cube to any prime finds it. So there are no more candidates than ON cubes.
+//! An essential prime holds a wanted place of some ON cube that no other prime holds. Each prime
+//! that contains the cube holds that place, so that the essential one alone contains the cube: to
+//! grow the cube to any prime finds it. So there are no more candidates than ON cubes.
 //!
 //! A place of a prime lies in another prime exactly if a step out of the prime leads from it to a
 //! place of ON or DC: the two places make an implicant, which lies in some prime; and another prime
@@ -87,8 +87,8 @@ fn add_essential(
 /// The essential primes, in row order: those that hold a place of the ON-set that is neither in the
 /// DC-set nor in another prime (Brayton et al. 1984).
 ///
-/// The primes are not listed: each ON cube that lies in none so far is grown to a prime, and that is
-/// compared with the rows near it.
+/// The primes are not listed: each ON cube that lies in none so far is grown to a prime, and that
+/// is compared with the rows near it.
 pub fn find_essential(alloc: Global, sets: &Sets) -> Result<Cover, AllocError>
     ensures { IfOk result (λ list. list ≡ record
         { size = sets.now.size; cubes = essential_of sets.now (primes_of sets.now) }) }

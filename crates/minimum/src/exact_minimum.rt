@@ -2,9 +2,9 @@
 //!
 //! Three ways lead to it. With many inputs and several outputs there may be far too many primes to
 //! list: points are picked, and only the primes that contain one of them are made
-//! ([`crate::signatures`]). With one output or fewer inputs all primes are listed: points are picked
-//! by them where the inputs are many, and else the rows of their table come from regions. Which way
-//! is taken is a hint; where one has spent its budget, the next one follows.
+//! ([`crate::signatures`]). With one output or fewer inputs all primes are listed: points are
+//! picked by them where the inputs are many, and else the rows of their table come from regions.
+//! Which way is taken is a hint; where one has spent its budget, the next one follows.
 
 ghost use Rattle.std.specs.Prelude.{◌≡◌, ◌<◌, ◌||◌, IfOk, IfSome, not};
 ghost use Rattle.cube.specs.Cube.{IsPlace, Place};
@@ -43,7 +43,8 @@ fn cubes_at(alloc: Global, list: &Cover, numbers: &[usize]) -> Result<Cover, All
 }
 
 // At most this many cubes with the places outside are made for an output on average. Where many
-// functions are joined in one output there are far more, but few primes, and all of these are listed.
+// functions are joined in one output there are far more, but few primes, and all of these are
+// listed.
 const MOST_OF_AN_OUTPUT: usize = 250;
 
 // At most this many such cubes are made for all outputs together.
@@ -174,9 +175,9 @@ fn exact_by_table(
     cubes_at(alloc, primes, &least)
 }
 
-/// The least cover by primes: the shortest list of primes that together hold each place of the ON-set
-/// that is not in the DC-set; of several, the first in row order, with `Choice::Literals` of those
-/// with the fewest literals.
+/// The least cover by primes: the shortest list of primes that together hold each place of the
+/// ON-set that is not in the DC-set; of several, the first in row order, with `Choice::Literals` of
+/// those with the fewest literals.
 ///
 /// With many inputs and several outputs it lists no more primes than contain some picked points,
 /// unless a budget is spent. Else its cost is that of [`primes`], with few inputs that of

@@ -211,8 +211,8 @@ fn exact_outside_off(
     exact_by_points(alloc, &samples, &source, &places, choice)
 }
 
-// The least cover under fr by points that are picked by a list of all primes: the largest cubes that
-// avoid these places.
+// The least cover under fr by points that are picked by a list of all primes: the largest cubes
+// that avoid these places.
 fn exact_among_primes(
     alloc: Global,
     pla: &Pla,

@@ -2,9 +2,9 @@
 //!
 //! A prime that holds a wanted point holds its signature too: the places that all primes of the
 //! point hold (McGeer, Sanghavi, Brayton and Sangiovanni-Vincentelli, ESPRESSO-SIGNATURE, 1993). So
-//! does a cover that has a prime of the point. So points are
-//! picked until each wanted place is in a signature, and only the primes that hold one of the points
-//! are made. There may be few of them where the function has far too many primes to list.
+//! does a cover that has a prime of the point. So points are picked until each wanted place is in a
+//! signature, and only the primes that hold one of the points are made. There may be few of them
+//! where the function has far too many primes to list.
 //!
 //! Which points are picked is a hint: the best are those whose signatures lie in no larger ones.
 //! Each is looked at before it is taken, and whether the signatures hold each ON cube, beside the

@@ -1,9 +1,9 @@
 //! The blocking lists of a prime, if implicants lie outside a list of cubes.
 //!
-//! A step out of the prime, at a literal or to an output that it lacks, is blocked at the places from
-//! which it leads into the list. There is a blocking list for each step. Whether some place of a
-//! region is in each of the lists is asked row by row: the region becomes its part in a row, which
-//! is looked for in the next list. A part that meets no row of some list is given up at once.
+//! A step out of the prime, at a literal or to an output that it lacks, is blocked at the places
+//! from which it leads into the list. There is a blocking list for each step. Whether some place of
+//! a region is in each of the lists is asked row by row: the region becomes its part in a row,
+//! which is looked for in the next list. A part that meets no row of some list is given up at once.
 
 ghost use Rattle.std.specs.Prelude.{◌≡◌, ◌≢◌, ◌<◌, IsTrue, true, false, All, IfOk, slice_index_or};
 ghost use Rattle.std.specs.List.{list_any};

@@ -3,7 +3,8 @@
 //! The cube is freed of a literal, or gets an output, as long as it stays an implicant. A larger
 //! cube asks for more, so that a step that was refused stays refused, and each is tried once. Only
 //! what the step adds is asked for, and only of the rows near the cube: where it lost a literal,
-//! these are looked for again. Most outputs are refused by what the rows reach in a part of the cube.
+//! these are looked for again. Most outputs are refused by what the rows reach in a part of the
+//! cube.
 
 ghost use Rattle.std.specs.Prelude.{◌<◌, ◌↔◌, IsTrue, IfOk};
 ghost use Rattle.cube.specs.Cube.{HasSize, IsCube, IsSubset, holds};

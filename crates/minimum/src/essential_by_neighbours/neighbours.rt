@@ -3,8 +3,8 @@
 //! A step out of a prime exchanges the bit of a place at a literal, or puts the point under an
 //! output that the prime lacks. A place from which some step leads into a row lies in another
 //! implicant; so the neighbours are the rows put back by a step, and only those that then meet the
-//! prime count. A row that conflicts with the prime at an input meets it at most if freed there; one
-//! that conflicts nowhere is put back as it is, if it has `-` at some literal of the prime.
+//! prime count. A row that conflicts with the prime at an input meets it at most if freed there;
+//! one that conflicts nowhere is put back as it is, if it has `-` at some literal of the prime.
 
 ghost use Rattle.std.specs.Prelude.{◌≡◌, ◌||◌, true, false, IfOk, IfSome, OnOk};
 ghost use Rattle.cube.specs.Cube.{HasSize, SameSize, Place, holds, size_of};
@@ -16,8 +16,8 @@ use cover::Cover;
 use cube::{Cube, Symbol};
 use std::alloc::{AllocError, Global};
 
-/// The row put back by the steps at inputs: freed of a literal that is opposite to the prime's, or as
-/// it is where it has `-` at a literal of the prime.
+/// The row put back by the steps at inputs: freed of a literal that is opposite to the prime's, or
+/// as it is where it has `-` at a literal of the prime.
 fn neighbour_by_inputs(prime: &Cube, row: &Cube) -> Result<Option<Cube>, AllocError>
     requires { SameSize row.now prime.now }
     ensures size { IfOk result (λ found. IfSome found (λ c. SameSize c row.now)) }

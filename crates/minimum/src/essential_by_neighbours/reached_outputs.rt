@@ -1,8 +1,8 @@
 //! The outputs that rows reach inside a cube.
 //!
 //! Most outputs cannot be added to a cube, and one point of it shows this of many. A part of the
-//! cube is narrowed to each row that adds an output to it, and takes that row's outputs. So under an
-//! output that the cube lacks, the rows hold the whole part or no place of it.
+//! cube is narrowed to each row that adds an output to it, and takes that row's outputs. So under
+//! an output that the cube lacks, the rows hold the whole part or no place of it.
 
 ghost use Rattle.std.specs.Prelude.{◌≡◌, ◌<◌, List, false, not, IfOk, length, slice_index_or};
 ghost use Rattle.cube.specs.Cube.{Cube as Row, HasSize, Place};
@@ -15,9 +15,9 @@ use cover::Cover;
 use cube::Cube;
 use std::alloc::AllocError;
 
-/// A part of the cube to begin with: a point if implicants lie inside the list, as few rows reach it
-/// and outputs that none reaches are refused; the whole cube if they lie outside, as many rows reach
-/// it and outputs that one reaches are refused.
+/// A part of the cube to begin with: a point if implicants lie inside the list, as few rows reach
+/// it and outputs that none reaches are refused; the whole cube if they lie outside, as many rows
+/// reach it and outputs that one reaches are refused.
 pub(crate) fn part_of(side: Side, cube: &Cube) -> Result<Cube, AllocError>
     ensures { IfOk result (IsPartOf cube.now) }
 {
