@@ -9,7 +9,7 @@ use crate::command::Command;
 use crate::failure::Failure;
 use crate::line::Line;
 use crate::printing::{judge, print_lists, print_with};
-use crate::reading::{SecondSource, read_other};
+use crate::source_reading::{SecondSource, read_other};
 use crate::status::Status;
 use crate::verify::verify;
 use cover::{contain, difference, intersect};

@@ -6,8 +6,8 @@ ghost use Rattle.tool.specs.Run.{Takes, trace};
 ghost use Rattle.tool.specs.Tool.{outcome_of};
 
 use crate::line::{Line, LineFault};
-use crate::reading::open_source;
 use crate::run_files::{refuse, run_on};
+use crate::source_reading::open_source;
 use crate::sources::{Opener, after_first};
 use crate::status::Status;
 use pla::Output;

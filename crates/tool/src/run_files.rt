@@ -10,7 +10,7 @@ ghost use Rattle.tool.specs.Words.{takes_two};
 use crate::answer::answer;
 use crate::failure::{Failure, Operand};
 use crate::line::{Line, LineFault};
-use crate::reading::{SecondSource, read_source};
+use crate::source_reading::{SecondSource, read_source};
 use crate::sources::{Source, after_first, name_in_messages};
 use crate::status::Status;
 use pla::{Broken, Input, Output, write_bytes};

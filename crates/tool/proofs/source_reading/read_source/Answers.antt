@@ -1,7 +1,7 @@
 use Rattle.std.proofs.Common.{refl}
 use Rattle.tool.specs.Run.{Read, name_of}
 use Rattle.tool.proofs.Readings.{stopped_reading, whole_reading}
-use Rattle.tool.proofs.reading.read_source.Goals as goal
+use Rattle.tool.proofs.source_reading.read_source.Goals as goal
 
 pub returns-in-Ok : goal.returns-in-Ok
 returns-in-Ok g c = let read = rw (c.in-Ok.is, c.echo.ensures) at c.read_pla.ensures in (

@@ -1,7 +1,7 @@
 use Rattle.std.proofs.Common.{◌∙◌, Some, ap, drop, subst}
 use Rattle.tool.specs.Program.{IsOpenedAs, named_file}
 use Rattle.tool.specs.Tool.{first_name}
-use Rattle.tool.proofs.reading.AnySecondSource.read.Goals as goal
+use Rattle.tool.proofs.source_reading.AnySecondSource.read.Goals as goal
 
 pub read_second-requires : goal.read_second-requires
 read_second-requires g c = c.in-Ok.ensures.name ∙ ap first_name (c.after_first.ensures ∙ ap (drop 1) c.files.ensures)

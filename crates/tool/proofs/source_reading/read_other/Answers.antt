@@ -1,6 +1,6 @@
 use Rattle.std.proofs.Common.{rules, ◌≡◌, false}
 use Rattle.tool.specs.Tool.{same_size}
-use Rattle.tool.proofs.reading.read_other.Goals as goal
+use Rattle.tool.proofs.source_reading.read_other.Goals as goal
 
 pub returns-else-inputs : goal.returns-else-inputs
 returns-else-inputs g c = let read = rw c.in_ok-other.was at c.read.ensures in

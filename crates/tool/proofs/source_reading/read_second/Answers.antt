@@ -2,7 +2,7 @@ use Rattle.tool.specs.declared.failure.Operand.TheVariants.{Second}
 use Rattle.tool.specs.Run.{name_of}
 use Rattle.tool.specs.Tool.{second_name}
 use Rattle.tool.proofs.Opening.{named}
-use Rattle.tool.proofs.reading.read_second.Goals as goal
+use Rattle.tool.proofs.source_reading.read_second.Goals as goal
 
 pub returns : goal.returns
 returns g c = let read = c.read_source.ensures in

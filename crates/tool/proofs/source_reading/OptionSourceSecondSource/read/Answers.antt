@@ -1,5 +1,5 @@
 use Rattle.std.proofs.Common.{Some}
-use Rattle.tool.proofs.reading.OptionSourceSecondSource.read.Goals as goal
+use Rattle.tool.proofs.source_reading.OptionSourceSecondSource.read.Goals as goal
 
 pub returns : goal.returns
 returns g c = let rest = c.read_second.ensures in
