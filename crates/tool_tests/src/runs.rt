@@ -8,7 +8,10 @@ ghost use Rattle.tool.specs.Words.{takes_two};
 use pla::{Ending, Given, Taken};
 use std::alloc::Global;
 use std::test::Fail;
-use tool::{Line, LineFault, Source, Status, after_first, refuse, run, source_name, tool_is_outcome_or_refusal};
+use tool::{
+    Line, LineFault, Source, Status, after_first, refuse, run, source_name,
+    tool_is_outcome_or_refusal,
+};
 
 const TEXT: &[u8] = b"# a\n.i 2\n.o 1\n11 1\n.e\n";
 
