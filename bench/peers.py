@@ -395,12 +395,12 @@ def total_of(tool, limit, files):
     for paths in files:
         outcome = tool.run(limit, paths)
         if outcome is None or outcome.seconds is None:
-            return outcome and Total()
+            return None if outcome is None else Total()
         found.append(outcome)
     return Total(sum(outcome.seconds for outcome in found), [outcome.answer for outcome in found])
 
 
-def do_agree(comparison, answers, files, listing):
+def agreement(comparison, answers, files, listing):
     """Whether the tools' answers of each function agree; None where fewer than two tools gave them."""
     if len(answers) < 2:
         return None
@@ -418,7 +418,7 @@ def measured(comparison, tools, family, limit):
         totals = {label: total for label, total in totals.items() if total}
         running = [tool for tool in running if tool.label in totals and totals[tool.label].seconds is not None]
         answers = {label: total.answers for label, total in totals.items() if total.answers}
-        agree = do_agree(comparison, answers, files, size.listing)
+        agree = agreement(comparison, answers, files, size.listing)
         rows = len(size.listing.rows) if size.listing else sum(len(rows_of(path)) for paths in files for path in paths)
         found.append(Row(size.label, rows, totals, agree, comparison.shown(answers), size.listing))
         told = ", ".join(f"{label} {seconds_told(total)}" for label, total in totals.items())
