@@ -24,15 +24,21 @@ struct LocalSearch {
     open: Vec<usize>,
     /// The index of each of these rows in `open`.
     places: Vec<usize>,
-    /// What it would gain to add or to drop each column.
+    /// What it would gain to add each column that is not chosen.
     scores: Vec<i64>,
     /// Whether each column is chosen.
     inside: Vec<bool>,
     /// The chosen columns.
     chosen: Vec<usize>,
+    /// What it would gain to drop each of these; at most 0.
+    losses: Vec<i64>,
+    /// The index of each chosen column in `chosen`.
+    slots: Vec<usize>,
+    /// The cost of the chosen columns.
+    cost: i64,
     /// Whether each column may be added.
     fresh: Vec<bool>,
-    /// When each column was last added or dropped.
+    /// When each column was last added or dropped; no two chosen columns have one number.
     stamps: Vec<usize>,
     /// The best list so far.
     best: Vec<usize>,
@@ -50,6 +56,9 @@ impl LocalSearch {
             scores: Vec::new(alloc),
             inside: Vec::new(alloc),
             chosen: Vec::new(alloc),
+            losses: Vec::new(alloc),
+            slots: Vec::new(alloc),
+            cost: 0,
             fresh: Vec::new(alloc),
             stamps: Vec::new(alloc),
             best: Vec::new(alloc),
@@ -66,6 +75,7 @@ impl LocalSearch {
         self.open = (0..rows).collect(alloc)?;
         self.places = (0..rows).collect(alloc)?;
         self.inside = vec![in alloc; false; columns]?;
+        self.slots = vec![in alloc; 0; columns]?;
         self.fresh = vec![in alloc; true; columns]?;
         self.stamps = vec![in alloc; 0; columns]?;
         for column in 0..columns {
@@ -87,11 +97,11 @@ impl LocalSearch {
         }
     }
 
-    /// Raises the score of the only chosen column of the row.
+    /// Adds to what it would gain to drop the only chosen column of the row.
     fn raise_holder(&mut self, row: usize, more: i64) {
-        let holder = number(&self.holders, row);
-        let score = at(&self.scores, holder).wrapping_add(more);
-        put(&mut self.scores, holder, score);
+        let slot = number(&self.slots, number(&self.holders, row));
+        let loss = at(&self.losses, slot).wrapping_add(more);
+        put(&mut self.losses, slot, loss);
     }
 
     /// Takes the row, which is covered now, from the uncovered ones.
@@ -106,12 +116,39 @@ impl LocalSearch {
         }
     }
 
-    /// Adds the column to the list.
-    fn add(&mut self, table: &Compact, column: usize) -> Result<(), AllocError> {
-        let score = at(&self.scores, column);
-        put(&mut self.scores, column, 0i64.wrapping_sub(score));
+    /// Enters the column into the list of chosen ones.
+    fn choose(&mut self, table: &Compact, column: usize, now: usize) -> Result<(), AllocError> {
+        set(&mut self.stamps, column, now);
         mark(&mut self.inside, column, true);
+        set(&mut self.slots, column, self.chosen.len());
         self.chosen.push(column)?;
+        self.losses
+            .push(0i64.wrapping_sub(at(&self.scores, column)))?;
+        self.cost = self.cost.wrapping_add(at(&table.costs, column));
+        Ok(())
+    }
+
+    /// Takes the column from the list of chosen ones.
+    fn discard(&mut self, table: &Compact, column: usize, now: usize) {
+        set(&mut self.stamps, column, now);
+        mark(&mut self.inside, column, false);
+        let slot = number(&self.slots, column);
+        if slot >= self.chosen.len() || slot >= self.losses.len() {
+            return;
+        }
+        self.chosen.swap_remove(slot);
+        let loss = self.losses.swap_remove(slot);
+        put(&mut self.scores, column, 0i64.wrapping_sub(loss));
+        if slot < self.chosen.len() {
+            let moved = self.chosen[slot];
+            set(&mut self.slots, moved, slot);
+        }
+        self.cost = self.cost.wrapping_sub(at(&table.costs, column));
+    }
+
+    /// Adds the column to the list.
+    fn add(&mut self, table: &Compact, column: usize, now: usize) -> Result<(), AllocError> {
+        self.choose(table, column, now)?;
         for row in table.column_rows.list(column) {
             let row = *row as usize;
             let held = number(&self.held, row).wrapping_add(1);
@@ -131,12 +168,8 @@ impl LocalSearch {
 
     /// Drops the column from the list.
     fn remove(&mut self, table: &Compact, column: usize, now: usize) -> Result<(), AllocError> {
-        let score = at(&self.scores, column);
-        put(&mut self.scores, column, 0i64.wrapping_sub(score));
-        mark(&mut self.inside, column, false);
+        self.discard(table, column, now);
         mark(&mut self.fresh, column, false);
-        set(&mut self.stamps, column, now);
-        self.chosen.retain(|other| *other != column);
         for row in table.column_rows.list(column) {
             let row = *row as usize;
             let held = number(&self.held, row).wrapping_sub(1);
@@ -155,28 +188,33 @@ impl LocalSearch {
         Ok(())
     }
 
-    /// Whether to change the first column rather than the second: it gains more; or as much, and
-    /// costs less; or as much, and was changed longer ago.
-    fn is_better(&self, table: &Compact, first: usize, second: usize) -> bool {
-        let a = at(&self.scores, first);
-        let b = at(&self.scores, second);
-        if a != b {
-            return a > b;
-        }
+    /// Whether to add the first column rather than the second, which gains as much: it costs less;
+    /// or as much, and was dropped longer ago.
+    fn is_better_to_add(&self, table: &Compact, first: usize, second: usize) -> bool {
         let a = at(&table.costs, first);
         let b = at(&table.costs, second);
-        if a != b {
-            return (a > b) == flag(&self.inside, first);
-        }
-        number(&self.stamps, first) < number(&self.stamps, second)
+        a < b || (a == b && number(&self.stamps, first) < number(&self.stamps, second))
+    }
+
+    /// Whether to drop the first column rather than the second, where as much is lost: it costs
+    /// more; or as much, and was added longer ago.
+    fn is_better_to_drop(&self, table: &Compact, first: usize, second: usize) -> bool {
+        let a = at(&table.costs, first);
+        let b = at(&table.costs, second);
+        a > b || (a == b && number(&self.stamps, first) < number(&self.stamps, second))
     }
 
     /// The chosen column that is best to drop, other than the last one.
     fn column_to_drop(&self, table: &Compact, last: usize) -> usize {
         let mut best = usize::MAX;
-        for column in &self.chosen {
-            if *column != last && (best == usize::MAX || self.is_better(table, *column, best)) {
+        let mut top = i64::MIN;
+        for (column, loss) in self.chosen.iter().zip(self.losses.iter()) {
+            if *loss >= top
+                && *column != last
+                && (*loss > top || self.is_better_to_drop(table, *column, best))
+            {
                 best = *column;
+                top = *loss;
             }
         }
         best
@@ -185,12 +223,16 @@ impl LocalSearch {
     /// The column of the row that is best to add.
     fn column_to_add(&self, table: &Compact, row: &[u32]) -> usize {
         let mut best = usize::MAX;
+        let mut top = i64::MIN;
         for column in row {
             let column = *column as usize;
-            if flag(&self.fresh, column)
-                && (best == usize::MAX || self.is_better(table, column, best))
+            let score = at(&self.scores, column);
+            if score >= top
+                && flag(&self.fresh, column)
+                && (score > top || self.is_better_to_add(table, column, best))
             {
                 best = column;
+                top = score;
             }
         }
         best
@@ -199,11 +241,14 @@ impl LocalSearch {
     /// The column of all that is best to add.
     fn best_to_add(&self, table: &Compact) -> usize {
         let mut best = usize::MAX;
-        for column in 0..table.costs.len() {
-            if !flag(&self.inside, column)
-                && (best == usize::MAX || self.is_better(table, column, best))
+        let mut top = i64::MIN;
+        for (column, score) in self.scores.iter().enumerate() {
+            if *score >= top
+                && !flag(&self.inside, column)
+                && (*score > top || self.is_better_to_add(table, column, best))
             {
                 best = column;
+                top = *score;
             }
         }
         best
@@ -219,23 +264,14 @@ impl LocalSearch {
         }
     }
 
-    /// The cost of the chosen columns.
-    fn cost(&self, table: &Compact) -> i64 {
-        let mut sum: i64 = 0;
-        for column in &self.chosen {
-            sum = sum.wrapping_add(at(&table.costs, *column));
-        }
-        sum
-    }
-
     /// How many columns are chosen.
     fn size(&self) -> i64 {
         i64::try_from(self.chosen.len()).unwrap_or(i64::MAX)
     }
 
     /// Whether the list reaches the goal.
-    fn reaches(&self, table: &Compact, goal: Goal) -> bool {
-        self.size() <= goal.columns && self.cost(table) <= goal.cost
+    fn reaches(&self, goal: Goal) -> bool {
+        self.size() <= goal.columns && self.cost <= goal.cost
     }
 
     /// Adds those of the marked columns that uncovered rows have.
@@ -247,7 +283,8 @@ impl LocalSearch {
     ) -> Result<(), AllocError> {
         for (i, column) in live.iter().enumerate() {
             if flag(hint, *column) && at(&self.scores, i) > 0 {
-                self.add(table, i)?;
+                let now = self.chosen.len();
+                self.add(table, i, now)?;
             }
         }
         Ok(())
@@ -260,7 +297,8 @@ impl LocalSearch {
                 return Ok(());
             }
             let column = self.best_to_add(table);
-            self.add(table, column)?;
+            let now = self.chosen.len();
+            self.add(table, column, now)?;
         }
         Ok(())
     }
@@ -292,8 +330,7 @@ impl LocalSearch {
         if column == usize::MAX {
             return Ok(last);
         }
-        self.add(table, column)?;
-        set(&mut self.stamps, column, now);
+        self.add(table, column, now)?;
         self.raise_uncovered_weights(table);
         Ok(column)
     }
@@ -317,14 +354,15 @@ impl LocalSearch {
         let mut least = (i64::MAX, i64::MAX);
         let mut last = usize::MAX;
         let mut seed = SEED;
-        for now in 1..steps {
+        let begun = self.chosen.len();
+        for step in 1..steps {
+            let now = begun.saturating_add(step);
             if self.open.is_empty() {
-                let cost = self.cost(table);
-                if (self.size(), cost) < least {
-                    least = (self.size(), cost);
+                if (self.size(), self.cost) < least {
+                    least = (self.size(), self.cost);
                     self.keep(alloc)?;
                 }
-                if self.reaches(table, goal) {
+                if self.reaches(goal) {
                     break;
                 }
                 let column = self.column_to_drop(table, usize::MAX);
