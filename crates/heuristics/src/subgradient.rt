@@ -11,7 +11,7 @@
 
 use crate::compact::Compact;
 use crate::goal::Goal;
-use crate::numbers::{add_to_each, at, overwrite, put, total};
+use crate::numbers::{add_to_each, at, flag, overwrite, put, set, total};
 use std::alloc::{AllocError, Global};
 
 /// The multiplier of a column where columns cost the same.
@@ -43,6 +43,9 @@ pub(crate) const NEAR_REACH: i64 = 4;
 /// The least length of a step; shorter ones gain nothing.
 const LAST_PACE: i64 = 16;
 
+/// What an overloaded column of a row counts in its direction.
+const SLOPE: i64 = 16;
+
 /// After this many steps without a gain the steps become shorter.
 const PATIENCE: u32 = 10;
 
@@ -73,8 +76,16 @@ pub(crate) struct Ascent {
     pub(crate) scaled_costs: Vec<i64>,
     /// The load of each column.
     pub(crate) loads: Vec<i64>,
-    /// How many overloaded columns each row has.
-    held: Vec<i64>,
+    /// Room for sums of weights.
+    partial: Vec<i64>,
+    /// Which columns are overloaded.
+    pub(crate) overloaded: Vec<bool>,
+    /// The columns whose mark changed last, before others.
+    changed: Vec<usize>,
+    /// How many columns are overloaded.
+    number: i64,
+    /// The subgradient of each row, times `SLOPE`: one less how many overloaded columns it has.
+    slopes: Vec<i64>,
     /// The multiplier of each unit of a column's cost; 0 where columns cost the same.
     pub(crate) cost: i64,
     /// The best value of a step.
@@ -165,24 +176,17 @@ fn weight_decrease(row: &[u32], weight: i64, loads: &[i64], scaled_costs: &[i64]
     if number > 1 { least } else { 0 }
 }
 
-/// The least slack of the row's columns: scaled cost less load.
+/// The least slack of the row's columns: scaled cost less load; 0 if one has none.
 fn slack(row: &[u32], loads: &[i64], scaled_costs: &[i64]) -> i64 {
     let mut least = i64::MAX;
     for column in row {
         let column = *column as usize;
         least = least.min(at(scaled_costs, column).wrapping_sub(at(loads, column)));
+        if least <= 0 {
+            return 0;
+        }
     }
-    if row.is_empty() { 0 } else { least.max(0) }
-}
-
-/// The rows by increasing weight.
-fn by_weight(alloc: Global, weights: &[i64]) -> Result<Vec<(i64, usize)>, AllocError> {
-    let mut order: Vec<(i64, usize)> = Vec::with_capacity(alloc, weights.len())?;
-    for (i, weight) in weights.iter().enumerate() {
-        order.push((*weight, i))?;
-    }
-    order.sort_unstable();
-    Ok(order)
+    if row.is_empty() { 0 } else { least }
 }
 
 /// The multiplier of each unit of a column's cost, by which columns cost `UNIT` on average.
@@ -212,7 +216,11 @@ impl Ascent {
             column_direction: 0,
             scaled_costs: vec![in alloc; 0; table.costs.len()]?,
             loads: vec![in alloc; 0; table.costs.len()]?,
-            held: vec![in alloc; 0; weights.len()]?,
+            partial: vec![in alloc; 0; table.column_rows.size().saturating_add(1)]?,
+            overloaded: vec![in alloc; false; table.costs.len()]?,
+            changed: vec![in alloc; 0; table.costs.len()]?,
+            number: 0,
+            slopes: vec![in alloc; SLOPE; weights.len()]?,
             cost: if uneven { cost_multiplier(table) } else { 0 },
             top: i64::MIN,
             top_weights: weights.to_vec(alloc)?,
@@ -245,11 +253,28 @@ impl Ascent {
     }
 
     /// Lowers the weights of rows with several overloaded columns, the least weight first.
-    fn lower(&mut self, table: &Compact, order: &[(i64, usize)], weights: &mut Vec<i64>) {
-        for (_, i) in order {
+    fn lower(
+        &mut self,
+        alloc: Global,
+        table: &Compact,
+        weights: &mut Vec<i64>,
+    ) -> Result<(), AllocError> {
+        let mut order: Vec<(i64, usize)> = Vec::new(alloc);
+        for (i, (weight, slope)) in weights.iter().zip(self.slopes.iter()).enumerate() {
+            if *weight > 0 && *slope < 0 {
+                order.push((*weight, i))?;
+            }
+        }
+        order.sort_unstable();
+        self.lower_each(table, &order, weights);
+        Ok(())
+    }
+
+    /// Lowers the weights of those of the rows that have several overloaded columns, in this order.
+    fn lower_each(&mut self, table: &Compact, order: &[(i64, usize)], weights: &mut Vec<i64>) {
+        for (weight, i) in order {
             let row = table.rows.list(*i);
-            let weight = at(weights, *i);
-            let less = weight_decrease(row, weight, &self.loads, &self.scaled_costs);
+            let less = weight_decrease(row, *weight, &self.loads, &self.scaled_costs);
             if less > 0 {
                 put(weights, *i, weight.wrapping_sub(less));
                 add_to_each(&mut self.loads, row, 0i64.wrapping_sub(less));
@@ -257,8 +282,28 @@ impl Ascent {
         }
     }
 
-    /// Raises the weights of rows by the slack of their columns, the largest weight first.
-    fn raise(&mut self, table: &Compact, order: &[(i64, usize)], weights: &mut Vec<i64>) {
+    /// Raises the weights of rows by the slack of their columns, the row first that weighed most
+    /// before rows were lowered.
+    fn raise(
+        &mut self,
+        alloc: Global,
+        table: &Compact,
+        before: &[i64],
+        weights: &mut Vec<i64>,
+    ) -> Result<(), AllocError> {
+        let mut order: Vec<(i64, usize)> = Vec::new(alloc);
+        for (i, weight) in before.iter().enumerate() {
+            if slack(table.rows.list(i), &self.loads, &self.scaled_costs) > 0 {
+                order.push((*weight, i))?;
+            }
+        }
+        order.sort_unstable();
+        self.raise_each(table, &order, weights);
+        Ok(())
+    }
+
+    /// Raises the weights of these rows by the slack of their columns, the last row first.
+    fn raise_each(&mut self, table: &Compact, order: &[(i64, usize)], weights: &mut Vec<i64>) {
         for (_, i) in order.iter().rev() {
             let row = table.rows.list(*i);
             let more = slack(row, &self.loads, &self.scaled_costs);
@@ -270,25 +315,20 @@ impl Ascent {
         }
     }
 
-    /// Polishes the weights, and keeps them if their bound is better than the best so far.
+    /// Polishes weights, whose sums and overloaded columns are known, and keeps them if their bound is better than the
+    /// best so far.
     fn polish(
         &mut self,
         alloc: Global,
         table: &Compact,
-        weights: Vec<i64>,
+        before: Vec<i64>,
         column: i64,
         goal: Goal,
     ) -> Result<(), AllocError> {
-        let mut weights = weights;
-        if self.cost > 0 {
-            self.set_scaled_costs(&table.costs, column);
-        }
-        table.column_rows.sums(&weights, &mut self.loads);
-        {
-            let order = by_weight(alloc, &weights)?;
-            self.lower(table, &order, &mut weights);
-            self.raise(table, &order, &mut weights);
-        }
+        let mut weights = before.to_vec(alloc)?;
+        table.column_rows.sums(&self.partial, &mut self.loads);
+        self.lower(alloc, table, &mut weights)?;
+        self.raise(alloc, table, &before, &mut weights)?;
         let overload = overload(&self.loads, &self.scaled_costs);
         let value = self.value(&weights, overload, column, goal);
         if value > self.best_value {
@@ -299,43 +339,63 @@ impl Ascent {
         Ok(())
     }
 
-    /// Counts the overloaded columns of each row; answers how many columns are overloaded.
-    fn count_overloaded(&mut self, table: &Compact) -> i64 {
-        self.held.fill(0);
-        let mut number: i64 = 0;
-        for (i, (load, scaled_cost)) in self
-            .loads
+    /// Marks the overloaded columns, and lists those where a mark changes; answers by how much the
+    /// columns are overloaded together. The loads are what comes between two of the sums in
+    /// `partial`. Which marks change is hard to foretell, so that nothing branches on it here.
+    fn mark_overloaded(&mut self, table: &Compact) -> i64 {
+        let mut overload: i64 = 0;
+        let mut before: i64 = 0;
+        let mut changes: usize = 0;
+        for (i, ((end, scaled_cost), mark)) in table
+            .column_rows
+            .ends()
             .iter()
             .zip(self.scaled_costs.iter())
+            .zip(self.overloaded.iter_mut())
             .enumerate()
         {
-            if *load > *scaled_cost {
-                add_to_each(&mut self.held, table.column_rows.list(i), 1);
-                number = number.wrapping_add(1);
-            }
+            let now = at(&self.partial, *end as usize);
+            let over = now.wrapping_sub(before).wrapping_sub(*scaled_cost).max(0);
+            before = now;
+            overload = overload.wrapping_add(over);
+            set(&mut self.changed, changes, i);
+            changes = changes.wrapping_add(usize::from(*mark != (over > 0)));
+            *mark = over > 0;
         }
-        number
+        self.count_changes(table, changes);
+        overload
+    }
+
+    /// Counts the changes of marks for each row of the columns, which are the first in `changed`.
+    fn count_changes(&mut self, table: &Compact, changes: usize) {
+        for column in self.changed.iter().take(changes) {
+            let more = if flag(&self.overloaded, *column) {
+                1
+            } else {
+                -1
+            };
+            self.number = self.number.wrapping_add(more);
+            let less = 0i64.wrapping_sub(SLOPE.wrapping_mul(more));
+            add_to_each(&mut self.slopes, table.column_rows.list(*column), less);
+        }
     }
 
     /// A step in the direction of the subgradient plus three quarters of the last direction.
-    fn step(&mut self, table: &Compact, goal: Goal, far: i64) {
-        let overloaded = self.count_overloaded(table);
+    fn step(&mut self, goal: Goal, far: i64) {
         let mut square: i64 = 0;
-        for ((direction, number), weight) in self
+        for ((direction, slope), weight) in self
             .direction
             .iter_mut()
-            .zip(self.held.iter())
+            .zip(self.slopes.iter())
             .zip(self.weights.iter())
         {
-            let slope = 1i64.wrapping_sub(*number).wrapping_mul(16);
             let next = slope.wrapping_add(direction.wrapping_mul(12) >> 4);
             *direction = next;
-            if next > 0 || *weight > 0 {
-                square = square.wrapping_add(next.wrapping_mul(next));
-            }
+            let moved = if next.max(*weight) > 0 { next } else { 0 };
+            square = square.wrapping_add(moved.wrapping_mul(moved));
         }
         if self.cost > 0 {
-            let slope = overloaded.wrapping_sub(goal.columns).wrapping_mul(16);
+            let slope = self.number.wrapping_sub(goal.columns).wrapping_mul(SLOPE);
             self.column_direction = slope.wrapping_add(self.column_direction.wrapping_mul(12) >> 4);
             square = square.wrapping_add(self.column_direction.wrapping_mul(self.column_direction));
         }
@@ -365,13 +425,13 @@ impl Ascent {
         }
     }
 
-    /// Sets the loads for the present weights, and answers their value.
+    /// Adds up and compares the loads of the present weights, and answers their value.
     pub(crate) fn set_loads(&mut self, table: &Compact, goal: Goal) -> i64 {
         if self.cost > 0 {
             self.set_scaled_costs(&table.costs, self.column);
         }
-        table.column_rows.sums(&self.weights, &mut self.loads);
-        let overload = overload(&self.loads, &self.scaled_costs);
+        table.column_rows.add_up(&self.weights, &mut self.partial);
+        let overload = self.mark_overloaded(table);
         self.value(&self.weights, overload, self.column, goal)
     }
 
@@ -409,7 +469,6 @@ impl Ascent {
             if self.best_value > 0 {
                 return Ok(true);
             }
-            self.set_loads(table, goal);
         }
         if self.idle > PATIENCE {
             self.slow_down();
@@ -418,7 +477,7 @@ impl Ascent {
             .wrapping_sub(value)
             .max(UNIT / 50)
             .wrapping_mul(self.pace);
-        self.step(table, goal, far);
+        self.step(goal, far);
         Ok(false)
     }
 
@@ -432,6 +491,13 @@ impl Ascent {
         step: u32,
         course: &mut Course,
     ) -> Result<bool, AllocError> {
+        if self.cost > 0 {
+            self.set_scaled_costs(&table.costs, self.top_column);
+        }
+        table
+            .column_rows
+            .add_up(&self.top_weights, &mut self.partial);
+        self.mark_overloaded(table);
         let weights = self.top_weights.to_vec(alloc)?;
         self.polish(alloc, table, weights, self.top_column, goal)?;
         if course.again || self.best_value > 0 || self.best_value <= 0 - UNIT / 8 {

@@ -72,6 +72,18 @@ fn first_weights(alloc: Global, table: &Compact) -> Result<Vec<i64>, AllocError>
     Ok(weights)
 }
 
+/// Raises the likelihood of overloaded columns, and lowers the others'.
+fn note_likely(likely: &mut Vec<i64>, overloaded: &[bool], fresh: bool) {
+    for (likely, overloaded) in likely.iter_mut().zip(overloaded.iter()) {
+        let now = if *overloaded { LIKELIEST } else { 0 };
+        *likely = if fresh {
+            now
+        } else {
+            likely.wrapping_add(now.wrapping_sub(*likely) >> 1)
+        };
+    }
+}
+
 /// What a search remembers from table to table, and how much work it did.
 #[derive(Drop)]
 pub struct WarmStart {
@@ -241,24 +253,6 @@ impl WarmStart {
         Ascent::new(alloc, table, weights, self.column, pace)
     }
 
-    /// Raises the likelihood of overloaded columns, and lowers the others'.
-    fn note_likely(&mut self, live: &[usize], ascent: &Ascent, fresh: bool) {
-        for (i, column) in live.iter().enumerate() {
-            let now = if at(&ascent.loads, i) > at(&ascent.scaled_costs, i) {
-                LIKELIEST
-            } else {
-                0
-            };
-            let before = at(&self.likely, *column);
-            let next = if fresh {
-                now
-            } else {
-                before.wrapping_add(now.wrapping_sub(before) >> 1)
-            };
-            put(&mut self.likely, *column, next);
-        }
-    }
-
     /// Makes the steps, until they reach the goal or gain nothing.
     fn climb(
         &mut self,
@@ -275,10 +269,11 @@ impl WarmStart {
         } else {
             Course::new(self.steps, NEAR_REACH)
         };
+        let mut likely: Vec<i64> = vec![in alloc; 0; live.len()]?;
         for step in 0..STEPS * 2 + 2 {
             let value = ascent.set_loads(table, goal);
             if step % 4 == 0 {
-                self.note_likely(live, ascent, step == 0);
+                note_likely(&mut likely, &ascent.overloaded, step == 0);
             }
             ascent.note(value);
             let over = if ascent.is_over(step, &mut course) {
@@ -290,7 +285,15 @@ impl WarmStart {
                 break;
             }
         }
+        self.keep_likely(live, &likely);
         Ok(())
+    }
+
+    /// Keeps how likely each live column is.
+    fn keep_likely(&mut self, live: &[usize], likely: &[i64]) {
+        for (column, likely) in live.iter().zip(likely.iter()) {
+            put(&mut self.likely, *column, *likely);
+        }
     }
 
     /// Multipliers that may show that no cover reaches the goal, or which columns are in no cover
