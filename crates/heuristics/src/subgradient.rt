@@ -73,9 +73,9 @@ pub(crate) struct Ascent {
     /// The direction of the multiplier of a column.
     column_direction: i64,
     /// The scaled cost of each column.
-    pub(crate) scaled_costs: Vec<i64>,
-    /// The load of each column.
-    pub(crate) loads: Vec<i64>,
+    scaled_costs: Vec<i64>,
+    /// By how much each column's scaled cost is more than its load, while weights are polished.
+    slacks: Vec<i64>,
     /// Room for sums of weights.
     partial: Vec<i64>,
     /// Which columns are overloaded.
@@ -151,23 +151,22 @@ impl Course {
     }
 }
 
-/// By how much the columns are overloaded together.
-fn overload(loads: &[i64], scaled_costs: &[i64]) -> i64 {
+/// By how much the columns with these slacks are overloaded together.
+fn overload(slacks: &[i64]) -> i64 {
     let mut overload: i64 = 0;
-    for (load, scaled_cost) in loads.iter().zip(scaled_costs.iter()) {
-        overload = overload.wrapping_add(load.wrapping_sub(*scaled_cost).max(0));
+    for slack in slacks {
+        overload = overload.wrapping_add(0i64.wrapping_sub(*slack).max(0));
     }
     overload
 }
 
 /// How much less the row must weigh so that one more of its columns is not overloaded; nothing if
 /// at most one is.
-fn weight_decrease(row: &[u32], weight: i64, loads: &[i64], scaled_costs: &[i64]) -> i64 {
+fn weight_decrease(row: &[u32], weight: i64, slacks: &[i64]) -> i64 {
     let mut number: u32 = 0;
     let mut least = weight;
     for column in row {
-        let column = *column as usize;
-        let over = at(loads, column).wrapping_sub(at(scaled_costs, column));
+        let over = 0i64.wrapping_sub(at(slacks, *column as usize));
         if over > 0 {
             number = number.wrapping_add(1);
             least = least.min(over);
@@ -176,12 +175,11 @@ fn weight_decrease(row: &[u32], weight: i64, loads: &[i64], scaled_costs: &[i64]
     if number > 1 { least } else { 0 }
 }
 
-/// The least slack of the row's columns: scaled cost less load; 0 if one has none.
-fn slack(row: &[u32], loads: &[i64], scaled_costs: &[i64]) -> i64 {
+/// The least slack of the row's columns; 0 if one has none.
+fn least_slack(row: &[u32], slacks: &[i64]) -> i64 {
     let mut least = i64::MAX;
     for column in row {
-        let column = *column as usize;
-        least = least.min(at(scaled_costs, column).wrapping_sub(at(loads, column)));
+        least = least.min(at(slacks, *column as usize));
         if least <= 0 {
             return 0;
         }
@@ -215,7 +213,7 @@ impl Ascent {
             column,
             column_direction: 0,
             scaled_costs: vec![in alloc; 0; table.costs.len()]?,
-            loads: vec![in alloc; 0; table.costs.len()]?,
+            slacks: vec![in alloc; 0; table.costs.len()]?,
             partial: vec![in alloc; 0; table.column_rows.size().saturating_add(1)]?,
             overloaded: vec![in alloc; false; table.costs.len()]?,
             changed: vec![in alloc; 0; table.costs.len()]?,
@@ -274,10 +272,10 @@ impl Ascent {
     fn lower_each(&mut self, table: &Compact, order: &[(i64, usize)], weights: &mut Vec<i64>) {
         for (weight, i) in order {
             let row = table.rows.list(*i);
-            let less = weight_decrease(row, *weight, &self.loads, &self.scaled_costs);
+            let less = weight_decrease(row, *weight, &self.slacks);
             if less > 0 {
                 put(weights, *i, weight.wrapping_sub(less));
-                add_to_each(&mut self.loads, row, 0i64.wrapping_sub(less));
+                add_to_each(&mut self.slacks, row, less);
             }
         }
     }
@@ -293,7 +291,7 @@ impl Ascent {
     ) -> Result<(), AllocError> {
         let mut order: Vec<(i64, usize)> = Vec::new(alloc);
         for (i, weight) in before.iter().enumerate() {
-            if slack(table.rows.list(i), &self.loads, &self.scaled_costs) > 0 {
+            if least_slack(table.rows.list(i), &self.slacks) > 0 {
                 order.push((*weight, i))?;
             }
         }
@@ -306,17 +304,32 @@ impl Ascent {
     fn raise_each(&mut self, table: &Compact, order: &[(i64, usize)], weights: &mut Vec<i64>) {
         for (_, i) in order.iter().rev() {
             let row = table.rows.list(*i);
-            let more = slack(row, &self.loads, &self.scaled_costs);
+            let more = least_slack(row, &self.slacks);
             if more > 0 {
                 let weight = at(weights, *i);
                 put(weights, *i, weight.wrapping_add(more));
-                add_to_each(&mut self.loads, row, more);
+                add_to_each(&mut self.slacks, row, 0i64.wrapping_sub(more));
             }
         }
     }
 
-    /// Polishes weights, whose sums and overloaded columns are known, and keeps them if their bound is better than the
-    /// best so far.
+    /// Sets the slack of each column, from the sums in `partial`.
+    fn set_slacks(&mut self, table: &Compact) {
+        let mut before: i64 = 0;
+        for ((slack, end), scaled_cost) in self
+            .slacks
+            .iter_mut()
+            .zip(table.column_rows.ends().iter())
+            .zip(self.scaled_costs.iter())
+        {
+            let now = at(&self.partial, *end as usize);
+            *slack = scaled_cost.wrapping_sub(now.wrapping_sub(before));
+            before = now;
+        }
+    }
+
+    /// Polishes weights, whose sums and overloaded columns are known, and keeps them if their bound
+    /// is better than the best so far.
     fn polish(
         &mut self,
         alloc: Global,
@@ -326,10 +339,10 @@ impl Ascent {
         goal: Goal,
     ) -> Result<(), AllocError> {
         let mut weights = before.to_vec(alloc)?;
-        table.column_rows.sums(&self.partial, &mut self.loads);
+        self.set_slacks(table);
         self.lower(alloc, table, &mut weights)?;
         self.raise(alloc, table, &before, &mut weights)?;
-        let overload = overload(&self.loads, &self.scaled_costs);
+        let overload = overload(&self.slacks);
         let value = self.value(&weights, overload, column, goal);
         if value > self.best_value {
             self.best_value = value;
@@ -425,8 +438,8 @@ impl Ascent {
         }
     }
 
-    /// Adds up and compares the loads of the present weights, and answers their value.
-    pub(crate) fn set_loads(&mut self, table: &Compact, goal: Goal) -> i64 {
+    /// The value of the present weights; marks the columns that they overload.
+    pub(crate) fn present_value(&mut self, table: &Compact, goal: Goal) -> i64 {
         if self.cost > 0 {
             self.set_scaled_costs(&table.costs, self.column);
         }

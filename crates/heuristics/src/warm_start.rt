@@ -271,7 +271,7 @@ impl WarmStart {
         };
         let mut likely: Vec<i64> = vec![in alloc; 0; live.len()]?;
         for step in 0..STEPS * 2 + 2 {
-            let value = ascent.set_loads(table, goal);
+            let value = ascent.present_value(table, goal);
             if step % 4 == 0 {
                 note_likely(&mut likely, &ascent.overloaded, step == 0);
             }
