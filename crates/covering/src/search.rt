@@ -235,7 +235,7 @@ impl Table {
         }
     }
 
-    /// A live column to branch on: the likeliest one of a shortest row.
+    /// A live column to branch on: the likeliest one of a short row whose columns are in many rows.
     fn branching_column(
         &self,
         alloc: Global,

@@ -49,19 +49,32 @@ fn likeliest_of(row: &[usize], likely: &[i64], counts: &[i64]) -> usize {
     best
 }
 
-/// The likeliest column of a shortest row; among shortest rows, of the one whose columns are in the
-/// most rows. One pass over the rows.
+/// What a row of so many columns weighs, from a thousand for one column: less by the power 2.5 of its
+/// length.
+const WEIGHTS: [i64; 11] = [0, 1000, 177, 64, 31, 18, 11, 8, 6, 4, 3];
+
+/// How much to prefer the row: its weight times the row counts of its columns. In a short row each
+/// branch decides much, and columns in many rows leave a small table.
+fn preference(row: &[usize], counts: &[i64]) -> i64 {
+    let weight = if row.len() < WEIGHTS.len() {
+        WEIGHTS[row.len()]
+    } else {
+        2
+    };
+    sum_of_counts(row, counts).wrapping_mul(weight)
+}
+
+/// The likeliest column of the row that is preferred most: a short one whose columns are in many
+/// rows. One pass over the rows.
 ///
 /// `likely` and `counts` have a number for each column: how likely it is thought to be in a cover,
 /// and how many rows it is in.
 pub fn likeliest(rows: &[Vec<usize>], likely: &[i64], counts: &[i64]) -> usize {
-    let mut shortest = usize::MAX;
     let mut highest = i64::MIN;
     let mut best = 0;
     for row in rows {
-        let here = sum_of_counts(row, counts);
-        if row.len() < shortest || (row.len() == shortest && here > highest) {
-            shortest = row.len();
+        let here = preference(row, counts);
+        if here > highest {
             highest = here;
             best = likeliest_of(row, likely, counts);
         }
