@@ -2,7 +2,6 @@
 import importlib.machinery
 import importlib.util
 import os
-import re
 import shutil
 import subprocess
 import unittest
@@ -12,11 +11,16 @@ from support import folder_of
 
 LAUNCHER = os.path.join(os.path.dirname(os.path.dirname(os.path.abspath(__file__))), "espresso")
 
-# It writes down each crate as it begins and ends, fails where a file `fails` lies in the crate's sources, and lets
-# one of two crates that need not wait for one another wait until the other has begun.
-STUB = b"""#!/bin/sh
-name=$(basename "$PWD")
-echo "begin $name $*" >> ../../log
+# The command `rt` tells where the kit is.
+RT = b"""#!/bin/sh
+echo "$(dirname "$0")/../kit/START.md"
+"""
+# The kit's compiler writes down each crate as it begins and ends, fails where a file `fails` lies in the crate's sources or
+# a library that the crate uses is not proved, and lets one of two crates that need not wait for one another wait until the
+# other has begun.
+COMPILER = b"""#!/bin/sh
+name=$3
+echo "begin $name $1 $4" >> ../../log
 if [ "$name" = left ]; then
     for try in 1 2 3 4 5 6 7 8 9 10; do
         grep -q "begin right" ../../log && break
@@ -24,13 +28,20 @@ if [ "$name" = left ]; then
     done
 fi
 [ -e src/fails ] && { echo "$name is wrong" ; exit 1; }
-if [ "$1" = run ]; then
-    printf '#!/bin/sh\\necho program "$@"; cat; exit 1\\n' > out/espresso
-    chmod +x out/espresso
-    echo usage; rc=2
-fi
+for word in "$@"; do
+    case "$word" in
+        *=*/proved/*.rlib) [ -e "${word#*=}" ] || { echo "$word is not proved"; exit 1; } ;;
+    esac
+    made=$word
+done
+echo "$name" > "$made"
 echo "end $name" >> ../../log
-exit ${rc:-0}
+"""
+LINKER = b"""#!/bin/sh
+while [ "$1" != -o ]; do shift; done
+grep -q espresso "$3" || exit 1
+printf '#!/bin/sh\\necho program "$@"; cat; exit 1\\n' > "$2"
+chmod +x "$2"
 """
 CRATES = b"""# The crates.
 low: smallvec
@@ -57,8 +68,10 @@ class Launcher(unittest.TestCase):
             for part in ("src", "specs", "proofs/inner", "out"):
                 os.makedirs(self.path("crates", name, part))
             self.write(b"code", "crates", name, "src", "lib.rt")
-        self.write(STUB, "bin", "rt")
-        os.chmod(self.path("bin", "rt"), 0o755)
+        os.makedirs(self.path("kit", "bin"))
+        for content, path in ((RT, ("bin", "rt")), (COMPILER, ("kit", "bin", "rattle")), (LINKER, ("kit", "bin", "rattle-link"))):
+            self.write(content, *path)
+            os.chmod(self.path(*path), 0o755)
         shutil.copy(LAUNCHER, self.path("espresso"))
 
     def enter(self, manager):
@@ -99,12 +112,12 @@ class Launcher(unittest.TestCase):
         said = self.called("-Decho", "a b")
         self.assertRegex(said, r"4 crates are proved and built first(.|\n)*proving low \(1 of 4\)(.|\n)*built in [0-9.]+ minutes\n\Z")
         log = self.log()
-        self.assertEqual(sorted(re.sub(" --jobs .$", "", line) for line in log), sorted(f"begin {name} {'run -- -h' if name == 'espresso' else 'lib'}" for name in ORDER) +
+        self.assertEqual(sorted(log), sorted(f"begin {name} build src/{'main' if name == 'espresso' else 'lib'}.rt" for name in ORDER) +
                          sorted(f"end {name}" for name in ORDER))
         for name, needs in (("left", "low"), ("right", "low"), ("espresso", "left"), ("espresso", "right")):
             self.assertLess(log.index(f"end {needs}"), next(k for k, line in enumerate(log) if line.startswith(f"begin {name}")))
         if sides() > 1:
-            self.assertLess(next(k for k, line in enumerate(log) if line.startswith("begin right lib")), log.index("end left"), "left and right need not wait for one another")
+            self.assertLess(next(k for k, line in enumerate(log) if line.startswith("begin right")), log.index("end left"), "left and right need not wait for one another")
         self.assertEqual(self.called("-Decho", ""), "")
         self.assertEqual(self.log(), [])
 
