@@ -49,7 +49,7 @@ ghost use Rattle.cover.specs.Sides.{IsSide};
 
 use crate::cubes::universal_cube;
 use crate::list::Cover;
-use crate::sums::absorb::{absorb, absorb_if_short, drop_absorbed_by_if_short};
+use crate::sums::absorb::{absorb, absorb_if_short, drop_absorbed_by_if_short, is_part_absorbed};
 use crate::sums::branch::{
     Branches, absorbed_cofactor_at, branches_at, combine_branches, smoothing_at,
 };
@@ -61,7 +61,7 @@ use crate::sums::constant_outputs::{
 use crate::sums::ends::{
     has_row_without_literals, has_universal_row, is_unate, sum_without_literals,
 };
-use crate::sums::independent_parts::{Parts, each_has_literal, independent_parts};
+use crate::sums::independent_parts::{Parts, independent_parts};
 use crate::sums::meets::meets;
 use crate::sums::rows::{merge, sort_rows};
 use crate::sums::split_input::{input_order_hint, split_input_of_lists};
@@ -135,7 +135,7 @@ fn sum_by_case(
 }
 
 // The complete sum of the places of the minuend that are not in the subtrahend, from the table or
-// by a split, and then kept in the table.
+// by a split, and then kept in the table; by a split alone if such sums are seldom found there.
 #[cycle(sum)]
 fn remembered_sum(
     alloc: Global,
@@ -150,10 +150,16 @@ fn remembered_sum(
         (λ rows. rows.items
         ≡ complete_sum_of shape (difference_of (places minuend.items) (places subtrahend.items))) }
 {
+    let rows = minuend.len().saturating_add(subtrahend.len());
+    if !table.is_worth_a_look(rows) {
+        return sum_by_split(alloc, shape, table, &minuend, &subtrahend);
+    }
     let hash = hash_of_lists(shape, &minuend, &subtrahend);
     if let Some(sum) = table.find(alloc, shape, hash, &minuend, &subtrahend)? {
+        table.count_use(rows, true);
         return Ok(sum);
     }
+    table.count_use(rows, false);
     let sum = sum_by_split(alloc, shape, table, &minuend, &subtrahend)?;
     table.keep(alloc, shape, hash, minuend, subtrahend, &sum)?;
     Ok(sum)
@@ -175,10 +181,11 @@ fn sum_by_split(
         (λ rows. rows.items
         ≡ complete_sum_of shape (difference_of (places minuend.now) (places subtrahend.now))) }
 {
-    let Some(i) = split_input_of_lists(shape, minuend, subtrahend, table.order()) else {
+    let Some(split) = split_input_of_lists(shape, minuend, subtrahend, table.order()) else {
         return sum_without_literals(alloc, shape, minuend, subtrahend);
     };
-    if subtrahend.is_empty() && !each_has_literal(minuend, i) {
+    let i = split.input;
+    if subtrahend.is_empty() && !split.is_in_each_row {
         if let Some(parts) = independent_parts(alloc, shape, minuend)? {
             return sum_by_parts(alloc, shape, table, parts);
         }
@@ -199,6 +206,7 @@ fn sum_by_split(
         minuend,
         subtrahend,
         low_minuend,
+        split.is_in_each_row,
     )?;
     let high = sum_at_value(
         alloc,
@@ -209,6 +217,7 @@ fn sum_by_split(
         minuend,
         subtrahend,
         high_minuend,
+        split.is_in_each_row,
     )?;
     combine_branches(alloc, i, both, low, high)
 }
@@ -241,7 +250,9 @@ fn sum_by_parts(
 }
 
 // The complete sum of the cofactor at one value of input `i`, or nothing if the other cofactor has
-// all of its places, so that the consensus has them. `cofactor` is that of the minuend.
+// all of its places, so that the consensus has them. `cofactor` is that of the minuend, and
+// `is_in_each_row` says whether each row had a literal there: then it is in the order of the
+// minuend, and has no row that lies in another unless the minuend has.
 #[cycle(sum)]
 fn sum_at_value(
     alloc: Global,
@@ -252,6 +263,7 @@ fn sum_at_value(
     minuend: &[Cube],
     subtrahend: &[Cube],
     cofactor: Vec<Cube>,
+    is_in_each_row: bool,
 ) -> Result<Vec<Cube>, AllocError>
     requires input { i < shape.inputs }
     requires cofactor { IsBranch shape i minuend.now
@@ -268,7 +280,8 @@ fn sum_at_value(
     {
         return Ok(Vec::new(alloc));
     }
-    let minuend_at_value = absorb_if_short(alloc, shape, cofactor)?;
+    let is_absorbed = is_in_each_row && is_part_absorbed(minuend, &cofactor);
+    let minuend_at_value = absorb_if_short(alloc, shape, cofactor, is_absorbed)?;
     let subtrahend_at_value = absorbed_cofactor_at(alloc, shape, subtrahend, i, value)?;
     difference_sum(alloc, shape, table, minuend_at_value, subtrahend_at_value)
 }

@@ -79,11 +79,14 @@ fn rise_with_literals_at_same_inputs(shape: Shape, rows: &[Cube]) -> bool {
         if row.literal_inputs(0) != inputs {
             return false;
         }
-        let key = row.order_key_of_32_inputs();
-        if key <= last {
+        // At the first input where two rows differ the later one has `1`, which is the lower bit.
+        let literals = row.literal_bits(0);
+        let changed = literals ^ last;
+        let first = changed & changed.wrapping_neg();
+        if literals & first == 0 {
             return false;
         }
-        last = key;
+        last = literals;
     }
     true
 }
@@ -154,17 +157,25 @@ pub(crate) fn drop_absorbed_by_if_short(
     drop_absorbed_by(alloc, &rows, others)
 }
 
+/// Whether rows that lie in others were looked for among the rows, or are not to be looked for
+/// among the part. (The rows are in row order, so the part is too.)
+pub(crate) fn is_part_absorbed(rows: &[Cube], part: &[Cube]) -> bool {
+    rows.len() <= MANY || part.len() > MANY
+}
+
 /// The rows, without the rows that lie in an earlier one in row order, if they are few: each pair
-/// is looked at. Of more than `MANY` rows only repetitions are dropped.
+/// is looked at. Of more than `MANY` rows only repetitions are dropped. Rows that are known to be
+/// like this stay as they are.
 pub(crate) fn absorb_if_short(
     alloc: Global,
     shape: Shape,
     rows: Vec<Cube>,
+    is_absorbed: bool,
 ) -> Result<Vec<Cube>, AllocError>
     requires { AreCubes shape rows.items }
     ensures { IfOk result (λ kept. IsPartlyAbsorbed rows.items kept.items) }
 {
-    if rows.len() < 2 || rise_with_literals_at_same_inputs(shape, &rows) {
+    if is_absorbed || rows.len() < 2 || rise_with_literals_at_same_inputs(shape, &rows) {
         return Ok(rows);
     }
     let rows = sort_rows(alloc, rows)?;

@@ -26,8 +26,10 @@ pub(crate) fn split_by_symbol(
     ensures ones { IfOk result (λ b. b.ones.items ≡ part_of i Symbol.One rows.now) }
 {
     let mut dashes = Vec::new(alloc);
-    let mut zeros = Vec::with_capacity(alloc, rows.len() / 2)?;
-    let mut ones = Vec::with_capacity(alloc, rows.len() / 2)?;
+    // Of a list of points each takes about half.
+    let room = rows.len() / 2 + rows.len() / 8 + 2;
+    let mut zeros = Vec::with_capacity(alloc, room)?;
+    let mut ones = Vec::with_capacity(alloc, room)?;
     for row in rows {
         let mut freed = row.try_clone()?;
         freed.set_symbol(i, Symbol::Dash);

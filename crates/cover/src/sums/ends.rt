@@ -45,6 +45,21 @@ fn has_same_outputs(shape: Shape, row: &Cube, other: &Cube) -> bool
     true
 }
 
+/// Whether some rows differ in their first 64 outputs. It takes a look at a word of each row, and
+/// no memory.
+pub(crate) fn differ_in_first_outputs(rows: &[Cube]) -> bool {
+    let outputs = match rows.first() {
+        Some(first) => first.output_bits(0),
+        None => 0,
+    };
+    for row in rows {
+        if row.output_bits(0) != outputs {
+            return true;
+        }
+    }
+    false
+}
+
 // Whether all rows have the same outputs.
 pub(crate) fn have_same_outputs(shape: Shape, rows: &[Cube]) -> bool
     requires { AreCubes shape rows.now }
@@ -94,7 +109,7 @@ pub(crate) fn is_unate(shape: Shape, rows: &[Cube]) -> Result<bool, AllocError>
     let Some(first) = rows.first() else {
         return Ok(false);
     };
-    if first.disjoint(&rows[rows.len() - 1]) {
+    if first.disjoint(&rows[rows.len() - 1]) || differ_in_first_outputs(rows) {
         return Ok(false);
     }
     if !have_common_place(first, rows)? {

@@ -9,10 +9,9 @@ ghost use Rattle.cube.specs.Size.{Size};
 ghost use Rattle.cover.specs.Cubes.{AreCubes};
 ghost use Rattle.cover.specs.Apart.{IsOnSide, IsDivided, IsInParts, HasSomeLiteral};
 
-use crate::sums::ends::have_same_outputs;
+use crate::sums::ends::{differ_in_first_outputs, have_same_outputs};
 use crate::sums::input_groups::groups_hint;
-use crate::symbols::has_symbol_at;
-use cube::{Cube, Shape, Symbol};
+use cube::{Cube, Shape};
 use std::alloc::{AllocError, Global};
 
 /// Two parts of a list.
@@ -74,19 +73,6 @@ fn first_row_has_literal(rows: &[Cube]) -> bool
     }
 }
 
-/// Whether each row has a literal at input `i`. If so, the rows have no two parts without a common
-/// input.
-pub(crate) fn each_has_literal(rows: &[Cube], i: usize) -> bool
-    requires { All (λ c. i < length c.symbols) rows.now }
-{
-    for row in rows {
-        if has_symbol_at(row, i, Symbol::Dash) {
-            return false;
-        }
-    }
-    true
-}
-
 /// Two parts of the rows that have no input in common, each with a literal, if there are any and
 /// all rows have the same outputs.
 pub(crate) fn independent_parts(
@@ -99,6 +85,10 @@ pub(crate) fn independent_parts(
         (λ found. IfSome found
         (λ parts. IsInParts shape rows.now parts.one.items parts.other.items)) }
 {
+    // Most lists of several outputs differ here, and need no groups.
+    if differ_in_first_outputs(rows) {
+        return Ok(None);
+    }
     let Some(groups) = groups_hint(alloc, shape, rows)? else {
         return Ok(None);
     };

@@ -83,7 +83,7 @@ pub(crate) fn meets_by_keys(
     ensures { IfOk result (λ all. (size : Size) → AreCubes size rows.now → AreCubes size others.now
         → IsMeets size rows.now others.now all.items) }
 {
-    let mut all = Vec::new(alloc);
+    let mut all = Vec::with_capacity(alloc, rows.len().min(others.len()))?;
     let mut from = 0;
     for k in 0..rows.len() {
         let start = first_key_not_below(other_keys, from, keys[k]);

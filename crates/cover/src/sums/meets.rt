@@ -15,8 +15,11 @@ use crate::symbols::has_symbol_at;
 use cube::{Cube, Shape, Symbol};
 use std::alloc::{AllocError, Global};
 
-// Lists of at most this many pairs are met pair by pair.
+// Lists of at most this many pairs are not cut further, but met pair by pair.
 const FEW: usize = 64;
+
+// Lists of at most this many pairs are met pair by pair at once: keys would cost more.
+const FEWER: usize = 16;
 
 // The rows with `-`, with `0` and with `1` at an input.
 #[derive(Clone, Copy)]
@@ -70,7 +73,7 @@ pub(crate) fn meets(
     requires others { AreCubes shape others.now }
     ensures { IfOk result (λ all. IsMeets shape rows.now others.now all.items) }
 {
-    if rows.len().saturating_mul(others.len()) <= FEW {
+    if rows.len().saturating_mul(others.len()) <= FEWER {
         return meets_by_pairs(alloc, rows, others);
     }
     let inputs = match rows.first() {

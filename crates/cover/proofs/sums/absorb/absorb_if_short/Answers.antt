@@ -8,8 +8,8 @@ use Rattle.cover.proofs.SumAbsorb.{IsAbsorbed-sorted}
 use Rattle.cover.proofs.SumBranches.{IsPartlyAbsorbed-same, IsPartlyAbsorbed-absorbed}
 use Rattle.cover.proofs.sums.absorb.absorb_if_short.Goals as goal
 
-pub returns-then-len-lt2 : goal.returns-then-len-lt2
-returns-then-len-lt2 c = IsPartlyAbsorbed-same c.args.rows.items c.args.rows.items (λ d. ((λ h. h), (λ h. h)))
+pub returns-then-is_absorbed : goal.returns-then-is_absorbed
+returns-then-is_absorbed c = IsPartlyAbsorbed-same c.args.rows.items c.args.rows.items (λ d. ((λ h. h), (λ h. h)))
 
 pub returns-then-len-gt-MANY : goal.returns-then-len-gt-MANY
 returns-then-len-gt-MANY c = IsPartlyAbsorbed-same c.args.rows.items c.in_ok-rows.rows.items c.in_ok-rows.ensures.cubes

@@ -21,25 +21,25 @@ meets-requires-clause-others c =
 
 pub absorb_if_short-requires : goal.absorb_if_short-requires
 absorb_if_short-requires c =
-    (IsBranch-both_list c.args.shape c.args.i c.requires.input c.args.rows.now c.requires.rows c.in_ok-all.all.items c.deref-2.result.now c.deref-3.result.now
-    c.in_ok-common.common.items c.append.new.self.items (c.in_ok-all.ensures ∙ c.deref.ensures.value ∙ c.in_ok-dashes.ensures.dashes)
+    (IsBranch-both_list c.args.shape c.args.i c.requires.input c.args.rows.now c.requires.rows c.in_ok-kept.kept.items c.deref-2.result.now c.deref-3.result.now
+    c.in_ok-common.common.items c.in_ok-all.all.items (c.in_ok-kept.ensures ∙ c.deref.ensures.value ∙ c.in_ok-dashes.ensures.dashes)
     (c.deref-2.ensures.value ∙ c.in_ok-dashes.ensures.zeros) (c.deref-3.ensures.value ∙ c.in_ok-dashes.ensures.ones)
-    c.in_ok-common.ensures c.in_ok-append.ensures.items).are_cubes
+    c.in_ok-common.ensures c.in_ok-all.ensures).are_cubes
 
 pub returns-clause-both : goal.returns-clause-both
 returns-clause-both c =
-    let branch = IsBranch-both_list c.args.shape c.args.i c.requires.input c.args.rows.now c.requires.rows c.in_ok-all.all.items c.deref-2.result.now c.deref-3.result.now
-    c.in_ok-common.common.items c.append.new.self.items (c.in_ok-all.ensures ∙ c.deref.ensures.value ∙ c.in_ok-dashes.ensures.dashes)
+    let branch = IsBranch-both_list c.args.shape c.args.i c.requires.input c.args.rows.now c.requires.rows c.in_ok-kept.kept.items c.deref-2.result.now c.deref-3.result.now
+    c.in_ok-common.common.items c.in_ok-all.all.items (c.in_ok-kept.ensures ∙ c.deref.ensures.value ∙ c.in_ok-dashes.ensures.dashes)
     (c.deref-2.ensures.value ∙ c.in_ok-dashes.ensures.zeros) (c.deref-3.ensures.value ∙ c.in_ok-dashes.ensures.ones)
-    c.in_ok-common.ensures c.in_ok-append.ensures.items in
-    IsBranch-absorbed c.args.shape c.args.i c.args.rows.now (consensus_at c.args.i (places c.args.rows.now)) c.append.new.self.items c.in_ok-both.both.items branch c.in_ok-both.ensures
+    c.in_ok-common.ensures c.in_ok-all.ensures in
+    IsBranch-absorbed c.args.shape c.args.i c.args.rows.now (consensus_at c.args.i (places c.args.rows.now)) c.in_ok-all.all.items c.in_ok-both.both.items branch c.in_ok-both.ensures
 
 pub returns-clause-low : goal.returns-clause-low
 returns-clause-low c =
-    IsBranch-side c.args.shape c.args.i c.requires.input c.args.rows.now c.requires.rows false c.in_ok-dashes.field-0.zeros.items c.in_ok-own.own.items c.append-2.new.self.items
-    c.in_ok-dashes.ensures.zeros (c.in_ok-own.ensures ∙ c.deref-4.ensures.value ∙ c.in_ok-dashes.ensures.dashes) c.in_ok-append-2.ensures.items
+    IsBranch-side c.args.shape c.args.i c.requires.input c.args.rows.now c.requires.rows false c.in_ok-dashes.field-0.zeros.items c.in_ok-own.own.items c.append.new.self.items
+    c.in_ok-dashes.ensures.zeros (c.in_ok-own.ensures ∙ c.deref-4.ensures.value ∙ c.in_ok-dashes.ensures.dashes) c.in_ok-append.ensures.items
 
 pub returns-clause-high : goal.returns-clause-high
 returns-clause-high c =
-    IsBranch-side c.args.shape c.args.i c.requires.input c.args.rows.now c.requires.rows true c.in_ok-dashes.field-0.ones.items c.in_ok-dashes.field-0.dashes.items c.append-3.new.self.items
-    c.in_ok-dashes.ensures.ones c.in_ok-dashes.ensures.dashes c.in_ok-append-3.ensures.items
+    IsBranch-side c.args.shape c.args.i c.requires.input c.args.rows.now c.requires.rows true c.in_ok-dashes.field-0.ones.items c.in_ok-dashes.field-0.dashes.items c.append-2.new.self.items
+    c.in_ok-dashes.ensures.ones c.in_ok-dashes.ensures.dashes c.in_ok-append-2.ensures.items

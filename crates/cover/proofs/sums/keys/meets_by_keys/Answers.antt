@@ -12,7 +12,7 @@ pub loop-k-init : goal.loop-k-init
 loop-k-init c = record {
   from = omega arith;
   below = λ j i lt le small. absurd (omega (arith, lt));
-  meets = λ size cubes others. subst (IsMeets size [] c.args.others.now) (sym c.new-all.ensures.items) (IsMeets-none size c.args.others.now);
+  meets = λ size cubes others. subst (IsMeets size [] c.args.others.now) (sym c.in_ok-all.ensures.items) (IsMeets-none size c.args.others.now);
 }
 
 pub first_key_not_below-start-requires : goal.first_key_not_below-start-requires
