@@ -135,7 +135,7 @@ fn sum_by_case(
 }
 
 // The complete sum of the places of the minuend that are not in the subtrahend, from the table or
-// by a split, and then kept in the table; by a split alone if such sums are seldom found there.
+// by a split, and then kept in the table.
 #[cycle(sum)]
 fn remembered_sum(
     alloc: Global,
@@ -150,16 +150,10 @@ fn remembered_sum(
         (λ rows. rows.items
         ≡ complete_sum_of shape (difference_of (places minuend.items) (places subtrahend.items))) }
 {
-    let rows = minuend.len().saturating_add(subtrahend.len());
-    if !table.is_worth_a_look(rows) {
-        return sum_by_split(alloc, shape, table, &minuend, &subtrahend);
-    }
     let hash = hash_of_lists(shape, &minuend, &subtrahend);
     if let Some(sum) = table.find(alloc, shape, hash, &minuend, &subtrahend)? {
-        table.count_use(rows, true);
         return Ok(sum);
     }
-    table.count_use(rows, false);
     let sum = sum_by_split(alloc, shape, table, &minuend, &subtrahend)?;
     table.keep(alloc, shape, hash, minuend, subtrahend, &sum)?;
     Ok(sum)

@@ -21,15 +21,6 @@ const FIRST_SLOTS: usize = 1024;
 // There are never more slots than this.
 const SLOTS: usize = 16384;
 
-// Lists are told apart by this many lengths, to see whether it pays to look for their sums.
-const LENGTHS: usize = 32;
-
-// Sums of lists of like length are looked for in vain if fewer than one of this many is found.
-const SELDOM: usize = 24;
-
-// This is judged once the lists looked for had so many rows together.
-const TRIAL_ROWS: usize = 4096;
-
 // The entries together have at most this many rows. If one more would make them too many, all are
 // forgotten.
 const ROWS: usize = 1 << 18;
@@ -68,27 +59,8 @@ impl Entry {
     }
 }
 
-// How often a sum of lists of like length was looked for, and how often it was there.
-#[derive(Clone, Copy)]
-struct Uses {
-    tried: usize,
-    found: usize,
-}
-
-// The number, below `LENGTHS`, of lists of so many rows. Up to 15 rows each number of rows has its
-// own, and from 16 on those from one power of two to the next share one.
-fn length_class(rows: usize) -> usize {
-    let bits = (usize::BITS - rows.leading_zeros()) as usize;
-    if bits <= 4 {
-        rows
-    } else {
-        (bits + 11).min(LENGTHS - 1)
-    }
-}
-
-/// Sums that were made, how often they were found, and the order in which ties between inputs to
-/// split at are broken. No answer depends on the order, on how many sums are kept or on which are
-/// looked for, and no contract speaks of them.
+/// Sums that were made, and the order in which ties between inputs to split at are broken. No
+/// answer depends on the order or on how many sums are kept, and no contract speaks of them.
 #[derive(Drop)]
 pub(crate) struct ComputedTable {
     // The number of slots is a power of two, or 0 at first.
@@ -97,8 +69,6 @@ pub(crate) struct ComputedTable {
     kept: usize,
     // How many rows all entries have.
     rows: usize,
-    // How often sums were looked for, by the lengths of the lists.
-    uses: [Uses; LENGTHS],
     // The inputs in the order in which ties are broken.
     order: Vec<usize>,
 }
@@ -110,7 +80,6 @@ impl ComputedTable {
             slots: Vec::new(alloc),
             kept: 0,
             rows: 0,
-            uses: [Uses { tried: 0, found: 0 }; LENGTHS],
             order,
         }
     }
@@ -118,24 +87,6 @@ impl ComputedTable {
     /// The order of the inputs.
     pub(crate) fn order(&self) -> &[usize] {
         self.order.as_slice()
-    }
-
-    /// Whether sums of lists of so many rows were found often enough that it pays to look for one
-    /// more, and to keep it. To look costs a hash of the list, and to keep a copy of the sum.
-    pub(crate) fn is_worth_a_look(&self, rows: usize) -> bool {
-        match self.uses.get(length_class(rows)) {
-            Some(uses) => uses.tried.saturating_mul(rows) < TRIAL_ROWS
-                || uses.found.saturating_mul(SELDOM) >= uses.tried,
-            None => true,
-        }
-    }
-
-    /// Counts that the sum of lists of so many rows was looked for.
-    pub(crate) fn count_use(&mut self, rows: usize, found: bool) {
-        if let Some(uses) = self.uses.get_mut(length_class(rows)) {
-            uses.tried = uses.tried.saturating_add(1);
-            uses.found = uses.found.saturating_add(found as usize);
-        }
     }
 
     /// The complete sum of the places of the first list that are not in the second, if it is kept.

@@ -113,25 +113,20 @@ sum_by_case-returns-in-Some-2 t c =
     complete_sum-no_outer size rows.items minuend c.args.subtrahend.items none'
     (h size minuend rest own part left (c.in_ok-sum-2.ensures ∙ sum_of_list size rest rest c.args.subtrahend.items refl none'))) c.with_constant_outputs.ensures
 
-pub remembered_sum-returns-then-not-is_worth_a_look : goal.remembered_sum-returns-then-not-is_worth_a_look
-remembered_sum-returns-then-not-is_worth_a_look t c =
-    IfOk-weaker c.sum_by_split.result _ _ (λ rows h. h
-    ∙ sum_of_lists c.args.shape c.deref.result.now c.args.minuend.items c.deref-then-not-is_worth_a_look.result.now c.args.subtrahend.items c.deref.ensures.value c.deref-then-not-is_worth_a_look.ensures.value) c.sum_by_split.ensures
-
 pub remembered_sum-returns-in-Some : goal.remembered_sum-returns-in-Some
 remembered_sum-returns-in-Some t c =
-    subst (λ found. IfSome found (λ rows. rows.items ≡ complete_sum c.args.shape (difference (places c.deref-4.result.now) (places c.deref-5.result.now)))) c.in-Some.is c.in_ok-sum.ensures
-    ∙ sum_of_lists c.args.shape c.deref-4.result.now c.args.minuend.items c.deref-5.result.now c.args.subtrahend.items c.deref-4.ensures.value c.deref-5.ensures.value
+    subst (λ found. IfSome found (λ rows. rows.items ≡ complete_sum c.args.shape (difference (places c.deref-3.result.now) (places c.deref-4.result.now)))) c.in-Some.is c.in_ok-sum.ensures
+    ∙ sum_of_lists c.args.shape c.deref-3.result.now c.args.minuend.items c.deref-4.result.now c.args.subtrahend.items c.deref-3.ensures.value c.deref-4.ensures.value
 
 pub remembered_sum-keep-requires : goal.remembered_sum-keep-requires
 remembered_sum-keep-requires t c =
-    c.deref-8.ensures.value ∙ c.in_ok-sum-2.ensures
-    ∙ sum_of_lists c.args.shape c.deref-6.result.now c.args.minuend.items c.deref-7.result.now c.args.subtrahend.items c.deref-6.ensures.value c.deref-7.ensures.value
+    c.deref-7.ensures.value ∙ c.in_ok-sum-2.ensures
+    ∙ sum_of_lists c.args.shape c.deref-5.result.now c.args.minuend.items c.deref-6.result.now c.args.subtrahend.items c.deref-5.ensures.value c.deref-6.ensures.value
 
 pub remembered_sum-returns : goal.remembered_sum-returns
 remembered_sum-returns t c =
     c.in_ok-sum-2.ensures
-    ∙ sum_of_lists c.args.shape c.deref-6.result.now c.args.minuend.items c.deref-7.result.now c.args.subtrahend.items c.deref-6.ensures.value c.deref-7.ensures.value
+    ∙ sum_of_lists c.args.shape c.deref-5.result.now c.args.minuend.items c.deref-6.result.now c.args.subtrahend.items c.deref-5.ensures.value c.deref-6.ensures.value
 
 pub sum_by_split-difference_sum-requires : goal.sum_by_split-difference_sum-requires
 sum_by_split-difference_sum-requires t c =
