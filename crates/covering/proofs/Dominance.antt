@@ -15,6 +15,7 @@ use Rattle.std.specs.Cmp.{both_ways as same_bool}
 use Rattle.std.proofs.lemmas.List.Sorted.{searched}
 use Rattle.covering.specs.Steps.{IsPreferred}
 use Rattle.covering.proofs.Sets.{has_here, has_later, has_cases, rises_above}
+use Rattle.covering.proofs.Subsets.{minus_length}
 use Rattle.covering.proofs.TransposeSteps.{has_append}
 
 pub within_from : (b a : List ℕ) → holds_all b a ≡ true → IsWithin a b
@@ -26,6 +27,12 @@ within_from b (x ∷ a) h n k =
 pub holds_from : (b a : List ℕ) → IsWithin a b → holds_all b a ≡ true
 holds_from b [] h = refl
 holds_from b (x ∷ a) h = and_from (has x b) (holds_all b a) (h x (has_here x x a refl)) (holds_from b a (λ n k. h n (has_later n x a k)))
+
+pub longer_not_within : (b a : List ℕ) → RisesFrom 0 a → RisesFrom 0 b → length b < length a → false ≡ holds_all b a
+longer_not_within b a ra rb l = elim (cases_Bool (holds_all b a)) [
+  | inl h ↦ absurd (let m = minus_length 0 b a rb ra (within_from b a h) in omega arith)
+  | inr h ↦ sym h
+]
 
 dominating_parts : (rows : List (List ℕ)) (at n : ℕ) → is_dominating_row rows at n ≡ true → (n ≢ at) × IsWithin (row_at rows at) (row_at rows n)
 dominating_parts rows at n h =

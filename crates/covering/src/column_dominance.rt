@@ -12,7 +12,7 @@ ghost use Rattle.covering.specs.Search.{IsWeakStep};
 ghost use Rattle.covering.specs.Reduce.{row_at, IsTranspose, LeavesNoDominatedColumn, is_preferred, dominates, HasNoDominatedColumn, Shrinks};
 
 use crate::choice::{Choice, cost};
-use crate::columns::{copy_of, entry, is_within};
+use crate::columns::{copy_of, entry, is_rising_within};
 use crate::marks::{all_marked, is_marked, marked_columns, rows_of_marked, unmark};
 use crate::table::Table;
 use std::alloc::{AllocError, Global};
@@ -55,7 +55,7 @@ fn is_dominated_by(
     a != b
         && is_marked(keep, b)
         && may_replace(preference, choice, literals, b, a)
-        && is_within(entry(transpose, a), entry(transpose, b))
+        && is_rising_within(entry(transpose, a), entry(transpose, b))
 }
 
 /// Whether one of the columns `among` dominates `a`.

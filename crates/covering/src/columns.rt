@@ -102,6 +102,19 @@ pub fn is_within(row: &[usize], other: &[usize]) -> bool
     row.iter().all(|number| rising_contains(other, *number))
 }
 
+/// Whether the second list has each number of the first. Both rise, so a longer list is within no
+/// shorter one.
+pub(crate) fn is_rising_within(row: &[usize], other: &[usize]) -> bool
+    requires row { RisesFrom 0 row.now }
+    requires other { RisesFrom 0 other.now }
+    ensures { result ≡ holds_all other.now row.now }
+{
+    if other.len() < row.len() {
+        return false;
+    }
+    is_within(row, other)
+}
+
 /// Whether the numbers rise and are below `end`.
 pub(crate) fn rises(row: &[usize], end: usize) -> bool
     ensures { result ≡ is_rising end 0 row.now }

@@ -19,6 +19,7 @@ use crate::columns::rising_contains;
 use crate::marks::{all_marked, is_marked, marked_columns, unmark, untouched_rows};
 use crate::table::Table;
 use std::alloc::{AllocError, Global};
+use std::mem::replace;
 
 /// Takes the mark from the only column of the row, if it has only one: an essential column.
 fn unmark_essential_column(keep: &mut Vec<bool>, row: &[usize])
@@ -78,26 +79,35 @@ impl Table {
     }
 
     /// The table after one pass that changes it, in a search for some cover within a budget; `None`
-    /// if none does.
-    fn reduce_weakly_once(&self, alloc: Global, choice: Choice) -> Result<Option<Table>, AllocError>
+    /// if none does. The lists are memory for the rows of each column.
+    fn reduce_weakly_once(
+        &self,
+        alloc: Global,
+        choice: Choice,
+        lists: &mut Vec<Vec<usize>>,
+    ) -> Result<Option<Table>, AllocError>
         ensures { IfOk result (λ o. IfSome o (IsWeakStep choice self.now)) }
     {
         if let Some(table) = self.take_essential_columns(alloc)? {
             return Ok(Some(table));
         }
-        let transpose = self.transpose(alloc)?;
+        let transpose = self.transpose(alloc, replace(lists, Vec::new(alloc)))?;
         if let Some(table) = self.drop_dominating_rows(alloc, &transpose)? {
+            *lists = transpose;
             return Ok(Some(table));
         }
-        self.drop_weakly_dominated_columns(alloc, choice, &transpose)
+        let table = self.drop_weakly_dominated_columns(alloc, choice, &transpose)?;
+        *lists = transpose;
+        Ok(table)
     }
 
     /// The table after all passes, in a search for some cover within a budget.
     pub(crate) fn reduce_weakly(self, alloc: Global, choice: Choice) -> Result<Table, AllocError>
         ensures { IfOk result (λ u. IsWeaklyReduced choice self u) }
     {
+        let mut lists = Vec::new(alloc);
         let mut table = self;
-        while let Some(lighter) = table.reduce_weakly_once(alloc, choice)? {
+        while let Some(lighter) = table.reduce_weakly_once(alloc, choice, &mut lists)? {
             table = lighter;
         }
         Ok(table)
@@ -111,7 +121,8 @@ impl Table {
     ) -> Result<Table, AllocError>
         ensures { IfOk result (λ u. IsWeaklyReduced choice self.now u) }
     {
-        match self.reduce_weakly_once(alloc, choice)? {
+        let reduced = self.reduce_weakly_once(alloc, choice, &mut Vec::new(alloc))?;
+        match reduced {
             None => self.copy(alloc),
             Some(table) => table.reduce_weakly(alloc, choice),
         }
@@ -137,7 +148,7 @@ impl Table {
         if let Some(table) = self.take_essential_columns(alloc)? {
             return Ok(Some(table));
         }
-        let transpose = self.transpose(alloc)?;
+        let transpose = self.transpose(alloc, Vec::new(alloc))?;
         if let Some(table) = self.drop_dominating_rows(alloc, &transpose)? {
             return Ok(Some(table));
         }

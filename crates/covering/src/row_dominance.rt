@@ -7,7 +7,7 @@ ghost use Rattle.covering.specs.Table.{items_of, has};
 ghost use Rattle.covering.specs.Reduce.{row_at, AreRising, IsTranspose, UnmarksDominatingRows, LeavesNoDominatingRow, is_dominating_row, HasNoDominatingRow, Shrinks};
 
 use crate::choice::Choice;
-use crate::columns::{copy_of, entry, is_within};
+use crate::columns::{copy_of, entry, is_rising_within};
 use crate::marks::{all_marked, is_full, is_marked, marked_rows, unmark};
 use crate::table::Table;
 use std::alloc::{AllocError, Global};
@@ -33,7 +33,7 @@ fn is_dominating_row(rows: &[Vec<usize>], at: usize, number: usize) -> bool
     requires { AreRising (items_of rows.now) }
     ensures { result ≡ is_dominating_row (items_of rows.now) at number }
 {
-    number != at && is_within(entry(rows, at), entry(rows, number))
+    number != at && is_rising_within(entry(rows, at), entry(rows, number))
 }
 
 /// Takes the marks from those of the rows `among` that have all columns of the row `at`, but not

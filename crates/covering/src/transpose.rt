@@ -31,29 +31,42 @@ fn enter(columns: &mut Vec<Vec<usize>>, row: &[usize], number: usize) -> Result<
     Ok(())
 }
 
-/// An empty list with room for as many rows as the column is likely to have.
-fn list_with_room(alloc: Global, room: &[i64], place: usize) -> Result<Vec<usize>, AllocError>
+/// An empty list: one of these, emptied, or else one with room for as many rows as the column is
+/// likely to have.
+fn empty_list(
+    alloc: Global,
+    lists: &mut Vec<Vec<usize>>,
+    room: &[i64],
+    place: usize,
+) -> Result<Vec<usize>, AllocError>
     ensures { IfOk result (λ v. v.items ≡ []) }
 {
+    if let Some(list) = lists.pop() {
+        let mut list = list;
+        list.clear();
+        return Ok(list);
+    }
     let room = if place < room.len() { room[place] } else { 0 };
     Vec::with_capacity(alloc, usize::try_from(room).unwrap_or(0))
 }
 
-/// The rows of each column.
+/// The rows of each column, in the memory of lists that are not needed any more.
 fn transpose(
     alloc: Global,
     rows: &[Vec<usize>],
     columns: usize,
+    lists: Vec<Vec<usize>>,
 ) -> Result<Vec<Vec<usize>>, AllocError>
     requires { AreRising (items_of rows.now) }
     ensures transpose { IfOk result (λ v. IsTranspose columns (items_of rows.now)
         (items_of v.items)) }
     ensures long { IfOk result (λ v. length v.items ≡ columns) }
 {
+    let mut lists = lists;
     let row_counts = row_counts(alloc, rows, columns)?;
     let mut transpose: Vec<Vec<usize>> = Vec::with_capacity(alloc, columns)?;
     for column in 0..columns {
-        let list = list_with_room(alloc, &row_counts, column)?;
+        let list = empty_list(alloc, &mut lists, &row_counts, column)?;
         transpose.push(list)?;
     }
     for (i, row) in rows.iter().enumerate() {
@@ -63,12 +76,16 @@ fn transpose(
 }
 
 impl Table {
-    /// The rows of each column.
-    pub(crate) fn transpose(&self, alloc: Global) -> Result<Vec<Vec<usize>>, AllocError>
+    /// The rows of each column, in the memory of lists that are not needed any more.
+    pub(crate) fn transpose(
+        &self,
+        alloc: Global,
+        lists: Vec<Vec<usize>>,
+    ) -> Result<Vec<Vec<usize>>, AllocError>
         ensures transpose { IfOk result (λ v. IsTranspose self.now.columns self.now.rows
             (items_of v.items)) }
         ensures long { IfOk result (λ v. length v.items ≡ self.now.columns) }
     {
-        transpose(alloc, self.row_lists(), self.columns())
+        transpose(alloc, self.row_lists(), self.columns(), lists)
     }
 }

@@ -9,5 +9,5 @@ returns-in-None c = IfOk-weaker c.copy.result _ _ (λ u h. subst (IsWeaklyReduce
 
 pub returns-in-Some : goal.returns-in-Some
 returns-in-Some c =
-    let lighter = rw c.in-Some.is at c.in_ok-reduce_weakly_once.ensures in
+    let lighter = rw c.in-Some.is at c.in_ok-reduced.ensures in
     IfOk-weaker c.reduce_weakly.result _ _ (λ u h. weakly_reduced_join c.args.choice c.args.self.now c.in-Some.table u lighter.is h) c.reduce_weakly.ensures
