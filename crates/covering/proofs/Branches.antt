@@ -15,7 +15,7 @@ use Rattle.covering.proofs.Covers.{rows_at, rows_mapped, rows_unmapped, rows_wea
 use Rattle.covering.proofs.Subsets.{same_list, minus, minus_keeps, minus_length, minus_sum, rows_within}
 use Rattle.covering.proofs.Keeps.{exchange, steps_keep, row_live, only_has, row_cover, row_back}
 
-blank_lacks : (r : List ℕ) (n : ℕ) → is_blank r ≡ true → has n r ≡ true → ⊥
+pub blank_lacks : (r : List ℕ) (n : ℕ) → is_blank r ≡ true → has n r ≡ true → ⊥
 blank_lacks [] n f g = true≢false (sym g)
 blank_lacks (d ∷ r) n f g = absurd (let k = eqb-true (length (d ∷ r)) 0 f in omega arith)
 

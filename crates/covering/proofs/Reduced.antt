@@ -1,6 +1,6 @@
 -- The steps of each pass, and that no step is left.
 use Rattle.std.proofs.Common.{◌≡◌, ◌≢◌, ℕ, zero, suc, ◌+◌, ◌<◌, ◌≤◌, ◌⊎◌, inl, inr, Bool, true, false, cond, ◌||◌, ◌&&◌, not, eqb, List, [], ◌∷◌, ◌++◌, length, map, refl, sym, ap, subst, ◌∙◌, arith, append_assoc}
-use Rattle.std.specs.Prelude.{filter, Option, Some, None, MatchOption}
+use Rattle.std.specs.Prelude.{filter, MatchBool}
 use Rattle.std.specs.List.{AllByRecursion, list_all, list_any, range_with_len}
 use Rattle.std.proofs.lemmas.Bool.{cases_eq, cases_lt, cases_Bool, or_cases, or_left, or_right, or_from, and_parts, eq-eqb, ne_eqb, eqb-true, both_ways, true≢false, cond-true}
 use Rattle.covering.specs.declared.choice.Choice.{Choice}
@@ -67,6 +67,18 @@ filter_full p (x ∷ xs) n e h = go (p x) refl e (has_cases n x xs h) (filter_fu
     go true f g (inl k) again = ap p k ∙ f
     go true f g (inr k) again = again (omega arith) k
     go false f g k again = absurd (let l = filter_length p xs in omega arith)
+
+pub filter_length_all : (p : ℕ → Bool) (xs : List ℕ) → list_all p xs ≡ true → length (filter p xs) ≡ length xs
+filter_length_all p [] h = refl
+filter_length_all p (x ∷ xs) h = let k = and_parts (p x) (list_all p xs) h in ap length (cond-true (p x) (x ∷ filter p xs) (filter p xs) k.0) ∙ ap suc (filter_length_all p xs k.1)
+
+pub list_all_from_full : (p : ℕ → Bool) (xs : List ℕ) → ((n : ℕ) → has n xs ≡ true → p n ≡ true) → list_all p xs ≡ true
+list_all_from_full p [] h = refl
+list_all_from_full p (x ∷ xs) h = ap (λ b. b && list_all p xs) (h x (has_here x x xs refl)) ∙ list_all_from_full p xs (λ n k. h n (has_later n x xs k))
+
+-- where a test refuses one of the list, the filter has fewer
+pub filter_not_full : (p : ℕ → Bool) (xs : List ℕ) → list_all p xs ≡ false → length (filter p xs) ≢ length xs
+filter_not_full p xs h e = both_ways _ h (list_all_from_full p xs (λ n k. filter_full p xs n e k))
 
 eqb_swap : (a b : ℕ) → eqb a b ≡ eqb b a
 eqb_swap a b = elim (cases_eq a b) [ inl e ↦ eq-eqb a b e ∙ sym (eq-eqb b a (sym e)) | inr e ↦ ne_eqb a b e ∙ sym (ne_eqb b a (λ f. e (sym f))) ]
@@ -331,9 +343,6 @@ module _ (choice : Choice) (t : Table) (keep : List Bool) (wt : IsTable t) (h : 
 pub essentials_table : (choice : Choice) (t : Table) (keep : List Bool) → IsTable t → MarksInessentialColumns t.columns t.rows keep → IsTable (take_unmarked keep t)
 essentials_table choice t keep wt h = (steps_keep choice t (take_unmarked keep t) wt (essentials_steps choice t keep wt h)).0
 
-pub column_dominance_table : (choice : Choice) (t : Table) (transpose : List (List ℕ)) (keep : List Bool) → IsTable t → IsTranspose t.columns t.rows transpose → LeavesNoDominatedColumn (prefers (counted choice t.weights)) t.live transpose keep → IsTable (keep_columns (marked keep) t)
-column_dominance_table choice t transpose keep wt x h = (steps_keep choice t (keep_columns (marked keep) t) wt (column_dominance_steps choice t transpose keep wt x h)).0
-
 -- ---- rows leave
 
 cons_step : (choice : Choice) (t u v : Table) → Step choice t u → Steps choice u v → Steps choice t v
@@ -419,6 +428,10 @@ full_marked [] i h l = absurd (omega arith)
 full_marked (mark ∷ marks) zero h l = (and_parts mark (list_all (λ m. m) marks) h).0
 full_marked (mark ∷ marks) (suc i) h l = full_marked marks i (and_parts mark (list_all (λ m. m) marks) h).1 (omega arith)
 
+full_from : (marks : List Bool) → ((i : ℕ) → i < length marks → marked marks i ≡ true) → list_all (λ mark. mark) marks ≡ true
+full_from [] f = refl
+full_from (mark ∷ marks) f = ap (λ b. b && list_all (λ m. m) marks) (f 0 (omega arith)) ∙ full_from marks (λ i l. f (suc i) (omega arith))
+
 module _ (choice : Choice) (t : Table) (stay : List Bool) (h : LeavesNoDominatingRow t.rows stay) where
   row_dominance_steps : Steps choice t (with_rows t (rows_from (marked stay) 0 t.rows))
   row_dominance_steps = steps_rows choice t (marked stay) 0 [] t.rows (λ k l m.
@@ -437,6 +450,9 @@ module _ (choice : Choice) (t : Table) (stay : List Bool) (h : LeavesNoDominatin
 
 pub none_left_out : (t : Table) (stay : List Bool) → LeavesNoDominatingRow t.rows stay → list_all (λ mark. mark) stay ≡ true → HasNoDominatingRow t.rows
 none_left_out t stay h f = h.complete (λ i l. full_marked stay i f (let s = h.as_long in omega arith))
+
+pub some_left_out : (t : Table) (stay : List Bool) → LeavesNoDominatingRow t.rows stay → list_all (λ mark. mark) stay ≡ false → length (rows_from (marked stay) 0 t.rows) ≢ length t.rows
+some_left_out t stay h f e = both_ways _ f (full_from stay (λ i l. ap (marked stay) (let g : i ≡ 0 + i = omega arith in g) ∙ rows_from_full (marked stay) 0 t.rows i e (let s = h.as_long in omega arith)))
 
 pub row_dominance_table : (choice : Choice) (t : Table) (stay : List Bool) → IsTable t → LeavesNoDominatingRow t.rows stay → IsTable (with_rows t (rows_from (marked stay) 0 t.rows))
 row_dominance_table choice t stay wt h = (steps_keep choice t (with_rows t (rows_from (marked stay) 0 t.rows)) wt (row_dominance_steps choice t stay h)).0
@@ -469,27 +485,11 @@ reduced_from choice t one dominating under _ (row_leaves _ front back row other 
 reduced_from choice t one dominating under _ (only_column _ c h) = one c h
 reduced_from choice t one dominating under _ (column_leaves _ a b p la lb d) = under a b la lb p d
 
--- ---- rows as the code keeps them
-
-pub rows_from_more : (test : ℕ → Bool) (i : ℕ) (rows : List (List ℕ)) (row : List ℕ) → rows_from test i (rows ++ row ∷ []) ≡ rows_from test i rows ++ cond (test (i + length rows)) (row ∷ []) []
-rows_from_more test i [] row = ap (λ n. cond (test n) (row ∷ []) []) (let e : i ≡ i + 0 = omega arith in e)
-rows_from_more test i (r ∷ rows) row = go (test i) (rows_from_more test (i + 1) rows row)
-  where
-    here : i + 1 + length rows ≡ i + length (r ∷ rows)
-    here = omega arith
-
-    go : (b : Bool) → rows_from test (i + 1) (rows ++ row ∷ []) ≡ rows_from test (i + 1) rows ++ cond (test (i + 1 + length rows)) (row ∷ []) []
-        → cond b (r ∷ rows_from test (i + 1) (rows ++ row ∷ [])) (rows_from test (i + 1) (rows ++ row ∷ [])) ≡ cond b (r ∷ rows_from test (i + 1) rows) (rows_from test (i + 1) rows) ++ cond (test (i + length (r ∷ rows))) (row ∷ []) []
-    go true e = ap (λ rs. r ∷ rs) (e ∙ ap (λ n. rows_from test (i + 1) rows ++ cond (test n) (row ∷ []) []) here)
-    go false e = e ∙ ap (λ n. rows_from test (i + 1) rows ++ cond (test n) (row ∷ []) []) here
-
-pub append_nothing : (rows : List (List ℕ)) → rows ++ [] ≡ rows
-append_nothing [] = refl
-append_nothing (row ∷ rows) = ap (λ rs. row ∷ rs) (append_nothing rows)
-
-pub reduced_once_from : (choice : Choice) (t : Table) → HasNoEssentialColumn t → HasNoDominatingRow t.rows → (o : Option Table) → MatchOption o (HasNoDominatedColumn choice t) (Shrinks choice t) → MatchOption o (IsReduced choice t) (Shrinks choice t)
-reduced_once_from choice t one dominating None h = reduced_from choice t one dominating h
-reduced_once_from choice t one dominating (Some u) h = h
+-- after a pass over the columns of a table that the passes before have left as it was
+pub reduced_once_from : (choice : Choice) (t same u : Table) (is_changed : Bool) → same ≡ t → HasNoEssentialColumn t → HasNoDominatingRow t.rows
+    → MatchBool is_changed (Shrinks choice same u) ((u ≡ same) × HasNoDominatedColumn choice same) → MatchBool is_changed (Shrinks choice t u) ((u ≡ t) × IsReduced choice t)
+reduced_once_from choice t same u true e one dominating h = subst (λ s. Shrinks choice s u) e h
+reduced_once_from choice t same u false e one dominating h = (h.0 ∙ e, reduced_from choice t one dominating (subst (HasNoDominatedColumn choice) e h.1))
 
 pub steps_join : (choice : Choice) (t u v : Table) → Steps choice t u → Steps choice u v → Steps choice t v
 steps_join choice t u _ s (done _) = s

@@ -1,19 +1,20 @@
 -- Columns that stand under any other which counts no more.
 use Rattle.std.proofs.Common.{◌≡◌, ◌≢◌, ℕ, suc, ◌<◌, ◌≤◌, ◌⊎◌, inl, inr, Bool, true, false, List, [], ◌∷◌, map, length, refl, sym, ap, subst, ◌∙◌, arith, true≢false}
-use Rattle.std.specs.Prelude.{Option, Some, None, MatchOption, IfSome, filter}
-use Rattle.std.proofs.lemmas.Bool.{cases_Bool, both_ways, leb-true}
+use Rattle.std.specs.Prelude.{Some, None, filter}
+use Rattle.std.specs.List.{AllByRecursion, list_any}
+use Rattle.std.proofs.lemmas.Bool.{cases_Bool, both_ways, leb-true, or_from}
 use Rattle.covering.specs.declared.choice.Choice.{Choice}
-use Rattle.covering.specs.Table.{Table, has, RisesFrom, IsTable}
+use Rattle.covering.specs.Table.{Table, has, RisesFrom, IsWithin, IsTable}
 use Rattle.covering.specs.Cover.{IsCover, counted, sum_over}
 use Rattle.covering.specs.Steps.{without, put, StandsWith, Steps}
 use Rattle.covering.specs.declared.column_dominance.Preference.TheVariants.{NoDearer}
-use Rattle.covering.specs.Reduce.{Shrinks, IsTranspose, LeavesNoDominatedColumn, is_preferred}
-use Rattle.covering.specs.Search.{Leads, IsServed, IsWeaklyReduced, IsWeakStep, keep_columns, marked}
-use Rattle.covering.proofs.Sets.{has_cases, without_only, without_keeps, without_lacks, without_rises, without_length, put_has, put_keeps, put_only, put_rises, put_length, sum_put, sum_without, filter_length}
+use Rattle.covering.specs.Reduce.{Shrinks, row_at, IsTranspose, LeavesNoDominatedColumn, is_preferred}
+use Rattle.covering.specs.Search.{Leads, IsServed, IsWeaklyReduced, IsWeakStep, keep_columns, marked, is_blank}
+use Rattle.covering.proofs.Sets.{has_here, has_cases, filter_keeps, without_only, without_keeps, without_lacks, without_rises, without_length, put_has, put_keeps, put_only, put_rises, put_length, sum_put, sum_without, filter_length}
 use Rattle.covering.proofs.Covers.{drop_back}
 use Rattle.covering.proofs.Keeps.{exchanged}
-use Rattle.covering.proofs.Branches.{kept_back, kept_cover, lead_steps}
-use Rattle.covering.proofs.Reduced.{steps_live, stands_from}
+use Rattle.covering.proofs.Branches.{blank_lacks, kept_table, kept_back, kept_cover, lead_steps}
+use Rattle.covering.proofs.Reduced.{steps_live, stands_from, all_at, at_all}
 use Rattle.covering.proofs.Dominance.{dominates_parts}
 
 -- a cover with b in place of a
@@ -92,6 +93,37 @@ module _ (choice : Choice) (t : Table) (transpose : List (List ℕ)) (keep : Lis
   pub served : IsServed choice t keep
   served s g = let y = exchanged_all t.live s g in (y.0, y.1.0, (λ c f l. y.1.1 c f l l), y.1.2, y.1.3)
 
+-- each row keeps a column where each column that leaves stands under one that stays
+module _ (preferred : ℕ → ℕ → Bool) (t : Table) (transpose : List (List ℕ)) (keep : List Bool) (wt : IsTable t) (x : IsTranspose t.columns t.rows transpose) (h : LeavesNoDominatedColumn preferred t.live transpose keep) where
+  filled_by : (n : ℕ) (row : List ℕ) → has n row ≡ true → marked keep n ≡ true → is_blank (filter (marked keep) row) ≡ false
+  filled_by n row e m = elim (cases_Bool (is_blank (filter (marked keep) row))) [
+    | inl f ↦ absurd (blank_lacks (filter (marked keep) row) n f (filter_keeps (marked keep) n row e m))
+    | inr f ↦ f
+  ]
+
+  filled : (row : List ℕ) (i : ℕ) → row_at t.rows i ≡ row → i < length t.rows → (row ≢ []) × RisesFrom 0 row × IsWithin row t.live → is_blank (filter (marked keep) row) ≡ false
+  filled [] i e l k = absurd (k.0 refl)
+  filled (a ∷ row) i e l k =
+      let here : has a (a ∷ row) ≡ true = has_here a a row refl in
+      let live = k.2 a here in
+      elim (cases_Bool (marked keep a)) [
+        | inl m ↦ filled_by a (a ∷ row) here m
+        | inr m ↦
+            let b = h.witnessed a live m in
+            let o = dominates_parts preferred transpose keep a b.0 b.2 in
+            let stands = stands_from t.columns t.rows transpose a b.0 x (wt.within a live) (wt.within b.0 b.1) o.stands in
+            let there = at_all (λ r. has a r ≡ true → has b.0 r ≡ true) t.rows i l stands in
+            filled_by b.0 (a ∷ row) (subst (λ r. has b.0 r ≡ true) e (there (subst (λ r. has a r ≡ true) (sym e) here))) o.kept
+      ]
+
+  none_blank : (rows : List (List ℕ)) → AllByRecursion (λ row. is_blank (filter (marked keep) row) ≡ false) rows → list_any is_blank (map (filter (marked keep)) rows) ≡ false
+  none_blank [] k = refl
+  none_blank (row ∷ rows) k = or_from (is_blank (filter (marked keep) row)) _ k.0 (none_blank rows k.1)
+
+  pub undominated_table : IsTable (keep_columns (marked keep) t)
+  undominated_table = kept_table (marked keep) t wt (none_blank t.rows (all_at (λ row. is_blank (filter (marked keep) row) ≡ false) t.rows
+      (λ i l. filled (row_at t.rows i) i refl l (at_all (λ row. (row ≢ []) × RisesFrom 0 row × IsWithin row t.live) t.rows i l wt.rows))))
+
 pub served_leads : (choice : Choice) (t : Table) (keep : List Bool) (k w : ℕ) → IsTable t → IsServed choice t keep → Leads choice k w t (keep_columns (marked keep) t)
 served_leads choice t keep k w wt h None a = λ x g.
     let y = h x g in
@@ -123,7 +155,3 @@ pub served_lighter : (choice : Choice) (t u : Table) (keep : List Bool) → IsTa
 served_lighter choice t u keep wt h e fewer =
     let rows : length u.rows ≡ length t.rows = ap (λ (g : Table). length g.rows) e ∙ length_map (marked keep) t.rows in
     record { is = subst (IsWeaklyReduced choice t) (sym e) (served_weakly_reduced choice t keep wt h); smaller = omega arith }
-
-pub served_some : (choice : Choice) (t : Table) (keep : List Bool) (A : Type 0) (o : Option Table) → IsTable t → IsServed choice t keep → length (filter (marked keep) t.live) < length t.live → MatchOption o A (λ u. u ≡ keep_columns (marked keep) t) → IfSome o (IsWeakStep choice t)
-served_some choice t keep A None wt h fewer k = tt
-served_some choice t keep A (Some u) wt h fewer k = served_lighter choice t u keep wt h k (subst (λ (g : Table). length g.live < length t.live) (sym k) fewer)

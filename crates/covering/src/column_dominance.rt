@@ -4,7 +4,7 @@
 //! a budget, which asks for any cover, it costs no more. It is in each row of the dropped column,
 //! so candidates are looked for in a shortest one.
 
-ghost use Rattle.std.specs.Prelude.{◌≡◌, ◌<◌, ◌==◌, ◌&&◌, ◌||◌, ℕ, [], IfOk, IfSome, MatchOption, length, true};
+ghost use Rattle.std.specs.Prelude.{◌≡◌, ◌<◌, ◌==◌, ◌&&◌, ◌||◌, ℕ, [], IfOk, MatchBool, MatchOption, length, true};
 ghost use Rattle.std.specs.List.{list_any};
 ghost use Rattle.covering.specs.Table.{IsWithin, RisesFrom, items_of, has};
 ghost use Rattle.covering.specs.Cover.{counted};
@@ -12,8 +12,8 @@ ghost use Rattle.covering.specs.Search.{IsWeakStep};
 ghost use Rattle.covering.specs.Reduce.{row_at, IsTranspose, LeavesNoDominatedColumn, is_preferred, dominates, HasNoDominatedColumn, Shrinks};
 
 use crate::choice::{Choice, cost};
-use crate::columns::{copy_of, entry, is_rising_within};
-use crate::marks::{all_marked, is_marked, marked_columns, rows_of_marked, unmark};
+use crate::columns::{entry, is_rising_within};
+use crate::marks::{all_kept, all_marked, is_marked, retain_marked, retain_marked_in_rows, unmark};
 use crate::table::Table;
 use std::alloc::{AllocError, Global};
 
@@ -161,61 +161,62 @@ fn column_dominance(
 }
 
 impl Table {
-    /// Drops each column that another dominates; `None` if there is none.
+    /// Drops each column that another dominates; answers whether there was one.
     pub(crate) fn drop_dominated_columns(
-        &self,
+        &mut self,
         alloc: Global,
         choice: Choice,
         transpose: &[Vec<usize>],
-    ) -> Result<Option<Table>, AllocError>
-        requires transpose { IsTranspose self.now.columns self.now.rows (items_of transpose.now) }
-        requires long { length transpose.now ≡ self.now.columns }
-        ensures { IfOk result (λ o. MatchOption o (HasNoDominatedColumn choice self.now)
-            (Shrinks choice self.now)) }
+    ) -> Result<bool, AllocError>
+        requires transpose { IsTranspose self.old.columns self.old.rows (items_of transpose.now) }
+        requires long { length transpose.now ≡ self.old.columns }
+        ensures { IfOk result (λ is_changed. MatchBool is_changed (Shrinks choice self.old self.new)
+            ((self.new ≡ self.old) × HasNoDominatedColumn choice self.old)) }
     {
         let keep = column_dominance(
             alloc,
             Preference::Earlier,
             choice,
-            self.literals(),
-            self.live_columns(),
-            self.row_lists(),
+            &self.literals,
+            &self.live,
+            &self.rows,
             transpose,
         )?;
-        let live = marked_columns(alloc, self.live_columns(), &keep)?;
-        if live.len() == self.live_columns().len() {
-            return Ok(None);
+        if all_kept(&self.live, &keep) {
+            return Ok(false);
         }
-        let taken = copy_of(alloc, self.taken_columns())?;
-        let rows = rows_of_marked(alloc, self.row_lists(), &keep)?;
-        Ok(Some(self.with(alloc, taken, live, rows)?))
+        retain_marked(&mut self.live, &keep);
+        retain_marked_in_rows(&mut self.rows, &keep);
+        Ok(true)
     }
 
     /// Drops each column that another dominates which costs no more, in a search for some cover
-    /// within a budget; `None` if there is none.
+    /// within a budget; answers whether there was one.
     pub(crate) fn drop_weakly_dominated_columns(
-        &self,
+        &mut self,
         alloc: Global,
         choice: Choice,
         transpose: &[Vec<usize>],
-    ) -> Result<Option<Table>, AllocError>
-        requires transpose { IsTranspose self.now.columns self.now.rows (items_of transpose.now) }
-        requires long { length transpose.now ≡ self.now.columns }
-        ensures { IfOk result (λ o. IfSome o (IsWeakStep choice self.now)) }
+    ) -> Result<bool, AllocError>
+        requires transpose { IsTranspose self.old.columns self.old.rows (items_of transpose.now) }
+        requires long { length transpose.now ≡ self.old.columns }
+        ensures { IfOk result (λ is_changed. MatchBool is_changed
+            (IsWeakStep choice self.old self.new) (self.new ≡ self.old)) }
     {
         let keep = column_dominance(
             alloc,
             Preference::NoDearer,
             choice,
-            self.literals(),
-            self.live_columns(),
-            self.row_lists(),
+            &self.literals,
+            &self.live,
+            &self.rows,
             transpose,
         )?;
-        let live = marked_columns(alloc, self.live_columns(), &keep)?;
-        if live.len() >= self.live_columns().len() {
-            return Ok(None);
+        if all_kept(&self.live, &keep) {
+            return Ok(false);
         }
-        self.keep_marked(alloc, &keep)
+        retain_marked(&mut self.live, &keep);
+        retain_marked_in_rows(&mut self.rows, &keep);
+        Ok(true)
     }
 }

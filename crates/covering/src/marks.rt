@@ -57,22 +57,27 @@ pub(crate) fn untouched_rows(
     Ok(kept)
 }
 
-/// The marked rows.
-pub(crate) fn marked_rows(
-    alloc: Global,
-    rows: &[Vec<usize>],
-    stay: &[bool],
-) -> Result<Vec<Vec<usize>>, AllocError>
-    ensures { IfOk result (λ v. items_of v.items
-        ≡ rows_from (marked stay.now) 0 (items_of rows.now)) }
+/// Keeps the rows whose columns are all marked.
+pub(crate) fn retain_untouched_rows(rows: &mut Vec<Vec<usize>>, keep: &[bool])
+    ensures { items_of rows.new.items
+        ≡ filter (list_all (marked keep.now)) (items_of rows.old.items) }
 {
-    let mut kept = Vec::new(alloc);
-    for (i, row) in rows.iter().enumerate() {
+    rows.retain(|row| all_kept(row, keep));
+}
+
+/// Keeps the marked rows.
+pub(crate) fn retain_marked_rows(rows: &mut Vec<Vec<usize>>, stay: &[bool])
+    ensures { items_of rows.new.items
+        ≡ rows_from (marked stay.now) 0 (items_of rows.old.items) }
+{
+    let mut kept = 0;
+    for i in 0..rows.len() {
         if is_marked(stay, i) {
-            kept.push(copy_of(alloc, row)?)?;
+            rows.swap(kept, i);
+            kept += 1;
         }
     }
-    Ok(kept)
+    rows.truncate(kept);
 }
 
 /// Whether the place has a mark.
@@ -116,17 +121,19 @@ pub(crate) fn marked_columns(
     Ok(kept)
 }
 
-pub(crate) fn rows_of_marked(
-    alloc: Global,
-    rows: &[Vec<usize>],
-    keep: &[bool],
-) -> Result<Vec<Vec<usize>>, AllocError>
-    ensures { IfOk result (λ v. items_of v.items
-        ≡ map (filter (marked keep.now)) (items_of rows.now)) }
+/// Keeps the marked columns.
+pub(crate) fn retain_marked(columns: &mut Vec<usize>, keep: &[bool])
+    ensures { columns.new.items ≡ filter (marked keep.now) columns.old.items }
 {
-    let mut kept = Vec::new(alloc);
-    for row in rows {
-        kept.push(marked_columns(alloc, row, keep)?)?;
+    columns.retain(|column| is_marked(keep, *column));
+}
+
+/// Keeps the marked columns of each row.
+pub(crate) fn retain_marked_in_rows(rows: &mut Vec<Vec<usize>>, keep: &[bool])
+    ensures { items_of rows.new.items
+        ≡ map (filter (marked keep.now)) (items_of rows.old.items) }
+{
+    for row in rows.iter_mut() {
+        retain_marked(row, keep);
     }
-    Ok(kept)
 }

@@ -7,7 +7,7 @@
 //! that is kept, so they could be dropped one by one. If a pass marks nothing, no step of its kind
 //! applies.
 
-ghost use Rattle.std.specs.Prelude.{◌≡◌, ◌<◌, ◌==◌, ◌||◌, IfOk, IfSome, MatchOption, not, filter};
+ghost use Rattle.std.specs.Prelude.{◌≡◌, ◌<◌, ◌==◌, ◌||◌, IfOk, MatchBool, not, filter};
 ghost use Rattle.std.specs.List.{range_with_len};
 ghost use Rattle.covering.specs.Table.{IsTable, RisesFrom, items_of, has};
 ghost use Rattle.covering.specs.Steps.{Steps, IsReduced, SameLeast};
@@ -15,8 +15,7 @@ ghost use Rattle.covering.specs.Search.{IsWeakStep, IsWeaklyReduced, marked};
 ghost use Rattle.covering.specs.Reduce.{UnmarksEssentialColumn, MarksInessentialColumns, HasNoEssentialColumn, Shrinks};
 
 use crate::choice::Choice;
-use crate::columns::rising_contains;
-use crate::marks::{all_marked, is_marked, marked_columns, unmark, untouched_rows};
+use crate::marks::{all_kept, all_marked, is_marked, retain_marked, retain_untouched_rows, unmark};
 use crate::table::Table;
 use std::alloc::{AllocError, Global};
 use std::mem::replace;
@@ -46,59 +45,63 @@ fn inessential_columns(
 }
 
 /// The rising list of the taken columns and the unmarked ones.
-pub(crate) fn with_unmarked(
+fn with_unmarked(
     alloc: Global,
     taken: &[usize],
     keep: &[bool],
     columns: usize,
 ) -> Result<Vec<usize>, AllocError>
-    requires { RisesFrom 0 taken.now }
     ensures { IfOk result (λ v. v.items ≡ filter (λ n. has n taken.now || not (marked keep.now n))
         (range_with_len 0 columns)) }
 {
+    let mut rest = keep.to_vec(alloc)?;
+    for column in taken {
+        unmark(&mut rest, *column);
+    }
     (0..columns)
-        .filter(|n| rising_contains(taken, *n) || !is_marked(keep, *n))
+        .filter(|n| !is_marked(&rest, *n))
         .collect(alloc)
 }
 
 impl Table {
-    /// Takes each column that is the only one of a row; `None` if there is no such row.
-    fn take_essential_columns(&self, alloc: Global) -> Result<Option<Table>, AllocError>
-        ensures taken { (choice : Choice) → IfOk result (λ o.
-            MatchOption o (HasNoEssentialColumn self.now) (Shrinks choice self.now)) }
-        ensures table { IsTable self.now }
+    /// Takes each column that is the only one of a row; answers whether there was one.
+    fn take_essential_columns(&mut self, alloc: Global) -> Result<bool, AllocError>
+        ensures taken { (choice : Choice) → IfOk result (λ is_changed. MatchBool is_changed
+            (Shrinks choice self.old self.new)
+            ((self.new ≡ self.old) × HasNoEssentialColumn self.old)) }
+        ensures table { IsTable self.old }
     {
-        let keep = inessential_columns(alloc, self.row_lists(), self.columns())?;
-        let live = marked_columns(alloc, self.live_columns(), &keep)?;
-        if live.len() == self.live_columns().len() {
-            return Ok(None);
+        let keep = inessential_columns(alloc, &self.rows, self.columns)?;
+        if all_kept(&self.live, &keep) {
+            return Ok(false);
         }
-        let taken = with_unmarked(alloc, self.taken_columns(), &keep, self.columns())?;
-        let rows = untouched_rows(alloc, self.row_lists(), &keep)?;
-        Ok(Some(self.with(alloc, taken, live, rows)?))
+        self.taken = with_unmarked(alloc, &self.taken, &keep, self.columns)?;
+        retain_marked(&mut self.live, &keep);
+        retain_untouched_rows(&mut self.rows, &keep);
+        Ok(true)
     }
 
-    /// The table after one pass that changes it, in a search for some cover within a budget; `None`
-    /// if none does. The lists are memory for the rows of each column.
+    /// Makes one pass that changes the table, in a search for some cover within a budget; answers
+    /// whether there was one. The lists are memory for the rows of each column.
     fn reduce_weakly_once(
-        &self,
+        &mut self,
         alloc: Global,
         choice: Choice,
         lists: &mut Vec<Vec<usize>>,
-    ) -> Result<Option<Table>, AllocError>
-        ensures { IfOk result (λ o. IfSome o (IsWeakStep choice self.now)) }
+    ) -> Result<bool, AllocError>
+        ensures { IfOk result (λ is_changed. MatchBool is_changed
+            (IsWeakStep choice self.old self.new) (self.new ≡ self.old)) }
     {
-        if let Some(table) = self.take_essential_columns(alloc)? {
-            return Ok(Some(table));
+        if self.take_essential_columns(alloc)? {
+            return Ok(true);
         }
         let transpose = self.transpose(alloc, replace(lists, Vec::new(alloc)))?;
-        if let Some(table) = self.drop_dominating_rows(alloc, &transpose)? {
-            *lists = transpose;
-            return Ok(Some(table));
+        let mut is_changed = self.drop_dominating_rows(alloc, &transpose)?;
+        if !is_changed {
+            is_changed = self.drop_weakly_dominated_columns(alloc, choice, &transpose)?;
         }
-        let table = self.drop_weakly_dominated_columns(alloc, choice, &transpose)?;
         *lists = transpose;
-        Ok(table)
+        Ok(is_changed)
     }
 
     /// The table after all passes, in a search for some cover within a budget.
@@ -107,24 +110,10 @@ impl Table {
     {
         let mut lists = Vec::new(alloc);
         let mut table = self;
-        while let Some(lighter) = table.reduce_weakly_once(alloc, choice, &mut lists)? {
-            table = lighter;
-        }
-        Ok(table)
-    }
-
-    /// The table after all passes, as [`Table::reduce_weakly`] makes it, of a table that is kept.
-    pub(crate) fn weakly_reduced_copy(
-        &self,
-        alloc: Global,
-        choice: Choice,
-    ) -> Result<Table, AllocError>
-        ensures { IfOk result (λ u. IsWeaklyReduced choice self.now u) }
-    {
-        let reduced = self.reduce_weakly_once(alloc, choice, &mut Vec::new(alloc))?;
-        match reduced {
-            None => self.copy(alloc),
-            Some(table) => table.reduce_weakly(alloc, choice),
+        loop {
+            if !table.reduce_weakly_once(alloc, choice, &mut lists)? {
+                return Ok(table);
+            }
         }
     }
 
@@ -133,24 +122,20 @@ impl Table {
         ensures steps { IfOk result (Steps choice self.now) }
         ensures table { IsTable self.now }
     {
-        let mut table = self.copy(alloc)?;
-        while let Some(reduced) = table.reduce_once(alloc, choice)? {
-            table = reduced;
-        }
-        Ok(table)
+        reduce(self.copy(alloc)?, choice)
     }
 
-    /// The table after one pass that changes it; `None` if none does.
-    fn reduce_once(&self, alloc: Global, choice: Choice) -> Result<Option<Table>, AllocError>
-        ensures { IfOk result (λ o. MatchOption o (IsReduced choice self.now)
-            (Shrinks choice self.now)) }
+    /// Makes one pass that changes the table; answers whether there was one.
+    fn reduce_once(&mut self, alloc: Global, choice: Choice) -> Result<bool, AllocError>
+        ensures { IfOk result (λ is_changed. MatchBool is_changed (Shrinks choice self.old self.new)
+            ((self.new ≡ self.old) × IsReduced choice self.old)) }
     {
-        if let Some(table) = self.take_essential_columns(alloc)? {
-            return Ok(Some(table));
+        if self.take_essential_columns(alloc)? {
+            return Ok(true);
         }
         let transpose = self.transpose(alloc, Vec::new(alloc))?;
-        if let Some(table) = self.drop_dominating_rows(alloc, &transpose)? {
-            return Ok(Some(table));
+        if self.drop_dominating_rows(alloc, &transpose)? {
+            return Ok(true);
         }
         self.drop_dominated_columns(alloc, choice, &transpose)
     }
@@ -169,8 +154,9 @@ pub fn reduce(table: Table, choice: Choice) -> Result<Table, AllocError>
 {
     let alloc = *table.rows.allocator();
     let mut table = table;
-    while let Some(reduced) = table.reduce_once(alloc, choice)? {
-        table = reduced;
+    loop {
+        if !table.reduce_once(alloc, choice)? {
+            return Ok(table);
+        }
     }
-    Ok(table)
 }

@@ -2,13 +2,13 @@
 //!
 //! Such a row is among the rows of the other's rarest column, so candidates are few.
 
-ghost use Rattle.std.specs.Prelude.{◌≡◌, ◌≢◌, ◌<◌, ◌==◌, ◌&&◌, ℕ, [], IfOk, MatchOption, length, true};
+ghost use Rattle.std.specs.Prelude.{◌≡◌, ◌≢◌, ◌<◌, ◌==◌, ◌&&◌, ℕ, [], IfOk, MatchBool, length, true};
 ghost use Rattle.covering.specs.Table.{items_of, has};
 ghost use Rattle.covering.specs.Reduce.{row_at, AreRising, IsTranspose, UnmarksDominatingRows, LeavesNoDominatingRow, is_dominating_row, HasNoDominatingRow, Shrinks};
 
 use crate::choice::Choice;
-use crate::columns::{copy_of, entry, is_rising_within};
-use crate::marks::{all_marked, is_full, is_marked, marked_rows, unmark};
+use crate::columns::{entry, is_rising_within};
+use crate::marks::{all_marked, is_full, is_marked, retain_marked_rows, unmark};
 use crate::table::Table;
 use std::alloc::{AllocError, Global};
 
@@ -75,27 +75,23 @@ fn row_dominance(
 }
 
 impl Table {
-    /// Drops each row that has all columns of another; `None` if there is none.
+    /// Drops each row that has all columns of another; answers whether there was one.
     pub(crate) fn drop_dominating_rows(
-        &self,
+        &mut self,
         alloc: Global,
         transpose: &[Vec<usize>],
-    ) -> Result<Option<Table>, AllocError>
-        requires transpose { IsTranspose self.now.columns self.now.rows (items_of transpose.now) }
-        requires long { length transpose.now ≡ self.now.columns }
-        ensures { (choice : Choice) → IfOk result (λ o.
-            MatchOption o (HasNoDominatingRow self.now.rows) (Shrinks choice self.now)) }
+    ) -> Result<bool, AllocError>
+        requires transpose { IsTranspose self.old.columns self.old.rows (items_of transpose.now) }
+        requires long { length transpose.now ≡ self.old.columns }
+        ensures { (choice : Choice) → IfOk result (λ is_changed. MatchBool is_changed
+            (Shrinks choice self.old self.new)
+            ((self.new ≡ self.old) × HasNoDominatingRow self.old.rows)) }
     {
-        let stay = row_dominance(alloc, self.row_lists(), transpose)?;
+        let stay = row_dominance(alloc, &self.rows, transpose)?;
         if is_full(&stay) {
-            return Ok(None);
+            return Ok(false);
         }
-        let rows = marked_rows(alloc, self.row_lists(), &stay)?;
-        if rows.len() == self.row_lists().len() {
-            return Ok(None);
-        }
-        let taken = copy_of(alloc, self.taken_columns())?;
-        let live = copy_of(alloc, self.live_columns())?;
-        Ok(Some(self.with(alloc, taken, live, rows)?))
+        retain_marked_rows(&mut self.rows, &stay);
+        Ok(true)
     }
 }

@@ -204,22 +204,22 @@ impl Table {
         if all_kept(self.live_columns(), &keep) {
             return Ok(Some(self));
         }
-        self.keep_marked(alloc, &keep)
+        Ok(self.keep_marked(&keep))
     }
 
     /// The table as far as a search within the budget has to look at it; `None` if there is no
     /// cover.
     fn prune(
-        &self,
+        self,
         alloc: Global,
         choice: Choice,
         budget: Budget,
         warm_start: &mut WarmStart,
     ) -> Result<Option<Table>, AllocError>
-        ensures { IfOk result (λ o. MatchOption o (NoneWithin choice self.now budget.columns
-            budget.cost) (IsPruned choice budget.columns budget.cost self.now)) }
+        ensures { IfOk result (λ o. MatchOption o (NoneWithin choice self budget.columns
+            budget.cost) (IsPruned choice budget.columns budget.cost self)) }
     {
-        let mut table = self.weakly_reduced_copy(alloc, choice)?;
+        let mut table = self.reduce_weakly(alloc, choice)?;
         loop {
             let live = table.live_columns().len();
             let Some(next) = table.drop_by_bound(alloc, choice, budget, warm_start)? else {
@@ -258,14 +258,14 @@ impl Table {
     /// weights goes back to the warm start once it is over.
     #[cycle(search)]
     fn search(
-        &self,
+        self,
         alloc: Global,
         choice: Choice,
         budget: Budget,
         warm_start: &mut WarmStart,
         tables_left: &mut u64,
     ) -> Result<Option<Vec<usize>>, Stop>
-        ensures { IfOk result (λ o. Answers choice self.now budget.columns budget.cost
+        ensures { IfOk result (λ o. Answers choice self budget.columns budget.cost
             (option_map (λ v. v.items) o)) }
     {
         let Some(rest) = tables_left.checked_sub(1) else {
@@ -335,7 +335,7 @@ impl Table {
         if let Some(cover) = found {
             return Ok(Some(cover));
         }
-        let Some(table) = self.prune(alloc, choice, budget, warm_start)? else {
+        let Some(table) = self.copy(alloc)?.prune(alloc, choice, budget, warm_start)? else {
             return Ok(None);
         };
         let goal = table.goal(choice, budget);

@@ -122,14 +122,14 @@ fn all_cost(choice: Choice, literals: &[u32], columns: &[usize], same: u32) -> b
 
 impl Partial {
     /// The table with the marked columns alone, of which each row has one.
-    fn keep_columns_marked(self, alloc: Global, keep: &[bool]) -> Result<Partial, AllocError>
+    fn keep_columns_marked(self, keep: &[bool]) -> Partial
         requires { list_any is_blank (map (filter (marked keep.now)) self.table.rows) ≡ false }
-        ensures { IfOk result (λ s. (s.table ≡ keep_columns (marked keep.now) self.table)
-            × (s.witness ≡ self.witness)) }
+        ensures table { result.table ≡ keep_columns (marked keep.now) self.table }
+        ensures witness { result.witness ≡ self.witness }
     {
         let Partial { table, witness } = self;
-        match table.keep_marked(alloc, keep)? {
-            Some(table) => Ok(Partial { table, witness }),
+        match table.keep_marked(keep) {
+            Some(table) => Partial { table, witness },
             None => unreachable!(),
         }
     }
@@ -170,7 +170,7 @@ impl Partial {
             }),
             None => {
                 let keep = others(alloc, &marks, self.table.columns())?;
-                self.keep_columns_marked(alloc, &keep)
+                Ok(self.keep_columns_marked(&keep))
             }
         }
     }
@@ -206,7 +206,7 @@ impl Partial {
             }),
             None => {
                 let keep = all_but(alloc, column, self.table.columns())?;
-                self.keep_columns_marked(alloc, &keep)
+                Ok(self.keep_columns_marked(&keep))
             }
         }
     }
@@ -228,7 +228,7 @@ impl Partial {
             .table
             .columns_within_budget(alloc, choice, budget, &mut questions.warm_start)?
         {
-            Some(keep) => self.keep_columns_marked(alloc, &keep),
+            Some(keep) => Ok(self.keep_columns_marked(&keep)),
             None => unreachable!(),
         }
     }

@@ -1,8 +1,7 @@
 //! Steps on a table: a column is taken, a live one is dropped, or the marked ones alone are kept.
 //!
-//! Each step makes a further table. To take a column drops the rows that have it; to drop columns
-//! takes them from each row, and there is no such table if a row would have none left. A table
-//! without rows is solved.
+//! To take a column drops the rows that have it. To drop columns takes them from each row, and
+//! there is no such table if a row would have none left. A table without rows is solved.
 
 ghost use Rattle.std.specs.Prelude.{◌≡◌, ◌↔◌, [], IfOk, MatchOption, IsTrue, map, filter, not, true};
 ghost use Rattle.std.specs.List.{list_any};
@@ -11,7 +10,7 @@ ghost use Rattle.covering.specs.Steps.{without, take_column, drop_column};
 ghost use Rattle.covering.specs.Search.{IsForced, keep_columns, marked, is_blank};
 
 use crate::columns::{contains, copy_of, is_blank, with_column};
-use crate::marks::{marked_columns, rows_of_marked};
+use crate::marks::{retain_marked, retain_marked_in_rows};
 use crate::table::Table;
 use std::alloc::{AllocError, Global};
 
@@ -99,22 +98,17 @@ impl Table {
     }
 
     /// The table with no columns but the marked ones, where each row keeps one.
-    pub(crate) fn keep_marked(
-        &self,
-        alloc: Global,
-        keep: &[bool],
-    ) -> Result<Option<Table>, AllocError>
-        ensures kept { IfOk result (λ o. MatchOption o (list_any is_blank
-            (map (filter (marked keep.now)) self.now.rows) ≡ true)
-            (λ t. t ≡ keep_columns (marked keep.now) self.now)) }
-        ensures table { IsTable self.now }
+    pub(crate) fn keep_marked(self, keep: &[bool]) -> Option<Table>
+        ensures { MatchOption result (list_any is_blank
+            (map (filter (marked keep.now)) self.rows) ≡ true)
+            (λ t. t ≡ keep_columns (marked keep.now) self) }
     {
-        let rows = rows_of_marked(alloc, self.row_lists(), keep)?;
-        if any_blank(&rows) {
-            return Ok(None);
+        let mut table = self;
+        retain_marked_in_rows(&mut table.rows, keep);
+        if any_blank(&table.rows) {
+            return None;
         }
-        let taken = copy_of(alloc, self.taken_columns())?;
-        let live = marked_columns(alloc, self.live_columns(), keep)?;
-        Ok(Some(self.with(alloc, taken, live, rows)?))
+        retain_marked(&mut table.live, keep);
+        Some(table)
     }
 }

@@ -50,6 +50,19 @@ fn empty_list(
     Vec::with_capacity(alloc, usize::try_from(room).unwrap_or(0))
 }
 
+/// How many rows each column has; nothing where that is not needed, as there are lists to take.
+fn room_for_rows(
+    alloc: Global,
+    rows: &[Vec<usize>],
+    columns: usize,
+    is_needed: bool,
+) -> Result<Vec<i64>, AllocError> {
+    if !is_needed {
+        return Ok(Vec::new(alloc));
+    }
+    row_counts(alloc, rows, columns)
+}
+
 /// The rows of each column, in the memory of lists that are not needed any more.
 fn transpose(
     alloc: Global,
@@ -63,10 +76,10 @@ fn transpose(
     ensures long { IfOk result (λ v. length v.items ≡ columns) }
 {
     let mut lists = lists;
-    let row_counts = row_counts(alloc, rows, columns)?;
+    let room = room_for_rows(alloc, rows, columns, lists.is_empty())?;
     let mut transpose: Vec<Vec<usize>> = Vec::with_capacity(alloc, columns)?;
     for column in 0..columns {
-        let list = empty_list(alloc, &mut lists, &row_counts, column)?;
+        let list = empty_list(alloc, &mut lists, &room, column)?;
         transpose.push(list)?;
     }
     for (i, row) in rows.iter().enumerate() {

@@ -1,7 +1,6 @@
 use Rattle.std.proofs.Common.{◌≡◌, ◌∙◌, ℕ, not, map, true, false, Option, Vec, Global, sym, ap, subst, arith}
 use Rattle.std.specs.Prelude.{filter, option_map}
 use Rattle.std.specs.List.{range_with_len}
-use Rattle.std.proofs.lemmas.Result.{IfOk-weaker}
 use Rattle.covering.specs.Table.{has}
 use Rattle.covering.specs.Search.{Answers, IsAnswer, IsOutside, NoneWithin, marked}
 use Rattle.covering.proofs.Sets.{filter_keeps}
@@ -32,16 +31,12 @@ keep_columns_marked-requires c =
 pub returns-in_ok-keep-in-None-clause-partial : goal.returns-in_ok-keep-in-None-clause-partial
 returns-in_ok-keep-in-None-clause-partial c =
     let left = rw c.deref-in-None-2.ensures.value at c.keep_columns_marked.ensures in
-    IfOk-weaker c.keep_columns_marked.result _ _
-    (λ s h. rw h.1 (partial_left c.args.choice (marked c.in_ok-keep-in-None.keep.items) c.args.self.table c.args.budget.columns c.args.budget.cost c.args.self.witness.items c.columns-in-None.ensures.table c.requires (out (goal.at.returns-in_ok-keep-in-None-clause-partial c).In_ok-keep-in-None) s.table h.0))
-    left
+    rw left.witness (partial_left c.args.choice (marked c.in_ok-keep-in-None.keep.items) c.args.self.table c.args.budget.columns c.args.budget.cost c.args.self.witness.items c.columns-in-None.ensures.table c.requires (out (goal.at.returns-in_ok-keep-in-None-clause-partial c).In_ok-keep-in-None) c.keep_columns_marked.result.table left.table)
 
 pub returns-in_ok-keep-in-None-clause-next : goal.returns-in_ok-keep-in-None-clause-next
 returns-in_ok-keep-in-None-clause-next c =
     let left = rw c.deref-in-None-2.ensures.value at c.keep_columns_marked.ensures in
-    IfOk-weaker c.keep_columns_marked.result _ _
-    (λ s h. next_left c.args.choice (marked c.in_ok-keep-in-None.keep.items) c.args.self.table c.args.budget.columns c.args.budget.cost c.args.self.witness.items c.columns-in-None.ensures.table c.requires (out (goal.at.returns-in_ok-keep-in-None-clause-next c).In_ok-keep-in-None) s.table h.0)
-    left
+    next_left c.args.choice (marked c.in_ok-keep-in-None.keep.items) c.args.self.table c.args.budget.columns c.args.budget.cost c.args.self.witness.items c.columns-in-None.ensures.table c.requires (out (goal.at.returns-in_ok-keep-in-None-clause-next c).In_ok-keep-in-None) c.keep_columns_marked.result.table left.table
 
 pub returns-in-Some-answer-clause-partial : goal.returns-in-Some-answer-clause-partial
 returns-in-Some-answer-clause-partial c =

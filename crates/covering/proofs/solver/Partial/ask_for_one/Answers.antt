@@ -1,6 +1,5 @@
 use Rattle.std.proofs.Common.{◌≡◌, ◌∙◌, ℕ, true, false, Option, Vec, Global, sym, ap, subst}
 use Rattle.std.specs.Prelude.{option_map}
-use Rattle.std.proofs.lemmas.Result.{IfOk-weaker}
 use Rattle.covering.specs.Table.{Table, has}
 use Rattle.covering.specs.Steps.{take_column}
 use Rattle.covering.specs.Search.{Answers, IsAnswer, IsOutside, NoneWithin, IsPartial, Continues, marked}
@@ -58,21 +57,15 @@ keep_columns_marked-requires c =
 pub returns-in_ok-keep-in-None-clause-partial : goal.returns-in_ok-keep-in-None-clause-partial
 returns-in_ok-keep-in-None-clause-partial c =
     let left = rw c.deref-in-None.ensures.value at c.keep_columns_marked.ensures in
-    IfOk-weaker c.keep_columns_marked.result _ _
-    (λ s h. rw h.1 (partial_left c.args.choice (marked c.in_ok-keep-in-None.keep.items) c.args.self.table c.args.budget.columns c.args.budget.cost c.args.self.witness.items c.columns.ensures.table c.requires.partial (out (goal.at.returns-in_ok-keep-in-None-clause-partial c).In_ok-keep-in-None) s.table h.0))
-    left
+    rw left.witness (partial_left c.args.choice (marked c.in_ok-keep-in-None.keep.items) c.args.self.table c.args.budget.columns c.args.budget.cost c.args.self.witness.items c.columns.ensures.table c.requires.partial (out (goal.at.returns-in_ok-keep-in-None-clause-partial c).In_ok-keep-in-None) c.keep_columns_marked.result.table left.table)
 
 pub returns-in_ok-keep-in-None-clause-next : goal.returns-in_ok-keep-in-None-clause-next
 returns-in_ok-keep-in-None-clause-next c =
     let left = rw c.deref-in-None.ensures.value at c.keep_columns_marked.ensures in
-    IfOk-weaker c.keep_columns_marked.result _ _
-    (λ s h. next_left c.args.choice (marked c.in_ok-keep-in-None.keep.items) c.args.self.table c.args.budget.columns c.args.budget.cost c.args.self.witness.items c.columns.ensures.table c.requires.partial (out (goal.at.returns-in_ok-keep-in-None-clause-next c).In_ok-keep-in-None) s.table h.0)
-    left
+    next_left c.args.choice (marked c.in_ok-keep-in-None.keep.items) c.args.self.table c.args.budget.columns c.args.budget.cost c.args.self.witness.items c.columns.ensures.table c.requires.partial (out (goal.at.returns-in_ok-keep-in-None-clause-next c).In_ok-keep-in-None) c.keep_columns_marked.result.table left.table
 
 pub returns-in_ok-keep-in-None-clause-gone : goal.returns-in_ok-keep-in-None-clause-gone
 returns-in_ok-keep-in-None-clause-gone c =
     let left = rw c.deref-in-None.ensures.value at c.keep_columns_marked.ensures in
-    IfOk-weaker c.keep_columns_marked.result _ _
-    (λ s h. lacks_marked c.args.self.table.live s.table.live c.in_ok-keep-in-None.keep.items c.args.column (ap (λ (t : Table). t.live) h.0)
-    (λ l. marked_but c.args.self.table c.in_ok-keep-in-None.keep.items c.columns.result c.args.column c.args.column c.columns.ensures.table c.columns.ensures.count c.in_ok-keep-in-None.ensures l))
-    left
+    lacks_marked c.args.self.table.live c.keep_columns_marked.result.table.live c.in_ok-keep-in-None.keep.items c.args.column (ap (λ (t : Table). t.live) left.table)
+    (λ l. marked_but c.args.self.table c.in_ok-keep-in-None.keep.items c.columns.result c.args.column c.args.column c.columns.ensures.table c.columns.ensures.count c.in_ok-keep-in-None.ensures l)

@@ -1,4 +1,3 @@
-use Rattle.std.proofs.lemmas.Result.{IfOk-weaker}
 use Rattle.covering.specs.Search.{marked}
 use Rattle.covering.proofs.Partials.{some_left, partial_left, next_left}
 use Rattle.covering.proofs.solver.Partial.drop_columns_over_budget_once.Goals as goal
@@ -13,14 +12,10 @@ pub returns-clause-partial : goal.returns-clause-partial
 returns-clause-partial c =
     let out = rw c.in-Some.is at c.in_ok-keep.ensures.marks in
     let left = rw c.deref.ensures.value at c.keep_columns_marked.ensures in
-    IfOk-weaker c.keep_columns_marked.result _ _
-    (λ s h. rw h.1 (partial_left c.args.choice (marked c.in-Some.keep.items) c.args.self.table c.args.budget.columns c.args.budget.cost c.args.self.witness.items c.in_ok-keep.ensures.table c.requires out s.table h.0))
-    left
+    rw left.witness (partial_left c.args.choice (marked c.in-Some.keep.items) c.args.self.table c.args.budget.columns c.args.budget.cost c.args.self.witness.items c.in_ok-keep.ensures.table c.requires out c.keep_columns_marked.result.table left.table)
 
 pub returns-clause-next : goal.returns-clause-next
 returns-clause-next c =
     let out = rw c.in-Some.is at c.in_ok-keep.ensures.marks in
     let left = rw c.deref.ensures.value at c.keep_columns_marked.ensures in
-    IfOk-weaker c.keep_columns_marked.result _ _
-    (λ s h. next_left c.args.choice (marked c.in-Some.keep.items) c.args.self.table c.args.budget.columns c.args.budget.cost c.args.self.witness.items c.in_ok-keep.ensures.table c.requires out s.table h.0)
-    left
+    next_left c.args.choice (marked c.in-Some.keep.items) c.args.self.table c.args.budget.columns c.args.budget.cost c.args.self.witness.items c.in_ok-keep.ensures.table c.requires out c.keep_columns_marked.result.table left.table

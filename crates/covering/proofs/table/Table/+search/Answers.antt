@@ -41,8 +41,8 @@ branch-search-requires-in-Some-3 t c =
     let same = ap (λ (g : Table). length g.live) is in
     (omega (arith, falls, same, c.decreases), tt)
 
-pub branch-returns : goal.branch-returns
-branch-returns t c =
+pub branch-returns-in-Some-3 : goal.branch-returns-in-Some-3
+branch-returns-in-Some-3 t c =
     let none = subst (λ (o : Option (Vec ℕ Global)). Answers c.args.choice c.in_ok-with.with c.args.budget.columns c.args.budget.cost (option_map (λ v. v.items) o)) c.in_default-2.is c.in_ok-cover.ensures in
     let is = subst (λ o. MatchOption o (IsForced c.args.self.now c.in-Some.column) (λ u. u ≡ drop_column c.in-Some.column c.args.self.now)) c.in-Some-3.is c.in_ok-drop_live.ensures in
     IfOk-weaker c.search-in-Some-3.result _ _

@@ -1,7 +1,6 @@
 use Rattle.std.proofs.Common.{◌≡◌, true, subst, map}
 use Rattle.std.specs.Prelude.{MatchOption, filter}
 use Rattle.std.specs.List.{list_any}
-use Rattle.std.proofs.lemmas.Result.{IfOk-weaker}
 use Rattle.covering.specs.Search.{is_blank, marked, keep_columns}
 use Rattle.covering.proofs.Branches.{pruned_from}
 use Rattle.covering.proofs.Reduced.{weakly_reduced_pruned}
@@ -11,10 +10,8 @@ use Rattle.covering.proofs.table.Table.drop_by_bound.Goals as goal
 pub returns : goal.returns
 returns c =
     let out = rw c.in-Some.is at c.in_ok-keep.ensures.marks in
-    IfOk-weaker c.keep_marked.result _ _
-    (λ o h. pruned_from c.args.choice (marked c.in-Some.keep.items) c.args.self c.args.budget.columns c.args.budget.cost c.keep_marked.ensures.table out o
-    (subst (λ ks. MatchOption o (list_any is_blank (map (filter (marked ks)) c.args.self.rows) ≡ true) (λ u. u ≡ keep_columns (marked ks) c.args.self)) c.deref-2.ensures.value h))
-    c.keep_marked.ensures.kept
+    pruned_from c.args.choice (marked c.in-Some.keep.items) c.args.self c.args.budget.columns c.args.budget.cost c.in_ok-keep.ensures.table out c.keep_marked.result
+    (subst (λ ks. MatchOption c.keep_marked.result (list_any is_blank (map (filter (marked ks)) c.args.self.rows) ≡ true) (λ u. u ≡ keep_columns (marked ks) c.args.self)) c.deref-2.ensures.value c.keep_marked.ensures)
 
 pub returns-then-all_kept : goal.returns-then-all_kept
 returns-then-all_kept c =

@@ -1,40 +1,53 @@
-use Rattle.std.proofs.Common.{◌≡◌, ◌≢◌, ◌∙◌, length, map, refl, sym, ap, subst, arith}
+use Rattle.std.proofs.Common.{◌≡◌, ◌∙◌, map, refl, sym, ap, subst}
 use Rattle.std.specs.Prelude.{filter}
-use Rattle.covering.specs.Table.{IsTable, items_of}
+use Rattle.std.specs.List.{list_all}
+use Rattle.covering.specs.Table.{Table, IsTable, items_of, table_of}
 use Rattle.covering.specs.Cover.{counted}
-use Rattle.covering.specs.Search.{marked}
-use Rattle.covering.specs.Reduce.{LeavesNoDominatedColumn, prefers, Shrinks}
+use Rattle.covering.specs.Search.{marked, keep_columns}
+use Rattle.covering.specs.Reduce.{LeavesNoDominatedColumn, IsTranspose, HasNoDominatedColumn, Shrinks, prefers}
 use Rattle.covering.proofs.Made.{table_same}
-use Rattle.covering.proofs.Reduced.{none_dominated, column_dominance_shrinks, column_dominance_table}
+use Rattle.covering.proofs.Reduced.{filter_length_all, filter_not_full, none_dominated, column_dominance_shrinks}
+use Rattle.covering.proofs.WeakDominance.{undominated_table}
 use Rattle.covering.proofs.table.Table.drop_dominated_columns.Goals as goal
-use Rattle.covering.proofs.table.Table.drop_dominated_columns.Goals.{In_ok-keep, In_ok-live}
+use Rattle.covering.proofs.table.Table.drop_dominated_columns.Goals.{In_ok-keep}
 
-marks : (c : In_ok-keep) → LeavesNoDominatedColumn (prefers (counted c.args.choice c.args.self.now.weights)) c.args.self.now.live (items_of c.args.transpose.now) c.in_ok-keep.keep.items
+-- the table that the fields show
+abbrev own : (c : In_ok-keep) → Table
+own c = let t = c.self.inside in table_of t.columns t.taken.items t.live.items (items_of t.rows.items) t.literals.items
+
+marks : (c : In_ok-keep) → LeavesNoDominatedColumn (prefers (counted c.args.choice (own c).weights)) (own c).live (items_of c.args.transpose.now) c.in_ok-keep.keep.items
 marks c =
-    subst (λ ls. LeavesNoDominatedColumn (prefers (counted c.args.choice c.args.self.now.weights)) ls (items_of c.args.transpose.now) c.in_ok-keep.keep.items) c.live_columns.ensures.value
-    (subst (λ ws. LeavesNoDominatedColumn (prefers (counted c.args.choice ws)) c.live_columns.result.now (items_of c.args.transpose.now) c.in_ok-keep.keep.items) c.literals.ensures.value c.in_ok-keep.ensures)
+    subst (λ ls. LeavesNoDominatedColumn (prefers (counted c.args.choice (own c).weights)) ls (items_of c.args.transpose.now) c.in_ok-keep.keep.items) c.deref-2.ensures.value
+    (subst (λ ws. LeavesNoDominatedColumn (prefers (counted c.args.choice ws)) c.deref-2.result.now (items_of c.args.transpose.now) c.in_ok-keep.keep.items) c.deref.ensures.value c.in_ok-keep.ensures)
 
-kept : (c : In_ok-live) → c.in_ok-live.live.items ≡ filter (marked c.in_ok-keep.keep.items) c.args.self.now.live
-kept c = c.in_ok-live.ensures ∙ ap (λ ks. filter (marked ks) c.live_columns-2.result.now) c.deref.ensures.value ∙ ap (filter (marked c.in_ok-keep.keep.items)) c.live_columns-2.ensures.value
+rows : (c : In_ok-keep) → IsTranspose (own c).columns (own c).rows (items_of c.args.transpose.now)
+rows c = subst (λ (t : Table). IsTranspose t.columns t.rows (items_of c.args.transpose.now)) (sym c.self.view_is) c.requires.transpose
 
-pub returns-then-len-live_columns : goal.returns-then-len-live_columns
-returns-then-len-live_columns c =
-    let at = goal.at.returns-then-len-live_columns c in
-    let long : length c.in_ok-live.live.items ≡ c.len.result = omega (arith, c.len.ensures, c.in_ok-live.live.ok) in
-    none_dominated c.args.choice c.args.self.now (items_of c.args.transpose.now) c.in_ok-keep.keep.items c.row_lists.ensures.table c.requires.transpose (marks at.In_ok-keep) (sym (ap length (kept at.In_ok-live)) ∙ long ∙ c.if-len-live_columns.true ∙ ap length c.live_columns-3.ensures.value)
+pub returns-then-all_kept : goal.returns-then-all_kept
+returns-then-all_kept c =
+    let p = (goal.at.returns-then-all_kept c).In_ok-keep in
+    let keep = c.in_ok-keep.keep.items in
+    let all : list_all (marked keep) (own p).live ≡ _ = sym (c.all_kept.ensures ∙ ap (λ ks. list_all (marked ks) c.deref-4.result.now) c.deref-5.ensures.value ∙ ap (list_all (marked keep)) c.deref-4.ensures.value) ∙ c.if-all_kept.true in
+    (refl, subst (HasNoDominatedColumn c.args.choice) c.self.view_is (none_dominated c.args.choice (own p) (items_of c.args.transpose.now) keep c.self.invariant (rows p) (marks p) (filter_length_all (marked keep) (own p).live all)))
 
-pub with-requires : goal.with-requires
-with-requires c =
-    let at = goal.at.with-requires c in
-    let rows = c.in_ok-rows.ensures ∙ ap (λ ks. map (filter (marked ks)) (items_of c.row_lists-2.result.now)) c.deref-2.ensures.value ∙ ap (map (filter (marked c.in_ok-keep.keep.items))) c.row_lists-2.ensures.value in
-    let same = table_same c.args.self.now.columns _ _ _ _ _ _ _ _ (c.in_ok-taken.ensures ∙ c.taken_columns.ensures.value) (kept at.In_ok-live) rows refl in
-    subst IsTable (sym same) (column_dominance_table c.args.choice c.args.self.now (items_of c.args.transpose.now) c.in_ok-keep.keep.items c.row_lists.ensures.table c.requires.transpose (marks at.In_ok-keep))
+pub invariant_of-self : goal.invariant_of-self
+invariant_of-self c =
+    let p = (goal.at.invariant_of-self c).In_ok-keep in
+    let keep = c.in_ok-keep.keep.items in
+    let live = c.retain_marked.ensures ∙ ap (λ ks. filter (marked ks) (own p).live) c.deref-6.ensures.value in
+    let kept = c.retain_marked_in_rows.ensures ∙ ap (λ ks. map (filter (marked ks)) (own p).rows) c.deref-7.ensures.value in
+    subst IsTable (sym (table_same (own p).columns _ _ _ _ _ _ _ _ refl live kept refl))
+    (undominated_table (prefers (counted c.args.choice (own p).weights)) (own p) (items_of c.args.transpose.now) keep c.self.invariant (rows p) (marks p))
 
 pub returns : goal.returns
 returns c =
-    let at = goal.at.returns c in
-    let rows = c.in_ok-rows.ensures ∙ ap (λ ks. map (filter (marked ks)) (items_of c.row_lists-2.result.now)) c.deref-2.ensures.value ∙ ap (map (filter (marked c.in_ok-keep.keep.items))) c.row_lists-2.ensures.value in
-    let same = table_same c.args.self.now.columns _ _ _ _ _ _ _ _ (c.in_ok-taken.ensures ∙ c.taken_columns.ensures.value) (kept at.In_ok-live) rows refl in
-    let long : length c.in_ok-live.live.items ≡ c.len.result = omega (arith, c.len.ensures, c.in_ok-live.live.ok) in
-    let fewer : length (filter (marked c.in_ok-keep.keep.items) c.args.self.now.live) ≢ length c.args.self.now.live = λ e. c.if-len-live_columns.false (sym long ∙ ap length (kept at.In_ok-live) ∙ e ∙ sym (ap length c.live_columns-3.ensures.value)) in
-    subst (Shrinks c.args.choice c.args.self.now) (sym (c.in_ok-with.ensures ∙ same)) (column_dominance_shrinks c.args.choice c.args.self.now (items_of c.args.transpose.now) c.in_ok-keep.keep.items c.row_lists.ensures.table c.requires.transpose (marks at.In_ok-keep) fewer)
+    let p = (goal.at.returns c).In_ok-keep in
+    let keep = c.in_ok-keep.keep.items in
+    let live = c.retain_marked.ensures ∙ ap (λ ks. filter (marked ks) (own p).live) c.deref-6.ensures.value in
+    let kept = c.retain_marked_in_rows.ensures ∙ ap (λ ks. map (filter (marked ks)) (own p).rows) c.deref-7.ensures.value in
+    let some = sym (c.all_kept.ensures ∙ ap (λ ks. list_all (marked ks) c.deref-4.result.now) c.deref-5.ensures.value ∙ ap (list_all (marked keep)) c.deref-4.ensures.value) ∙ c.if-all_kept.false in
+    let left = table_of (own p).columns (own p).taken c.retain_marked.new.columns.items (items_of c.retain_marked_in_rows.new.rows.items) (own p).weights in
+    let same : left ≡ keep_columns (marked keep) (own p) = table_same (own p).columns _ _ _ _ _ _ _ _ refl live kept refl in
+    subst (λ t. Shrinks c.args.choice t left) c.self.view_is
+    (subst (Shrinks c.args.choice (own p)) (sym same)
+    (column_dominance_shrinks c.args.choice (own p) (items_of c.args.transpose.now) keep c.self.invariant (rows p) (marks p) (filter_not_full (marked keep) (own p).live some)))

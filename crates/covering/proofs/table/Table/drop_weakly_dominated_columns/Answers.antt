@@ -1,31 +1,52 @@
-use Rattle.std.proofs.Common.{◌≡◌, ◌∙◌, ◌<◌, true, length, map, ap, subst, arith}
-use Rattle.std.specs.List.{list_any}
-use Rattle.std.specs.Prelude.{MatchOption, filter}
-use Rattle.std.proofs.lemmas.Result.{IfOk-weaker}
-use Rattle.covering.specs.Table.{Table, items_of}
-use Rattle.covering.specs.Cover.{counted}
+use Rattle.std.proofs.Common.{◌≡◌, ◌∙◌, ◌<◌, inl, inr, map, length, refl, sym, ap, subst, arith}
+use Rattle.std.specs.Prelude.{filter}
+use Rattle.std.specs.List.{list_all}
+use Rattle.std.proofs.lemmas.Bool.{cases_lt}
 use Rattle.covering.specs.declared.column_dominance.Preference.TheVariants.{NoDearer}
-use Rattle.covering.specs.Reduce.{LeavesNoDominatedColumn, is_preferred}
-use Rattle.covering.specs.Search.{IsServed, marked, keep_columns, is_blank}
-use Rattle.covering.proofs.WeakDominance.{served, served_some}
+use Rattle.covering.specs.Table.{Table, IsTable, items_of, table_of}
+use Rattle.covering.specs.Cover.{counted}
+use Rattle.covering.specs.Search.{marked, keep_columns, IsServed, IsWeakStep}
+use Rattle.covering.specs.Reduce.{LeavesNoDominatedColumn, IsTranspose, is_preferred}
+use Rattle.covering.proofs.Made.{table_same}
+use Rattle.covering.proofs.Sets.{filter_length}
+use Rattle.covering.proofs.Reduced.{filter_not_full}
+use Rattle.covering.proofs.WeakDominance.{served, served_lighter, undominated_table}
 use Rattle.covering.proofs.table.Table.drop_weakly_dominated_columns.Goals as goal
 use Rattle.covering.proofs.table.Table.drop_weakly_dominated_columns.Goals.{In_ok-keep}
 
-marks : (c : In_ok-keep) → LeavesNoDominatedColumn (is_preferred NoDearer (counted c.args.choice c.args.self.now.weights)) c.args.self.now.live (items_of c.args.transpose.now) c.in_ok-keep.keep.items
+-- the table that the fields show
+abbrev own : (c : In_ok-keep) → Table
+own c = let t = c.self.inside in table_of t.columns t.taken.items t.live.items (items_of t.rows.items) t.literals.items
+
+marks : (c : In_ok-keep) → LeavesNoDominatedColumn (is_preferred NoDearer (counted c.args.choice (own c).weights)) (own c).live (items_of c.args.transpose.now) c.in_ok-keep.keep.items
 marks c =
-    subst (λ ls. LeavesNoDominatedColumn (is_preferred NoDearer (counted c.args.choice c.args.self.now.weights)) ls (items_of c.args.transpose.now) c.in_ok-keep.keep.items) c.live_columns.ensures.value
-    (subst (λ ws. LeavesNoDominatedColumn (is_preferred NoDearer (counted c.args.choice ws)) c.live_columns.result.now (items_of c.args.transpose.now) c.in_ok-keep.keep.items) c.literals.ensures.value c.in_ok-keep.ensures)
+    subst (λ ls. LeavesNoDominatedColumn (is_preferred NoDearer (counted c.args.choice (own c).weights)) ls (items_of c.args.transpose.now) c.in_ok-keep.keep.items) c.deref-2.ensures.value
+    (subst (λ ws. LeavesNoDominatedColumn (is_preferred NoDearer (counted c.args.choice ws)) c.deref-2.result.now (items_of c.args.transpose.now) c.in_ok-keep.keep.items) c.deref.ensures.value c.in_ok-keep.ensures)
+
+rows : (c : In_ok-keep) → IsTranspose (own c).columns (own c).rows (items_of c.args.transpose.now)
+rows c = subst (λ (t : Table). IsTranspose t.columns t.rows (items_of c.args.transpose.now)) (sym c.self.view_is) c.requires.transpose
+
+pub invariant_of-self : goal.invariant_of-self
+invariant_of-self c =
+    let p = (goal.at.invariant_of-self c).In_ok-keep in
+    let live = c.retain_marked.ensures ∙ ap (λ ks. filter (marked ks) (own p).live) c.deref-6.ensures.value in
+    let kept = c.retain_marked_in_rows.ensures ∙ ap (λ ks. map (filter (marked ks)) (own p).rows) c.deref-7.ensures.value in
+    subst IsTable (sym (table_same (own p).columns _ _ _ _ _ _ _ _ refl live kept refl))
+    (undominated_table (is_preferred NoDearer (counted c.args.choice (own p).weights)) (own p) (items_of c.args.transpose.now) c.in_ok-keep.keep.items c.self.invariant (rows p) (marks p))
 
 pub returns : goal.returns
 returns c =
-    let t = c.args.self.now in
+    let p = (goal.at.returns c).In_ok-keep in
     let keep = c.in_ok-keep.keep.items in
-    let wt = c.row_lists.ensures.table in
-    let is_served : IsServed c.args.choice t keep = served c.args.choice t (items_of c.args.transpose.now) keep wt c.requires.transpose (marks (goal.at.returns c).In_ok-keep) in
-    let live : c.in_ok-live.live.items ≡ filter (marked keep) t.live = c.in_ok-live.ensures ∙ ap (λ ks. filter (marked ks) c.live_columns-2.result.now) c.deref.ensures.value ∙ ap (filter (marked keep)) c.live_columns-2.ensures.value in
-    let long = ap length live in
-    let all = ap length c.live_columns-3.ensures.value in
-    let fewer : length (filter (marked keep) t.live) < length t.live = omega (arith, long, all, c.len.ensures, c.in_ok-live.live.ok, c.if-len-live_columns.false) in
-    IfOk-weaker c.keep_marked.result _ _
-    (λ o h. served_some c.args.choice t keep _ o wt is_served fewer (subst (λ ks. MatchOption o (list_any is_blank (map (filter (marked ks)) t.rows) ≡ true) (λ (u : Table). u ≡ keep_columns (marked ks) t)) c.deref-2.ensures.value h))
-    c.keep_marked.ensures.kept
+    let live = c.retain_marked.ensures ∙ ap (λ ks. filter (marked ks) (own p).live) c.deref-6.ensures.value in
+    let kept = c.retain_marked_in_rows.ensures ∙ ap (λ ks. map (filter (marked ks)) (own p).rows) c.deref-7.ensures.value in
+    let some = sym (c.all_kept.ensures ∙ ap (λ ks. list_all (marked ks) c.deref-4.result.now) c.deref-5.ensures.value ∙ ap (list_all (marked keep)) c.deref-4.ensures.value) ∙ c.if-all_kept.false in
+    let fewer : length (filter (marked keep) (own p).live) < length (own p).live = elim (cases_lt (length (filter (marked keep) (own p).live)) (length (own p).live)) [
+      | inl less ↦ less
+      | inr more ↦ absurd (filter_not_full (marked keep) (own p).live some (let most = filter_length (marked keep) (own p).live in omega arith))
+    ] in
+    let is_served : IsServed c.args.choice (own p) keep = served c.args.choice (own p) (items_of c.args.transpose.now) keep c.self.invariant (rows p) (marks p) in
+    let left = table_of (own p).columns (own p).taken c.retain_marked.new.columns.items (items_of c.retain_marked_in_rows.new.rows.items) (own p).weights in
+    let same : left ≡ keep_columns (marked keep) (own p) = table_same (own p).columns _ _ _ _ _ _ _ _ refl live kept refl in
+    subst (λ t. IsWeakStep c.args.choice t left) c.self.view_is
+    (served_lighter c.args.choice (own p) left keep c.self.invariant is_served same (subst (λ n. n < length (own p).live) (sym (ap length live)) fewer))

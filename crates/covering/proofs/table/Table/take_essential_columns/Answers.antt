@@ -1,45 +1,51 @@
-use Rattle.std.proofs.Common.{◌≡◌, ◌≢◌, ◌∙◌, ◌||◌, not, length, refl, sym, ap, subst, arith}
+use Rattle.std.proofs.Common.{◌≡◌, ◌∙◌, ◌||◌, not, refl, sym, ap, subst}
 use Rattle.std.specs.Prelude.{filter}
 use Rattle.std.specs.List.{list_all, range_with_len}
 use Rattle.covering.specs.declared.choice.Choice.TheVariants.{First}
-use Rattle.covering.specs.Table.{IsTable, items_of, has, table_of}
+use Rattle.covering.specs.Table.{Table, IsTable, items_of, has, table_of}
 use Rattle.covering.specs.Search.{marked}
-use Rattle.covering.specs.Reduce.{MarksInessentialColumns, Shrinks, take_unmarked}
+use Rattle.covering.specs.Reduce.{MarksInessentialColumns, HasNoEssentialColumn, Shrinks, take_unmarked}
 use Rattle.covering.proofs.Made.{table_same}
-use Rattle.covering.proofs.Reduced.{none_essential, essentials_shrink, essentials_table}
+use Rattle.covering.proofs.Reduced.{filter_length_all, filter_not_full, none_essential, essentials_shrink, essentials_table}
 use Rattle.covering.proofs.table.Table.take_essential_columns.Goals as goal
-use Rattle.covering.proofs.table.Table.take_essential_columns.Goals.{In_ok-keep, In_ok-live, In_ok-rows}
+use Rattle.covering.proofs.table.Table.take_essential_columns.Goals.{In_ok-keep}
 
-marks : (c : In_ok-keep) → MarksInessentialColumns c.args.self.now.columns c.args.self.now.rows c.in_ok-keep.keep.items
-marks c = subst (λ n. MarksInessentialColumns n c.args.self.now.rows c.in_ok-keep.keep.items) c.columns.ensures.count (subst (λ rs. MarksInessentialColumns c.columns.result rs c.in_ok-keep.keep.items) c.row_lists.ensures.value c.in_ok-keep.ensures)
+-- the table that the fields show
+abbrev own : (c : In_ok-keep) → Table
+own c = let t = c.self.inside in table_of t.columns t.taken.items t.live.items (items_of t.rows.items) t.literals.items
 
-kept : (c : In_ok-live) → c.in_ok-live.live.items ≡ filter (marked c.in_ok-keep.keep.items) c.args.self.now.live
-kept c = c.in_ok-live.ensures ∙ ap (λ ks. filter (marked ks) c.live_columns.result.now) c.deref.ensures.value ∙ ap (filter (marked c.in_ok-keep.keep.items)) c.live_columns.ensures.value
+marks : (c : In_ok-keep) → MarksInessentialColumns (own c).columns (own c).rows c.in_ok-keep.keep.items
+marks c = subst (λ rs. MarksInessentialColumns (own c).columns (items_of rs) c.in_ok-keep.keep.items) c.deref.ensures.value c.in_ok-keep.ensures
 
-made : (c : In_ok-rows) → table_of c.args.self.now.columns c.in_ok-taken.taken.items c.in_ok-live.live.items (items_of c.in_ok-rows.rows.items) c.args.self.now.weights ≡ take_unmarked c.in_ok-keep.keep.items c.args.self.now
-made c =
+pub returns-then-all_kept-clause-taken : goal.returns-then-all_kept-clause-taken
+returns-then-all_kept-clause-taken c = λ choice.
+    let p = (goal.at.returns-then-all_kept-clause-taken c).In_ok-keep in
     let keep = c.in_ok-keep.keep.items in
-    let taken = c.in_ok-taken.ensures
-    ∙ ap (λ ts. filter (λ n. has n ts || not (marked c.deref-2.result.now n)) (range_with_len 0 c.columns-2.result)) c.taken_columns.ensures.value
-    ∙ ap (λ ks. filter (λ n. has n c.args.self.now.taken || not (marked ks n)) (range_with_len 0 c.columns-2.result)) c.deref-2.ensures.value
-    ∙ ap (λ m. filter (λ n. has n c.args.self.now.taken || not (marked keep n)) (range_with_len 0 m)) c.columns-2.ensures.count in
-    let rows = c.in_ok-rows.ensures ∙ ap (λ ks. filter (list_all (marked ks)) (items_of c.row_lists-2.result.now)) c.deref-3.ensures.value ∙ ap (filter (list_all (marked keep))) c.row_lists-2.ensures.value in
-    table_same c.args.self.now.columns _ _ _ _ _ _ _ _ taken (c.in_ok-live.ensures ∙ ap (λ ks. filter (marked ks) c.live_columns.result.now) c.deref.ensures.value ∙ ap (filter (marked keep)) c.live_columns.ensures.value) rows refl
+    let all = sym (c.all_kept.ensures ∙ ap (λ ks. list_all (marked ks) c.deref-2.result.now) c.deref-3.ensures.value ∙ ap (list_all (marked keep)) c.deref-2.ensures.value) ∙ c.if-all_kept.true in
+    (refl, subst HasNoEssentialColumn c.self.view_is (none_essential choice (own p) keep c.self.invariant (marks p) (filter_length_all (marked keep) (own p).live all)))
 
-pub returns-then-len-live_columns-clause-taken : goal.returns-then-len-live_columns-clause-taken
-returns-then-len-live_columns-clause-taken c = λ choice.
-    let at = goal.at.returns-then-len-live_columns-clause-taken c in
-    let long : length c.in_ok-live.live.items ≡ c.len.result = omega (arith, c.len.ensures, c.in_ok-live.live.ok) in
-    none_essential choice c.args.self.now c.in_ok-keep.keep.items c.row_lists.ensures.table (marks at.In_ok-keep) (sym (ap length (kept at.In_ok-live)) ∙ long ∙ c.if-len-live_columns.true ∙ ap length c.live_columns-2.ensures.value)
-
-pub with-requires : goal.with-requires
-with-requires c =
-    let at = goal.at.with-requires c in
-    subst IsTable (sym (made at.In_ok-rows)) (essentials_table First c.args.self.now c.in_ok-keep.keep.items c.row_lists.ensures.table (marks at.In_ok-keep))
+pub invariant_of-self : goal.invariant_of-self
+invariant_of-self c =
+    let p = (goal.at.invariant_of-self c).In_ok-keep in
+    let keep = c.in_ok-keep.keep.items in
+    let taken = c.in_ok-self-inside.ensures
+    ∙ ap (λ ts. filter (λ n. has n ts || not (marked c.deref-5.result.now n)) (range_with_len 0 (own p).columns)) c.deref-4.ensures.value
+    ∙ ap (λ ks. filter (λ n. has n (own p).taken || not (marked ks n)) (range_with_len 0 (own p).columns)) c.deref-5.ensures.value in
+    let live = c.retain_marked.ensures ∙ ap (λ ks. filter (marked ks) (own p).live) c.deref-6.ensures.value in
+    let kept = c.retain_untouched_rows.ensures ∙ ap (λ ks. filter (list_all (marked ks)) (own p).rows) c.deref-7.ensures.value in
+    subst IsTable (sym (table_same (own p).columns _ _ _ _ _ _ _ _ taken live kept refl)) (essentials_table First (own p) keep c.self.invariant (marks p))
 
 pub returns-clause-taken : goal.returns-clause-taken
 returns-clause-taken c = λ choice.
-    let at = goal.at.returns-clause-taken c in
-    let long : length c.in_ok-live.live.items ≡ c.len.result = omega (arith, c.len.ensures, c.in_ok-live.live.ok) in
-    let fewer : length (filter (marked c.in_ok-keep.keep.items) c.args.self.now.live) ≢ length c.args.self.now.live = λ e. c.if-len-live_columns.false (sym long ∙ ap length (kept at.In_ok-live) ∙ e ∙ sym (ap length c.live_columns-2.ensures.value)) in
-    subst (Shrinks choice c.args.self.now) (sym (c.in_ok-with.ensures ∙ made at.In_ok-rows)) (essentials_shrink choice c.args.self.now c.in_ok-keep.keep.items c.row_lists.ensures.table (marks at.In_ok-keep) fewer)
+    let p = (goal.at.returns-clause-taken c).In_ok-keep in
+    let keep = c.in_ok-keep.keep.items in
+    let taken = c.in_ok-self-inside.ensures
+    ∙ ap (λ ts. filter (λ n. has n ts || not (marked c.deref-5.result.now n)) (range_with_len 0 (own p).columns)) c.deref-4.ensures.value
+    ∙ ap (λ ks. filter (λ n. has n (own p).taken || not (marked ks n)) (range_with_len 0 (own p).columns)) c.deref-5.ensures.value in
+    let live = c.retain_marked.ensures ∙ ap (λ ks. filter (marked ks) (own p).live) c.deref-6.ensures.value in
+    let kept = c.retain_untouched_rows.ensures ∙ ap (λ ks. filter (list_all (marked ks)) (own p).rows) c.deref-7.ensures.value in
+    let some = sym (c.all_kept.ensures ∙ ap (λ ks. list_all (marked ks) c.deref-2.result.now) c.deref-3.ensures.value ∙ ap (list_all (marked keep)) c.deref-2.ensures.value) ∙ c.if-all_kept.false in
+    let left = table_of (own p).columns c.in_ok-self-inside.field-0.items c.retain_marked.new.columns.items (items_of c.retain_untouched_rows.new.rows.items) (own p).weights in
+    let same : left ≡ take_unmarked keep (own p) = table_same (own p).columns _ _ _ _ _ _ _ _ taken live kept refl in
+    subst (λ t. Shrinks choice t left) c.self.view_is
+    (subst (Shrinks choice (own p)) (sym same) (essentials_shrink choice (own p) keep c.self.invariant (marks p) (filter_not_full (marked keep) (own p).live some)))

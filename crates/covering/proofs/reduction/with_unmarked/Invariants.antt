@@ -1,0 +1,8 @@
+use Rattle.std.proofs.Common.{◌≡◌, ℕ, take}
+use Rattle.std.specs.Prelude.{not, ◌&&◌}
+use Rattle.covering.specs.Table.{has}
+use Rattle.covering.specs.Search.{marked}
+use Rattle.covering.proofs.reduction.with_unmarked.Given as goal
+
+abbrev pub invariant-loop-column : goal.invariant-loop-column
+invariant-loop-column l = (n : ℕ) → marked l.rest.items n ≡ (marked l.keep n && not (has n (take l.column-index l.taken)))
