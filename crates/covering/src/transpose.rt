@@ -1,6 +1,6 @@
 //! The transpose of a table: the rows of each column.
 
-ghost use Rattle.std.specs.Prelude.{◌≡◌, [], IfOk, length};
+ghost use Rattle.std.specs.Prelude.{◌≡◌, [], IfOk, length, replicate};
 ghost use Rattle.covering.specs.Table.{RisesFrom, items_of};
 ghost use Rattle.covering.specs.Reduce.{AreRising, Appends, Enters, IsTranspose};
 
@@ -31,36 +31,56 @@ fn enter(columns: &mut Vec<Vec<usize>>, row: &[usize], number: usize) -> Result<
     Ok(())
 }
 
-/// An empty list: one of these, emptied, or else one with room for as many rows as the column is
-/// likely to have.
-fn empty_list(
-    alloc: Global,
-    lists: &mut Vec<Vec<usize>>,
-    room: &[i64],
-    place: usize,
-) -> Result<Vec<usize>, AllocError>
-    ensures { IfOk result (λ v. v.items ≡ []) }
+/// Empties each list.
+fn clear_each(lists: &mut Vec<Vec<usize>>)
+    ensures { items_of lists.new.items ≡ replicate (length lists.old.items) [] }
 {
-    if let Some(list) = lists.pop() {
-        let mut list = list;
+    for list in lists.iter_mut() {
         list.clear();
-        return Ok(list);
     }
-    let room = if place < room.len() { room[place] } else { 0 };
-    Vec::with_capacity(alloc, usize::try_from(room).unwrap_or(0))
 }
 
-/// How many rows each column has; nothing where that is not needed, as there are lists to take.
-fn room_for_rows(
+/// The number at the place; 0 if there is none or it is negative.
+fn room_at(numbers: &[i64], place: usize) -> usize {
+    let room = if place < numbers.len() {
+        numbers[place]
+    } else {
+        0
+    };
+    usize::try_from(room).unwrap_or(0)
+}
+
+/// An empty list for each column, with room for as many rows as the column is likely to have.
+fn empty_lists(
     alloc: Global,
     rows: &[Vec<usize>],
     columns: usize,
-    is_needed: bool,
-) -> Result<Vec<i64>, AllocError> {
-    if !is_needed {
-        return Ok(Vec::new(alloc));
+) -> Result<Vec<Vec<usize>>, AllocError>
+    ensures { IfOk result (λ v. items_of v.items ≡ replicate columns []) }
+{
+    let row_counts = row_counts(alloc, rows, columns)?;
+    let mut lists: Vec<Vec<usize>> = Vec::with_capacity(alloc, columns)?;
+    for column in 0..columns {
+        lists.push(Vec::with_capacity(alloc, room_at(&row_counts, column))?)?;
     }
-    row_counts(alloc, rows, columns)
+    Ok(lists)
+}
+
+/// An empty list for each column: these, emptied, if they are as many.
+fn emptied_or_new(
+    alloc: Global,
+    rows: &[Vec<usize>],
+    columns: usize,
+    lists: Vec<Vec<usize>>,
+) -> Result<Vec<Vec<usize>>, AllocError>
+    ensures { IfOk result (λ v. items_of v.items ≡ replicate columns []) }
+{
+    if lists.len() != columns {
+        return empty_lists(alloc, rows, columns);
+    }
+    let mut lists = lists;
+    clear_each(&mut lists);
+    Ok(lists)
 }
 
 /// The rows of each column, in the memory of lists that are not needed any more.
@@ -75,13 +95,7 @@ fn transpose(
         (items_of v.items)) }
     ensures long { IfOk result (λ v. length v.items ≡ columns) }
 {
-    let mut lists = lists;
-    let room = room_for_rows(alloc, rows, columns, lists.is_empty())?;
-    let mut transpose: Vec<Vec<usize>> = Vec::with_capacity(alloc, columns)?;
-    for column in 0..columns {
-        let list = empty_list(alloc, &mut lists, &room, column)?;
-        transpose.push(list)?;
-    }
+    let mut transpose = emptied_or_new(alloc, rows, columns, lists)?;
     for (i, row) in rows.iter().enumerate() {
         enter(&mut transpose, row, i)?;
     }

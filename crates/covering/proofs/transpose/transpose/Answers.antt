@@ -6,28 +6,18 @@ use Rattle.covering.proofs.TransposeSteps.{transpose_none, transpose_more, repli
 use Rattle.covering.proofs.Rows.{take_items}
 use Rattle.covering.proofs.transpose.transpose.Goals as goal
 
-pub loop-column-init : goal.loop-column-init
-loop-column-init c = ap items_of c.in_ok-transpose.ensures.items
-
-pub loop-column-preserved : goal.loop-column-preserved
-loop-column-preserved c =
-    let blank = ap (λ xs. xs ∷ []) c.in_ok-list.ensures in
-    ap items_of c.in_ok-push.ensures.items ∙ map-append (λ v. v.items) c.loop-column.transpose.items (c.in_ok-list.list ∷ []) ∙ ap (λ xs. xs ++ c.in_ok-list.list.items ∷ []) c.loop-column.invariant ∙ ap (λ ys. replicate c.loop-column.column [] ++ ys) blank ∙ replicate_more c.loop-column.column
-
 pub loop-i-init : goal.loop-i-init
-loop-i-init c =
-    let all : c.loop-column.column ≡ c.args.columns = omega arith in
-    subst (TransposeSoFar c.args.columns 0 []) (sym (c.loop-column.invariant ∙ ap (λ n. replicate n []) all)) (transpose_none c.args.columns)
+loop-i-init c = subst (TransposeSoFar c.args.columns 0 []) (sym c.in_ok-transpose.ensures) (transpose_none c.args.columns)
 
 pub enter-requires : goal.enter-requires
 enter-requires c =
-    subst (RisesFrom 0) (row_at_items c.args.rows.now c.loop-i.i c.index-rows-i.result c.loop-i-test.true ∙ ap (λ v. v.items) (sym c.index-rows-i.is) ∙ sym c.deref-in-loop-i.ensures.value) (rising_at (items_of c.args.rows.now) c.loop-i.i c.requires)
+    subst (RisesFrom 0) (row_at_items c.args.rows.now c.loop-i.i c.index-rows-i.result c.loop-i-test.true ∙ ap (λ v. v.items) (sym c.index-rows-i.is) ∙ sym c.deref.ensures.value) (rising_at (items_of c.args.rows.now) c.loop-i.i c.requires)
 
 pub loop-i-preserved : goal.loop-i-preserved
 loop-i-preserved c =
     let rows = take_items c.args.rows.now c.loop-i.i c.index-rows-i.result c.loop-i-test.true c.index-rows-i.is in
     let long : length (items_of (take c.loop-i.i c.args.rows.now)) ≡ c.loop-i.i = length_items (take c.loop-i.i c.args.rows.now) ∙ simp length-take (omega arith) in
-    let entered = subst (λ row. Enters (items_of c.loop-i.transpose.items) row c.loop-i.i (items_of c.enter.new.columns.items)) c.deref-in-loop-i.ensures.value c.in_ok-enter.ensures in
+    let entered = subst (λ row. Enters (items_of c.loop-i.transpose.items) row c.loop-i.i (items_of c.enter.new.columns.items)) c.deref.ensures.value c.in_ok-enter.ensures in
     subst (λ rs. TransposeSoFar c.args.columns (c.loop-i.i + 1) rs (items_of c.enter.new.columns.items)) (sym rows)
     (transpose_more c.args.columns c.loop-i.i (items_of (take c.loop-i.i c.args.rows.now)) (items_of c.loop-i.transpose.items) (items_of c.enter.new.columns.items) c.index-rows-i.result.items long c.loop-i.invariant entered)
 
