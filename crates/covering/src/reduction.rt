@@ -104,14 +104,19 @@ impl Table {
         Ok(is_changed)
     }
 
-    /// The table after all passes, in a search for some cover within a budget.
-    pub(crate) fn reduce_weakly(self, alloc: Global, choice: Choice) -> Result<Table, AllocError>
+    /// The table after all passes, in a search for some cover within a budget. The lists are memory
+    /// for the rows of each column.
+    pub(crate) fn reduce_weakly(
+        self,
+        alloc: Global,
+        choice: Choice,
+        lists: &mut Vec<Vec<usize>>,
+    ) -> Result<Table, AllocError>
         ensures { IfOk result (λ u. IsWeaklyReduced choice self u) }
     {
-        let mut lists = Vec::new(alloc);
         let mut table = self;
         loop {
-            if !table.reduce_weakly_once(alloc, choice, &mut lists)? {
+            if !table.reduce_weakly_once(alloc, choice, lists)? {
                 return Ok(table);
             }
         }

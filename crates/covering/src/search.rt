@@ -215,11 +215,12 @@ impl Table {
         choice: Choice,
         budget: Budget,
         warm_start: &mut WarmStart,
+        lists: &mut Vec<Vec<usize>>,
     ) -> Result<Option<Table>, AllocError>
         ensures { IfOk result (λ o. MatchOption o (NoneWithin choice self budget.columns
             budget.cost) (IsPruned choice budget.columns budget.cost self)) }
     {
-        let mut table = self.reduce_weakly(alloc, choice)?;
+        let mut table = self.reduce_weakly(alloc, choice, lists)?;
         loop {
             let live = table.live_columns().len();
             let Some(next) = table.drop_by_bound(alloc, choice, budget, warm_start)? else {
@@ -228,7 +229,7 @@ impl Table {
             if live <= next.live_columns().len() {
                 return Ok(Some(next));
             }
-            table = next.reduce_weakly(alloc, choice)?;
+            table = next.reduce_weakly(alloc, choice, lists)?;
             if !is_worth_a_bound(live, table.live_columns().len()) {
                 return Ok(Some(table));
             }
@@ -264,6 +265,7 @@ impl Table {
         budget: Budget,
         warm_start: &mut WarmStart,
         tables_left: &mut u64,
+        lists: &mut Vec<Vec<usize>>,
     ) -> Result<Option<Vec<usize>>, Stop>
         ensures { IfOk result (λ o. Answers choice self budget.columns budget.cost
             (option_map (λ v. v.items) o)) }
@@ -274,9 +276,9 @@ impl Table {
         *tables_left = rest;
         let mut own = warm_start.copy(alloc)?;
         own.count_table();
-        let found = match self.prune(alloc, choice, budget, &mut own)? {
+        let found = match self.prune(alloc, choice, budget, &mut own, lists)? {
             None => Ok(None),
-            Some(table) => table.branch(alloc, choice, budget, &mut own, tables_left),
+            Some(table) => table.branch(alloc, choice, budget, &mut own, tables_left, lists),
         };
         warm_start.learn(&own);
         found
@@ -292,6 +294,7 @@ impl Table {
         budget: Budget,
         warm_start: &mut WarmStart,
         tables_left: &mut u64,
+        lists: &mut Vec<Vec<usize>>,
     ) -> Result<Option<Vec<usize>>, Stop>
         ensures { IfOk result (λ o. Answers choice self.now budget.columns budget.cost
             (option_map (λ v. v.items) o)) }
@@ -306,12 +309,12 @@ impl Table {
             return Ok(None);
         };
         let with = self.take(alloc, column)?;
-        if let Some(cover) = with.search(alloc, choice, budget, warm_start, tables_left)? {
+        if let Some(cover) = with.search(alloc, choice, budget, warm_start, tables_left, lists)? {
             return Ok(Some(cover));
         }
         match self.drop_live(alloc, column)? {
             None => Ok(None),
-            Some(rest) => rest.search(alloc, choice, budget, warm_start, tables_left),
+            Some(rest) => rest.search(alloc, choice, budget, warm_start, tables_left, lists),
         }
     }
 
@@ -335,7 +338,9 @@ impl Table {
         if let Some(cover) = found {
             return Ok(Some(cover));
         }
-        let Some(table) = self.copy(alloc)?.prune(alloc, choice, budget, warm_start)? else {
+        let mut lists = Vec::new(alloc);
+        let copy = self.copy(alloc)?;
+        let Some(table) = copy.prune(alloc, choice, budget, warm_start, &mut lists)? else {
             return Ok(None);
         };
         let goal = table.goal(choice, budget);
@@ -344,6 +349,13 @@ impl Table {
             return Ok(Some(cover));
         }
         let mut tables_left = most_tables;
-        table.branch(alloc, choice, budget, warm_start, &mut tables_left)
+        table.branch(
+            alloc,
+            choice,
+            budget,
+            warm_start,
+            &mut tables_left,
+            &mut lists,
+        )
     }
 }
