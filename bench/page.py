@@ -263,8 +263,8 @@ family at the first size that it does not answer within {limit:g} seconds and {b
 the limit holds for each, and times, rows and answers are sums.
 
 In the tables, times are in seconds, *none* means no answer within these limits, and – a size on which a tool was not run. The
-ratio is the other tool's time divided by this one's, in bold where the other is faster. Wherever two tools answered, their
-answers were compared: {agreed}.
+ratio is the other tool's time divided by this one's, in bold where the other is faster; times count as the same where the
+longer is less than 1.25 times the other. Wherever two tools answered, their answers were compared: {agreed}.
 """
 
 SHORTLY = """## In short
