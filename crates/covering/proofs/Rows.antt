@@ -3,11 +3,11 @@ use Rattle.std.proofs.Common.{◌≡◌, ℕ, zero, suc, ◌+◌, ◌<◌, ◌�
 use Rattle.std.specs.Prelude.{filter}
 use Rattle.std.specs.List.{list_any, swap}
 use Rattle.std.proofs.lemmas.Bool.{cases_lt, cond-true, cond-false}
-use Rattle.std.proofs.lemmas.List.{take_more, drop_more, map-append, map-set, set-set, take-set-le, take_more_set, drop-set-lt}
+use Rattle.std.proofs.lemmas.List.{append-nil, take_all, take_more, drop_all, drop_more, map-append, map-set, set-set, take-set-le, take_more_set, drop-set-lt}
 use Rattle.std.proofs.lemmas.List.Edits.{swap_is}
 use Rattle.covering.specs.Table.{items_of}
 use Rattle.covering.specs.Reduce.{rows_from}
-use Rattle.covering.proofs.TransposeSteps.{row_at_items}
+use Rattle.covering.proofs.TransposeSteps.{row_at_items, length_items}
 
 pub take_items : {Z : Type 0} (rows : List (Vec ℕ Z)) (i : ℕ) (r : Vec ℕ Z) → i < length rows → r ≡ slice_index_or rows i r → items_of (take (i + 1) rows) ≡ items_of (take i rows) ++ r.items ∷ []
 take_items rows i r l e = ap items_of (take_more rows i r l) ∙ map-append (λ row. row.items) (take i rows) (slice_index_or rows i r ∷ []) ∙ ap (λ v. items_of (take i rows) ++ v.items ∷ []) (sym e)
@@ -44,6 +44,16 @@ pub changed_more : {Z : Type 0} (f : List ℕ → List ℕ) (old : List (List �
 changed_more f old rows i r v l m e is =
     map-set (λ row. row.items) rows i v ∙ ap (set (items_of rows) i) (e ∙ ap f (sym (row_at_items rows i r l)))
     ∙ ap (λ rs. set rs i (f (slice_index_or rs i []))) is ∙ one_changed f old i m
+
+-- all rows are changed
+pub changed_all : {Z : Type 0} (f : List ℕ → List ℕ) (old rows : List (Vec ℕ Z)) (i n : ℕ) → length rows ≡ length old → length old ≤ i → length rows ≤ n
+    → items_of rows ≡ map f (take i (items_of old)) ++ drop i (items_of old) → items_of (take n (rows ++ drop (length rows) old)) ≡ map f (items_of old)
+changed_all f old rows i n long past within is =
+    let end : length (items_of old) ≤ i = omega (arith, length_items old) in
+    ap (λ xs. items_of (take n (rows ++ xs))) (drop_all (length rows) old (omega arith))
+    ∙ ap (λ xs. items_of (take n xs)) (append-nil rows) ∙ ap items_of (take_all n rows within)
+    ∙ is ∙ ap (λ xs. map f (take i (items_of old)) ++ xs) (drop_all i (items_of old) end)
+    ∙ append-nil (map f (take i (items_of old))) ∙ ap (map f) (take_all i (items_of old) end)
 
 -- ---- rows that stay move to the front
 

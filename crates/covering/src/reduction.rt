@@ -9,7 +9,7 @@
 
 ghost use Rattle.std.specs.Prelude.{◌≡◌, ◌<◌, ◌==◌, ◌||◌, IfOk, MatchBool, not, filter};
 ghost use Rattle.std.specs.List.{range_with_len};
-ghost use Rattle.covering.specs.Table.{IsTable, RisesFrom, items_of, has};
+ghost use Rattle.covering.specs.Table.{IsTable, items_of, has};
 ghost use Rattle.covering.specs.Steps.{Steps, IsReduced, SameLeast};
 ghost use Rattle.covering.specs.Search.{IsWeakStep, IsWeaklyReduced, marked};
 ghost use Rattle.covering.specs.Reduce.{UnmarksEssentialColumn, MarksInessentialColumns, HasNoEssentialColumn, Shrinks};

@@ -1,7 +1,6 @@
-use Rattle.std.proofs.Common.{◌≡◌, ◌≤◌, ◌∙◌, ◌++◌, ℕ, List, [], ◌∷◌, map, length, take, replicate, refl, ap, arith}
-use Rattle.std.proofs.lemmas.List.{append-nil, take_all, drop_all}
+use Rattle.std.proofs.Common.{◌≡◌, ◌∙◌, ℕ, List, [], ◌∷◌, map, length, replicate, refl, ap, arith}
 use Rattle.covering.specs.Table.{items_of}
-use Rattle.covering.proofs.Rows.{changed_more}
+use Rattle.covering.proofs.Rows.{changed_more, changed_all}
 use Rattle.covering.proofs.TransposeSteps.{length_items}
 use Rattle.covering.proofs.transpose.clear_each.Goals as goal
 
@@ -26,13 +25,7 @@ loop-list-preserved c =
 pub returns : goal.returns
 returns c =
     let old = c.args.lists.now.items in
-    let lists = c.loop-list.list-items in
-    let i = c.loop-list.list-index in
-    let long : length lists ≡ length old = c.loop-list.auto.list-items ∙ ap length c.deref_mut-list-items.ensures.value in
-    let past : length (items_of old) ≤ i = omega (arith, length_items old, long, c.loop-list.auto.list-items, c.loop-list-test.false) in
-    ap (λ xs. items_of (take c.args.lists.now.len (lists ++ xs))) (drop_all (length lists) old (omega (arith, long)))
-    ∙ ap (λ xs. items_of (take c.args.lists.now.len xs)) (append-nil lists)
-    ∙ ap items_of (take_all c.args.lists.now.len lists (omega (arith, c.loop-list.auto.list-items, c.deref_mut-list-items.ensures.len)))
-    ∙ c.loop-list.invariant ∙ ap (λ xs. map (λ _. []) (take i (items_of old)) ++ xs) (drop_all i (items_of old) past)
-    ∙ append-nil (map (λ _. []) (take i (items_of old))) ∙ ap (map (λ _. [])) (take_all i (items_of old) past)
+    let long : length c.loop-list.list-items ≡ length old = c.loop-list.auto.list-items ∙ ap length c.deref_mut-list-items.ensures.value in
+    changed_all (λ _. []) old c.loop-list.list-items c.loop-list.list-index c.args.lists.now.len long
+    (omega (arith, long, c.loop-list.auto.list-items, c.loop-list-test.false)) (omega (arith, c.loop-list.auto.list-items, c.deref_mut-list-items.ensures.len)) c.loop-list.invariant
     ∙ empty_each (items_of old) ∙ ap (λ n. replicate n []) (length_items old)

@@ -1,4 +1,4 @@
-use Rattle.std.proofs.Common.{◌∙◌, ◌++◌, ◌∷◌, [], replicate, ap, arith}
+use Rattle.std.proofs.Common.{◌∙◌, ◌++◌, ◌∷◌, [], replicate, ap}
 use Rattle.std.proofs.lemmas.List.{map-append}
 use Rattle.covering.specs.Table.{items_of}
 use Rattle.covering.proofs.TransposeSteps.{replicate_more}

@@ -1,8 +1,8 @@
-use Rattle.std.proofs.Common.{◌≡◌, ◌∙◌, ◌+◌, ◌++◌, ◌∷◌, [], replicate, length, sym, ap, subst, take, arith}
-use Rattle.std.proofs.lemmas.List.{take_all, map-append, length-take}
+use Rattle.std.proofs.Common.{◌≡◌, ◌∙◌, ◌+◌, [], length, sym, ap, subst, take, arith}
+use Rattle.std.proofs.lemmas.List.{take_all, length-take}
 use Rattle.covering.specs.Table.{items_of, RisesFrom}
 use Rattle.covering.specs.Reduce.{Enters, TransposeSoFar, IsTranspose}
-use Rattle.covering.proofs.TransposeSteps.{transpose_none, transpose_more, replicate_more, rising_at, row_at_items, length_items}
+use Rattle.covering.proofs.TransposeSteps.{transpose_none, transpose_more, rising_at, row_at_items, length_items}
 use Rattle.covering.proofs.Rows.{take_items}
 use Rattle.covering.proofs.transpose.transpose.Goals as goal
 

@@ -24,8 +24,10 @@ returns-then-all_kept-clause-taken c = λ choice.
     let all = sym (c.all_kept.ensures ∙ ap (λ ks. list_all (marked ks) c.deref-2.result.now) c.deref-3.ensures.value ∙ ap (list_all (marked keep)) c.deref-2.ensures.value) ∙ c.if-all_kept.true in
     (refl, subst HasNoEssentialColumn c.self.view_is (none_essential choice (own p) keep c.self.invariant (marks p) (filter_length_all (marked keep) (own p).live all)))
 
-pub invariant_of-self : goal.invariant_of-self
-invariant_of-self c =
+-- the fields at the end
+made : (c : goal.After-drop-keep-2) → table_of c.self.inside.columns c.in_ok-self-inside.field-0.items c.retain_marked.new.columns.items (items_of c.retain_untouched_rows.new.rows.items) c.self.inside.literals.items
+    ≡ take_unmarked c.in_ok-keep.keep.items (own (goal.at.invariant_of-self c).In_ok-keep)
+made c =
     let p = (goal.at.invariant_of-self c).In_ok-keep in
     let keep = c.in_ok-keep.keep.items in
     let taken = c.in_ok-self-inside.ensures
@@ -33,19 +35,19 @@ invariant_of-self c =
     ∙ ap (λ ks. filter (λ n. has n (own p).taken || not (marked ks n)) (range_with_len 0 (own p).columns)) c.deref-5.ensures.value in
     let live = c.retain_marked.ensures ∙ ap (λ ks. filter (marked ks) (own p).live) c.deref-6.ensures.value in
     let kept = c.retain_untouched_rows.ensures ∙ ap (λ ks. filter (list_all (marked ks)) (own p).rows) c.deref-7.ensures.value in
-    subst IsTable (sym (table_same (own p).columns _ _ _ _ _ _ _ _ taken live kept refl)) (essentials_table First (own p) keep c.self.invariant (marks p))
+    table_same (own p).columns _ _ _ _ _ _ _ _ taken live kept refl
+
+pub invariant_of-self : goal.invariant_of-self
+invariant_of-self c =
+    let p = (goal.at.invariant_of-self c).In_ok-keep in
+    let keep = c.in_ok-keep.keep.items in
+    subst IsTable (sym (made c)) (essentials_table First (own p) keep c.self.invariant (marks p))
 
 pub returns-clause-taken : goal.returns-clause-taken
 returns-clause-taken c = λ choice.
     let p = (goal.at.returns-clause-taken c).In_ok-keep in
     let keep = c.in_ok-keep.keep.items in
-    let taken = c.in_ok-self-inside.ensures
-    ∙ ap (λ ts. filter (λ n. has n ts || not (marked c.deref-5.result.now n)) (range_with_len 0 (own p).columns)) c.deref-4.ensures.value
-    ∙ ap (λ ks. filter (λ n. has n (own p).taken || not (marked ks n)) (range_with_len 0 (own p).columns)) c.deref-5.ensures.value in
-    let live = c.retain_marked.ensures ∙ ap (λ ks. filter (marked ks) (own p).live) c.deref-6.ensures.value in
-    let kept = c.retain_untouched_rows.ensures ∙ ap (λ ks. filter (list_all (marked ks)) (own p).rows) c.deref-7.ensures.value in
     let some = sym (c.all_kept.ensures ∙ ap (λ ks. list_all (marked ks) c.deref-2.result.now) c.deref-3.ensures.value ∙ ap (list_all (marked keep)) c.deref-2.ensures.value) ∙ c.if-all_kept.false in
     let left = table_of (own p).columns c.in_ok-self-inside.field-0.items c.retain_marked.new.columns.items (items_of c.retain_untouched_rows.new.rows.items) (own p).weights in
-    let same : left ≡ take_unmarked keep (own p) = table_same (own p).columns _ _ _ _ _ _ _ _ taken live kept refl in
     subst (λ t. Shrinks choice t left) c.self.view_is
-    (subst (Shrinks choice (own p)) (sym same) (essentials_shrink choice (own p) keep c.self.invariant (marks p) (filter_not_full (marked keep) (own p).live some)))
+    (subst (Shrinks choice (own p)) (sym (made c)) (essentials_shrink choice (own p) keep c.self.invariant (marks p) (filter_not_full (marked keep) (own p).live some)))
