@@ -1,29 +1,33 @@
 -- The first difference of two rows, in words and in symbols.
-use Rattle.std.proofs.Common.{take, drop, subst, ◌≡◌, ◌≢◌, ℕ, zero, suc, ◌+◌, ◌*◌, ◌/◌, ◌%◌, ◌^◌, ◌<◌, ◌≤◌, Bool, true, false, List, [], ◌∷◌, length, get_or, refl, ap, sym, ◌∙◌, arith, eqb, cond, ◌==◌, ◌-◌, inl, inr, bit_xor}
+use Rattle.std.proofs.Common.{Option, Some, None, IsTrue, ◌↔◌, not, ltb, take, drop, subst, ◌≡◌, ◌≢◌, ℕ, zero, suc, ◌+◌, ◌*◌, ◌/◌, ◌%◌, ◌^◌, ◌<◌, ◌≤◌, Bool, true, false, List, [], ◌∷◌, length, get_or, refl, ap, sym, ◌∙◌, arith, eqb, cond, ◌==◌, ◌-◌, inl, inr, bit_and, bit_xor}
+use Rattle.std.proofs.Math.Bool.{beq}
 use Rattle.std.specs.Int.{bit_at, w64, trailing_zeros}
+use Rattle.std.specs.Option.{is_some, IfSome, IfNone}
 use Rattle.std.specs.Ordering.{ordering_then, bool_cmp}
 use Rattle.std.specs.Cmp.Lexicographic.{slice_cmp}
 use Rattle.std.specs.declared.cmp.Ordering.{Ordering}
 use Rattle.std.specs.declared.cmp.Ordering.TheVariants.{Less, Equal, Greater}
-use Rattle.std.proofs.lemmas.Bool.{cases_lt}
+use Rattle.std.proofs.lemmas.Bool.{cases_lt, lt-ltb, le-ltb, false≢true}
+use Rattle.std.proofs.lemmas.Cmp.{tied_itself}
 use Rattle.std.proofs.lemmas.List.{get_or_past, ext_get_or, get_or-take, get_or-drop, length-drop}
 use Rattle.std.proofs.lemmas.Nat.Bits.{bit_at_xor, bit_at-lt, bit_at-trailing_zeros}
-use Rattle.std.proofs.lemmas.Nat.{xor_lt}
+use Rattle.std.proofs.lemmas.Nat.{xor_lt, and_mask}
 use Rattle.cube.specs.declared.symbol.Symbol.{Symbol}
 use Rattle.cube.specs.declared.symbol.Symbol.TheVariants.{Dash, Zero, One}
 use Rattle.cube.specs.Pattern.{agrees}
 use Rattle.cube.specs.Cube.{Cube, SameSize}
 use Rattle.cube.specs.Order.{symbol_cmp, row_cmp}
 use Rattle.cube.specs.Words.{bit_of_words, DiffersFirstAt}
-use Rattle.cube.specs.Packing.{bit_of, input_words, Packs, PacksInputs, PacksOutputs}
-use Rattle.cube.proofs.PackingLemmas.{symbol_from_bits}
+use Rattle.cube.specs.Packing.{bit_of, input_words, unpacked, Packs, PacksInputs, PacksOutputs}
+use Rattle.cube.proofs.PackingLemmas.{symbol_from_bits, unpacked-Packs, unpacked-Packs_at}
 use Rattle.cube.proofs.ContainsLemmas.{input_bit_at}
-use Rattle.cube.proofs.SumLemmas.{slice_same, symbol_same, bool_same}
+use Rattle.cube.proofs.SumLemmas.{slice_same, symbol_same, bool_same, row_total}
 
--- where the words before are equal and these two are not
+-- where the words before are equal and these two are not, the lowest bit in which these differ is the first
 pub DiffersFirstAt-from_word : (a b : List ℕ) (w : ℕ) → w < length a → get_or a w 0 < 2 ^ 64 → get_or b w 0 < 2 ^ 64
     → ((v : ℕ) → v < w → get_or a v 0 ≡ get_or b v 0) → bit_xor (get_or a w 0) (get_or b w 0) ≢ 0
-    → DiffersFirstAt a b (64 * w + trailing_zeros w64 (bit_xor (get_or a w 0) (get_or b w 0)))
+    → (at : ℕ) × DiffersFirstAt a b at × (w ≡ at / 64)
+    × ((bit_and (get_or a w 0 / 2 ^ trailing_zeros w64 (bit_xor (get_or a w 0) (get_or b w 0))) 1 == 1) ≡ (bit_of_words a at == 1))
 DiffersFirstAt-from_word a b w lt fits_a fits_b same ne =
     let x = bit_xor (get_or a w 0) (get_or b w 0) in
     let first = bit_at-trailing_zeros w64 x (omega arith) (xor_lt 64 (get_or a w 0) (get_or b w 0) fits_a fits_b) in
@@ -31,29 +35,31 @@ DiffersFirstAt-from_word a b w lt fits_a fits_b same ne =
     let small : t < 64 = first.0 in
     let word : (64 * w + t) / 64 ≡ w = omega arith in
     let bit : (64 * w + t) % 64 ≡ t = omega arith in
-    record {
-      within = omega arith;
-      differs = λ e.
-          let bits : bit_at (get_or a w 0) t ≡ bit_at (get_or b w 0) t =
-          ap (λ v. bit_at (get_or a v 0) t) (sym word) ∙ ap (λ k. bit_at (get_or a ((64 * w + t) / 64) 0) k) (sym bit)
-          ∙ e ∙ ap (λ v. bit_at (get_or b v 0) ((64 * w + t) % 64)) word ∙ ap (λ k. bit_at (get_or b w 0) k) bit in
-          omega (arith, bit_at_xor (get_or a w 0) (get_or b w 0) t, first.1);
-      before = λ k below. elim (cases_lt (k / 64) w) [
-        | inl earlier ↦ ap (λ y. bit_at y (k % 64)) (same (k / 64) earlier)
-        | inr late ↦
-            let here : k / 64 ≡ w = omega arith in
-            let lower : k % 64 < t = omega arith in
-            ap (λ v. bit_at (get_or a v 0) (k % 64)) here
-            ∙ omega (
-              arith,
-              bit_at_xor (get_or a w 0) (get_or b w 0) (k % 64),
-              first.2 (k % 64) lower,
-              bit_at-lt (get_or a w 0) (k % 64),
-              bit_at-lt (get_or b w 0) (k % 64),
-            )
-            ∙ ap (λ v. bit_at (get_or b v 0) (k % 64)) (sym here)
-      ];
-    }
+    let of_words : (l : List ℕ) → bit_of_words l (64 * w + t) ≡ bit_at (get_or l w 0) t =
+    λ l. ap (λ v. bit_at (get_or l v 0) ((64 * w + t) % 64)) word ∙ ap (λ k. bit_at (get_or l w 0) k) bit in (
+      64 * w + t,
+      record {
+        within = omega arith;
+        differs = λ e. omega (arith, bit_at_xor (get_or a w 0) (get_or b w 0) t, first.1, of_words a, of_words b, e);
+        before = λ k below. elim (cases_lt (k / 64) w) [
+          | inl earlier ↦ ap (λ y. bit_at y (k % 64)) (same (k / 64) earlier)
+          | inr late ↦
+              let here : k / 64 ≡ w = omega arith in
+              let lower : k % 64 < t = omega arith in
+              ap (λ v. bit_at (get_or a v 0) (k % 64)) here
+              ∙ omega (
+                arith,
+                bit_at_xor (get_or a w 0) (get_or b w 0) (k % 64),
+                first.2 (k % 64) lower,
+                bit_at-lt (get_or a w 0) (k % 64),
+                bit_at-lt (get_or b w 0) (k % 64),
+              )
+              ∙ ap (λ v. bit_at (get_or b v 0) (k % 64)) (sym here)
+        ];
+      },
+      sym word,
+      ap (λ v. v == 1) (and_mask (get_or a w 0 / 2 ^ t) 1 ∙ sym (of_words a)),
+    )
 
 -- a comparison of lists is settled by the first elements that differ
 first_settles : {X : Type 0} (R : X → X → Ordering) → ((x : X) → R x x ≡ Equal) → (xs ys : List X) (i : ℕ) (d : X)
@@ -280,7 +286,7 @@ module _ (c d : Cube) (size : SameSize c d) (ws vs : List ℕ) (p : Packs c ws) 
   other_outputs : PacksOutputs d.outputs (drop (input_words (length c.symbols)) vs)
   other_outputs = subst (λ n. PacksOutputs d.outputs (drop (input_words n) vs)) (sym size.0) q.outputs
 
-  pub row_cmp-input : (at : ℕ) → DiffersFirstAt ws vs at → at / 64 < input_words (length c.symbols)
+  row_cmp-input : (at : ℕ) → DiffersFirstAt ws vs at → at / 64 < input_words (length c.symbols)
       → row_cmp c d ≡ cond (bit_of_words ws at == 1) Less Greater
   row_cmp-input at first lt =
       let n = input_words (length c.symbols) in
@@ -309,7 +315,7 @@ module _ (c d : Cube) (size : SameSize c d) (ws vs : List ℕ) (p : Packs c ws) 
       let below : k < 64 * n = omega (arith, own_inputs.words_len) in
       front_bit n ws k below ∙ same k below ∙ sym (front_bit n vs k below)))
 
-  pub row_cmp-output : (at : ℕ) → DiffersFirstAt ws vs at → input_words (length c.symbols) ≤ at / 64
+  row_cmp-output : (at : ℕ) → DiffersFirstAt ws vs at → input_words (length c.symbols) ≤ at / 64
       → row_cmp c d ≡ cond (bit_of_words ws at == 1) Greater Less
   row_cmp-output at first le =
       let n = input_words (length c.symbols) in
@@ -329,3 +335,46 @@ module _ (c d : Cube) (size : SameSize c d) (ws vs : List ℕ) (p : Packs c ws) 
       let n = input_words (length c.symbols) in
       equal_inputs (λ k lt. ap (λ l. bit_of_words l k) same)
       ∙ outputs_cmp-same c.outputs d.outputs size.1 (drop n ws) (drop n vs) p.outputs other_outputs (ap (λ l. drop n l) same)
+
+  -- the word of the first bit that differs, and that bit in `ws`
+  abbrev IsFound : ℕ → Bool → Type 0
+  IsFound w is_set = (at : ℕ) × DiffersFirstAt ws vs at × (w ≡ at / 64) × (is_set ≡ (bit_of_words ws at == 1))
+
+  -- they settle the order of rows
+  pub row_cmp-found : (w start : ℕ) (is_set : Bool) → IsFound w is_set → start ≡ input_words (length c.symbols)
+      → row_cmp c d ≡ cond (beq is_set (ltb w start)) Less Greater
+  row_cmp-found w start is_set found e = elim (cases_lt w start) [
+    | inl lt ↦
+        row_cmp-input found.0 found.1 (omega (arith, found.2)) ∙ ap (λ b. cond b Less Greater) (sym found.3) ∙ of_input is_set
+        ∙ ap (λ i. cond (beq is_set i) Less Greater) (sym (lt-ltb w start lt))
+    | inr le ↦
+        row_cmp-output found.0 found.1 (omega (arith, found.2)) ∙ ap (λ b. cond b Greater Less) (sym found.3) ∙ of_output is_set
+        ∙ ap (λ i. cond (beq is_set i) Less Greater) (sym (le-ltb w start le))
+  ]
+    where
+      of_input : (b : Bool) → cond b Less Greater ≡ cond (beq b true) Less Greater
+      of_input true = refl
+      of_input false = refl
+
+      of_output : (b : Bool) → cond b Greater Less ≡ cond (beq b false) Less Greater
+      of_output true = refl
+      of_output false = refl
+
+  -- the rows are one where no word differs
+  pub same_rows-iff : (found : Option (ℕ × Bool)) (none : Bool) → is_some found ≡ not none → IfSome found (λ f. IsFound f.0 f.1) → IfNone found (ws ≡ vs)
+      → IsTrue none ↔ c ≡ d
+  same_rows-iff None true answer differ same = (
+    λ _. sym (unpacked-Packs c ws p) ∙ ap (λ l. unpacked (length c.symbols) (length c.outputs) l) same ∙ unpacked-Packs_at d _ _ vs (sym size.0) (sym size.1) q,
+    λ _. refl,
+  )
+  same_rows-iff None false answer differ same = absurd (false≢true answer)
+  same_rows-iff (Some f) true answer differ same = absurd (false≢true (sym answer))
+  same_rows-iff (Some f) false answer differ same = (
+    λ t. absurd (false≢true t),
+    λ e. absurd (decided (beq f.1 (ltb f.0 (input_words (length c.symbols))))
+        (sym (row_cmp-found f.0 (input_words (length c.symbols)) f.1 differ refl) ∙ ap (λ x. row_cmp c x) (sym e) ∙ tied_itself row_total c)),
+  )
+    where
+      decided : (b : Bool) → cond b Less Greater ≡ Equal → ⊥
+      decided true e = cc e
+      decided false e = cc e

@@ -141,9 +141,6 @@ length-words c ws p =
       length-drop (input_words (length c.symbols)) ws,
     )
 
-pub word_within : (c : Cube) (ws : List ℕ) → Packs c ws → (i : ℕ) → i < length c.symbols → i / 32 < length ws
-word_within c ws p i lt = omega (arith, length-words c ws p)
-
 pub few_words : (c : Cube) (ws : List ℕ) → Packs c ws → word_count c ≤ 4 → length ws ≤ 4
 few_words c ws p few = omega (arith, length-words c ws p, few)
 

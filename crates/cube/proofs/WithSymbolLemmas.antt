@@ -1,14 +1,17 @@
 -- One symbol of a row replaced, and the two bits of its words.
-use Rattle.std.proofs.Common.{◌≡◌, ◌≢◌, ℕ, ◌+◌, ◌*◌, ◌/◌, ◌%◌, ◌<◌, Bool, true, false, List, length, get_or, set, refl, ap, sym, subst, ◌∙◌, arith, inl, inr}
+use Rattle.std.proofs.Common.{◌≡◌, ◌≢◌, ℕ, ◌+◌, ◌*◌, ◌/◌, ◌%◌, ◌<◌, Bool, true, false, List, length, get_or, set, refl, ap, sym, subst, ◌∙◌, take, ◌++◌, arith, inl, inr}
 use Rattle.std.specs.Int.{bit_at}
+use Rattle.std.specs.List.{refill}
 use Rattle.std.proofs.lemmas.Bool.{cases_eq}
-use Rattle.std.proofs.lemmas.List.{get_or-set_same, get_or-set_other, length-set}
+use Rattle.std.proofs.lemmas.List.{get_or-set_same, get_or-set_other, length-set, append-nil}
+use Rattle.std.proofs.Math.ListN.{drop_of_length-le}
+use Rattle.std.proofs.Math.Seq.{take-length}
 use Rattle.cube.specs.declared.symbol.Symbol.{Symbol}
 use Rattle.cube.specs.declared.symbol.Symbol.TheVariants.{Dash}
 use Rattle.cube.specs.Pattern.{agrees}
 use Rattle.cube.specs.Cube.{Cube, with_symbol}
 use Rattle.cube.specs.Packing.{input_words, output_words, bit_of, IsInputWord, IsOutputWord, Packs, IsPacked, unpacked}
-use Rattle.cube.proofs.PackingLemmas.{IsPacked-from_Packs, unpacked-Packs_at, Packs-from_words, input_word_of, output_word_of, length-words}
+use Rattle.cube.proofs.PackingLemmas.{IsPacked-from_Packs, unpacked-Packs_at, Packs-from_words, Packs-from_view, some_output, input_word_of, output_word_of, length-symbols, length-outputs, length-words}
 
 module _ (ss : List Symbol) (i : ℕ) (lt : i < length ss) where
   at_other : (s : Symbol) (k : ℕ) (b : Bool) → k ≢ i → bit_of (agrees (get_or (set ss i s) k Dash) b) ≡ bit_of (agrees (get_or ss k Dash) b)
@@ -66,23 +69,32 @@ Packs-set c ws i s w' lt p word =
     let P : ℕ → Type 0 = λ x. IsOutputWord c.outputs v x in
     subst P (sym (get_or-set_other ws (i / 32) (start + v) w' 0 apart)) (output_word_of c ws p v in_v))
 
--- what `with_symbol` owes: the lower bit is written first, and then the higher
-pub IsPacked-with_symbol : (c : Cube) (n m i : ℕ) (s : Symbol) (x y : Bool) (u w : ℕ) (ws xs : List ℕ)
-    → length c.symbols ≡ n → length c.outputs ≡ m → i < length c.symbols → Packs c ws
-    → (j : ℕ) × (get_or c.outputs j false ≡ true)
+-- as many elements as there are take the place of all
+refill-all : (xs ys : List ℕ) → length ys ≡ length xs → refill (length xs) xs ys ≡ ys
+refill-all xs ys e =
+    ap (λ r. take (length xs) (ys ++ r)) (drop_of_length-le xs (omega arith)) ∙ ap (λ l. take (length xs) l) (append-nil ys)
+    ∙ ap (λ n. take n ys) (sym e) ∙ take-length ys
+
+-- what `set_symbol` owes: the lower bit is written first, and then the higher
+pub IsPacked-with_symbol : (c : Cube) (n m i : ℕ) (s : Symbol) (x y : Bool) (u w : ℕ) (items ws : List ℕ)
+    → unpacked n m items ≡ c → IsPacked n m items → ws ≡ items → i < length c.symbols
     → x ≡ agrees s false → bit_at u (2 * (i % 32)) ≡ bit_of x
     → ((k : ℕ) → k < 64 → k ≢ 2 * (i % 32) → bit_at u k ≡ bit_at (get_or ws (i / 32) 0) k)
     → y ≡ agrees s true → bit_at w (2 * (i % 32) + 1) ≡ bit_of y
     → ((k : ℕ) → k < 64 → k ≢ 2 * (i % 32) + 1 → bit_at w k ≡ bit_at u k)
-    → xs ≡ set ws (i / 32) w
-    → IsPacked n m xs × (unpacked n m xs ≡ with_symbol c i s)
-IsPacked-with_symbol c n m i s x y u w ws xs en em lt p on ex low kept_low ey high kept_high is =
+    → IsPacked n m (refill (length items) items (set ws (i / 32) w)) × (unpacked n m (refill (length items) items (set ws (i / 32) w)) ≡ with_symbol c i s)
+IsPacked-with_symbol c n m i s x y u w items ws view packed is lt ex low kept_low ey high kept_high =
+    let p = Packs-from_view c n m items ws view packed is in
     let v : i / 32 < input_words (length c.symbols) = omega arith in
     let word = IsInputWord-set c.symbols i lt s (get_or ws (i / 32) 0) w (input_word_of c ws p (i / 32) v)
     (kept_high (2 * (i % 32)) (omega arith) (omega arith) ∙ low ∙ ap (λ b. bit_of b) ex) (high ∙ ap (λ b. bit_of b) ey)
     (λ q small ne_low ne_high. kept_high q small ne_high ∙ kept_low q small ne_low) in
     let P : List ℕ → Type 0 = λ z. Packs (with_symbol c i s) z in
-    let packs = subst P (sym is) (Packs-set c ws i s w lt p word) in (
-      IsPacked-from_Packs (with_symbol c i s) n m xs (length-set c.symbols i s ∙ en) em packs on.0 on.1,
-      unpacked-Packs_at (with_symbol c i s) n m xs (length-set c.symbols i s ∙ en) em packs,
+    let whole = refill-all items (set ws (i / 32) w) (length-set ws (i / 32) w ∙ ap length is) in
+    let packs = subst P (sym whole) (Packs-set c ws i s w lt p word) in
+    let on = some_output c n m items view packed in
+    let inputs = length-set c.symbols i s ∙ length-symbols n m items c view in
+    let outputs = length-outputs n m items c view in (
+      IsPacked-from_Packs (with_symbol c i s) n m _ inputs outputs packs on.0 on.1,
+      unpacked-Packs_at (with_symbol c i s) n m _ inputs outputs packs,
     )

@@ -22,8 +22,8 @@ use crate::pack::{input_word, input_words, is_in_two_words, output_word, output_
 use crate::shape::Shape;
 use crate::symbol::Symbol;
 use crate::words::{
-    copied_words, covers_word_by_word, first_difference, freed_word, has_all, has_bit, minus_word,
-    or_not_word, reversal, set_word, share_bit, with_bit, with_word, zip_words,
+    copied_words, covers_word_by_word, first_difference, freed_word, has_all, minus_word,
+    or_not_word, reversal, share_bit, with_bit, zip_words,
 };
 use smallvec::SmallVec;
 use std::alloc::{AllocError, Global};
@@ -131,6 +131,7 @@ impl Cube {
     }
 
     /// The symbol of input `i`, from 0 on.
+    #[inline(always)]
     pub fn symbol(&self, i: usize) -> Symbol
         requires { i < length self.now.symbols }
         ensures { slice_get self.now.symbols i ≡ Some result }
@@ -229,6 +230,7 @@ impl Cube {
     }
 
     /// Whether each place of `other` is in this cube.
+    #[inline(always)]
     pub fn contains(&self, other: &Cube) -> bool
         requires { SameSize self.now other.now }
         ensures { IsTrue result ↔ IsSubset (holds other.now) (holds self.now) }
@@ -237,6 +239,7 @@ impl Cube {
     }
 
     /// Whether no place is in both.
+    #[inline(always)]
     pub fn disjoint(&self, other: &Cube) -> bool
         requires { SameSize self.now other.now }
         ensures { IsTrue result ↔ IsDisjoint (holds self.now) (holds other.now) }
@@ -374,35 +377,32 @@ impl Cube {
     }
 
     /// This cube with `symbol` at input `i`, and otherwise as it is.
+    #[inline(always)]
     pub fn with_symbol(&self, i: usize, symbol: Symbol) -> Result<Cube, AllocError>
         requires { i < length self.now.symbols }
         ensures value { IfOk result (λ c. c ≡ cube_with_symbol self.now i symbol) }
         ensures size { IfOk result (λ c. SameSize c self.now) }
         ensures inline { word_count self.now ≤ 4 → IsOk result }
     {
-        let at = 2 * (i % 32);
-        let words = self.words();
-        let word = with_bit(words[i / 32], at, symbol.allows(false));
-        let word = with_bit(word, at + 1, symbol.allows(true));
-        let words = with_word(*self.words.allocator(), words, i / 32, word)?;
-        Ok(Cube {
-            shape: self.shape,
-            words,
-        })
+        let mut copy = self.try_clone()?;
+        copy.set_symbol(i, symbol);
+        Ok(copy)
     }
 
     /// Puts `symbol` at input `i`, and leaves the rest as it is. It takes no memory.
+    #[inline(always)]
     pub fn set_symbol(&mut self, i: usize, symbol: Symbol)
         requires { i < length self.old.symbols }
         ensures { self.new ≡ cube_with_symbol self.old i symbol }
     {
         let at = 2 * (i % 32);
-        let word = with_bit(self.words.as_slice()[i / 32], at, symbol.allows(false));
-        let word = with_bit(word, at + 1, symbol.allows(true));
-        set_word(&mut self.words, i / 32, word);
+        let words = self.words.as_mut_slice();
+        let word = with_bit(words[i / 32], at, symbol.allows(false));
+        words[i / 32] = with_bit(word, at + 1, symbol.allows(true));
     }
 
     /// An equal cube.
+    #[inline(always)]
     pub fn try_clone(&self) -> Result<Cube, AllocError>
         ensures value { IfOk result (λ c. c ≡ self.now) }
         ensures inline { word_count self.now ≤ 4 → IsOk result }
@@ -419,26 +419,20 @@ impl Cube {
     ///
     /// The first bit that differs settles it. Of two symbols the lesser one has it, as `-` has two
     /// and `0` the lower one; of two outputs the greater one.
+    #[inline(always)]
     pub fn row_cmp(&self, other: &Cube) -> Ordering
         requires { SameSize self.now other.now }
         ensures { result ≡ row_order self.now other.now }
     {
         let outputs_start = input_words(self.shape);
-        let mine = self.words();
-        let Some(at) = first_difference(mine, other.words()) else {
+        let Some((word, is_set)) = first_difference(self.words(), other.words()) else {
             return Ordering::Equal;
         };
-        let is_input = at / 64 < outputs_start;
-        if has_bit(mine, at) {
-            if is_input {
-                Ordering::Less
-            } else {
-                Ordering::Greater
-            }
-        } else if is_input {
-            Ordering::Greater
-        } else {
+        let is_input = word < outputs_start;
+        if is_set == is_input {
             Ordering::Less
+        } else {
+            Ordering::Greater
         }
     }
 
@@ -457,9 +451,7 @@ impl Cube {
         if !self.has_shape_of(other) {
             return false;
         }
-        let have_one_shape = self.shape() == other.shape();
-        prove!(have_one_shape);
-        self.contains(other) && other.contains(self)
+        first_difference(self.words(), other.words()).is_none()
     }
 
     // Whether the two have as many inputs and as many outputs.

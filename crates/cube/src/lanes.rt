@@ -65,7 +65,9 @@ pub(crate) fn covers_by_lanes(a: &[u64], b: &[u64]) -> bool
     covers_word_by_word(my_rest, their_rest)
 }
 
-/// Whether each pair of bits has one that is in both. The first word decides for most cubes.
+/// Whether each pair of bits has one that is in both. The first word decides for most cubes, and is
+/// looked at where the call stands.
+#[inline(always)]
 pub(crate) fn pairs_meet_by_lanes(a: &[u64], b: &[u64]) -> bool
     requires { length a.now ≡ length b.now }
     ensures { IsTrue result ↔ PairsMeet a.now b.now }
@@ -73,6 +75,15 @@ pub(crate) fn pairs_meet_by_lanes(a: &[u64], b: &[u64]) -> bool
     if !a.is_empty() && !has_no_empty_pair(a[0] & b[0]) {
         return false;
     }
+    a.len() < 2 || pairs_of_many_meet(a, b)
+}
+
+// Whether each pair of bits of the words, of which there may be many, has one that is in both.
+#[inline(never)]
+fn pairs_of_many_meet(a: &[u64], b: &[u64]) -> bool
+    requires { length a.now ≡ length b.now }
+    ensures { IsTrue result ↔ PairsMeet a.now b.now }
+{
     if a.len() < MANY {
         return pairs_meet_word_by_word(a, b);
     }

@@ -77,6 +77,7 @@ impl Cube {
 
     /// The literals at the 32 inputs from `32 w` on, as bits: `0` at input `32 w + k` is bit
     /// `2 k + 1`, and `1` bit `2 k`. So lists can count their literals word by word.
+    #[inline(always)]
     pub fn literal_bits(&self, w: usize) -> u64
         ensures zeros { (k : ℕ) → k < 32 → bit_at result (2 * k + 1)
             ≡ (if not (agrees (slice_index_or self.now.symbols (32 * w + k) Symbol.Dash) true)
@@ -93,6 +94,7 @@ impl Cube {
 
     /// The inputs from `32 w` on that have a literal, as a set of 32: input `32 w + k` is bit
     /// `2 k`. So lists can count and join their inputs 32 at a time.
+    #[inline(always)]
     pub fn literal_inputs(&self, w: usize) -> u64
         ensures { IsInputSet (has_literal_of self.now) w result }
     {

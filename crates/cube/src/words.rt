@@ -1,5 +1,5 @@
 //! Kernels over words, which know nothing of symbols. Each looks at each word once.
-ghost use Rattle.std.specs.Prelude.{◌≡◌, ◌==◌, ℕ, ◌↔◌, ◌≤◌, ◌<◌, ◌+◌, ◌^◌, IsTrue, IsOk, IfOk, IfSome, IfNone, length, slice_index, slice_set, ◌≢◌, if◌then◌else◌, max, ◌-◌, ◌*◌, sum_by};
+ghost use Rattle.std.specs.Prelude.{◌≡◌, ◌==◌, ℕ, ◌↔◌, ◌≤◌, ◌<◌, ◌+◌, ◌^◌, IsTrue, IsOk, IfOk, IfSome, IfNone, length, slice_index, ◌≢◌, if◌then◌else◌, max, ◌-◌, ◌*◌, ◌/◌, sum_by};
 ghost use Rattle.std.specs.Int.{bit_at, count_zeros, w64};
 ghost use Rattle.cube.specs.Words.{CoversWords, PairsMeet, ShareBit, IsBitDifference, IsExchangeMask, exchanged, freed_bit, HasAll, DiffersFirstAt, IsFirstClear, bit_of_words};
 
@@ -77,6 +77,7 @@ pub(crate) fn zip_words<F: Fn(usize, u64, u64) -> u64>(
 }
 
 /// A copy of the words. Two, as most cubes have, are put in their places without a loop or a call.
+#[inline(always)]
 pub(crate) fn copied_words(alloc: Global, words: &[u64]) -> Result<SmallVec<u64, 4>, AllocError>
     ensures value { IfOk result (λ v. v.items ≡ words.now) }
     ensures inline { length words.now ≤ 4 → IsOk result }
@@ -107,41 +108,13 @@ fn copied_words_of_any_number(alloc: Global, words: &[u64]) -> Result<SmallVec<u
     Ok(copy)
 }
 
-/// The words with one of them replaced.
-pub(crate) fn with_word(
-    alloc: Global,
-    words: &[u64],
-    at: usize,
-    word: u64,
-) -> Result<SmallVec<u64, 4>, AllocError>
-    requires { at < length words.now }
-    ensures value { IfOk result (λ v. v.items ≡ slice_set words.now at word) }
-    ensures inline { length words.now ≤ 4 → IsOk result }
-{
-    let mut new = copied_words(alloc, words)?;
-    new.as_mut_slice()[at] = word;
-    Ok(new)
-}
-
-/// Replaces the word at index `at`.
-pub(crate) fn set_word(words: &mut SmallVec<u64, 4>, at: usize, word: u64)
-    requires { at < length words.old.items }
-    ensures { words.new.items ≡ slice_set words.old.items at word }
-{
-    words.as_mut_slice()[at] = word;
-}
-
 /// The word with bit `at` as given.
 pub(crate) fn with_bit(word: u64, at: usize, bit: bool) -> u64
     requires { at < 64 }
     ensures same { bit_at result at ≡ (if bit then 1 else 0) }
     ensures others { (k : ℕ) → k < 64 → k ≢ at → bit_at result k ≡ bit_at word k }
 {
-    if bit {
-        word | (1 << at)
-    } else {
-        word & !(1 << at)
-    }
+    (word & !(1 << at)) | ((bit as u64) << at)
 }
 
 /// The word with bit `at` cleared unless it is to be kept. It has no branch, so that words are
@@ -218,28 +191,22 @@ pub(crate) fn count_clear(words: &[u64]) -> usize
     count
 }
 
-/// The number of the first bit in which the words differ, each word's lowest bit first.
-pub(crate) fn first_difference(a: &[u64], b: &[u64]) -> Option<usize>
-    requires same_len { length a.now ≡ length b.now }
-    requires few { length a.now < 2 ^ 32 }
-    ensures found { IfSome result (λ at. DiffersFirstAt a.now b.now at) }
+/// The number of the first word in which they differ, and whether `a` has the lowest bit that
+/// differs there.
+#[inline(always)]
+pub(crate) fn first_difference(a: &[u64], b: &[u64]) -> Option<(usize, bool)>
+    requires { length a.now ≡ length b.now }
+    ensures found { IfSome result (λ found. (at : ℕ) × DiffersFirstAt a.now b.now at
+        × (found.0 ≡ at / 64) × (found.1 ≡ (bit_of_words a.now at == 1))) }
     ensures none { IfNone result (a.now ≡ b.now) }
 {
     for w in 0..a.len() {
         let difference = a[w] ^ b[w];
         if difference != 0 {
-            return Some(64 * w + difference.trailing_zeros() as usize);
+            return Some((w, (a[w] >> difference.trailing_zeros()) & 1 == 1));
         }
     }
     None
-}
-
-/// Whether bit `at` is set, each word's lowest bit first.
-pub(crate) fn has_bit(words: &[u64], at: usize) -> bool
-    requires { at < 64 * length words.now }
-    ensures { result ≡ (bit_of_words words.now at == 1) }
-{
-    (words[at / 64] >> (at % 64)) & 1 == 1
 }
 
 /// The bits of a word from `bit` on that are clear, as bits that are set.

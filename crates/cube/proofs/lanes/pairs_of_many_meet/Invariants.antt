@@ -1,6 +1,6 @@
 use Rattle.std.proofs.Common.{ℕ, ◌<◌, ◌*◌, get_or, bit_and}
 use Rattle.cube.specs.Words.{HasNoEmptyPair}
-use Rattle.cube.proofs.lanes.pairs_meet_by_lanes.Given as goal
+use Rattle.cube.proofs.lanes.pairs_of_many_meet.Given as goal
 
 abbrev pub invariant-loop-k : goal.invariant-loop-k
 invariant-loop-k l = (j : ℕ) → j < 4 * l.k → HasNoEmptyPair (bit_and (get_or l.a j 0) (get_or l.b j 0))

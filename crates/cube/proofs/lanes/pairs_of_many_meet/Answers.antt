@@ -2,7 +2,7 @@ use Rattle.std.proofs.Common.{ℕ, ◌∙◌, ◌<◌, ◌*◌, ◌+◌, ◌/◌
 use Rattle.std.proofs.lemmas.Bool.{false≢true}
 use Rattle.cube.specs.Words.{HasNoEmptyPair}
 use Rattle.cube.proofs.LaneLemmas.{empty_pairs, pairs-iff, block-iff, block_more, rest-iff}
-use Rattle.cube.proofs.lanes.pairs_meet_by_lanes.Goals as goal
+use Rattle.cube.proofs.lanes.pairs_of_many_meet.Goals as goal
 
 abbrev Holds : ℕ → ℕ → Type 0
 Holds a b = HasNoEmptyPair (bit_and a b)
