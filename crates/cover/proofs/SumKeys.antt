@@ -1,25 +1,53 @@
 -- Rows met by their keys.
-use Rattle.std.proofs.Common.{◌≡◌, ℕ, ◌+◌, ◌*◌, ◌<◌, ◌≤◌, Bool, true, false, if◌then◌else◌, ◌&&◌, ◌||◌, List, [], ◌∷◌, ◌++◌, length, take, drop, get_or, refl, ap, sym, subst, ◌∙◌, arith, inl, inr}
+use Rattle.std.proofs.Common.{◌≡◌, ℕ, zero, suc, ◌+◌, ◌-◌, ◌*◌, ◌/◌, ◌%◌, ◌^◌, ◌<◌, ◌≤◌, max, bit_and, bit_or, add-one, Bool, true, false, if◌then◌else◌, ◌&&◌, ◌||◌, List, [], ◌∷◌, ◌++◌, length, take, drop, get_or, refl, ap, sym, subst, ◌∙◌, arith, inl, inr}
 use Rattle.std.specs.Int.{bit_at}
 use Rattle.std.specs.List.{Contains}
 use Rattle.std.proofs.lemmas.Bool.{cases_lt, cases_Bool, false≢true, and_parts}
 use Rattle.std.proofs.lemmas.List.{append-nil, take-append-drop, take_more, get_or_past, get_or_append_left, get_or-take, get_or-drop, length-append, length-take, length-drop}
+use Rattle.std.proofs.Math.Nat.{pow-suc, div-div-eq-div-mul}
 use Rattle.std.proofs.Math.Seq.{get_or-append_seam}
 use Rattle.std.proofs.lemmas.List.Elements.{All-nil}
 use Rattle.cube.specs.declared.symbol.Symbol.{Symbol}
 use Rattle.cube.specs.declared.symbol.Symbol.TheVariants.{Dash, Zero, One}
 use Rattle.cube.specs.Size.{Size}
 use Rattle.cube.specs.Pattern.{agrees, matches, is_literal}
-use Rattle.cube.specs.Literals.{has_literal}
+use Rattle.cube.specs.Literals.{has_literal, IsOrderKey}
+use Rattle.cube.specs.Order.{rank}
 use Rattle.cube.specs.Cube.{Cube, Place, holds, IsCube}
 use Rattle.cube.proofs.HoldsLemmas.{agrees_at-matches}
-use Rattle.cube.proofs.LiteralMarks.{order_key_of_32_inputs-same}
+use Rattle.cube.proofs.LiteralMarks.{even_bits-even, order_key_of_32_inputs-same}
+use Rattle.cube.proofs.WordLemmas.{folded_bit}
 use Rattle.cover.specs.Cubes.{AreCubes}
 use Rattle.cover.specs.Places.{places}
-use Rattle.cover.specs.Keys.{IsKey, HasKeys}
+use Rattle.cover.specs.Keys.{HasLiteralsAt, IsKey, HasKeys}
 use Rattle.cover.specs.Reduced.{IsMeets}
 use Rattle.cover.proofs.Lists.{list_any_witness}
 use Rattle.cover.proofs.SumMeets.{IsMeets-others}
+
+-- ---- the inputs of a key
+
+pow_four : (j : ℕ) → 4 ^ j ≡ 2 ^ (2 * j)
+pow_four zero = refl
+pow_four (suc j) =
+    let next : 2 * suc j ≡ suc (suc (2 * j)) = omega arith in
+    sym (ap (λ i. 2 ^ i) next ∙ omega (arith, pow-suc 2 (suc (2 * j)), pow-suc 2 (2 * j), pow_four j, pow-suc 4 j))
+
+digit_case : (s : Symbol) (q : ℕ) → q % 4 ≡ rank s → max (q % 2) (q / 2 % 2) ≡ (if is_literal s then 1 else 0)
+digit_case Dash q e = omega (arith, e)
+digit_case Zero q e = omega (arith, e)
+digit_case One q e = omega (arith, e)
+
+pub inputs_of_key-literals : (c : Cube) (key : ℕ) → IsOrderKey c key → HasLiteralsAt (bit_and (bit_or key (key / 2)) 6148914691236517205) c
+inputs_of_key-literals c key is k lt =
+    let j = 31 - k in
+    let square : 4 ^ j ≡ 2 ^ (2 * j) = pow_four j in
+    let low : bit_at key (2 * j) ≡ key / 4 ^ j % 2 = ap (λ x. key / x % 2) (sym square) in
+    let next : 2 * j + 1 ≡ suc (2 * j) = add-one (2 * j) in
+    let high : bit_at key (2 * j + 1) ≡ key / 4 ^ j / 2 % 2 =
+    ap (λ x. key / x % 2) (omega (arith, ap (λ i. 2 ^ i) next, pow-suc 2 (2 * j), square)) ∙ ap (λ x. x % 2) (sym (div-div-eq-div-mul key (4 ^ j) 2)) in
+    even_bits-even (bit_or key (key / 2)) j (omega arith) ∙ folded_bit key (2 * j)
+    ∙ ap (λ x. max x (bit_at key (2 * j + 1))) low ∙ ap (λ x. max (key / 4 ^ j % 2) x) high
+    ∙ digit_case (get_or c.symbols k Dash) (key / 4 ^ j) (is k lt)
 
 -- two symbols, both literals or both none, that agree with one bit are equal
 one_symbol : (s t : Symbol) (b : Bool) → is_literal s ≡ is_literal t → agrees s b ≡ true → agrees t b ≡ true → s ≡ t
@@ -46,13 +74,10 @@ module _ (inputs : ℕ) (c d : Cube) (n m : ℕ) (mine : IsKey inputs c n) (thei
     (p : Place) (in_c : holds c p ≡ true) (in_d : holds d p ≡ true) where
   same_symbol : (k : ℕ) → k < 32 → get_or c.symbols k Dash ≡ get_or d.symbols k Dash
   same_symbol k lt =
-      let plain : 32 * 0 + k ≡ k = omega arith in
       elim (cases_lt k (length c.symbols)) [
         | inl inside ↦
             one_symbol (get_or c.symbols k Dash) (get_or d.symbols k Dash) (get_or p.point k false)
-            (ap (λ i. has_literal c i) (sym plain)
-            ∙ same_test (has_literal c (32 * 0 + k)) (has_literal d (32 * 0 + k)) (bit_at inputs (2 * k)) (mine.literals.inputs k lt) (theirs.literals.inputs k lt)
-            ∙ ap (λ i. has_literal d i) plain)
+            (same_test (has_literal c k) (has_literal d k) (bit_at inputs (2 * (31 - k))) (mine.literals k lt) (theirs.literals k lt))
             (agrees_at-matches c.symbols p.point k (and_parts (matches c.symbols p.point) (get_or c.outputs p.output false) in_c).0 inside)
             (agrees_at-matches d.symbols p.point k (and_parts (matches d.symbols p.point) (get_or d.outputs p.output false) in_d).0 (omega (arith, inside, size)))
         | inr past ↦ get_or_past c.symbols k Dash past ∙ sym (get_or_past d.symbols k Dash (omega (arith, past, size)))

@@ -17,6 +17,9 @@ const MANY: usize = 32;
 // Two lists of more pairs than this are not looked at pair by pair only to make one shorter.
 const PAIRS: usize = 1024;
 
+// The lower bit of each pair of a word: a word of literals has a pair for each input.
+const LOWER_BITS: u64 = 0x5555_5555_5555_5555;
+
 // Whether the row lies in one of the kept rows.
 fn lies_in_some(kept: &[Cube], row: &Cube) -> bool
     requires { All (λ d. SameSize d row.now) kept.now }
@@ -76,11 +79,11 @@ fn rise_with_literals_at_same_inputs(shape: Shape, rows: &[Cube]) -> bool {
     };
     let mut last = 0u64;
     for row in rows {
-        if row.literal_inputs(0) != inputs {
+        let literals = row.literal_bits(0);
+        if (literals | (literals >> 1)) & LOWER_BITS != inputs {
             return false;
         }
         // At the first input where two rows differ the later one has `1`, which is the lower bit.
-        let literals = row.literal_bits(0);
         let changed = literals ^ last;
         let first = changed & changed.wrapping_neg();
         if literals & first == 0 {

@@ -51,6 +51,13 @@ pub(crate) fn has_symbol(rows: &[Cube], i: usize, symbol: Symbol) -> bool
     requires { All (λ c. i < length c.symbols) rows.now }
     ensures { result ≡ has_symbol_of i symbol rows.now }
 {
+    // In row order the rows with `1` are last, of those with equal symbols at the inputs before
+    // `i`. So where some row has `1`, the last one mostly has it.
+    if let Some(last) = rows.last() {
+        if has_symbol_at(last, i, symbol) {
+            return true;
+        }
+    }
     for row in rows {
         if has_symbol_at(row, i, symbol) {
             return true;

@@ -5,8 +5,10 @@
 //! and both lists are gone through once.
 ghost use Rattle.std.specs.Prelude.{ℕ, ◌<◌, ◌≤◌, IfOk, IfSome, length, slice_index_or};
 ghost use Rattle.cube.specs.Size.{Size};
+ghost use Rattle.cube.specs.Cube.{Cube as Row};
+ghost use Rattle.cube.specs.Literals.{IsOrderKey};
 ghost use Rattle.cover.specs.Cubes.{AreCubes};
-ghost use Rattle.cover.specs.Keys.{HasKeys};
+ghost use Rattle.cover.specs.Keys.{HasKeys, HasLiteralsAt};
 ghost use Rattle.cover.specs.Reduced.{IsMeets};
 ghost use Rattle.cover.specs.Sizes.{ShareOneSize};
 
@@ -14,8 +16,19 @@ use crate::sums::meets_by_pairs::push_meets;
 use cube::Cube;
 use std::alloc::{AllocError, Global};
 
+// The lower bit of each pair of a key: a key has a pair of bits for each input.
+const LOWER_BITS: u64 = 0x5555_5555_5555_5555;
+
+/// The inputs with literals, of the first 32, of a row with this key. They stand in the key's
+/// order: bit `62 - 2 k` is for input `k`.
+pub(crate) fn inputs_of_key(key: u64) -> u64
+    ensures { (c : Row) → IsOrderKey c key → HasLiteralsAt result c }
+{
+    (key | (key >> 1)) & LOWER_BITS
+}
+
 /// The keys of the rows, if they do not fall and, of the first 32 inputs, each row has literals at
-/// exactly `inputs`.
+/// exactly `inputs`, a set as [`inputs_of_key`] makes it.
 pub(crate) fn keys_of(
     alloc: Global,
     rows: &[Cube],
@@ -26,11 +39,8 @@ pub(crate) fn keys_of(
     let mut keys = Vec::with_capacity(alloc, rows.len())?;
     let mut last = 0u64;
     for row in rows {
-        if row.literal_inputs(0) != inputs {
-            return Ok(None);
-        }
         let key = row.order_key_of_32_inputs();
-        if key < last {
+        if inputs_of_key(key) != inputs || key < last {
             return Ok(None);
         }
         last = key;

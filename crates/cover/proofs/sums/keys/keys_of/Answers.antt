@@ -1,7 +1,6 @@
 use Rattle.std.proofs.Common.{ap, subst, arith, length}
 use Rattle.std.proofs.lemmas.List.{take_all}
-use Rattle.cube.specs.Literals.{has_literal, IsInputSet}
-use Rattle.cover.specs.Keys.{IsKey, HasKeys}
+use Rattle.cover.specs.Keys.{HasLiteralsAt, IsKey, HasKeys}
 use Rattle.cover.proofs.SumKeys.{HasKeys-none, HasKeys-more}
 use Rattle.cover.proofs.sums.keys.keys_of.Goals as goal
 
@@ -14,7 +13,7 @@ loop-row-init c = record {
 pub loop-row-preserved : goal.loop-row-preserved
 loop-row-preserved c =
     let own : IsKey c.args.inputs c.row-item.result c.order_key_of_32_inputs-key.result = record {
-      literals = subst (IsInputSet (has_literal c.row-item.result) 0) c.if-literal_inputs-inputs.false c.literal_inputs.ensures;
+      literals = subst (λ n. HasLiteralsAt n c.row-item.result) c.if-inputs_of_key-inputs.false (c.inputs_of_key.ensures c.row-item.result c.order_key_of_32_inputs-key.ensures);
       key = c.order_key_of_32_inputs-key.ensures;
       fits = omega arith;
     } in
