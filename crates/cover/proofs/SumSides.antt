@@ -18,7 +18,9 @@ use Rattle.cover.specs.Parts.{part, has_symbol, merged, without_equal_rows, comb
 use Rattle.cover.specs.Sides.{IsSide}
 use Rattle.cover.proofs.SumParts.{places-cofactor_at}
 use Rattle.cover.proofs.SumOrder.{without_equal_rows-cases}
-use Rattle.cover.proofs.SumStep.{complete_sum-three, AreCubes-complete_sum}
+use Rattle.cover.proofs.SumStep.{complete_sum-three, AreCubes-complete_sum, part_rising}
+use Rattle.std.specs.List.Sorted.{IsStrictlySortedBy}
+use Rattle.cube.specs.Order.{row_cmp}
 
 part-none : (i : ℕ) (t : Symbol) (cs : List Cube) → has_symbol i t cs ≡ false → part i t cs ≡ []
 part-none i t [] h = refl
@@ -101,6 +103,12 @@ module _ (size : Size) (i : ℕ) (s : Place → Bool) where
     are_cubes = AreCubes-complete_sum size (cofactor_at i b s) rows e;
     adds = ap (λ l. without_equal_rows i (literal b) l (complete_sum size (consensus_at i s))) e;
   }
+
+  -- what such cubes add is in row order
+  pub IsSide-rising : i < size.inputs → (b : Bool) (rows both : List Cube) → IsSide size i b s rows → both ≡ complete_sum size (consensus_at i s)
+      → IsStrictlySortedBy row_cmp (without_equal_rows i (literal b) rows both)
+  IsSide-rising lt b rows both side is =
+      subst (IsStrictlySortedBy row_cmp) (sym (ap (λ l. without_equal_rows i (literal b) rows l) is ∙ side.adds)) (part_rising size i lt s b)
 
   pub complete_sum-sides : i < size.inputs → (ds ps qs all : List Cube) → ds ≡ complete_sum size (consensus_at i s) → IsSide size i false s ps → IsSide size i true s qs
       → all ≡ combination i ds ps qs → all ≡ complete_sum size s

@@ -1,4 +1,4 @@
-use Rattle.std.proofs.Common.{◌≡◌, ◌∙◌, ◌<◌, ◌≤◌, ◌++◌, ap, refl, sym, subst, arith, true, vec_len, length, IfSome}
+use Rattle.std.proofs.Common.{◌≡◌, ◌∙◌, ◌<◌, ◌≤◌, ◌++◌, ap, refl, sym, subst, arith, false, true, vec_len, length, IfSome}
 use Rattle.std.specs.List.{Contains}
 use Rattle.std.proofs.lemmas.Bool.{eqb-true}
 use Rattle.std.proofs.lemmas.Result.{IfOk-weaker}
@@ -22,7 +22,10 @@ use Rattle.cover.proofs.SumUnate.{complete_sum-unate}
 use Rattle.cover.proofs.SumStep.{sum_of_lists, branch_falls, branch_sum, both_sum, complete_sum-no_outer, sum_of_list, complete_sum-empty, complete_sum-single, complete_sum-sharp, complete_sum-covered, AreCubes-complete_sum}
 use Rattle.cover.proofs.SumBranches.{IsBranch-absorbed}
 use Rattle.cover.proofs.SumWithoutAbsorbed.{AreCubes-without_absorbed, live-without_absorbed, complete_sum-without_absorbed}
-use Rattle.cover.proofs.SumSides.{IsSide-none, IsSide-sum, complete_sum-sides}
+use Rattle.cover.proofs.SumSides.{IsSide-none, IsSide-sum, IsSide-rising, complete_sum-sides}
+use Rattle.std.specs.List.Sorted.{IsStrictlySortedBy}
+use Rattle.cube.specs.Order.{row_cmp}
+use Rattle.cube.proofs.SumLemmas.{sorted-complete_sum}
 use Rattle.cover.proofs.sums.+sum.Goals as goal
 
 pub sum_by_case-returns-then-is_empty : goal.sum_by_case-returns-then-is_empty
@@ -138,14 +141,39 @@ sum_by_split-difference_sum-requires t c =
     c.in-Some.ensures.some minuend subtrahend in
     (omega arith, (minuend.are_cubes, subtrahend.are_cubes))
 
-pub sum_by_split-combine_branches-requires : goal.sum_by_split-combine_branches-requires
-sum_by_split-combine_branches-requires t c = (
+pub sum_by_split-combine_branches-requires-clause-size : goal.sum_by_split-combine_branches-requires-clause-size
+sum_by_split-combine_branches-requires-clause-size t c = (
   c.args.shape,
   c.in-Some.ensures.bound,
   AreCubes-complete_sum c.args.shape (difference (places c.in_ok-both_minuend.field-0.both.items) (places c.in_ok-both_subtrahend.both_subtrahend.items)) c.in_ok-both.both.items c.in_ok-both.ensures,
   c.in_ok-low.ensures.are_cubes,
   c.in_ok-high.ensures.are_cubes,
 )
+
+pub sum_by_split-combine_branches-requires-clause-both : goal.sum_by_split-combine_branches-requires-clause-both
+sum_by_split-combine_branches-requires-clause-both t c =
+    subst (IsStrictlySortedBy row_cmp) (sym c.in_ok-both.ensures)
+    (sorted-complete_sum c.args.shape (difference (places c.in_ok-both_minuend.field-0.both.items) (places c.in_ok-both_subtrahend.both_subtrahend.items)))
+
+pub sum_by_split-combine_branches-requires-clause-zeros : goal.sum_by_split-combine_branches-requires-clause-zeros
+sum_by_split-combine_branches-requires-clause-zeros t c =
+    let size = c.args.shape in
+    let i = c.in-Some.split.input in
+    let lt = c.in-Some.ensures.bound in
+    let minuend = c.args.minuend.now in
+    let subtrahend = c.args.subtrahend.now in
+    IsSide-rising size i (difference (places minuend) (places subtrahend)) lt false c.in_ok-low.low.items c.in_ok-both.both.items c.in_ok-low.ensures
+    (both_sum size i lt minuend subtrahend c.in_ok-both_minuend.field-0.both.items c.in_ok-both_subtrahend.both_subtrahend.items c.in_ok-both.both.items c.in_ok-both_minuend.ensures.both c.in_ok-both_subtrahend.ensures c.in_ok-both.ensures)
+
+pub sum_by_split-combine_branches-requires-clause-ones : goal.sum_by_split-combine_branches-requires-clause-ones
+sum_by_split-combine_branches-requires-clause-ones t c =
+    let size = c.args.shape in
+    let i = c.in-Some.split.input in
+    let lt = c.in-Some.ensures.bound in
+    let minuend = c.args.minuend.now in
+    let subtrahend = c.args.subtrahend.now in
+    IsSide-rising size i (difference (places minuend) (places subtrahend)) lt true c.in_ok-high.high.items c.in_ok-both.both.items c.in_ok-high.ensures
+    (both_sum size i lt minuend subtrahend c.in_ok-both_minuend.field-0.both.items c.in_ok-both_subtrahend.both_subtrahend.items c.in_ok-both.both.items c.in_ok-both_minuend.ensures.both c.in_ok-both_subtrahend.ensures c.in_ok-both.ensures)
 
 pub sum_by_split-returns : goal.sum_by_split-returns
 sum_by_split-returns t c =
