@@ -2,9 +2,9 @@
 
 use cube::{Cube, Shape};
 
-// A number that each bit of the word changes in many bits: an odd factor, and the higher half upon
-// the lower.
-fn mix(word: u64) -> u64 {
+/// A number that each bit of the word changes in many bits: an odd factor, and the higher half upon
+/// the lower.
+pub(crate) fn mix(word: u64) -> u64 {
     let product = word.wrapping_mul(0x9E37_79B9_7F4A_7C15);
     product ^ (product >> 32)
 }

@@ -26,6 +26,7 @@ pub(crate) mod by_symbol;
 pub(crate) mod computed_table;
 pub(crate) mod constant_outputs;
 pub(crate) mod containing;
+pub(crate) mod dependent_outputs;
 pub(crate) mod ends;
 pub(crate) mod independent_parts;
 pub(crate) mod input_groups;
