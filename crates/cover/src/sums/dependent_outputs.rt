@@ -12,11 +12,14 @@ use crate::row_hash::mix;
 use cube::{Cube, Shape};
 use std::alloc::{AllocError, Global};
 
-// Lists of more rows than this are not looked at.
-const MANY: usize = 1 << 14;
+// Lists of fewer rows than this are not looked at: what they gain is less than what this costs.
+const FEW: usize = 64;
 
-// Of lists of fewer rows than this all codes are added, and of others each fourth.
-const FEW: usize = 256;
+// Of lists of at least this many rows each fourth code is added, and of others all.
+const MANY: usize = 256;
+
+// Lists of more rows than this are not looked at.
+const MOST: usize = 1 << 14;
 
 // The number of sums of codes: one for each of 32 inputs and each of 64 outputs.
 const SUMS: usize = 32 * 64;
@@ -80,8 +83,8 @@ fn count_open(sums: &[u64]) -> usize {
 }
 
 /// For each of the 32 inputs of word `w` how many of the first 64 outputs seem to depend on it. No
-/// number for shapes of one output and for long lists. It takes a step for each literal and each
-/// output of a row.
+/// number for shapes of one output, and for lists that are short or very long. It takes a step for
+/// each literal and each output of a row.
 pub(crate) fn dependent_outputs(
     alloc: Global,
     shape: Shape,
@@ -91,11 +94,11 @@ pub(crate) fn dependent_outputs(
 ) -> Result<Vec<usize>, AllocError> {
     let mut counts = Vec::new(alloc);
     let rows = minuend.len().saturating_add(subtrahend.len());
-    if shape.outputs() == 1 || rows > MANY {
+    if shape.outputs() == 1 || rows < FEW || rows > MOST {
         return Ok(counts);
     }
     let mut sums = [0u64; SUMS];
-    let left_out = if rows < FEW { 0 } else { 3 };
+    let left_out = if rows < MANY { 0 } else { 3 };
     add_codes_of_rows(minuend, w, left_out, &mut sums);
     add_codes_of_rows(subtrahend, w, left_out, &mut sums);
     let (inputs, _) = sums.as_chunks::<64>();
