@@ -37,8 +37,8 @@ digit_case Dash q e = omega (arith, e)
 digit_case Zero q e = omega (arith, e)
 digit_case One q e = omega (arith, e)
 
-pub inputs_of_key-literals : (c : Cube) (key : ℕ) → IsOrderKey c key → HasLiteralsAt (bit_and (bit_or key (key / 2)) 6148914691236517205) c
-inputs_of_key-literals c key is k lt =
+pub literal_pairs-key : (c : Cube) (key : ℕ) → IsOrderKey c key → HasLiteralsAt (bit_and (bit_or key (key / 2)) 6148914691236517205) c
+literal_pairs-key c key is k lt =
     let j = 31 - k in
     let square : 4 ^ j ≡ 2 ^ (2 * j) = pow_four j in
     let low : bit_at key (2 * j) ≡ key / 4 ^ j % 2 = ap (λ x. key / x % 2) (sym square) in

@@ -7,6 +7,7 @@ ghost use Rattle.cover.specs.Cubes.{AreCubes};
 ghost use Rattle.cover.specs.Sizes.{HaveOneSize, ShareOneSize};
 ghost use Rattle.cover.specs.Reduced.{IsAbsorbed, IsPartlyAbsorbed, IsWithoutAbsorbed};
 
+use crate::sums::keys::literal_pairs;
 use crate::sums::rows::sort_rows;
 use cube::{Cube, Shape};
 use std::alloc::{AllocError, Global};
@@ -16,9 +17,6 @@ const MANY: usize = 32;
 
 // Two lists of more pairs than this are not looked at pair by pair only to make one shorter.
 const PAIRS: usize = 1024;
-
-// The lower bit of each pair of a word: a word of literals has a pair for each input.
-const LOWER_BITS: u64 = 0x5555_5555_5555_5555;
 
 // Whether the row lies in one of the kept rows.
 fn lies_in_some(kept: &[Cube], row: &Cube) -> bool
@@ -74,13 +72,13 @@ fn rise_with_literals_at_same_inputs(shape: Shape, rows: &[Cube]) -> bool {
         return false;
     }
     let inputs = match rows.first() {
-        Some(first) => first.literal_inputs(0),
+        Some(first) => literal_pairs(first.literal_bits(0)),
         None => 0,
     };
     let mut last = 0u64;
     for row in rows {
         let literals = row.literal_bits(0);
-        if (literals | (literals >> 1)) & LOWER_BITS != inputs {
+        if literal_pairs(literals) != inputs {
             return false;
         }
         // At the first input where two rows differ the later one has `1`, which is the lower bit.

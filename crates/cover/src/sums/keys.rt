@@ -16,19 +16,19 @@ use crate::sums::meets_by_pairs::push_meets;
 use cube::Cube;
 use std::alloc::{AllocError, Global};
 
-// The lower bit of each pair of a key: a key has a pair of bits for each input.
+// The lower bit of each pair.
 const LOWER_BITS: u64 = 0x5555_5555_5555_5555;
 
-/// The inputs with literals, of the first 32, of a row with this key. They stand in the key's
-/// order: bit `62 - 2 k` is for input `k`.
-pub(crate) fn inputs_of_key(key: u64) -> u64
-    ensures { (c : Row) → IsOrderKey c key → HasLiteralsAt result c }
+/// The inputs with a literal, as the lower bits of their pairs: of the literals of 32 inputs, or of
+/// a key, in whose order bit `62 - 2 k` is for input `k`.
+pub(crate) fn literal_pairs(literals: u64) -> u64
+    ensures { (c : Row) → IsOrderKey c literals → HasLiteralsAt result c }
 {
-    (key | (key >> 1)) & LOWER_BITS
+    (literals | (literals >> 1)) & LOWER_BITS
 }
 
 /// The keys of the rows, if they do not fall and, of the first 32 inputs, each row has literals at
-/// exactly `inputs`, a set as [`inputs_of_key`] makes it.
+/// exactly `inputs`, a set as [`literal_pairs`] makes it.
 pub(crate) fn keys_of(
     alloc: Global,
     rows: &[Cube],
@@ -40,7 +40,7 @@ pub(crate) fn keys_of(
     let mut last = 0u64;
     for row in rows {
         let key = row.order_key_of_32_inputs();
-        if inputs_of_key(key) != inputs || key < last {
+        if literal_pairs(key) != inputs || key < last {
             return Ok(None);
         }
         last = key;

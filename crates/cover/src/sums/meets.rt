@@ -9,7 +9,7 @@ ghost use Rattle.cube.specs.Size.{Size};
 ghost use Rattle.cover.specs.Cubes.{AreCubes};
 ghost use Rattle.cover.specs.Reduced.{IsMeets, IsMeetsWithBoth, IsInThirds};
 
-use crate::sums::keys::{inputs_of_key, keys_of, meets_by_keys};
+use crate::sums::keys::{keys_of, literal_pairs, meets_by_keys};
 use crate::sums::meets_by_pairs::meets_by_pairs;
 use crate::symbols::has_symbol_at;
 use cube::{Cube, Shape, Symbol};
@@ -77,7 +77,7 @@ pub(crate) fn meets(
         return meets_by_pairs(alloc, rows, others);
     }
     let inputs = match rows.first() {
-        Some(first) => inputs_of_key(first.order_key_of_32_inputs()),
+        Some(first) => literal_pairs(first.order_key_of_32_inputs()),
         None => 0,
     };
     let Some(keys) = keys_of(alloc, rows, inputs)? else {

@@ -13,7 +13,7 @@ loop-row-init c = record {
 pub loop-row-preserved : goal.loop-row-preserved
 loop-row-preserved c =
     let own : IsKey c.args.inputs c.row-item.result c.order_key_of_32_inputs-key.result = record {
-      literals = subst (λ n. HasLiteralsAt n c.row-item.result) c.if-inputs_of_key-inputs.false (c.inputs_of_key.ensures c.row-item.result c.order_key_of_32_inputs-key.ensures);
+      literals = subst (λ n. HasLiteralsAt n c.row-item.result) c.if-literal_pairs-inputs.false (c.literal_pairs.ensures c.row-item.result c.order_key_of_32_inputs-key.ensures);
       key = c.order_key_of_32_inputs-key.ensures;
       fits = omega arith;
     } in
