@@ -1,25 +1,33 @@
 -- Lists of cubes that contain a region, on the way to the cubes of a complete sum that do.
-use Rattle.std.proofs.Common.{◌≡◌, ℕ, ◌+◌, ◌<◌, Bool, true, false, not, ◌&&◌, ◌||◌, List, [], ◌∷◌, ◌++◌, length, take, get_or, All, refl, ap, sym, subst, ◌∙◌, inl, inr, ◌⊎◌}
+use Rattle.std.proofs.Common.{◌≡◌, ◌≢◌, ℕ, ◌+◌, ◌<◌, ◌≤◌, Bool, true, false, not, ◌&&◌, ◌||◌, cond, List, [], ◌∷◌, ◌++◌, length, take, get_or, All, refl, ap, sym, subst, ◌∙◌, arith, inl, inr, ◌⊎◌}
 use Rattle.std.specs.Prelude.{IsTrue}
 use Rattle.std.specs.List.{Contains, filter, list_any}
 use Rattle.std.specs.List.Sorted.{IsStrictlySortedBy}
 use Rattle.std.specs.Cmp.{both_ways as same_bool}
-use Rattle.std.proofs.lemmas.Bool.{cases_Bool, false≢true, and_parts, and_from, or_cases, or_left, or_right, not-true, not_from_false}
-use Rattle.std.proofs.lemmas.List.{take_more}
+use Rattle.std.proofs.lemmas.Bool.{cases_lt, cases_eq, cases_Bool, false≢true, and_parts, and_from, or_cases, or_left, or_right, not-true, not_from_false, false_from_ne_true}
+use Rattle.std.proofs.lemmas.List.{take_more, get_or_past, get_or-set_same, get_or-set_other, length-set}
 use Rattle.std.proofs.lemmas.List.Elements.{Contains-append_left, Contains-append_right, Contains-append_cases}
 use Rattle.std.proofs.lemmas.List.Kept.{IsStrictlySortedBy-filter}
+use Rattle.cube.specs.declared.symbol.Symbol.{Symbol}
+use Rattle.cube.specs.declared.symbol.Symbol.TheVariants.{Dash, Zero, One}
 use Rattle.cube.specs.Size.{Size}
-use Rattle.cube.specs.Cube.{Cube, Place, holds, difference, size_of, HasSize, IsCube, IsSubset, IsDisjoint}
+use Rattle.cube.specs.Pattern.{agrees, matches}
+use Rattle.cube.specs.Cube.{Cube, Place, holds, difference, size_of, with_symbol, HasSize, SameSize, IsCube, IsSubset, IsDisjoint}
+use Rattle.cube.specs.Literals.{are_opposite, is_opposite, IsNextInput}
 use Rattle.cube.specs.Order.{row_cmp}
+use Rattle.cube.specs.Sharp.{minus, rest_row, rest_rows}
 use Rattle.cube.specs.Sum.{complete_sum, IsMaximal}
+use Rattle.cube.proofs.HoldsLemmas.{agrees_at-matches, Covers, IsSubset-from_Covers, Covers-from_IsSubset}
+use Rattle.cube.proofs.MeetLemmas.{compatible, decide_inputs, decide_outputs, common_place}
+use Rattle.cube.proofs.SharpLemmas.{some_true, true_some, get_or-minus, length-minus}
 use Rattle.cube.proofs.Members.{Contains-here, Contains-nil, Contains-cases, Contains-filter, Contains-filter_cases, list_any_none, list_any_false, same_from_members}
-use Rattle.cube.proofs.SumLemmas.{IsPlace-from_holds, IsSubset-from_test, is_subset-from_fact, Contains-complete_sum, complete_sum-over, sorted-complete_sum, row_asymmetric}
+use Rattle.cube.proofs.SumLemmas.{IsPlace-from_holds, IsSubset-from_test, is_subset-from_fact, Contains-complete_sum, sorted-complete_sum, row_asymmetric}
 use Rattle.cover.specs.Cubes.{AreCubes}
 use Rattle.cover.specs.Places.{places, universal}
 use Rattle.cover.specs.Contained.{is_within}
 use Rattle.cover.specs.Outside.{AreNear}
 use Rattle.cover.specs.Reduced.{IsAbsorbed, IsPartlyAbsorbed, IsWithoutAbsorbed, HasSameCubes}
-use Rattle.cover.specs.Containing.{sum_containing, lies_in_larger, largest, IsOver, Cuts, IsCut}
+use Rattle.cover.specs.Containing.{sum_containing, lies_in_larger, largest, IsOver, Cuts, ArePieces, IsCut}
 use Rattle.cover.proofs.Lists.{all_members, members_all, list_any_from, list_any_witness}
 use Rattle.cover.proofs.SumMeets.{places-append}
 use Rattle.cover.proofs.SumSplit.{same_cube}
@@ -71,6 +79,235 @@ HasSameCubes-first rows some all e h c = (
   λ k. subst (λ l. Contains l c) (sym e) (Contains-append_right some rows c k),
   λ k. elim (Contains-append_cases some rows c (subst (λ l. Contains l c) e k)) [ inl m ↦ h c m | inr m ↦ m ],
 )
+
+-- ---- the pieces of a cube outside a row that contain the region
+
+-- a symbol within one that has no bit in common with another is that one, and opposite to the other
+opposite_through : (s c t : Symbol) → ((bit : Bool) → agrees s bit ≡ true → agrees c bit ≡ true) → compatible c t ≡ false → (are_opposite s t ≡ true) × (c ≡ s)
+unfolding compatible
+opposite_through s Dash t cover h = absurd (false≢true (sym h))
+opposite_through s Zero Dash cover h = absurd (false≢true (sym h))
+opposite_through s Zero Zero cover h = absurd (false≢true (sym h))
+opposite_through Dash Zero One cover h = absurd (false≢true (cover true refl))
+opposite_through Zero Zero One cover h = (refl, refl)
+opposite_through One Zero One cover h = absurd (false≢true (cover true refl))
+opposite_through s One Dash cover h = absurd (false≢true (sym h))
+opposite_through Dash One Zero cover h = absurd (false≢true (cover false refl))
+opposite_through Zero One Zero cover h = absurd (false≢true (cover false refl))
+opposite_through One One Zero cover h = (refl, refl)
+opposite_through s One One cover h = absurd (false≢true (sym h))
+
+opposite_apart : (s t : Symbol) (bit : Bool) → are_opposite s t ≡ true → agrees s bit ≡ true → agrees t bit ≡ true → ⊥
+opposite_apart Dash t bit h x y = false≢true h
+opposite_apart Zero Dash bit h x y = false≢true h
+opposite_apart Zero Zero bit h x y = false≢true h
+opposite_apart Zero One true h x y = false≢true x
+opposite_apart Zero One false h x y = false≢true y
+opposite_apart One Dash bit h x y = false≢true h
+opposite_apart One Zero true h x y = false≢true y
+opposite_apart One Zero false h x y = false≢true x
+opposite_apart One One bit h x y = false≢true h
+
+-- the cube with the literal of the region
+abbrev pub piece_at : Cube → Cube → ℕ → Cube
+piece_at region cube i = with_symbol cube i (get_or region.symbols i Dash)
+
+-- the pieces that were made for the outputs and for the inputs before a number
+pub record ArePiecesBefore (region row cube : Cube) (from : ℕ) (pieces : List Cube) : Type 0 where
+  pub each : (d : Cube) → Contains pieces d → IsCube (size_of region) d × IsSubset (holds region) (holds d) × IsDisjoint (holds d) (holds row) × IsSubset (holds d) (holds cube)
+  pub rest : list_any (λ b. b) (minus cube.outputs row.outputs) ≡ true → IsSubset (holds region) (holds (rest_row cube row)) → Contains pieces (rest_row cube row)
+  pub found : (i : ℕ) → i < from → is_opposite region row i ≡ true → Contains pieces (piece_at region cube i)
+
+-- none, of a cube that leaves out some of the region
+pub ArePieces-none : (size : Size) (region row cube : Cube) → is_within size region cube ≡ false → ArePieces size region row cube []
+ArePieces-none size region row cube left_out = record {
+  are_cubes = members_all (IsCube size) [] (λ c h. absurd (Contains-nil c h));
+  contain = λ c h. absurd (Contains-nil c h);
+  outside = λ c h. absurd (Contains-nil c h);
+  within = λ c h. absurd (Contains-nil c h);
+  over = λ c is_cube above below apart. absurd (false≢true (sym left_out ∙ within_from_fact size region cube (λ p held. below p (above p held))));
+}
+
+module _ (region row cube : Cube) (some_output : IsTrue (list_any (λ b. b) region.outputs)) (cube_size : SameSize cube region) (row_size : SameSize cube row)
+    (contains : is_within (size_of region) region cube ≡ true) where
+  output : (j : ℕ) × (get_or region.outputs j false ≡ true)
+  output = some_true region.outputs some_output
+
+  covers : Covers cube region
+  covers = Covers-from_IsSubset cube region cube_size output.0 output.1 (fact_from_within (size_of region) region cube (refl, refl) contains)
+
+  same_size : (c d : Cube) → IsCube (size_of region) c → SameSize d region → SameSize d c
+  same_size c d h e = (e.0 ∙ sym h.has_size.0, e.1 ∙ sym h.has_size.1)
+
+  -- ---- for an input
+
+  module _ (i : ℕ) (lt : i < length region.symbols) where
+    inside : i < length cube.symbols
+    inside = omega (arith, cube_size.0)
+
+    symbol_here : get_or (piece_at region cube i).symbols i Dash ≡ get_or region.symbols i Dash
+    symbol_here = get_or-set_same cube.symbols i (get_or region.symbols i Dash) Dash inside
+
+    symbol_other : (k : ℕ) → k ≢ i → get_or (piece_at region cube i).symbols k Dash ≡ get_or cube.symbols k Dash
+    symbol_other k ne = get_or-set_other cube.symbols i k (get_or region.symbols i Dash) Dash ne
+
+    piece_size : SameSize (piece_at region cube i) region
+    piece_size = (length-set cube.symbols i (get_or region.symbols i Dash) ∙ cube_size.0, cube_size.1)
+
+    piece_cube : IsCube (size_of region) (piece_at region cube i)
+    piece_cube = record { has_size = piece_size; some_output = true_some cube.outputs output.0 (covers.outputs output.0 output.1) }
+
+    -- a cube within the cube that asks there as much as the region
+    piece_over : (c : Cube) → SameSize (piece_at region cube i) c → Covers cube c
+        → ((bit : Bool) → agrees (get_or c.symbols i Dash) bit ≡ true → agrees (get_or region.symbols i Dash) bit ≡ true)
+        → IsSubset (holds c) (holds (piece_at region cube i))
+    piece_over c sized below own = IsSubset-from_Covers (piece_at region cube i) c sized (record {
+      inputs = λ k bit h. elim (cases_eq k i) [
+        | inl e ↦
+            ap (λ x. agrees (get_or (piece_at region cube i).symbols x Dash) bit) e ∙ ap (λ s. agrees s bit) symbol_here
+            ∙ own bit (ap (λ x. agrees (get_or c.symbols x Dash) bit) (sym e) ∙ h)
+        | inr ne ↦ ap (λ s. agrees s bit) (symbol_other k ne) ∙ below.inputs k bit h
+      ];
+      outputs = below.outputs;
+    })
+
+    piece_within : IsSubset (holds (piece_at region cube i)) (holds cube)
+    piece_within = IsSubset-from_Covers cube (piece_at region cube i) (sym (length-set cube.symbols i (get_or region.symbols i Dash)), refl) (record {
+      inputs = λ k bit h. elim (cases_eq k i) [
+        | inl e ↦
+            ap (λ x. agrees (get_or cube.symbols x Dash) bit) e
+            ∙ covers.inputs i bit (ap (λ s. agrees s bit) (sym symbol_here) ∙ ap (λ x. agrees (get_or (piece_at region cube i).symbols x Dash) bit) (sym e) ∙ h)
+        | inr ne ↦ ap (λ s. agrees s bit) (sym (symbol_other k ne)) ∙ h
+      ];
+      outputs = λ j h. h;
+    })
+
+    piece_outside : is_opposite region row i ≡ true → IsDisjoint (holds (piece_at region cube i)) (holds row)
+    piece_outside opposite p held on =
+        let in_piece : i < length (piece_at region cube i).symbols = omega (arith, piece_size.0) in
+        let in_row : i < length row.symbols = omega (arith, row_size.0, cube_size.0) in
+        let bit = get_or p.point i false in
+        opposite_apart (get_or region.symbols i Dash) (get_or row.symbols i Dash) bit opposite
+        (ap (λ s. agrees s bit) (sym symbol_here)
+        ∙ agrees_at-matches (piece_at region cube i).symbols p.point i (and_parts (matches (piece_at region cube i).symbols p.point) (get_or cube.outputs p.output false) held).0 in_piece)
+        (agrees_at-matches row.symbols p.point i (and_parts (matches row.symbols p.point) (get_or row.outputs p.output false) on).0 in_row)
+
+    piece_each : is_opposite region row i ≡ true → IsCube (size_of region) (piece_at region cube i) × IsSubset (holds region) (holds (piece_at region cube i))
+        × IsDisjoint (holds (piece_at region cube i)) (holds row) × IsSubset (holds (piece_at region cube i)) (holds cube)
+    piece_each opposite = (piece_cube, piece_over region piece_size covers (λ bit h. h), piece_outside opposite, piece_within)
+
+  -- ---- for the outputs
+
+  rest_output : (p : Place) → holds (rest_row cube row) p ≡ true → (matches cube.symbols p.point ≡ true) × (get_or cube.outputs p.output false ≡ true) × (get_or row.outputs p.output false ≡ false)
+  rest_output p held =
+      let parts = and_parts (matches cube.symbols p.point) (get_or (minus cube.outputs row.outputs) p.output false) held in
+      let outs = and_parts (get_or cube.outputs p.output false) (not (get_or row.outputs p.output false)) (sym (get_or-minus cube.outputs row.outputs p.output row_size.1) ∙ parts.1) in
+      (parts.0, outs.0, not-true (get_or row.outputs p.output false) outs.1)
+
+  rest_outside : IsDisjoint (holds (rest_row cube row)) (holds row)
+  rest_outside p held on = false≢true (sym (rest_output p held).2 ∙ (and_parts (matches row.symbols p.point) (get_or row.outputs p.output false) on).1)
+
+  rest_within : IsSubset (holds (rest_row cube row)) (holds cube)
+  rest_within p held = let r = rest_output p held in and_from (matches cube.symbols p.point) (get_or cube.outputs p.output false) r.0 r.1
+
+  rest_size : SameSize (rest_row cube row) region
+  rest_size = (cube_size.0, length-minus cube.outputs row.outputs row_size.1 ∙ cube_size.1)
+
+  -- the rest is made
+  pub ArePiecesBefore-rest : (pieces : List Cube) → pieces ≡ filter (is_within (size_of region) region) (rest_rows cube row) → ArePiecesBefore region row cube 0 pieces
+  ArePiecesBefore-rest pieces e = subst (ArePiecesBefore region row cube 0) (sym e) (by_outputs (list_any (λ b. b) (minus cube.outputs row.outputs)) refl)
+    where
+      by_outputs : (some : Bool) → list_any (λ b. b) (minus cube.outputs row.outputs) ≡ some
+          → ArePiecesBefore region row cube 0 (filter (is_within (size_of region) region) (cond some (rest_row cube row ∷ []) []))
+      by_outputs true some = record {
+        each = λ d h.
+            let f = Contains-filter_cases (is_within (size_of region) region) (rest_row cube row ∷ []) d h in
+            subst (λ x. IsCube (size_of region) x × IsSubset (holds region) (holds x) × IsDisjoint (holds x) (holds row) × IsSubset (holds x) (holds cube)) (Contains-one (rest_row cube row) d f.0) (
+              record { has_size = rest_size; some_output = some },
+              fact_from_within (size_of region) region (rest_row cube row) (refl, refl) (ap (is_within (size_of region) region) (Contains-one (rest_row cube row) d f.0) ∙ f.1),
+              rest_outside,
+              rest_within,
+            );
+        rest = λ _ inside. Contains-filter (is_within (size_of region) region) (rest_row cube row ∷ []) (rest_row cube row) (Contains-here (rest_row cube row) []) (within_from_fact (size_of region) region (rest_row cube row) inside);
+        found = λ i lt. absurd (omega arith);
+      }
+      by_outputs false none' = record {
+        each = λ d h. absurd (Contains-nil d h);
+        rest = λ some. absurd (false≢true (sym none' ∙ some));
+        found = λ i lt. absurd (omega arith);
+      }
+
+  -- a piece is made for the next input
+  pub ArePiecesBefore-more : (from i : ℕ) (pieces new : List Cube) → IsNextInput (is_opposite region row) from i → i < length region.symbols
+      → new ≡ pieces ++ piece_at region cube i ∷ [] → ArePiecesBefore region row cube from pieces → ArePiecesBefore region row cube (i + 1) new
+  ArePiecesBefore-more from i pieces new next lt e h = subst (ArePiecesBefore region row cube (i + 1)) (sym e) (record {
+    each = λ d k. elim (Contains-append_cases pieces (piece_at region cube i ∷ []) d k) [
+      | inl m ↦ h.each d m
+      | inr m ↦
+          subst (λ x. IsCube (size_of region) x × IsSubset (holds region) (holds x) × IsDisjoint (holds x) (holds row) × IsSubset (holds x) (holds cube)) (Contains-one (piece_at region cube i) d m)
+          (piece_each i lt next.passes)
+    ];
+    rest = λ some inside. Contains-append_left pieces (piece_at region cube i ∷ []) (rest_row cube row) (h.rest some inside);
+    found = λ k before opposite. elim (cases_eq k i) [
+      | inl same ↦ subst (λ x. Contains (pieces ++ piece_at region cube i ∷ []) (piece_at region cube x)) (sym same)
+          (Contains-append_right pieces (piece_at region cube i ∷ []) (piece_at region cube i) (Contains-here (piece_at region cube i) []))
+      | inr ne ↦ elim (cases_lt k from) [
+        | inl less ↦ Contains-append_left pieces (piece_at region cube i ∷ []) (piece_at region cube k) (h.found k less opposite)
+        | inr past ↦ (let less : k < i = omega arith in absurd (false≢true (sym (next.before k past less) ∙ opposite)))
+      ]
+    ];
+  })
+
+  -- all are made
+  pub ArePieces-before : (from : ℕ) (pieces : List Cube) → ((k : ℕ) → from ≤ k → is_opposite region row k ≡ false) → ArePiecesBefore region row cube from pieces
+      → ArePieces (size_of region) region row cube pieces
+  ArePieces-before from pieces none' h = record {
+    are_cubes = members_all (IsCube (size_of region)) pieces (λ c k. (h.each c k).0);
+    contain = λ c k. (h.each c k).1;
+    outside = λ c k. (h.each c k).2;
+    within = λ c k. (h.each c k).3;
+    over = over;
+  }
+    where
+      found : (i : ℕ) → is_opposite region row i ≡ true → Contains pieces (piece_at region cube i)
+      found i opposite = elim (cases_lt i from) [
+        | inl less ↦ h.found i less opposite
+        | inr past ↦ absurd (false≢true (sym (none' i past) ∙ opposite))
+      ]
+
+      over : (c : Cube) → IsCube (size_of region) c → IsSubset (holds region) (holds c) → IsSubset (holds c) (holds cube) → IsDisjoint (holds c) (holds row)
+          → (d : Cube) × Contains pieces d × IsSubset (holds c) (holds d)
+      over c is_cube above_c below apart =
+          let c_output = some_true c.outputs is_cube.some_output in
+          let c_covers = Covers-from_IsSubset c region is_cube.has_size output.0 output.1 above_c in
+          let cube_covers = Covers-from_IsSubset cube c (same_size c cube is_cube cube_size) c_output.0 c_output.1 below in
+          let c_row : SameSize c row = (is_cube.has_size.0 ∙ sym cube_size.0 ∙ row_size.0, is_cube.has_size.1 ∙ sym cube_size.1 ∙ row_size.1) in
+          elim (decide_inputs c.symbols row.symbols c_row.0) [
+            | inl all ↦ elim (decide_outputs c.outputs row.outputs c_row.1) [
+              | inl both ↦ (let place = common_place c row c_row all both in absurd (apart place.0 place.1 place.2))
+              | inr alone ↦ (
+                  let outs : (j : ℕ) → get_or c.outputs j false ≡ true → get_or (minus cube.outputs row.outputs) j false ≡ true = λ j on.
+                  get_or-minus cube.outputs row.outputs j row_size.1
+                  ∙ and_from (get_or cube.outputs j false) (not (get_or row.outputs j false)) (cube_covers.outputs j on)
+                  (not_from_false (get_or row.outputs j false) (false_from_ne_true (get_or row.outputs j false) (alone j on))) in
+                  let in_rest = IsSubset-from_Covers (rest_row cube row) c (same_size c (rest_row cube row) is_cube rest_size) (record { inputs = cube_covers.inputs; outputs = outs }) in (
+                    rest_row cube row,
+                    h.rest (true_some (minus cube.outputs row.outputs) c_output.0 (outs c_output.0 c_output.1)) (λ p held. in_rest p (above_c p held)),
+                    in_rest,
+                  ))
+            ]
+            | inr conflict ↦ (
+                let i = conflict.0 in
+                let through = opposite_through (get_or region.symbols i Dash) (get_or c.symbols i Dash) (get_or row.symbols i Dash) (c_covers.inputs i) conflict.1 in
+                let lt : i < length region.symbols = elim (cases_lt i (length region.symbols)) [
+                  | inl lt ↦ lt
+                  | inr past ↦ absurd (false≢true (ap (λ s. are_opposite s (get_or row.symbols i Dash)) (sym (get_or_past region.symbols i Dash past)) ∙ through.0))
+                ] in (
+                  piece_at region cube i,
+                  found i through.0,
+                  piece_over i lt c (same_size c (piece_at region cube i) is_cube (piece_size i lt)) cube_covers (λ bit on. ap (λ s. agrees s bit) (sym through.1) ∙ on),
+                ))
+          ]
 
 -- ---- lists over a region
 
@@ -243,47 +480,28 @@ module _ (size : Size) (region : Cube) where
       ];
     })
 
-    -- what is left of it
-    abbrev rest : List Cube
-    rest = filter (is_within size region) (complete_sum size (difference (holds cube) (holds row)))
-
-    pub IsCut-pieces : (new : List Cube) → new ≡ pieces ++ rest → HasSize region size → IsCut size region row (take (i + 1) cubes) kept new
-    IsCut-pieces new e sized = subst (λ l. IsCut size region row (take (i + 1) cubes) kept l) (sym e) (record {
+    -- its pieces take its place
+    pub IsCut-pieces : (own_pieces new : List Cube) → new ≡ pieces ++ own_pieces → ArePieces size region row cube own_pieces → IsCut size region row (take (i + 1) cubes) kept new
+    IsCut-pieces own_pieces new e are_pieces = subst (λ l. IsCut size region row (take (i + 1) cubes) kept l) (sym e) (record {
       kept_cubes = so_far.kept_cubes;
-      piece_cubes = members_all (IsCube size) (pieces ++ rest) (λ c h. elim (Contains-append_cases pieces rest c h) [
+      piece_cubes = members_all (IsCube size) (pieces ++ own_pieces) (λ c h. elim (Contains-append_cases pieces own_pieces c h) [
         | inl k ↦ all_members (IsCube size) pieces so_far.piece_cubes c k
-        | inr k ↦ (maximal c k).0.is_cube
+        | inr k ↦ all_members (IsCube size) own_pieces are_pieces.are_cubes c k
       ]);
       kept_within = λ c h. (let w = so_far.kept_within c h in (before c w.0, w.1));
-      pieces_within = λ c h. elim (Contains-append_cases pieces rest c h) [
+      pieces_within = λ c h. elim (Contains-append_cases pieces own_pieces c h) [
         | inl k ↦ (let w = so_far.pieces_within c k in (w.0, w.1, (w.2.0, before w.2.0 w.2.1, w.2.2)))
-        | inr k ↦ (
-            let m = maximal c k in (
-              m.1,
-              λ p held on. false≢true (sym (not-true (holds row p) (and_parts (holds cube p) (not (holds row p)) (m.0.within p held)).1) ∙ on),
-              (cube, own, λ p held. (and_parts (holds cube p) (not (holds row p)) (m.0.within p held)).0),
-            ))
+        | inr k ↦ (are_pieces.contain c k, are_pieces.outside c k, (cube, own, are_pieces.within c k))
       ];
       over = λ c d c_cube h above below off. elim (cases d h) [
         | inl k ↦ (
             let r = so_far.over c d c_cube k above below off in
-            (r.0, elim r.1 [ inl m ↦ inl m | inr m ↦ inr (Contains-append_left pieces rest r.0 m) ], r.2))
+            (r.0, elim r.1 [ inl m ↦ inl m | inr m ↦ inr (Contains-append_left pieces own_pieces r.0 m) ], r.2))
         | inr k ↦ (
-            let r = complete_sum-over size (difference (holds cube) (holds row)) c c_cube
-            (λ p held. and_from (holds cube p) (not (holds row p)) (ap (λ x. holds x p) k ∙ below p held)
-            (elim (cases_Bool (holds row p)) [ inl on ↦ absurd (off p held on) | inr no' ↦ not_from_false (holds row p) no' ])) in (
-              r.0,
-              inr (Contains-append_right pieces rest r.0 (Contains-filter (is_within size region) (complete_sum size (difference (holds cube) (holds row))) r.0 r.1
-                  (within_from_fact size region r.0 (λ p held. r.2 p (above p held))))),
-              r.2,
-            ))
+            let r = are_pieces.over c c_cube above (λ p held. ap (λ x. holds x p) k ∙ below p held) off in
+            (r.0, inr (Contains-append_right pieces own_pieces r.0 r.1), r.2))
       ];
     })
-      where
-        maximal : (c : Cube) → Contains rest c → IsMaximal size (difference (holds cube) (holds row)) c × IsSubset (holds region) (holds c)
-        maximal c k =
-            let f = Contains-filter_cases (is_within size region) (complete_sum size (difference (holds cube) (holds row))) c k in
-            ((Contains-complete_sum size (difference (holds cube) (holds row)) c).0 f.0, fact_from_within size region c sized f.1)
 
   -- pieces may leave that lie in others
   pub IsCut-absorbed : (row : Cube) (cubes kept pieces fewer left : List Cube) → IsPartlyAbsorbed pieces fewer → IsWithoutAbsorbed fewer kept left

@@ -34,6 +34,17 @@ abbrev pub Cuts : Size → Cube → (Place → Bool) → List Cube → List Cube
 Cuts size region u cubes cut = (s : Place → Bool) → IsOver size region s cubes
     → IsOver size region (difference s u) cut
 
+-- pieces of a cube that contain the region and have no place of the row; each cube within that cube
+-- of which the same is true lies in one of them
+pub record ArePieces (size : Size) (region row cube : Cube) (pieces : List Cube) : Type 0 where
+  pub are_cubes : AreCubes size pieces
+  pub contain : (c : Cube) → Contains pieces c → IsSubset (holds region) (holds c)
+  pub outside : (c : Cube) → Contains pieces c → IsDisjoint (holds c) (holds row)
+  pub within : (c : Cube) → Contains pieces c → IsSubset (holds c) (holds cube)
+  pub over : (c : Cube) → IsCube size c → IsSubset (holds region) (holds c)
+      → IsSubset (holds c) (holds cube) → IsDisjoint (holds c) (holds row)
+      → (d : Cube) × Contains pieces d × IsSubset (holds c) (holds d)
+
 -- of a list the cubes that have no place of a row, and what is left of others outside the row and
 -- contains the region
 pub record IsCut (size : Size) (region row : Cube) (cubes kept pieces : List Cube) : Type 0 where

@@ -12,15 +12,15 @@
 ghost use Rattle.std.specs.Prelude.{◌≡◌, false, All, IfOk, IfSome, not, filter};
 ghost use Rattle.std.specs.List.{Contains};
 ghost use Rattle.cube.specs.Size.{Size};
-ghost use Rattle.cube.specs.Cube.{HasSize, SameSize, Cube as Row, holds, difference, size_of};
-ghost use Rattle.cube.specs.Sum.{complete_sum};
+ghost use Rattle.cube.specs.Cube.{HasSize, SameSize, Cube as Row, holds, size_of};
+ghost use Rattle.cube.specs.Sharp.{rest_rows};
 ghost use Rattle.cover.specs.Cubes.{AreCubes};
 ghost use Rattle.cover.specs.Sizes.{HaveOneSize, ShareOneSize};
 ghost use Rattle.cover.specs.Places.{places};
 ghost use Rattle.cover.specs.Contained.{is_within};
 ghost use Rattle.cover.specs.Outside.{AreNear};
 ghost use Rattle.cover.specs.Reduced.{HasSameCubes, IsPartlyAbsorbed};
-ghost use Rattle.cover.specs.Containing.{Cuts, lies_in_larger as is_in_larger, largest as largest_of, sum_containing as sum_containing_of};
+ghost use Rattle.cover.specs.Containing.{ArePieces, Cuts, lies_in_larger as is_in_larger, largest as largest_of, sum_containing as sum_containing_of};
 
 use crate::cubes::universal_cube;
 use crate::list::{Cover, any_meets};
@@ -54,7 +54,31 @@ fn select_containing(alloc: Global, region: &Cube, cubes: &[Cube]) -> Result<Vec
     Ok(kept)
 }
 
-// The cubes of the sharp of the cube and the row that contain the region.
+// The cube without the outputs of the row, if it has others and then contains the region.
+fn rest_containing(
+    alloc: Global,
+    region: &Cube,
+    row: &Cube,
+    cube: &Cube,
+) -> Result<Vec<Cube>, AllocError>
+    requires region { SameSize cube.now region.now }
+    requires row { SameSize cube.now row.now }
+    ensures { IfOk result (λ v. v.items
+        ≡ filter (is_within (size_of region.now) region.now) (rest_rows cube.now row.now)) }
+{
+    let mut rests = Vec::new(alloc);
+    if cube.has_outputs_beyond(row) {
+        let rest = cube.without_outputs(row)?;
+        if contains(&rest, region) {
+            rests.push(rest)?;
+        }
+    }
+    Ok(rests)
+}
+
+// The pieces of the cube outside the row that contain the region: the cube without the row's
+// outputs, and for each input where the region and the row have opposite literals the cube with
+// the region's literal. Other pieces do not contain the region and are not made.
 fn pieces_containing(
     alloc: Global,
     region: &Cube,
@@ -63,11 +87,23 @@ fn pieces_containing(
 ) -> Result<Vec<Cube>, AllocError>
     requires region { SameSize cube.now region.now }
     requires row { SameSize cube.now row.now }
-    ensures { IfOk result (λ v. v.items ≡ filter (is_within (size_of region.now) region.now)
-        (complete_sum (size_of region.now) (difference (holds cube.now) (holds row.now)))) }
+    ensures { IfOk result (λ v.
+        ArePieces (size_of region.now) region.now row.now cube.now v.items) }
 {
-    let rest = cube.sharp(row)?;
-    select_containing(alloc, region, &rest)
+    if !contains(cube, region) {
+        return Ok(Vec::new(alloc));
+    }
+    let mut pieces = rest_containing(alloc, region, row, cube)?;
+    let inputs = region.shape().inputs();
+    let mut from = 0;
+    while from < inputs {
+        let Some(i) = region.next_opposite(row, from) else {
+            return Ok(pieces);
+        };
+        pieces.push(cube.with_symbol(i, region.symbol(i))?)?;
+        from = i + 1;
+    }
+    Ok(pieces)
 }
 
 // Whether the row has one output. False if the shape has more than 64.

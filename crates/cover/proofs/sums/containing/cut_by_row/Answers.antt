@@ -1,12 +1,10 @@
-use Rattle.std.proofs.Common.{◌≡◌, ◌∙◌, ◌+◌, ◌++◌, ◌∷◌, [], ap, sym, subst, take, filter, All}
+use Rattle.std.proofs.Common.{◌≡◌, ◌∙◌, ◌+◌, ◌++◌, ◌∷◌, [], ap, sym, subst, take, All}
 use Rattle.std.proofs.lemmas.List.{take_all}
 use Rattle.std.proofs.lemmas.List.Elements.{All-same}
-use Rattle.cube.specs.Cube.{IsCube, IsDisjoint, holds, difference}
-use Rattle.cube.specs.Sum.{complete_sum}
-use Rattle.cover.specs.Contained.{is_within}
+use Rattle.cube.specs.Cube.{IsCube, IsDisjoint, holds}
 use Rattle.cover.specs.Cubes.{AreCubes}
 use Rattle.cover.specs.Reduced.{IsWithoutAbsorbed}
-use Rattle.cover.specs.Containing.{IsCut}
+use Rattle.cover.specs.Containing.{ArePieces, IsCut}
 use Rattle.cover.proofs.Lists.{all_members, members_all}
 use Rattle.cover.proofs.OverRegion.{size_of-is, IsCut-none, IsCut-kept, IsCut-pieces, IsCut-absorbed, AreCubes-cut, Cuts-none, Cuts-all}
 use Rattle.cover.proofs.sums.containing.cut_by_row.Goals as goal
@@ -42,9 +40,8 @@ loop-cube-preserved c =
       | else-disjoint+in_ok-more+in_ok-append w ↦
           subst (λ v. IsCut size region row (take (at + 1) cubes) v.items c.if-disjoint.rest.items) (sym w.kept-is)
           (subst (λ v. IsCut size region row (take (at + 1) cubes) kept v.items) (sym w.rest-is)
-          (IsCut-pieces size region row cubes at cube kept rest are c.loop-cube-test.true c.cube-item.is c.loop-cube.invariant w.append.new.self.items
-          (w.in_ok-append.ensures.items ∙ ap (λ l. rest ++ l) (w.in_ok-more.ensures
-          ∙ ap (λ z. filter (is_within z region) (complete_sum z (difference (holds cube) (holds row)))) (size_of-is region size c.requires.region))) c.requires.region))
+          (IsCut-pieces size region row cubes at cube kept rest are c.loop-cube-test.true c.cube-item.is c.loop-cube.invariant w.in_ok-more.more.items w.append.new.self.items
+          w.in_ok-append.ensures.items (subst (λ z. ArePieces z region row cube w.in_ok-more.more.items) (size_of-is region size c.requires.region) w.in_ok-more.ensures)))
     ]
 
 pub drop_absorbed_by-requires : goal.drop_absorbed_by-requires
