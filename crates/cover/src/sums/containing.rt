@@ -1,7 +1,7 @@
 //! The cubes of a complete sum that contain a region.
 //!
 //! They are found without the other cubes of the sum: the universal cube is cut by each row of the
-//! places outside, and only pieces that contain the region are kept. So a place that few primes
+//! places outside, and only pieces that contain the region are made. So a place that few primes
 //! hold costs little, however many primes there are (the recursion of sharps is that of Brayton et
 //! al. 1984).
 //!
