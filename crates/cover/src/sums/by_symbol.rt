@@ -47,6 +47,7 @@ pub(crate) fn split_by_symbol(
 }
 
 /// Whether some row has this symbol at input `i`.
+#[inline(always)]
 pub(crate) fn has_symbol(rows: &[Cube], i: usize, symbol: Symbol) -> bool
     requires { All (λ c. i < length c.symbols) rows.now }
     ensures { result ≡ has_symbol_of i symbol rows.now }
