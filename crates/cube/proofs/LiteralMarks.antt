@@ -405,7 +405,7 @@ count-whole test n words le past =
 
 -- ---- the key
 
-pow_four : (j : ℕ) → 4 ^ j ≡ 2 ^ (2 * j)
+pub pow_four : (j : ℕ) → 4 ^ j ≡ 2 ^ (2 * j)
 pow_four zero = refl
 pow_four (suc j) =
     let next : 2 * suc j ≡ suc (suc (2 * j)) = omega arith in

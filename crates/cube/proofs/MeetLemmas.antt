@@ -1,19 +1,20 @@
 -- The common part of two rows, of symbols and of words.
-use Rattle.std.proofs.Common.{◌≡◌, ℕ, zero, suc, ◌+◌, ◌*◌, ◌/◌, ◌%◌, ◌<◌, ◌≤◌, min, Bool, true, false, not, ◌&&◌, List, [], ◌∷◌, length, map, get_or, refl, ap, sym, ◌∙◌, arith, inl, inr, IsTrue, ◌↔◌, ◌⊎◌, bit_and}
+use Rattle.std.proofs.Common.{◌≡◌, ◌≢◌, ◌^◌, ℕ, zero, suc, ◌+◌, ◌*◌, ◌/◌, ◌%◌, ◌<◌, ◌≤◌, min, Bool, true, false, not, ◌&&◌, List, [], ◌∷◌, length, map, get_or, refl, ap, sym, subst, ◌∙◌, arith, inl, inr, IsTrue, ◌↔◌, ◌⊎◌, bit_and}
 use Rattle.std.specs.Int.{bit_at}
 use Rattle.std.proofs.lemmas.Bool.{cases_lt, false≢true, and_parts, and_from, cases_Bool, not-true, not_from_false}
 use Rattle.std.proofs.lemmas.List.{get_or_past}
-use Rattle.std.proofs.lemmas.Nat.Bits.{bit_at_and}
+use Rattle.std.proofs.lemmas.Nat.Bits.{bit_at_and, bit_at-zero}
 use Rattle.cube.specs.declared.symbol.Symbol.{Symbol}
 use Rattle.cube.specs.declared.symbol.Symbol.TheVariants.{Dash, Zero, One}
 use Rattle.cube.specs.Pattern.{agrees, matches}
 use Rattle.cube.specs.Cube.{Cube, Place, SameSize, IsDisjoint, holds}
-use Rattle.cube.specs.Packing.{input_words, output_words, bit_of, PacksInputs, PacksOutputs, Packs, IsPacked, unpacked}
-use Rattle.cube.proofs.PackingLemmas.{within_from_true, true_from_bit, low_of_inputs, high_of_inputs}
+use Rattle.cube.specs.Packing.{input_words, output_words, bit_of, IsInputWord, IsOutputWord, PacksInputs, PacksOutputs, Packs, IsPacked, unpacked}
+use Rattle.cube.proofs.PackingLemmas.{within_from_true, true_from_bit, low_of_inputs, high_of_inputs, input_word_of, output_word_of, length-words}
 use Rattle.std.specs.Simd.Lanes.{zip2}
 use Rattle.cube.proofs.ZipLemmas.{zip_row, ZipsBits, get_or-zip2_any, IsPacked-zip_bits}
 use Rattle.cube.proofs.HoldsLemmas.{pick, matches-map_pick, agrees_at-matches}
-use Rattle.cube.specs.Words.{PairsMeet, ShareBit}
+use Rattle.cube.specs.Words.{HasNoEmptyPair, PairsMeet, ShareBit}
+use Rattle.cube.proofs.WordLemmas.{bit_from_nonzero}
 
 -- whether two symbols agree with a common bit
 unfoldable pub compatible : Symbol → Symbol → Bool
@@ -340,3 +341,85 @@ IsPacked-common_row a b size n m ws vs xs en em pa pb h shared len words =
     )
     refl agrees-common
     (λ k lt. ZipsBits-and (get_or ws k 0) (get_or vs k 0) (get_or xs k 0) (words k lt))
+
+-- ---- two words, one of inputs and one of outputs
+
+PairsMeet-iff_word : (x y : ℕ) → HasNoEmptyPair (bit_and x y) ↔ PairsMeet (x ∷ []) (y ∷ [])
+PairsMeet-iff_word x y = (λ h v lt. each h v lt, λ h. h 0 (omega arith))
+  where
+    each : HasNoEmptyPair (bit_and x y) → (v : ℕ) → v < length (x ∷ []) → HasNoEmptyPair (bit_and (get_or (x ∷ []) v 0) (get_or (y ∷ []) v 0))
+    each h zero lt = h
+    each h (suc v) lt = absurd (omega arith)
+
+ShareBit-from_word : (x y : ℕ) → bit_and x y < 2 ^ 64 → bit_and x y ≢ 0 → ShareBit (x ∷ []) (y ∷ [])
+ShareBit-from_word x y fits some = (0, omega arith, bit_from_nonzero (bit_and x y) fits some)
+
+no_ShareBit-from_word : (x y : ℕ) → bit_and x y ≡ 0 → ShareBit (x ∷ []) (y ∷ []) → ⊥
+no_ShareBit-from_word x y none (zero, lt, (k, small, on)) = omega (arith, ap (λ w. bit_at w k) none, bit_at-zero k, on)
+no_ShareBit-from_word x y none (suc v, lt, rest) = absurd (omega arith)
+
+module _ (c : Cube) (ws : List ℕ) (p : Packs c ws) (inputs : input_words (length c.symbols) ≡ 1) where
+  PacksInputs-first : PacksInputs c.symbols (get_or ws 0 0 ∷ [])
+  PacksInputs-first = record { words_len = sym inputs; each = λ v lt. each v lt }
+    where
+      each : (v : ℕ) → v < input_words (length c.symbols) → IsInputWord c.symbols v (get_or (get_or ws 0 0 ∷ []) v 0)
+      each zero lt = input_word_of c ws p 0 lt
+      each (suc v) lt = absurd (omega (arith, inputs))
+
+  PacksOutputs-second : output_words (length c.outputs) ≡ 1 → PacksOutputs c.outputs (get_or ws 1 0 ∷ [])
+  PacksOutputs-second outputs = record { words_len = sym outputs; each = λ v lt. each v lt }
+    where
+      each : (v : ℕ) → v < output_words (length c.outputs) → IsOutputWord c.outputs v (get_or (get_or ws 1 0 ∷ []) v 0)
+      each zero lt =
+          let at : input_words (length c.symbols) + 0 ≡ 1 = omega (arith, inputs) in
+          let P : ℕ → Type 0 = λ s. IsOutputWord c.outputs 0 (get_or ws s 0) in
+          subst P at (output_word_of c ws p 0 lt)
+      each (suc v) lt = absurd (omega (arith, outputs))
+
+module _ (a b : Cube) (size : SameSize a b) (ws vs : List ℕ) (pa : Packs a ws) (pb : Packs b vs)
+    (inputs : input_words (length a.symbols) ≡ 1) (outputs : output_words (length a.outputs) ≡ 1) where
+  -- what both have of the inputs, and of the outputs
+  abbrev both_inputs : ℕ
+  both_inputs = bit_and (get_or ws 0 0) (get_or vs 0 0)
+
+  abbrev both_outputs : ℕ
+  both_outputs = bit_and (get_or ws 1 0) (get_or vs 1 0)
+
+  inputs_b : input_words (length b.symbols) ≡ 1
+  inputs_b = omega (arith, inputs, size.0)
+
+  outputs_b : output_words (length b.outputs) ≡ 1
+  outputs_b = omega (arith, outputs, size.1)
+
+  pub IsDisjoint-from_first : (r : Bool) → IsTrue r ↔ HasNoEmptyPair both_inputs → r ≡ false → IsDisjoint (holds a) (holds b)
+  IsDisjoint-from_first r says failed =
+      let iff = PairsMeet-iff_word (get_or ws 0 0) (get_or vs 0 0) in
+      IsDisjoint-from_inputs a b size _ _ (PacksInputs-first a ws pa inputs) (PacksInputs-first b vs pb inputs_b) r
+      (λ t. iff.0 (says.0 t), λ h. says.1 (iff.1 h)) failed
+
+  pub IsDisjoint-from_second : both_outputs ≡ 0 → IsDisjoint (holds a) (holds b)
+  IsDisjoint-from_second none p in_a in_b =
+      no_ShareBit-from_word (get_or ws 1 0) (get_or vs 1 0) none
+      (ShareBit-from_output a b size _ _ (PacksOutputs-second a ws pa inputs outputs) (PacksOutputs-second b vs pb inputs_b outputs_b)
+      (SharesOutput-from_place a b size p in_a in_b))
+
+  pub meet-from_two_words : HasNoEmptyPair both_inputs → both_outputs < 2 ^ 64 → both_outputs ≢ 0 → InputsMeet a b size × SharesOutput a b size
+  meet-from_two_words met fits some = (
+    InputsMeet-from_words a b size _ _ (PacksInputs-first a ws pa inputs) (PacksInputs-first b vs pb inputs_b)
+        ((PairsMeet-iff_word (get_or ws 0 0) (get_or vs 0 0)).0 met),
+    SharesOutput-from_words a b size _ _ (PacksOutputs-second a ws pa inputs outputs) (PacksOutputs-second b vs pb inputs_b outputs_b)
+        (ShareBit-from_word (get_or ws 1 0) (get_or vs 1 0) fits some),
+  )
+
+  pub IsPacked-two_words : (n m : ℕ) (xs : List ℕ) → length a.symbols ≡ n → length a.outputs ≡ m
+      → InputsMeet a b size → SharesOutput a b size → xs ≡ both_inputs ∷ both_outputs ∷ []
+      → IsPacked n m xs × (unpacked n m xs ≡ common_row a b)
+  IsPacked-two_words n m xs en em h shared is =
+      let two : length ws ≡ 2 = omega (arith, length-words a ws pa, inputs, outputs) in
+      IsPacked-common_row a b size n m ws vs xs en em pa pb h shared (ap length is ∙ sym two)
+      (λ k lt. ap (λ l. get_or l k 0) is ∙ each k (omega (arith, two)))
+    where
+      each : (k : ℕ) → k < 2 → get_or (both_inputs ∷ both_outputs ∷ []) k 0 ≡ bit_and (get_or ws k 0) (get_or vs k 0)
+      each zero lt = refl
+      each (suc zero) lt = refl
+      each (suc (suc k)) lt = absurd (omega arith)

@@ -33,14 +33,13 @@ split_dash Dash t h = refl
 split_dash Zero t h = absurd (false≢true h)
 split_dash One t h = absurd (false≢true h)
 
-split_apart : (s t : Symbol) (bit : Bool) → is_split s t ≡ true → agrees (opposite t) bit ≡ true → agrees t bit ≡ true → ⊥
-split_apart Dash Dash bit h x y = false≢true h
-split_apart Dash Zero true h x y = false≢true y
-split_apart Dash Zero false h x y = false≢true x
-split_apart Dash One true h x y = false≢true x
-split_apart Dash One false h x y = false≢true y
-split_apart Zero t bit h x y = false≢true h
-split_apart One t bit h x y = false≢true h
+-- no bit agrees with a literal and with its opposite
+pub dash_from_opposites : (s : Symbol) (bit : Bool) → agrees s bit ≡ true → agrees (opposite s) bit ≡ true → s ≡ Dash
+dash_from_opposites Dash bit h x = refl
+dash_from_opposites Zero true h x = absurd (false≢true h)
+dash_from_opposites Zero false h x = absurd (false≢true x)
+dash_from_opposites One true h x = absurd (false≢true x)
+dash_from_opposites One false h x = absurd (false≢true h)
 
 split_partial : (s t : Symbol) → is_split s t ≡ true → ((bit : Bool) → agrees (opposite t) bit ≡ true) → ⊥
 split_partial Dash Dash h all = false≢true h
@@ -53,6 +52,9 @@ split_right : (s : Symbol) → is_split s Dash ≡ false
 split_right Dash = refl
 split_right Zero = refl
 split_right One = refl
+
+split_apart : (s t : Symbol) (bit : Bool) → is_split s t ≡ true → agrees (opposite t) bit ≡ true → agrees t bit ≡ true → ⊥
+split_apart s t bit h x y = false≢true (sym (split_right s) ∙ subst (λ u. is_split s u ≡ true) (dash_from_opposites t bit y x) h)
 
 split_less : (s t : Symbol) → is_split s t ≡ true → symbol_cmp s (opposite t) ≡ Less
 split_less Dash Dash h = absurd (false≢true h)

@@ -19,6 +19,11 @@ abbrev pub PairsMeet : List ℕ → List ℕ → Type 0
 PairsMeet a b = (v : ℕ) → v < length a
     → HasNoEmptyPair (bit_and (slice_index a v) (slice_index b v))
 
+-- each pair of places from a word on has a bit that is in both rows
+abbrev pub PairsMeetFrom : ℕ → List ℕ → List ℕ → Type 0
+PairsMeetFrom from a b = (v : ℕ) → from ≤ v → v < length a
+    → HasNoEmptyPair (bit_and (slice_index a v) (slice_index b v))
+
 -- some bit is in both rows
 abbrev pub ShareBit : List ℕ → List ℕ → Type 0
 ShareBit a b = (v : ℕ) × (v < length a)

@@ -13,11 +13,11 @@ ghost use Rattle.cube.specs.Sum.{complete_sum};
 ghost use Rattle.std.specs.List.{list_any};
 ghost use Rattle.cube.specs.Order.{row_cmp as row_order};
 ghost use Rattle.cube.specs.Literals.{IsOrderKey};
-ghost use Rattle.cube.specs.Packing.{Packs, PacksInputs, PacksOutputs};
+ghost use Rattle.cube.specs.Packing.{Packs, PacksInputs, PacksOutputs, input_words as input_words_of, output_words as output_words_of};
 
 use crate::bytes::{has_any_mark, two_words_of, words_of};
 use crate::groups::{byte_by_bits, group_by_bits};
-use crate::lanes::{covers_by_lanes, pairs_meet_by_lanes};
+use crate::lanes::{covers_by_lanes, has_no_empty_pair, pairs_meet_by_lanes};
 use crate::pack::{input_word, input_words, is_in_two_words, output_word, output_words};
 use crate::shape::Shape;
 use crate::symbol::Symbol;
@@ -260,6 +260,9 @@ impl Cube {
             → holds c p ≡ intersection (holds self.now) (holds other.now) p)) }
         ensures inline { word_count self.now ≤ 4 → IsOk result }
     {
+        if is_in_two_words(self.shape) {
+            return Ok(self.meet_in_two_words(other));
+        }
         if self.disjoint(other) {
             return Ok(None);
         }
@@ -273,6 +276,31 @@ impl Cube {
             shape: self.shape,
             words,
         }))
+    }
+
+    // The meet of two cubes of two words.
+    fn meet_in_two_words(&self, other: &Cube) -> Option<Cube>
+        requires size { SameSize self.now other.now }
+        requires inputs { input_words_of (length self.now.symbols) ≡ 1 }
+        requires outputs { output_words_of (length self.now.outputs) ≡ 1 }
+        ensures none { IsNone result ↔ IsDisjoint (holds self.now) (holds other.now) }
+        ensures size { IfSome result (λ c. SameSize c self.now) }
+        ensures places { IfSome result (λ c. (p : Place)
+            → holds c p ≡ intersection (holds self.now) (holds other.now) p) }
+    {
+        let (mine, theirs) = (self.words(), other.words());
+        let inputs = mine[0] & theirs[0];
+        let outputs = mine[1] & theirs[1];
+        if !has_no_empty_pair(inputs) || outputs == 0 {
+            return None;
+        }
+        let mut words = SmallVec::new(*self.words.allocator());
+        words.push_reserved(inputs);
+        words.push_reserved(outputs);
+        Some(Cube {
+            shape: self.shape,
+            words,
+        })
     }
 
     /// The cofactor by `other`: this cube with `-` at the inputs where `other` has a literal, and

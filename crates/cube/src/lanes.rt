@@ -36,8 +36,8 @@ fn pairs_meet_four(a: &[u64; 4], b: &[u64; 4]) -> bool
     (u64x4::splat(LOWER_BITS) & !either).reduce_or() == 0
 }
 
-// Whether each pair of bits of a word has one that is set.
-fn has_no_empty_pair(word: u64) -> bool
+/// Whether each pair of bits of a word has one that is set.
+pub(crate) fn has_no_empty_pair(word: u64) -> bool
     ensures { IsTrue result ↔ HasNoEmptyPair word }
 {
     (word | (word >> 1)) & LOWER_BITS == LOWER_BITS
@@ -75,18 +75,20 @@ pub(crate) fn pairs_meet_by_lanes(a: &[u64], b: &[u64]) -> bool
     if !a.is_empty() && !has_no_empty_pair(a[0] & b[0]) {
         return false;
     }
-    a.len() < 2 || pairs_of_many_meet(a, b)
+    if a.len() < 2 {
+        return true;
+    }
+    if a.len() < MANY {
+        return pairs_meet_word_by_word(a, b, 1);
+    }
+    pairs_of_many_meet(a, b)
 }
 
 // Whether each pair of bits of the words, of which there may be many, has one that is in both.
-#[inline(never)]
 fn pairs_of_many_meet(a: &[u64], b: &[u64]) -> bool
     requires { length a.now ≡ length b.now }
     ensures { IsTrue result ↔ PairsMeet a.now b.now }
 {
-    if a.len() < MANY {
-        return pairs_meet_word_by_word(a, b);
-    }
     let (mine, my_rest) = a.as_chunks::<4>();
     let (theirs, their_rest) = b.as_chunks::<4>();
     for k in 0..mine.len() {
@@ -94,5 +96,5 @@ fn pairs_of_many_meet(a: &[u64], b: &[u64]) -> bool
             return false;
         }
     }
-    pairs_meet_word_by_word(my_rest, their_rest)
+    pairs_meet_word_by_word(my_rest, their_rest, 0)
 }

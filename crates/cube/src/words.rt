@@ -1,7 +1,7 @@
 //! Kernels over words, which know nothing of symbols. Each looks at each word once.
 ghost use Rattle.std.specs.Prelude.{◌≡◌, ◌==◌, ℕ, ◌↔◌, ◌≤◌, ◌<◌, ◌+◌, ◌^◌, IsTrue, IsOk, IfOk, IfSome, IfNone, length, slice_index, ◌≢◌, if◌then◌else◌, max, ◌-◌, ◌*◌, ◌/◌, sum_by};
 ghost use Rattle.std.specs.Int.{bit_at, count_zeros, w64};
-ghost use Rattle.cube.specs.Words.{CoversWords, PairsMeet, ShareBit, IsBitDifference, IsExchangeMask, exchanged, freed_bit, HasAll, DiffersFirstAt, IsFirstClear, bit_of_words};
+ghost use Rattle.cube.specs.Words.{CoversWords, PairsMeetFrom, ShareBit, IsBitDifference, IsExchangeMask, exchanged, freed_bit, HasAll, DiffersFirstAt, IsFirstClear, bit_of_words};
 
 use smallvec::SmallVec;
 use std::alloc::{AllocError, Global};
@@ -22,12 +22,12 @@ pub(crate) fn covers_word_by_word(a: &[u64], b: &[u64]) -> bool
     true
 }
 
-/// Whether each pair of bits has one that is in both.
-pub(crate) fn pairs_meet_word_by_word(a: &[u64], b: &[u64]) -> bool
+/// Whether each pair of bits of the words from number `from` on has one that is in both.
+pub(crate) fn pairs_meet_word_by_word(a: &[u64], b: &[u64], from: usize) -> bool
     requires { length a.now ≡ length b.now }
-    ensures { IsTrue result ↔ PairsMeet a.now b.now }
+    ensures { IsTrue result ↔ PairsMeetFrom from a.now b.now }
 {
-    for k in 0..a.len() {
+    for k in from..a.len() {
         let both = a[k] & b[k];
         if (both | (both >> 1)) & LOWER_BITS != LOWER_BITS {
             return false;

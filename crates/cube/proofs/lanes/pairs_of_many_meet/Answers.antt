@@ -28,4 +28,4 @@ returns c =
     let q = length c.args.a.now / 4 in
     rest-iff Holds c.args.a.now c.args.b.now c.requires _ _ q _ c.as_chunks.ensures.back (rw c.requires c.as_chunks-2.ensures.back)
     (λ j lt. c.loop-k.invariant j (omega (arith, c.as_chunks.ensures.front_len)))
-    c.pairs_meet_word_by_word-2.ensures
+    (λ t v lt. c.pairs_meet_word_by_word.ensures.0 t v (omega arith) lt, λ h. c.pairs_meet_word_by_word.ensures.1 (λ v _ lt. h v lt))

@@ -1,6 +1,7 @@
 use Rattle.std.proofs.Common.{refl, ap, sym, ◌∙◌, rules}
 use Rattle.std.proofs.lemmas.Bool.{false≢true}
 use Rattle.cube.specs.Cube.{holds}
+use Rattle.cube.specs.Packing.{input_words, output_words}
 use Rattle.cube.proofs.PackingLemmas.{length-symbols, length-outputs, few_words, same_words, SameSize-of_shape}
 use Rattle.cube.proofs.MeetLemmas.{meet-from_not_disjoint, IsPacked-common_row, holds-common_row}
 use Rattle.cube.proofs.cube.Cube.meet.Goals as goal
@@ -38,3 +39,11 @@ returns-clause-size c = SameSize-of_shape _ _ _ c.in_ok-words.words.items _ c.se
 
 pub returns-clause-inline : goal.returns-clause-inline
 returns-clause-inline c _ = refl
+
+pub meet_in_two_words-requires-clause-inputs : goal.meet_in_two_words-requires-clause-inputs
+meet_in_two_words-requires-clause-inputs c =
+    ap (λ n. input_words n) (length-symbols _ _ _ _ c.self.view_is) ∙ c.is_in_two_words.ensures.inputs c.if-is_in_two_words.true
+
+pub meet_in_two_words-requires-clause-outputs : goal.meet_in_two_words-requires-clause-outputs
+meet_in_two_words-requires-clause-outputs c =
+    ap (λ m. output_words m) (length-outputs _ _ _ _ c.self.view_is) ∙ c.is_in_two_words.ensures.outputs c.if-is_in_two_words.true
