@@ -67,7 +67,7 @@ fn empty_lists(
 }
 
 /// An empty list for each column: these, emptied, if they are as many.
-fn emptied_or_new(
+fn empty_lists_from(
     alloc: Global,
     rows: &[Vec<usize>],
     columns: usize,
@@ -95,7 +95,7 @@ fn transpose(
         (items_of v.items)) }
     ensures long { IfOk result (λ v. length v.items ≡ columns) }
 {
-    let mut transpose = emptied_or_new(alloc, rows, columns, lists)?;
+    let mut transpose = empty_lists_from(alloc, rows, columns, lists)?;
     for (i, row) in rows.iter().enumerate() {
         enter(&mut transpose, row, i)?;
     }
