@@ -40,4 +40,5 @@ pub mod OverRegion
 pub mod OffSets
 pub mod MeetsWithin
 pub mod MaskedAgreement
+pub mod SumFour
 pub mod SumFree

@@ -19,7 +19,8 @@ use Rattle.cube.specs.Sharp.{minus, rest_row, rest_rows}
 use Rattle.cube.specs.Sum.{complete_sum, IsMaximal}
 use Rattle.cube.proofs.HoldsLemmas.{agrees_at-matches, Covers, IsSubset-from_Covers, Covers-from_IsSubset}
 use Rattle.cube.proofs.MeetLemmas.{compatible, decide_inputs, decide_outputs, common_place}
-use Rattle.cube.proofs.SharpLemmas.{some_true, true_some, get_or-minus, length-minus}
+use Rattle.cube.proofs.LiteralMarks.{opposite_symbols}
+use Rattle.cube.proofs.SharpLemmas.{dash_from_opposites, some_true, true_some, get_or-minus, length-minus}
 use Rattle.cube.proofs.Members.{Contains-here, Contains-nil, Contains-cases, Contains-filter, Contains-filter_cases, list_any_none, list_any_false, same_from_members}
 use Rattle.cube.proofs.SumLemmas.{IsPlace-from_holds, IsSubset-from_test, is_subset-from_fact, Contains-complete_sum, sorted-complete_sum, row_asymmetric}
 use Rattle.cover.specs.Cubes.{AreCubes}
@@ -98,15 +99,9 @@ opposite_through One One Zero cover h = (refl, refl)
 opposite_through s One One cover h = absurd (false≢true (sym h))
 
 opposite_apart : (s t : Symbol) (bit : Bool) → are_opposite s t ≡ true → agrees s bit ≡ true → agrees t bit ≡ true → ⊥
-opposite_apart Dash t bit h x y = false≢true h
-opposite_apart Zero Dash bit h x y = false≢true h
-opposite_apart Zero Zero bit h x y = false≢true h
-opposite_apart Zero One true h x y = false≢true x
-opposite_apart Zero One false h x y = false≢true y
-opposite_apart One Dash bit h x y = false≢true h
-opposite_apart One Zero true h x y = false≢true y
-opposite_apart One Zero false h x y = false≢true x
-opposite_apart One One bit h x y = false≢true h
+opposite_apart s t bit h x y =
+    let literals = opposite_symbols s t h in
+    literals.0 (dash_from_opposites s bit x (subst (λ u. agrees u bit ≡ true) literals.1 y))
 
 -- the cube with the literal of the region
 abbrev pub piece_at : Cube → Cube → ℕ → Cube

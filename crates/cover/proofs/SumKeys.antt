@@ -1,5 +1,5 @@
 -- Rows met by their keys.
-use Rattle.std.proofs.Common.{◌≡◌, ℕ, zero, suc, ◌+◌, ◌-◌, ◌*◌, ◌/◌, ◌%◌, ◌^◌, ◌<◌, ◌≤◌, max, bit_and, bit_or, add-one, Bool, true, false, if◌then◌else◌, ◌&&◌, ◌||◌, List, [], ◌∷◌, ◌++◌, length, take, drop, get_or, refl, ap, sym, subst, ◌∙◌, arith, inl, inr}
+use Rattle.std.proofs.Common.{◌≡◌, ℕ, suc, ◌+◌, ◌-◌, ◌*◌, ◌/◌, ◌%◌, ◌^◌, ◌<◌, ◌≤◌, max, bit_and, bit_or, add-one, Bool, true, false, if◌then◌else◌, ◌&&◌, ◌||◌, List, [], ◌∷◌, ◌++◌, length, take, drop, get_or, refl, ap, sym, subst, ◌∙◌, arith, inl, inr}
 use Rattle.std.specs.Int.{bit_at}
 use Rattle.std.specs.List.{Contains}
 use Rattle.std.proofs.lemmas.Bool.{cases_lt, cases_Bool, false≢true, and_parts}
@@ -15,7 +15,7 @@ use Rattle.cube.specs.Literals.{has_literal, IsOrderKey}
 use Rattle.cube.specs.Order.{rank}
 use Rattle.cube.specs.Cube.{Cube, Place, holds, IsCube}
 use Rattle.cube.proofs.HoldsLemmas.{agrees_at-matches}
-use Rattle.cube.proofs.LiteralMarks.{even_bits-even, order_key_of_32_inputs-same}
+use Rattle.cube.proofs.LiteralMarks.{pow_four, even_bits-even, order_key_of_32_inputs-same}
 use Rattle.cube.proofs.WordLemmas.{folded_bit}
 use Rattle.cover.specs.Cubes.{AreCubes}
 use Rattle.cover.specs.Places.{places}
@@ -25,12 +25,6 @@ use Rattle.cover.proofs.Lists.{list_any_witness}
 use Rattle.cover.proofs.SumMeets.{IsMeets-others}
 
 -- ---- the inputs of a key
-
-pow_four : (j : ℕ) → 4 ^ j ≡ 2 ^ (2 * j)
-pow_four zero = refl
-pow_four (suc j) =
-    let next : 2 * suc j ≡ suc (suc (2 * j)) = omega arith in
-    sym (ap (λ i. 2 ^ i) next ∙ omega (arith, pow-suc 2 (suc (2 * j)), pow-suc 2 (2 * j), pow_four j, pow-suc 4 j))
 
 digit_case : (s : Symbol) (q : ℕ) → q % 4 ≡ rank s → max (q % 2) (q / 2 % 2) ≡ (if is_literal s then 1 else 0)
 digit_case Dash q e = omega (arith, e)

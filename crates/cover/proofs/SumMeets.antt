@@ -1,5 +1,6 @@
 -- The meets of two lists, taken in turn.
 use Rattle.std.proofs.Common.{◌≡◌, ℕ, ◌+◌, ◌<◌, Bool, true, false, not, ◌&&◌, ◌||◌, List, [], ◌∷◌, ◌++◌, length, get_or, take, refl, ap, sym, subst, ◌∙◌, All, append-nil}
+use Rattle.std.proofs.Math.Bool.{or-false}
 use Rattle.std.proofs.lemmas.Bool.{or_parts, or_from, false≢true}
 use Rattle.std.proofs.lemmas.List.{take_more}
 use Rattle.std.proofs.lemmas.List.Folds.{list_any-append}
@@ -14,10 +15,6 @@ use Rattle.cover.specs.Marks.{is_symbol}
 use Rattle.cover.specs.Parts.{has_literal}
 use Rattle.cover.specs.Reduced.{IsMeets}
 use Rattle.cover.proofs.SumParts.{has_literal-append, meet-dash}
-
-or_false : (x : Bool) → (x || false) ≡ x
-or_false true = refl
-or_false false = refl
 
 and_or : (a b c : Bool) → ((a && b) || (a && c)) ≡ (a && (b || c))
 and_or true b c = refl
@@ -66,11 +63,11 @@ module _ (size : Size) where
       → IsMeets size (a ∷ []) (b ∷ []) (m ∷ [])
   IsMeets-one a b m cube_a cube_b cube_m both = record {
     are_cubes = All-cons (IsCube size) m [] cube_m (All-nil (IsCube size));
-    places = λ p. or_false (holds m p) ∙ both p ∙ ap (λ x. x && holds b p) (sym (or_false (holds a p))) ∙ ap (λ x. (holds a p || false) && x) (sym (or_false (holds b p)));
+    places = λ p. or-false (holds m p) ∙ both p ∙ ap (λ x. x && holds b p) (sym (or-false (holds a p))) ∙ ap (λ x. (holds a p || false) && x) (sym (or-false (holds b p)));
     literals = λ k h g.
-        let da = dash_of (get_or a.symbols k Dash) (sym (or_false (not (is_symbol Dash (get_or a.symbols k Dash)))) ∙ h) in
-        let db = dash_of (get_or b.symbols k Dash) (sym (or_false (not (is_symbol Dash (get_or b.symbols k Dash)))) ∙ g) in
-        or_false (not (is_symbol Dash (get_or m.symbols k Dash)))
+        let da = dash_of (get_or a.symbols k Dash) (sym (or-false (not (is_symbol Dash (get_or a.symbols k Dash)))) ∙ h) in
+        let db = dash_of (get_or b.symbols k Dash) (sym (or-false (not (is_symbol Dash (get_or b.symbols k Dash)))) ∙ g) in
+        or-false (not (is_symbol Dash (get_or m.symbols k Dash)))
         ∙ ap (λ s. not (is_symbol Dash s)) (meet-dash size a b m k cube_a cube_b cube_m both da db);
   }
     where
@@ -83,7 +80,7 @@ module _ (size : Size) where
   IsMeets-disjoint a b apart = record {
     are_cubes = All-nil (IsCube size);
     places = λ p.
-        sym (ap (λ x. x && (holds b p || false)) (or_false (holds a p)) ∙ ap (λ x. holds a p && x) (or_false (holds b p))
+        sym (ap (λ x. x && (holds b p || false)) (or-false (holds a p)) ∙ ap (λ x. holds a p && x) (or-false (holds b p))
         ∙ never (holds a p) (holds b p) (apart p));
     literals = λ k h g. refl;
   }

@@ -1,5 +1,6 @@
 -- What the sum at one value of an input adds to that at both values.
 use Rattle.std.proofs.Common.{◌≡◌, ℕ, ◌<◌, Bool, true, false, not, ◌&&◌, ◌||◌, cond, List, [], ◌∷◌, get_or, refl, ap, sym, subst, ◌∙◌}
+use Rattle.std.proofs.Math.Bool.{or-false}
 use Rattle.std.specs.List.{Contains}
 use Rattle.std.proofs.lemmas.Bool.{or_parts}
 use Rattle.std.proofs.lemmas.List.Elements.{All-nil}
@@ -12,13 +13,14 @@ use Rattle.cube.proofs.Members.{Contains-here}
 use Rattle.cube.proofs.SumLemmas.{sorted-complete_sum, complete_sum-same}
 use Rattle.cover.specs.Cubes.{AreCubes}
 use Rattle.cover.specs.Places.{places}
-use Rattle.cover.specs.Complete.{literal, cofactor_at, consensus_at}
+use Rattle.cover.specs.Complete.{literal, cofactor_at, consensus_at, smoothing_at}
 use Rattle.cover.specs.Marks.{is_symbol}
 use Rattle.cover.specs.Parts.{part, has_symbol, merged, without_equal_rows, combination}
+use Rattle.cover.specs.Reduced.{IsBranch}
 use Rattle.cover.specs.Sides.{IsSide}
 use Rattle.cover.proofs.SumParts.{places-cofactor_at}
 use Rattle.cover.proofs.SumOrder.{without_equal_rows-cases}
-use Rattle.cover.proofs.SumStep.{complete_sum-three, AreCubes-complete_sum, part_rising}
+use Rattle.cover.proofs.SumStep.{both_sum, complete_sum-three, AreCubes-complete_sum, part_rising}
 use Rattle.std.specs.List.Sorted.{IsStrictlySortedBy}
 use Rattle.cube.specs.Order.{row_cmp}
 
@@ -39,10 +41,6 @@ within true x false true = refl
 within true x false false = refl
 within false x e y = refl
 
-or_false : (x : Bool) → (x || false) ≡ x
-or_false true = refl
-or_false false = refl
-
 and_swap : (x y : Bool) → (x && y) ≡ (y && x)
 and_swap true true = refl
 and_swap true false = refl
@@ -58,14 +56,14 @@ module _ (size : Size) (i : ℕ) (lt : i < size.inputs) (minuend subtrahend : Li
     here : (p : Place) → cofactor_at i b (difference (places minuend) (places subtrahend)) p
         ≡ (places (part i Dash minuend) p && not (places (part i Dash subtrahend) p || places (part i (literal b) subtrahend) p))
     here p =
-        let own = ap (λ l. places (part i Dash minuend) p || places l p) (part-none i (literal b) minuend no_inner) ∙ or_false (places (part i Dash minuend) p) in
+        let own = ap (λ l. places (part i Dash minuend) p || places l p) (part-none i (literal b) minuend no_inner) ∙ or-false (places (part i Dash minuend) p) in
         ap (λ z. z && not (cofactor_at i b (places subtrahend) p)) (sym (places-cofactor_at size i lt b minuend p in_cubes) ∙ own)
         ∙ ap (λ z. places (part i Dash minuend) p && not z) (sym (places-cofactor_at size i lt b subtrahend p out_cubes))
 
     there : (p : Place) → cofactor_at i (not b) (difference (places minuend) (places subtrahend)) p
         ≡ ((places (part i Dash minuend) p || places (part i (literal (not b)) minuend) p) && not (places (part i Dash subtrahend) p))
     there p =
-        let own = ap (λ l. places (part i Dash subtrahend) p || places l p) (part-none i (literal (not b)) subtrahend no_outer) ∙ or_false (places (part i Dash subtrahend) p) in
+        let own = ap (λ l. places (part i Dash subtrahend) p || places l p) (part-none i (literal (not b)) subtrahend no_outer) ∙ or-false (places (part i Dash subtrahend) p) in
         ap (λ z. z && not (cofactor_at i (not b) (places subtrahend) p)) (sym (places-cofactor_at size i lt (not b) minuend p in_cubes))
         ∙ ap (λ z. (places (part i Dash minuend) p || places (part i (literal (not b)) minuend) p) && not z) (sym (places-cofactor_at size i lt (not b) subtrahend p out_cubes) ∙ own)
 
@@ -114,6 +112,15 @@ module _ (size : Size) (i : ℕ) (s : Place → Bool) where
       → all ≡ combination i ds ps qs → all ≡ complete_sum size s
   complete_sum-sides lt ds ps qs all d low high is =
       is ∙ ap (λ l. combination i l ps qs) d
-      ∙ ap (λ l. merged (merged l (without_equal_rows i One qs (complete_sum size (consensus_at i s)))) (complete_sum size (consensus_at i s))) low.adds
-      ∙ ap (λ l. merged (merged (without_equal_rows i Zero (complete_sum size (cofactor_at i false s)) (complete_sum size (consensus_at i s))) l) (complete_sum size (consensus_at i s))) high.adds
+      ∙ ap (λ l. merged (merged (complete_sum size (consensus_at i s)) l) (without_equal_rows i One qs (complete_sum size (consensus_at i s)))) low.adds
+      ∙ ap (λ l. merged (merged (complete_sum size (consensus_at i s)) (without_equal_rows i Zero (complete_sum size (cofactor_at i false s)) (complete_sum size (consensus_at i s)))) l) high.adds
       ∙ complete_sum-three size i lt s
+
+-- the same of the lists of a split: what is added to the sum of the consensus of the minuend and the smoothing of the subtrahend
+pub side-rising : (size : Size) (i : ℕ) → i < size.inputs → (minuend subtrahend in_b out_b both : List Cube)
+    → IsBranch size i minuend (consensus_at i (places minuend)) in_b → IsBranch size i subtrahend (smoothing_at i (places subtrahend)) out_b
+    → both ≡ complete_sum size (difference (places in_b) (places out_b))
+    → (b : Bool) (rows : List Cube) → IsSide size i b (difference (places minuend) (places subtrahend)) rows
+    → IsStrictlySortedBy row_cmp (without_equal_rows i (literal b) rows both)
+side-rising size i lt minuend subtrahend in_b out_b both x y e b rows side =
+    IsSide-rising size i (difference (places minuend) (places subtrahend)) lt b rows both side (both_sum size i lt minuend subtrahend in_b out_b both x y e)

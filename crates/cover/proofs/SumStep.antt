@@ -77,27 +77,21 @@ module _ (size : Size) (i : ℕ) (lt : i < size.inputs) (s : Place → Bool) whe
       let ds = complete_sum size (consensus_at i s) in
       let zeros = without_equal_rows i Zero (complete_sum size (cofactor_at i false s)) ds in
       let ones = without_equal_rows i One (complete_sum size (cofactor_at i true s)) ds in
-      complete_sum-from_members size s (merged (merged zeros ones) ds)
-      (merged-rising (merged zeros ones) ds (merged-rising zeros ones (part_rising false) (part_rising true)) (sorted-complete_sum size (consensus_at i s)))
-      (λ c h. elim (merged-cases (merged zeros ones) ds c h) [
-        | inl sides ↦ elim (merged-cases zeros ones c sides) [
-          | inl a ↦ part_maximal false c a
-          | inr a ↦ part_maximal true c a
+      complete_sum-from_members size s (merged (merged ds zeros) ones)
+      (merged-rising (merged ds zeros) ones (merged-rising ds zeros (sorted-complete_sum size (consensus_at i s)) (part_rising false)) (part_rising true))
+      (λ c h. elim (merged-cases (merged ds zeros) ones c h) [
+        | inl front ↦ elim (merged-cases ds zeros c front) [
+          | inl middle ↦ maximal_from_both size i lt s c ((Contains-complete_sum size (consensus_at i s) c).0 middle)
+          | inr a ↦ part_maximal false c a
         ]
-        | inr middle ↦ maximal_from_both size i lt s c ((Contains-complete_sum size (consensus_at i s) c).0 middle)
+        | inr a ↦ part_maximal true c a
       ])
       (λ c h. elim (symbol_cases (get_or c.symbols i Dash)) [
-        | inl dash ↦ merged-right (merged zeros ones) ds c ((Contains-complete_sum size (consensus_at i s) c).1 (maximal_at_both size i lt s c dash h))
-        | inr (b, e) ↦ merged-left (merged zeros ones) ds c (side b c e h)
+        | inl dash ↦ merged-left (merged ds zeros) ones c
+            (merged-left ds zeros c ((Contains-complete_sum size (consensus_at i s) c).1 (maximal_at_both size i lt s c dash h)))
+        | inr (false, e) ↦ merged-left (merged ds zeros) ones c (merged-right ds zeros c (part_from_maximal false c e h))
+        | inr (true, e) ↦ merged-right (merged ds zeros) ones c (part_from_maximal true c e h)
       ])
-    where
-      side : (b : Bool) (c : Cube) → get_or c.symbols i Dash ≡ literal b → IsMaximal size s c
-          → Contains (merged (without_equal_rows i Zero (complete_sum size (cofactor_at i false s)) (complete_sum size (consensus_at i s)))
-          (without_equal_rows i One (complete_sum size (cofactor_at i true s)) (complete_sum size (consensus_at i s)))) c
-      side false c e h = merged-left (without_equal_rows i Zero (complete_sum size (cofactor_at i false s)) (complete_sum size (consensus_at i s)))
-          (without_equal_rows i One (complete_sum size (cofactor_at i true s)) (complete_sum size (consensus_at i s))) c (part_from_maximal false c e h)
-      side true c e h = merged-right (without_equal_rows i Zero (complete_sum size (cofactor_at i false s)) (complete_sum size (consensus_at i s)))
-          (without_equal_rows i One (complete_sum size (cofactor_at i true s)) (complete_sum size (consensus_at i s))) c (part_from_maximal true c e h)
 
 -- ---- the recursion over two lists
 
@@ -129,6 +123,11 @@ module _ (size : Size) (i : ℕ) (lt : i < size.inputs) (minuend subtrahend : Li
 pub AreCubes-complete_sum : (size : Size) (s : Place → Bool) (rows : List Cube) → rows ≡ complete_sum size s → AreCubes size rows
 AreCubes-complete_sum size s rows e =
     subst (AreCubes size) (sym e) (members_all (IsCube size) (complete_sum size s) (λ c h. ((Contains-complete_sum size s c).0 h).is_cube))
+
+-- the sum of a list is that of an equal one
+pub sum_of_copy : (size : Size) (rows minuend sum : List Cube) → rows ≡ minuend → AreCubes size minuend
+    → ((t : Size) → AreCubes t rows → sum ≡ complete_sum t (places rows)) → sum ≡ complete_sum size (places minuend)
+sum_of_copy size rows minuend sum same cubes is = is size (subst (AreCubes size) (sym same) cubes) ∙ ap (λ l. complete_sum size (places l)) same
 
 -- a list that is its own complete sum, with nothing taken from it
 pub complete_sum-no_outer : (size : Size) (rows minuend subtrahend : List Cube) → subtrahend ≡ [] → rows ≡ complete_sum size (places minuend)

@@ -1,10 +1,11 @@
 -- The complete sum of rows of which each value of an input has one.
-use Rattle.std.proofs.Common.{◌≡◌, ℕ, zero, suc, ◌<◌, ◌≤◌, Bool, ◌||◌, false, true, cond, List, [], ◌∷◌, ◌++◌, length, get_or, drop, refl, sym, ap, ◌∙◌, arith}
+use Rattle.std.proofs.Common.{◌≡◌, ℕ, zero, suc, ◌<◌, ◌≤◌, Bool, ◌||◌, false, true, cond, List, [], ◌∷◌, ◌++◌, length, get_or, drop, refl, sym, ap, ◌∙◌, arith, All, IsTrue, ◌↔◌}
 use Rattle.std.specs.List.{insert}
 use Rattle.std.specs.Ordering.{is_lt, is_eq, ordering_reverse}
 use Rattle.std.specs.declared.cmp.Ordering.{Ordering}
 use Rattle.std.specs.declared.cmp.Ordering.TheVariants.{Less, Equal, Greater}
 use Rattle.std.proofs.lemmas.Bool.{false≢true}
+use Rattle.std.proofs.lemmas.Cmp.{tied_itself}
 use Rattle.std.proofs.lemmas.List.{append-nil, length-drop}
 use Rattle.std.proofs.lemmas.List.Elements.{All-cons, All-nil, All-same}
 use Rattle.cube.specs.declared.symbol.Symbol.{Symbol}
@@ -21,7 +22,9 @@ use Rattle.cover.specs.Marks.{is_symbol}
 use Rattle.cover.specs.Parts.{part, combination, merged, drop_below, drop_equal, begins_with, without_equal_rows}
 use Rattle.cover.specs.Reduced.{IsMeets}
 use Rattle.cover.proofs.SumBranches.{IsBranch-both_list, IsBranch-side}
-use Rattle.cover.proofs.SumRows.{merged-nothing, All-merged, AreCubes-without_equal_rows}
+use Rattle.cover.proofs.SumOrder.{row_exact}
+use Rattle.cover.proofs.SumRows.{merged-nothing, All-merged}
+use Rattle.cover.proofs.SumSplit.{with_symbol-twice, with_symbol-own}
 use Rattle.cover.proofs.SumStep.{complete_sum-three, complete_sum-empty, complete_sum-single, sum_of_list}
 
 -- a list of one cube or none is its own sum
@@ -76,6 +79,16 @@ merged-inserted c (d ∷ ds) n le left out = go (merged-inserted c ds) (row_cmp 
         ∙ ap (λ l. c ∷ d ∷ l) (merged-nothing ds)
         )
 
+insert-end : (c : Cube) (cs : List Cube) → insert cs (length cs) c ≡ cs ++ c ∷ []
+insert-end c [] = refl
+insert-end c (d ∷ ds) = ap (λ l. d ∷ l) (insert-end c ds)
+
+-- at the end, if that is its place
+pub merged-pushed : (c : Cube) (cs : List Cube) (n : ℕ) → n ≡ length cs → drop n cs ≡ drop_below c cs → begins_with c (drop n cs) ≡ false
+    → cs ++ c ∷ [] ≡ merged cs (c ∷ [])
+merged-pushed c cs n end left out =
+    sym (insert-end c cs) ∙ ap (λ k. insert cs k c) (sym end) ∙ merged-inserted c cs n (omega (arith, end)) left out
+
 -- and where it is there, the list
 pub merged-there : (c : Cube) (cs : List Cube) → begins_with c (drop_below c cs) ≡ true → merged cs (c ∷ []) ≡ cs
 merged-there c [] there = absurd (false≢true there)
@@ -95,7 +108,29 @@ merged-there c (d ∷ ds) there = go (merged-there c ds) (row_cmp d c) refl ther
     go more Greater e there =
         absurd (false≢true (sym (ap (λ o. begins_with c (cond (is_lt o) (drop_below c ds) (d ∷ ds))) e ∙ ap is_eq e) ∙ there))
 
+-- properties of each cube
+pub All-inserted : (P : Cube → Type 0) (rows all : List Cube) (c : Cube) (b : Bool) → All P rows → P c → all ≡ merged rows (cond b [] (c ∷ [])) → All P all
+All-inserted P rows all c b h k is = All-same P all (merged rows (cond b [] (c ∷ []))) is (All-merged P rows (cond b [] (c ∷ [])) h (added b))
+  where
+    added : (b : Bool) → All P (cond b [] (c ∷ []))
+    added true = All-nil P
+    added false = All-cons P c [] k (All-nil P)
+
 -- ---- the sum
+
+-- a list of one cube has a second one if the two are equal, and else not
+pub begins_with-one : (c d : Cube) (b : Bool) → IsTrue b ↔ c ≡ d → b ≡ begins_with c (drop_below c (d ∷ []))
+begins_with-one c d b same = go (row_cmp d c) refl b same
+  where
+    tied : c ≡ d → row_cmp d c ≡ Equal
+    tied e = ap (row_cmp d) e ∙ tied_itself row_total d
+
+    go : (o : Ordering) → row_cmp d c ≡ o → (b : Bool) → IsTrue b ↔ c ≡ d → b ≡ begins_with c (cond (is_lt o) [] (d ∷ []))
+    go Less e true same = let impossible : Less ≡ Equal = sym e ∙ tied (same.0 refl) in cc impossible
+    go Less e false same = refl
+    go Equal e b same = same.1 (sym (row_exact d c e)) ∙ sym (ap is_eq e)
+    go Greater e true same = let impossible : Greater ≡ Equal = sym e ∙ tied (same.0 refl) in cc impossible
+    go Greater e false same = sym (ap is_eq e)
 
 -- from the rows of both values and that of each
 module _ (size : Size) (i : ℕ) (lt : i < size.inputs) (rows zeros ones both sum : List Cube) where
@@ -122,12 +157,28 @@ module _ (size : Size) (i : ℕ) (lt : i < size.inputs) (zero' one : Cube) (cube
       ap (λ s. cond (is_symbol t s) (with_symbol zero' i Dash ∷ part i t (one ∷ [])) (part i t (one ∷ []))) low
       ∙ ap (λ s. cond (is_symbol t Zero) (with_symbol zero' i Dash ∷ cond (is_symbol t s) (with_symbol one i Dash ∷ []) []) (cond (is_symbol t s) (with_symbol one i Dash ∷ []) [])) high
 
-  pub complete_sum-opposites : (both sum : List Cube) → IsMeets size (with_symbol zero' i Dash ∷ []) (with_symbol one i Dash ∷ []) both → length both ≤ 1
-      → sum ≡ combination i both (with_symbol zero' i Dash ∷ []) (with_symbol one i Dash ∷ []) → sum ≡ complete_sum size (places (zero' ∷ one ∷ []))
-  complete_sum-opposites both sum meets few is =
-      complete_sum-two size i lt (zero' ∷ one ∷ []) (with_symbol zero' i Dash ∷ []) (with_symbol one i Dash ∷ []) both sum
-      (All-cons (IsCube size) zero' (one ∷ []) cube_zero (All-cons (IsCube size) one [] cube_one (All-nil (IsCube size))))
-      (sym (parts Dash)) (sym (parts Zero)) (sym (parts One)) meets (omega arith) (omega arith) few is
+  put_back : (c : Cube) (t : Symbol) → get_or c.symbols i Dash ≡ t → with_symbol (with_symbol c i Dash) i t ≡ c
+  put_back c t e = with_symbol-twice c i Dash t ∙ with_symbol-own c i t e
+
+  -- the consensus and then each of the two, unless it lies in the consensus, as a and b tell
+  module _ (both : List Cube) (a b : Bool) where
+    in_turn : a ≡ begins_with (with_symbol zero' i Dash) (drop_below (with_symbol zero' i Dash) both) → b ≡ begins_with (with_symbol one i Dash) (drop_below (with_symbol one i Dash) both)
+        → merged (merged both (cond a [] (zero' ∷ []))) (cond b [] (one ∷ [])) ≡ combination i both (with_symbol zero' i Dash ∷ []) (with_symbol one i Dash ∷ [])
+    in_turn first second =
+        sym (
+        ap (λ x. merged (merged both (cond x [] (with_symbol (with_symbol zero' i Dash) i Zero ∷ []))) (without_equal_rows i One (with_symbol one i Dash ∷ []) both)) (sym first)
+        ∙ ap (λ x. merged (merged both (cond a [] (with_symbol (with_symbol zero' i Dash) i Zero ∷ []))) (cond x [] (with_symbol (with_symbol one i Dash) i One ∷ []))) (sym second)
+        ∙ ap (λ c. merged (merged both (cond a [] (c ∷ []))) (cond b [] (with_symbol (with_symbol one i Dash) i One ∷ []))) (put_back zero' Zero low)
+        ∙ ap (λ c. merged (merged both (cond a [] (zero' ∷ []))) (cond b [] (c ∷ []))) (put_back one One high)
+        )
+
+    pub complete_sum-opposites : (sum : List Cube) → IsMeets size (with_symbol zero' i Dash ∷ []) (with_symbol one i Dash ∷ []) both → length both ≤ 1
+        → a ≡ begins_with (with_symbol zero' i Dash) (drop_below (with_symbol zero' i Dash) both) → b ≡ begins_with (with_symbol one i Dash) (drop_below (with_symbol one i Dash) both)
+        → sum ≡ merged (merged both (cond a [] (zero' ∷ []))) (cond b [] (one ∷ [])) → sum ≡ complete_sum size (places (zero' ∷ one ∷ []))
+    complete_sum-opposites sum meets few first second is =
+        complete_sum-two size i lt (zero' ∷ one ∷ []) (with_symbol zero' i Dash ∷ []) (with_symbol one i Dash ∷ []) both sum
+        (All-cons (IsCube size) zero' (one ∷ []) cube_zero (All-cons (IsCube size) one [] cube_one (All-nil (IsCube size))))
+        (sym (parts Dash)) (sym (parts Zero)) (sym (parts One)) meets (omega arith) (omega arith) few (is ∙ in_turn first second)
 
 -- the order of the two does not matter
 pub complete_sum-other_order : (size : Size) (c d : Cube) → complete_sum size (places (c ∷ d ∷ [])) ≡ complete_sum size (places (d ∷ c ∷ []))
@@ -145,22 +196,3 @@ two_rows [] c d len first second = absurd (omega arith)
 two_rows (x ∷ []) c d len first second = absurd (omega arith)
 two_rows (x ∷ y ∷ []) c d len first second = ap (λ z. z ∷ y ∷ []) (sym first) ∙ ap (λ z. c ∷ z ∷ []) (sym second)
 two_rows (x ∷ y ∷ z ∷ rest) c d len first second = absurd (omega arith)
-
--- ---- the rows as the code adds them
-
-pub AreCubes-side : (size : Size) (i : ℕ) (t : Symbol) (side : Cube) (both rows all : List Cube) → AreCubes size rows → IsCube size side
-    → all ≡ merged rows (without_equal_rows i t (side ∷ []) both) → AreCubes size all
-AreCubes-side size i t side both rows all cubes cube is =
-    All-same (IsCube size) all (merged rows (without_equal_rows i t (side ∷ []) both)) is
-    (All-merged (IsCube size) rows (without_equal_rows i t (side ∷ []) both) cubes
-    (AreCubes-without_equal_rows size i t (side ∷ []) both (All-cons (IsCube size) side [] cube (All-nil (IsCube size)))))
-
-pub both_sides : (i : ℕ) (low high low' high' : Cube) (both one other none' front all : List Cube) → none' ≡ [] → one ≡ both → other ≡ both → low ≡ low' → high ≡ high'
-    → front ≡ merged none' (without_equal_rows i Zero (low ∷ []) one) → all ≡ merged front (without_equal_rows i One (high ∷ []) other)
-    → all ≡ merged (without_equal_rows i Zero (low' ∷ []) both) (without_equal_rows i One (high' ∷ []) both)
-both_sides i low high low' high' both one other none' front all n a b c d first second =
-    second ∙ ap (λ l. merged l (without_equal_rows i One (high ∷ []) other)) (first ∙ ap (λ l. merged l (without_equal_rows i Zero (low ∷ []) one)) n)
-    ∙ ap (λ l. merged (without_equal_rows i Zero (low ∷ []) l) (without_equal_rows i One (high ∷ []) other)) a
-    ∙ ap (λ l. merged (without_equal_rows i Zero (low ∷ []) both) (without_equal_rows i One (high ∷ []) l)) b
-    ∙ ap (λ x. merged (without_equal_rows i Zero (x ∷ []) both) (without_equal_rows i One (high ∷ []) both)) c
-    ∙ ap (λ x. merged (without_equal_rows i Zero (low' ∷ []) both) (without_equal_rows i One (x ∷ []) both)) d

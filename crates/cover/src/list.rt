@@ -134,11 +134,19 @@ impl Cover {
 pub(crate) fn clone_cubes(alloc: Global, cubes: &[Cube]) -> Result<Vec<Cube>, AllocError>
     ensures { IfOk result (λ copy. copy.items ≡ cubes.now) }
 {
-    let mut copy = Vec::with_capacity(alloc, cubes.len())?;
+    with_copies(Vec::with_capacity(alloc, cubes.len())?, cubes)
+}
+
+/// The list, with copies of the cubes after its own.
+pub(crate) fn with_copies(list: Vec<Cube>, cubes: &[Cube]) -> Result<Vec<Cube>, AllocError>
+    ensures { IfOk result (λ all. all.items ≡ list.items ++ cubes.now) }
+{
+    let mut all = list;
+    all.reserve(cubes.len())?;
     for cube in cubes {
-        copy.push(cube.try_clone()?)?;
+        all.push(cube.try_clone()?)?;
     }
-    Ok(copy)
+    Ok(all)
 }
 
 /// Copies of the cubes that the references refer to, in their order.

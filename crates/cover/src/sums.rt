@@ -19,7 +19,9 @@
 //!
 //! The input with most literals is split at. A unate list is its own sum but for the cubes that lie
 //! in others (Brayton et al. 1984). Of a list in two parts without a common input the sums of the
-//! parts are made one after the other, so that they do not multiply each other's steps.
+//! parts are made one after the other, so that they do not multiply each other's steps. Two rows
+//! with opposite literals, and four with the four pairs of literals at two inputs, are ends of
+//! their own: functions of several outputs come to few other lists so often.
 pub(crate) mod absorb;
 pub(crate) mod branch;
 pub(crate) mod by_symbol;
@@ -28,6 +30,7 @@ pub(crate) mod constant_outputs;
 pub(crate) mod containing;
 pub(crate) mod dependent_outputs;
 pub(crate) mod ends;
+pub(crate) mod four_rows;
 pub(crate) mod independent_parts;
 pub(crate) mod input_groups;
 pub(crate) mod keys;
@@ -62,6 +65,7 @@ use crate::sums::constant_outputs::{
 use crate::sums::ends::{
     has_row_without_literals, has_universal_row, is_unate, sum_without_literals,
 };
+use crate::sums::four_rows::sum_of_four_rows;
 use crate::sums::independent_parts::{Parts, independent_parts};
 use crate::sums::meets::meets;
 use crate::sums::rows::{merge, sort_rows};
@@ -114,11 +118,14 @@ fn sum_by_case(
         if minuend.len() == 1 {
             return Ok(minuend);
         }
-        if is_unate(shape, &minuend)? {
-            return absorb(alloc, minuend);
-        }
         if let Some(sum) = sum_of_two_rows(alloc, &minuend)? {
             return Ok(sum);
+        }
+        if let Some(sum) = sum_of_four_rows(alloc, &minuend)? {
+            return Ok(sum);
+        }
+        if is_unate(shape, &minuend)? {
+            return absorb(alloc, minuend);
         }
         if let Some(constant) = constant_row(&minuend)? {
             let rest = without_constant_outputs(alloc, &minuend, &constant)?;

@@ -25,6 +25,9 @@ const SLOTS: usize = 16384;
 // forgotten.
 const ROWS: usize = 1 << 18;
 
+// At most this many rows of a list go into its hash.
+const HASHED_ROWS: usize = 16;
+
 // Two lists, and the complete sum of the places of the first that are not in the second.
 #[derive(Drop)]
 struct Entry {
@@ -202,10 +205,11 @@ pub(crate) fn hash_of_lists(shape: Shape, minuend: &[Cube], subtrahend: &[Cube])
     list_hash(shape, subtrahend, list_hash(shape, minuend, seed))
 }
 
-// The hash of a list, from a seed.
+// The hash of a list, from a seed. Of a long list only some rows are looked at, evenly spread:
+// lists are compared before a sum is used.
 fn list_hash(shape: Shape, rows: &[Cube], seed: u64) -> u64 {
     let mut hash = seed;
-    for row in rows {
+    for row in rows.iter().step_by(1 + rows.len() / HASHED_ROWS) {
         hash = row_hash(shape, row, hash);
     }
     hash

@@ -2,8 +2,8 @@
 //!
 //! An output that does not depend on an input has its points in pairs that differ only there. So
 //! each row has a code without its literal at the input, and the codes of the rows of one output
-//! are added without carry: the codes of a pair cancel, and a sum that is not 0 shows an output that
-//! depends on the input. Rows with more literals than others may cancel nothing; then each output
+//! are added without carry: the codes of a pair cancel, and a sum that is not 0 shows an output
+//! that depends on the input. Rows with more literals than others may cancel nothing; then each output
 //! counts in whose rows the input has a literal.
 //!
 //! Nothing is promised of the numbers. They order the inputs: for sums and products of numbers the

@@ -2,20 +2,19 @@
 //!
 //! Functions of several outputs, such as products of numbers, come to such rows more often than to
 //! any other list. The sum has the two rows and their consensus, in row order, without a row that
-//! lies in the consensus.
-ghost use Rattle.std.specs.Prelude.{◌≡◌, ◌<◌, ◌∷◌, [], IfOk, IfSome, All, length, slice_index_or};
+//! lies in the consensus. The consensus most often comes first, so the rows are put in after it.
+ghost use Rattle.std.specs.Prelude.{◌≡◌, ◌<◌, ◌∷◌, [], IfOk, IfSome, All, cond, length, slice_index_or};
 ghost use Rattle.cube.specs.Size.{Size};
 ghost use Rattle.cube.specs.Cube.{IsCube, SameSize};
 ghost use Rattle.cube.specs.Sum.{complete_sum};
 ghost use Rattle.cover.specs.Cubes.{AreCubes};
-ghost use Rattle.cover.specs.Parts.{merged, without_equal_rows};
+ghost use Rattle.cover.specs.Parts.{merged};
 ghost use Rattle.cover.specs.Places.{places};
 ghost use Rattle.cover.specs.Sizes.{HaveOneSize};
 
 use crate::sums::rows::first_row_not_below;
 use cube::{Cube, Symbol};
 use std::alloc::{AllocError, Global};
-use std::slice::from_ref;
 
 // The rows with one more, in row order, if it is not there yet.
 fn insert_row(rows: Vec<Cube>, row: Cube) -> Result<Vec<Cube>, AllocError>
@@ -27,36 +26,28 @@ fn insert_row(rows: Vec<Cube>, row: Cube) -> Result<Vec<Cube>, AllocError>
     if is_there {
         return Ok(all);
     }
-    all.insert(at, row)?;
+    if at == all.len() {
+        all.push(row)?;
+    } else {
+        all.insert(at, row)?;
+    }
     Ok(all)
 }
 
-// The rows with the cofactor at one value of input `i`, a row that gets its symbol back there,
-// unless it is in `both`.
-fn insert_row_at_value(
-    rows: Vec<Cube>,
-    cofactor: Cube,
-    both: &[Cube],
-    i: usize,
-    symbol: Symbol,
-) -> Result<Vec<Cube>, AllocError>
-    requires rows { All (λ c. SameSize c cofactor) rows.items }
-    requires both { All (λ c. SameSize c cofactor) both.now }
-    requires input { i < length cofactor.symbols }
-    ensures { IfOk result (λ all. all.items
-        ≡ merged rows.items (without_equal_rows i symbol (cofactor ∷ []) both.now)) }
+// The rows with a copy of one more, in row order, unless the consensus holds it.
+fn insert_unless_held(rows: Vec<Cube>, row: &Cube, is_held: bool) -> Result<Vec<Cube>, AllocError>
+    requires { All (λ c. SameSize c row.now) rows.items }
+    ensures { IfOk result (λ all. all.items ≡ merged rows.items (cond is_held [] (row.now ∷ []))) }
 {
-    let (_, is_there) = first_row_not_below(both, 0, &cofactor);
-    if is_there {
+    if is_held {
         return Ok(rows);
     }
-    let mut row = cofactor;
-    row.set_symbol(i, symbol);
-    insert_row(rows, row)
+    let copy = row.try_clone()?;
+    insert_row(rows, copy)
 }
 
-// The complete sum of a row with `0` at input `i` and one with `1` there.
-fn sum_of_opposites(
+/// The complete sum of a row with `0` at input `i` and one with `1` there.
+pub(crate) fn sum_of_opposites(
     alloc: Global,
     i: usize,
     zero: &Cube,
@@ -70,17 +61,18 @@ fn sum_of_opposites(
 {
     let low = zero.with_symbol(i, Symbol::Dash)?;
     let high = one.with_symbol(i, Symbol::Dash)?;
-    let sum = Vec::with_capacity(alloc, 3)?;
+    let mut sum = Vec::with_capacity(alloc, 3)?;
     match low.meet(&high)? {
         Some(both) => {
-            let sum = insert_row_at_value(sum, low, from_ref(&both), i, Symbol::Zero)?;
-            let sum = insert_row_at_value(sum, high, from_ref(&both), i, Symbol::One)?;
-            insert_row(sum, both)
+            let is_zero_held = low.is_equal(&both);
+            let is_one_held = high.is_equal(&both);
+            sum.push(both)?;
+            let sum = insert_unless_held(sum, zero, is_zero_held)?;
+            insert_unless_held(sum, one, is_one_held)
         }
         None => {
-            let none = Vec::new(alloc);
-            let sum = insert_row_at_value(sum, low, &none, i, Symbol::Zero)?;
-            insert_row_at_value(sum, high, &none, i, Symbol::One)
+            let sum = insert_unless_held(sum, zero, false)?;
+            insert_unless_held(sum, one, false)
         }
     }
 }

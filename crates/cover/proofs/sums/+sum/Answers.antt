@@ -19,10 +19,10 @@ use Rattle.cover.proofs.SumApart.{complete_sum-whole, complete_sum-whole_other, 
 use Rattle.cover.proofs.SumFree.{live-rest}
 use Rattle.cover.proofs.SumRows.{nothing_left, sizes}
 use Rattle.cover.proofs.SumUnate.{complete_sum-unate}
-use Rattle.cover.proofs.SumStep.{sum_of_lists, branch_falls, branch_sum, both_sum, complete_sum-no_outer, sum_of_list, complete_sum-empty, complete_sum-single, complete_sum-sharp, complete_sum-covered, AreCubes-complete_sum}
+use Rattle.cover.proofs.SumStep.{sum_of_lists, sum_of_copy, branch_falls, branch_sum, both_sum, complete_sum-no_outer, sum_of_list, complete_sum-empty, complete_sum-single, complete_sum-sharp, complete_sum-covered, AreCubes-complete_sum}
 use Rattle.cover.proofs.SumBranches.{IsBranch-absorbed}
 use Rattle.cover.proofs.SumWithoutAbsorbed.{AreCubes-without_absorbed, live-without_absorbed, complete_sum-without_absorbed}
-use Rattle.cover.proofs.SumSides.{IsSide-none, IsSide-sum, IsSide-rising, complete_sum-sides}
+use Rattle.cover.proofs.SumSides.{IsSide-none, IsSide-sum, side-rising, complete_sum-sides}
 use Rattle.std.specs.List.Sorted.{IsStrictlySortedBy}
 use Rattle.cube.specs.Order.{row_cmp}
 use Rattle.cube.proofs.SumLemmas.{sorted-complete_sum}
@@ -39,7 +39,7 @@ sum_by_case-returns-then-len-eq1 t c =
 
 pub sum_by_case-returns-then-branch : goal.sum_by_case-returns-then-branch
 sum_by_case-returns-then-branch t c =
-    let unate = subst (IsUnate c.args.shape) c.deref.ensures.value (c.in_ok-is_unate.ensures c.if-branch.true) in
+    let unate = subst (IsUnate c.args.shape) c.deref-then-is_empty-2-2.ensures.value (c.in_ok-is_unate.ensures c.if-branch.true) in
     IfOk-weaker c.absorb.result _ _ (λ rows h. complete_sum-no_outer c.args.shape rows.items c.args.minuend.items c.args.subtrahend.items (nothing_left c.args.subtrahend.items (sym c.args.subtrahend.ok.0 ∙ eqb-true (vec_len c.args.subtrahend) 0 (sym c.is_empty-2.ensures ∙ c.if-is_empty-2.true)))
     (complete_sum-unate c.args.shape c.args.minuend.items rows.items c.requires.minuend unate h)) c.absorb.ensures
 
@@ -53,6 +53,12 @@ sum_by_case-returns-then-has_universal_row t c =
 pub sum_by_case-sum_of_two_rows-requires : goal.sum_by_case-sum_of_two_rows-requires
 sum_by_case-sum_of_two_rows-requires t c = record {
   size = c.args.shape;
+  are_cubes = subst (AreCubes c.args.shape) (sym c.deref.ensures.value) c.requires.minuend;
+}
+
+pub sum_by_case-sum_of_four_rows-requires : goal.sum_by_case-sum_of_four_rows-requires
+sum_by_case-sum_of_four_rows-requires t c = record {
+  size = c.args.shape;
   are_cubes = subst (AreCubes c.args.shape) (sym c.deref-then-is_empty-2.ensures.value) c.requires.minuend;
 }
 
@@ -60,61 +66,66 @@ pub sum_by_case-returns-in-Some : goal.sum_by_case-returns-in-Some
 sum_by_case-returns-in-Some t c =
     complete_sum-no_outer c.args.shape c.in-Some.sum.items c.args.minuend.items c.args.subtrahend.items
     (nothing_left c.args.subtrahend.items (sym c.args.subtrahend.ok.0 ∙ eqb-true (vec_len c.args.subtrahend) 0 (sym c.is_empty-2.ensures ∙ c.if-is_empty-2.true)))
-    (subst (λ found. IfSome found (λ sum. (size : Size) → AreCubes size c.deref-then-is_empty-2.result.now
-    → sum.items ≡ complete_sum size (places c.deref-then-is_empty-2.result.now))) c.in-Some.is c.in_ok-sum.ensures c.args.shape
-    (subst (AreCubes c.args.shape) (sym c.deref-then-is_empty-2.ensures.value) c.requires.minuend)
-    ∙ ap (λ l. complete_sum c.args.shape (places l)) c.deref-then-is_empty-2.ensures.value)
+    (sum_of_copy c.args.shape c.deref.result.now c.args.minuend.items c.in-Some.sum.items c.deref.ensures.value c.requires.minuend
+    (subst (λ found. IfSome found (λ sum. (size : Size) → AreCubes size c.deref.result.now → sum.items ≡ complete_sum size (places c.deref.result.now))) c.in-Some.is c.in_ok-sum.ensures))
+
+pub sum_by_case-returns-in-Some-2 : goal.sum_by_case-returns-in-Some-2
+sum_by_case-returns-in-Some-2 t c =
+    complete_sum-no_outer c.args.shape c.in-Some-2.sum.items c.args.minuend.items c.args.subtrahend.items
+    (nothing_left c.args.subtrahend.items (sym c.args.subtrahend.ok.0 ∙ eqb-true (vec_len c.args.subtrahend) 0 (sym c.is_empty-2.ensures ∙ c.if-is_empty-2.true)))
+    (sum_of_copy c.args.shape c.deref-then-is_empty-2.result.now c.args.minuend.items c.in-Some-2.sum.items c.deref-then-is_empty-2.ensures.value c.requires.minuend
+    (subst (λ found. IfSome found (λ sum. (size : Size) → AreCubes size c.deref-then-is_empty-2.result.now → sum.items ≡ complete_sum size (places c.deref-then-is_empty-2.result.now))) c.in-Some-2.is c.in_ok-sum-2.ensures))
 
 pub sum_by_case-remembered_sum-requires : goal.sum_by_case-remembered_sum-requires
 sum_by_case-remembered_sum-requires t c =
     let size = c.args.shape in
-    let cubes = subst (AreCubes size) (sym c.deref-then-is_empty-2-2.ensures.value) c.requires.minuend in
-    let part = subst (λ o. IfSome o (λ x. IsFreePart size c.deref-then-is_empty-2-2.result.now x)) c.in-Some-2.is (c.in_ok-constant.ensures size cubes) in
-    let left = subst (λ l. AreCubes size l → IsRest size l c.in-Some-2.constant c.in_ok-rest.rest.items) c.deref-in-Some-2.ensures.value (λ h. c.in_ok-rest.ensures size h part.is_cube) c.requires.minuend in
+    let cubes = subst (AreCubes size) (sym c.deref-then-is_empty-2-3.ensures.value) c.requires.minuend in
+    let part = subst (λ o. IfSome o (λ x. IsFreePart size c.deref-then-is_empty-2-3.result.now x)) c.in-Some-3.is (c.in_ok-constant.ensures size cubes) in
+    let left = subst (λ l. AreCubes size l → IsRest size l c.in-Some-3.constant c.in_ok-rest.rest.items) c.deref-in-Some-3.ensures.value (λ h. c.in_ok-rest.ensures size h part.is_cube) c.requires.minuend in
     let less : live c.args.shape.inputs c.in_ok-rest.rest.items c.args.subtrahend.items ≤ live c.args.shape.inputs c.args.minuend.items c.args.subtrahend.items =
-    live-rest c.args.shape c.args.minuend.items c.in_ok-rest.rest.items c.args.subtrahend.items c.in-Some-2.constant left c.args.shape.inputs in
+    live-rest c.args.shape c.args.minuend.items c.in_ok-rest.rest.items c.args.subtrahend.items c.in-Some-3.constant left c.args.shape.inputs in
     (omega arith, (left.are_cubes, c.requires.subtrahend))
 
 pub sum_by_case-constant_row-requires : goal.sum_by_case-constant_row-requires
 sum_by_case-constant_row-requires t c =
-    record { size = c.args.shape; are_cubes = subst (AreCubes c.args.shape) (sym c.deref-then-is_empty-2-2.ensures.value) c.requires.minuend }
+    record { size = c.args.shape; are_cubes = subst (AreCubes c.args.shape) (sym c.deref-then-is_empty-2-3.ensures.value) c.requires.minuend }
 
 pub sum_by_case-without_constant_outputs-requires : goal.sum_by_case-without_constant_outputs-requires
 sum_by_case-without_constant_outputs-requires t c =
     let size = c.args.shape in
-    let cubes = subst (AreCubes size) (sym c.deref-then-is_empty-2-2.ensures.value) c.requires.minuend in
-    let part = subst (λ o. IfSome o (λ x. IsFreePart size c.deref-then-is_empty-2-2.result.now x)) c.in-Some-2.is (c.in_ok-constant.ensures size cubes) in
-    sizes size c.in-Some-2.constant c.deref-in-Some-2.result.now part.is_cube (subst (AreCubes size) (sym c.deref-in-Some-2.ensures.value) c.requires.minuend)
+    let cubes = subst (AreCubes size) (sym c.deref-then-is_empty-2-3.ensures.value) c.requires.minuend in
+    let part = subst (λ o. IfSome o (λ x. IsFreePart size c.deref-then-is_empty-2-3.result.now x)) c.in-Some-3.is (c.in_ok-constant.ensures size cubes) in
+    sizes size c.in-Some-3.constant c.deref-in-Some-3.result.now part.is_cube (subst (AreCubes size) (sym c.deref-in-Some-3.ensures.value) c.requires.minuend)
 
 pub sum_by_case-with_constant_outputs-requires : goal.sum_by_case-with_constant_outputs-requires
 sum_by_case-with_constant_outputs-requires t c =
     let size = c.args.shape in
-    let cubes = subst (AreCubes size) (sym c.deref-then-is_empty-2-2.ensures.value) c.requires.minuend in
-    let part = subst (λ o. IfSome o (λ x. IsFreePart size c.deref-then-is_empty-2-2.result.now x)) c.in-Some-2.is (c.in_ok-constant.ensures size cubes) in
+    let cubes = subst (AreCubes size) (sym c.deref-then-is_empty-2-3.ensures.value) c.requires.minuend in
+    let part = subst (λ o. IfSome o (λ x. IsFreePart size c.deref-then-is_empty-2-3.result.now x)) c.in-Some-3.is (c.in_ok-constant.ensures size cubes) in
     record {
       size = (
         size,
-        AreCubes-complete_sum size (difference (places c.in_ok-rest.rest.items) (places c.args.subtrahend.items)) c.in_ok-sum-2.sum.items c.in_ok-sum-2.ensures,
+        AreCubes-complete_sum size (difference (places c.in_ok-rest.rest.items) (places c.args.subtrahend.items)) c.in_ok-sum-3.sum.items c.in_ok-sum-3.ensures,
         part.is_cube,
       );
       no_literal = part.no_literal;
     }
 
-pub sum_by_case-returns-in-Some-2 : goal.sum_by_case-returns-in-Some-2
-sum_by_case-returns-in-Some-2 t c =
+pub sum_by_case-returns-in-Some-3 : goal.sum_by_case-returns-in-Some-3
+sum_by_case-returns-in-Some-3 t c =
     let size = c.args.shape in
     let minuend = c.args.minuend.items in
-    let constant = c.in-Some-2.constant in
+    let constant = c.in-Some-3.constant in
     let rest = c.in_ok-rest.rest.items in
     let none' = nothing_left c.args.subtrahend.items (sym c.args.subtrahend.ok.0 ∙ eqb-true (vec_len c.args.subtrahend) 0 (sym c.is_empty-2.ensures ∙ c.if-is_empty-2.true)) in
-    let cubes = subst (AreCubes size) (sym c.deref-then-is_empty-2-2.ensures.value) c.requires.minuend in
-    let part = subst (λ l. IsFreePart size l constant) c.deref-then-is_empty-2-2.ensures.value
-    (subst (λ o. IfSome o (λ x. IsFreePart size c.deref-then-is_empty-2-2.result.now x)) c.in-Some-2.is (c.in_ok-constant.ensures size cubes)) in
-    let left = subst (λ l. AreCubes size l → IsRest size l constant rest) c.deref-in-Some-2.ensures.value (λ h. c.in_ok-rest.ensures size h part.is_cube) c.requires.minuend in
-    let own = AreCubes-complete_sum size (difference (places rest) (places c.args.subtrahend.items)) c.in_ok-sum-2.sum.items c.in_ok-sum-2.ensures in
+    let cubes = subst (AreCubes size) (sym c.deref-then-is_empty-2-3.ensures.value) c.requires.minuend in
+    let part = subst (λ l. IsFreePart size l constant) c.deref-then-is_empty-2-3.ensures.value
+    (subst (λ o. IfSome o (λ x. IsFreePart size c.deref-then-is_empty-2-3.result.now x)) c.in-Some-3.is (c.in_ok-constant.ensures size cubes)) in
+    let left = subst (λ l. AreCubes size l → IsRest size l constant rest) c.deref-in-Some-3.ensures.value (λ h. c.in_ok-rest.ensures size h part.is_cube) c.requires.minuend in
+    let own = AreCubes-complete_sum size (difference (places rest) (places c.args.subtrahend.items)) c.in_ok-sum-3.sum.items c.in_ok-sum-3.ensures in
     IfOk-weaker c.with_constant_outputs.result _ _ (λ rows h.
     complete_sum-no_outer size rows.items minuend c.args.subtrahend.items none'
-    (h size minuend rest own part left (c.in_ok-sum-2.ensures ∙ sum_of_list size rest rest c.args.subtrahend.items refl none'))) c.with_constant_outputs.ensures
+    (h size minuend rest own part left (c.in_ok-sum-3.ensures ∙ sum_of_list size rest rest c.args.subtrahend.items refl none'))) c.with_constant_outputs.ensures
 
 pub remembered_sum-returns-in-Some : goal.remembered_sum-returns-in-Some
 remembered_sum-returns-in-Some t c =
@@ -157,23 +168,15 @@ sum_by_split-combine_branches-requires-clause-both t c =
 
 pub sum_by_split-combine_branches-requires-clause-zeros : goal.sum_by_split-combine_branches-requires-clause-zeros
 sum_by_split-combine_branches-requires-clause-zeros t c =
-    let size = c.args.shape in
-    let i = c.in-Some.split.input in
-    let lt = c.in-Some.ensures.bound in
-    let minuend = c.args.minuend.now in
-    let subtrahend = c.args.subtrahend.now in
-    IsSide-rising size i (difference (places minuend) (places subtrahend)) lt false c.in_ok-low.low.items c.in_ok-both.both.items c.in_ok-low.ensures
-    (both_sum size i lt minuend subtrahend c.in_ok-both_minuend.field-0.both.items c.in_ok-both_subtrahend.both_subtrahend.items c.in_ok-both.both.items c.in_ok-both_minuend.ensures.both c.in_ok-both_subtrahend.ensures c.in_ok-both.ensures)
+    side-rising c.args.shape c.in-Some.split.input c.in-Some.ensures.bound c.args.minuend.now c.args.subtrahend.now
+    c.in_ok-both_minuend.field-0.both.items c.in_ok-both_subtrahend.both_subtrahend.items c.in_ok-both.both.items
+    c.in_ok-both_minuend.ensures.both c.in_ok-both_subtrahend.ensures c.in_ok-both.ensures false c.in_ok-low.low.items c.in_ok-low.ensures
 
 pub sum_by_split-combine_branches-requires-clause-ones : goal.sum_by_split-combine_branches-requires-clause-ones
 sum_by_split-combine_branches-requires-clause-ones t c =
-    let size = c.args.shape in
-    let i = c.in-Some.split.input in
-    let lt = c.in-Some.ensures.bound in
-    let minuend = c.args.minuend.now in
-    let subtrahend = c.args.subtrahend.now in
-    IsSide-rising size i (difference (places minuend) (places subtrahend)) lt true c.in_ok-high.high.items c.in_ok-both.both.items c.in_ok-high.ensures
-    (both_sum size i lt minuend subtrahend c.in_ok-both_minuend.field-0.both.items c.in_ok-both_subtrahend.both_subtrahend.items c.in_ok-both.both.items c.in_ok-both_minuend.ensures.both c.in_ok-both_subtrahend.ensures c.in_ok-both.ensures)
+    side-rising c.args.shape c.in-Some.split.input c.in-Some.ensures.bound c.args.minuend.now c.args.subtrahend.now
+    c.in_ok-both_minuend.field-0.both.items c.in_ok-both_subtrahend.both_subtrahend.items c.in_ok-both.both.items
+    c.in_ok-both_minuend.ensures.both c.in_ok-both_subtrahend.ensures c.in_ok-both.ensures true c.in_ok-high.high.items c.in_ok-high.ensures
 
 pub sum_by_split-returns : goal.sum_by_split-returns
 sum_by_split-returns t c =

@@ -11,35 +11,35 @@ use Rattle.cover.proofs.sums.branch.branches_at.Goals as goal
 
 pub meets-requires-clause-rows : goal.meets-requires-clause-rows
 meets-requires-clause-rows c =
-    All-same (IsCube c.args.shape) c.deref-2.result.now (part c.args.i Zero c.args.rows.now) (c.deref-2.ensures.value ∙ c.in_ok-dashes.ensures.zeros)
+    All-same (IsCube c.args.shape) c.deref.result.now (part c.args.i Zero c.args.rows.now) (c.deref.ensures.value ∙ c.in_ok-dashes.ensures.zeros)
     (AreCubes-part c.args.shape c.args.i Zero c.args.rows.now c.requires.rows)
 
 pub meets-requires-clause-others : goal.meets-requires-clause-others
 meets-requires-clause-others c =
-    All-same (IsCube c.args.shape) c.deref-3.result.now (part c.args.i One c.args.rows.now) (c.deref-3.ensures.value ∙ c.in_ok-dashes.ensures.ones)
+    All-same (IsCube c.args.shape) c.deref-2.result.now (part c.args.i One c.args.rows.now) (c.deref-2.ensures.value ∙ c.in_ok-dashes.ensures.ones)
     (AreCubes-part c.args.shape c.args.i One c.args.rows.now c.requires.rows)
 
 pub absorb_if_short-requires : goal.absorb_if_short-requires
 absorb_if_short-requires c =
-    (IsBranch-both_list c.args.shape c.args.i c.requires.input c.args.rows.now c.requires.rows c.in_ok-kept.kept.items c.deref-2.result.now c.deref-3.result.now
-    c.in_ok-common.common.items c.in_ok-all.all.items (c.in_ok-kept.ensures ∙ c.deref.ensures.value ∙ c.in_ok-dashes.ensures.dashes)
-    (c.deref-2.ensures.value ∙ c.in_ok-dashes.ensures.zeros) (c.deref-3.ensures.value ∙ c.in_ok-dashes.ensures.ones)
+    (IsBranch-both_list c.args.shape c.args.i c.requires.input c.args.rows.now c.requires.rows c.deref-3.result.now c.deref.result.now c.deref-2.result.now
+    c.in_ok-common.common.items c.in_ok-all.all.items (c.deref-3.ensures.value ∙ c.in_ok-dashes.ensures.dashes)
+    (c.deref.ensures.value ∙ c.in_ok-dashes.ensures.zeros) (c.deref-2.ensures.value ∙ c.in_ok-dashes.ensures.ones)
     c.in_ok-common.ensures c.in_ok-all.ensures).are_cubes
 
 pub returns-clause-both : goal.returns-clause-both
 returns-clause-both c =
-    let branch = IsBranch-both_list c.args.shape c.args.i c.requires.input c.args.rows.now c.requires.rows c.in_ok-kept.kept.items c.deref-2.result.now c.deref-3.result.now
-    c.in_ok-common.common.items c.in_ok-all.all.items (c.in_ok-kept.ensures ∙ c.deref.ensures.value ∙ c.in_ok-dashes.ensures.dashes)
-    (c.deref-2.ensures.value ∙ c.in_ok-dashes.ensures.zeros) (c.deref-3.ensures.value ∙ c.in_ok-dashes.ensures.ones)
+    let branch = IsBranch-both_list c.args.shape c.args.i c.requires.input c.args.rows.now c.requires.rows c.deref-3.result.now c.deref.result.now c.deref-2.result.now
+    c.in_ok-common.common.items c.in_ok-all.all.items (c.deref-3.ensures.value ∙ c.in_ok-dashes.ensures.dashes)
+    (c.deref.ensures.value ∙ c.in_ok-dashes.ensures.zeros) (c.deref-2.ensures.value ∙ c.in_ok-dashes.ensures.ones)
     c.in_ok-common.ensures c.in_ok-all.ensures in
     IsBranch-absorbed c.args.shape c.args.i c.args.rows.now (consensus_at c.args.i (places c.args.rows.now)) c.in_ok-all.all.items c.in_ok-both.both.items branch c.in_ok-both.ensures
 
 pub returns-clause-low : goal.returns-clause-low
 returns-clause-low c =
-    IsBranch-side c.args.shape c.args.i c.requires.input c.args.rows.now c.requires.rows false c.in_ok-dashes.field-0.zeros.items c.in_ok-own.own.items c.append.new.self.items
-    c.in_ok-dashes.ensures.zeros (c.in_ok-own.ensures ∙ c.deref-4.ensures.value ∙ c.in_ok-dashes.ensures.dashes) c.in_ok-append.ensures.items
+    IsBranch-side c.args.shape c.args.i c.requires.input c.args.rows.now c.requires.rows false c.in_ok-dashes.field-0.zeros.items c.deref-4.result.now c.in_ok-low.low.items
+    c.in_ok-dashes.ensures.zeros (c.deref-4.ensures.value ∙ c.in_ok-dashes.ensures.dashes) c.in_ok-low.ensures
 
 pub returns-clause-high : goal.returns-clause-high
 returns-clause-high c =
-    IsBranch-side c.args.shape c.args.i c.requires.input c.args.rows.now c.requires.rows true c.in_ok-dashes.field-0.ones.items c.in_ok-dashes.field-0.dashes.items c.append-2.new.self.items
-    c.in_ok-dashes.ensures.ones c.in_ok-dashes.ensures.dashes c.in_ok-append-2.ensures.items
+    IsBranch-side c.args.shape c.args.i c.requires.input c.args.rows.now c.requires.rows true c.in_ok-dashes.field-0.ones.items c.in_ok-dashes.field-0.dashes.items c.append.new.self.items
+    c.in_ok-dashes.ensures.ones c.in_ok-dashes.ensures.dashes c.in_ok-append.ensures.items
