@@ -1,15 +1,16 @@
 -- The blocking lists of a prime, and the essential primes of a sampled function.
 use Rattle.std.proofs.Common.{◌≡◌, ◌≢◌, ℕ, ◌+◌, ◌<◌, ◌≤◌, inl, inr, Bool, true, false, not, ◌&&◌, ◌||◌, List, [], ◌∷◌, ◌++◌, length, map, take, get_or, set, refl, ap, sym, subst, ◌∙◌, arith, Option, Some, None, IfSome, IfNone, All}
 use Rattle.std.specs.List.{Contains, filter, list_any}
+use Rattle.std.proofs.Math.Bool.{or-false}
 use Rattle.std.proofs.lemmas.Bool.{cases_Bool, cases_eq, cases_lt, false≢true, and_parts, and_from, or_cases, or_left}
-use Rattle.std.proofs.lemmas.List.{get_or_default, get_or_past, take_more}
+use Rattle.std.proofs.lemmas.List.{get_or_default, get_or_past, get_or-set_same, length-set, set-set, take_more}
 use Rattle.std.proofs.lemmas.List.Elements.{Contains-append_cases, Contains-append_left, Contains-append_right}
 use Rattle.std.proofs.lemmas.List.Kept.{IsStrictlySortedBy-filter}
 use Rattle.cube.specs.declared.symbol.Symbol.{Symbol}
 use Rattle.cube.specs.declared.symbol.Symbol.TheVariants.{Dash, Zero, One}
 use Rattle.cube.specs.Size.{Size}
 use Rattle.cube.specs.Pattern.{agrees, matches}
-use Rattle.cube.specs.Cube.{Cube, Place, holds, with_symbol, intersection, IsCube, IsPlace, IsSubset, HasSize, SameSize}
+use Rattle.cube.specs.Cube.{Cube, Place, holds, with_symbol, intersection, IsCube, IsPlace, IsSubset, IsDisjoint, HasSize, SameSize}
 use Rattle.cube.specs.Order.{row_cmp}
 use Rattle.cube.specs.Sum.{complete_sum, is_subset, IsMaximal}
 use Rattle.cube.proofs.HoldsLemmas.{agrees_at-matches, pick}
@@ -19,7 +20,7 @@ use Rattle.cube.proofs.SumLemmas.{IsPlace-from_holds, is_subset-from_fact, impli
 use Rattle.cover.specs.Cubes.{Cubes, AreCubes}
 use Rattle.cover.specs.Places.{places}
 use Rattle.cover.proofs.Everywhere.{same_test}
-use Rattle.cover.proofs.Inputs.{matches-set_bit}
+use Rattle.cover.proofs.Inputs.{matches-set_bit, matches-own}
 use Rattle.cover.proofs.Lists.{list_any_from, list_any_witness, all_members}
 use Rattle.cover.proofs.Regions.{place_at}
 use Rattle.cover.proofs.SumMeets.{places-append}
@@ -30,10 +31,6 @@ use Rattle.minimum.specs.Neighbours.{on_side, flip, under, held_by, IsAlone, IsA
 use Rattle.minimum.specs.Blocking.{IsSampled, flip_in, under_in, Blocks, AreBlocking, HasCommon}
 use Rattle.minimum.proofs.EssentialByNeighbours.{has_own_from, no_own_from, only_from_alone, alone_from_only}
 
-or_false : (b : Bool) → (b || false) ≡ b
-or_false true = refl
-or_false false = refl
-
 from_not : (b : Bool) → not b ≡ false → b ≡ true
 from_not true e = refl
 from_not false e = sym e
@@ -41,7 +38,7 @@ from_not false e = sym e
 pub more_places : (rows : List Cube) (i : ℕ) (row : Cube) → i < length rows → row ≡ get_or rows i row → (q : Place) → places (take (i + 1) rows) q ≡ (places (take i rows) q || holds row q)
 more_places rows i row lt at q =
     ap (λ l. places l q) (take_more rows i row lt ∙ ap (λ y. take i rows ++ y ∷ []) (sym at)) ∙ places-append (take i rows) (row ∷ []) q
-    ∙ ap (λ b. places (take i rows) q || b) (or_false (holds row q))
+    ∙ ap (λ b. places (take i rows) q || b) (or-false (holds row q))
 
 -- ---- a row put back by one step
 
@@ -83,6 +80,24 @@ module _ (c d : Cube) (size : SameSize d c) (i : ℕ) (literal : get_or c.symbol
       flipped ∙ ap (λ a. (a && matches (set d.symbols i Dash) p.point) && get_or d.outputs p.output false)
       (ap (λ t. agrees t (not (get_or p.point i false))) e ∙ own_disagrees (get_or c.symbols i Dash) (get_or p.point i false) literal own)
 
+  -- the step stays in what the prime has without its literal
+  in_freed : holds (with_symbol c i Dash) (flip i p) ≡ true
+  in_freed =
+      let parts = and_parts (matches c.symbols p.point) (get_or c.outputs p.output false) in_c in
+      let bit = not (get_or p.point i false) in
+      let rest = (and_parts (agrees (get_or c.symbols i Dash) (get_or p.point i false)) (matches (set c.symbols i Dash) p.point) (sym (matches-own c.symbols p.point i in_inputs) ∙ parts.0)).1 in
+      and_from (matches (set c.symbols i Dash) (set p.point i bit)) (get_or c.outputs p.output false)
+      (matches-set_bit (set c.symbols i Dash) p.point i bit (let lt = in_inputs in omega (arith, length-set c.symbols i Dash, lt))
+      ∙ and_from (agrees (get_or (set c.symbols i Dash) i Dash) bit) (matches (set (set c.symbols i Dash) i Dash) p.point)
+      (ap (λ s. agrees s bit) (get_or-set_same c.symbols i Dash Dash in_inputs))
+      (ap (λ l. matches l p.point) (set-set c.symbols i Dash Dash) ∙ rest)) parts.1
+
+  pub apart_row : (e : Cube) → e ≡ with_symbol c i Dash → IsDisjoint (holds d) (holds e) → holds d (flip i p) ≡ false
+  apart_row e is apart = elim (cases_Bool (holds d (flip i p))) [
+    | inr off ↦ off
+    | inl on ↦ absurd (apart (flip i p) on (ap (λ k. holds k (flip i p)) is ∙ in_freed))
+  ]
+
 pub stacked_row : (c d : Cube) (j : ℕ) (p : Place) → holds c p ≡ true → get_or d.outputs j false ≡ true → (found : Option Cube)
     → IfNone found ((point : List Bool) → matches d.symbols point ≡ true → matches c.symbols point ≡ true → ⊥)
     → IfSome found (λ e. (q : Place) → holds e q ≡ ((matches d.symbols q.point && matches c.symbols q.point) && (get_or d.outputs q.output false || get_or c.outputs q.output false)))
@@ -115,7 +130,7 @@ module _ (rows : List Cube) (i : ℕ) (row : Cube) (lt : i < length rows) (at : 
   row_added held e is = is ∙ ap (λ b. places old p || b) e ∙ ap (λ b. b || holds row q) before ∙ sym (more_places rows i row lt at q)
 
   pub row_left : holds row q ≡ false → places old p ≡ places (take (i + 1) rows) q
-  row_left off = before ∙ sym (or_false (places (take i rows) q)) ∙ ap (λ b. places (take i rows) q || b) (sym off) ∙ sym (more_places rows i row lt at q)
+  row_left off = before ∙ sym (or-false (places (take i rows) q)) ∙ ap (λ b. places (take i rows) q || b) (sym off) ∙ sym (more_places rows i row lt at q)
 
 -- ---- all blocking lists
 

@@ -28,9 +28,10 @@ fn blocking_input(alloc: Global, off: &Cover, prime: &Cube, i: usize) -> Result<
     let shape = prime.shape();
     let literal = prime.symbol(i);
     let mut list = Vec::new(alloc);
+    let freed = prime.with_symbol(i, Symbol::Dash)?;
     for row in off.as_slice() {
-        if !is_same(row.symbol(i), literal) {
-            add_meeting(&mut list, prime, Some(row.with_symbol(i, Symbol::Dash)?))?;
+        if !is_same(row.symbol(i), literal) && !row.disjoint(&freed) {
+            list.push(row.with_symbol(i, Symbol::Dash)?)?;
         }
     }
     Ok(Cover::from_cubes(shape, list))

@@ -1,15 +1,19 @@
-use Rattle.std.proofs.Common.{ap, sym, subst, ◌∙◌}
+use Rattle.std.proofs.Common.{◌∷◌, ◌++◌, [], ◌||◌, ap, sym, subst, ◌∙◌}
+use Rattle.std.proofs.Math.Bool.{or-false}
+use Rattle.std.proofs.lemmas.List.Elements.{All-nil, All-cons, All-append}
 use Rattle.std.proofs.lemmas.Bool.{false≢true}
 use Rattle.std.proofs.lemmas.Option.{get_or_from_slice_get}
 use Rattle.cube.specs.declared.symbol.Symbol.TheVariants.{Dash}
 use Rattle.cube.specs.Cube.{IsCube, holds, size_of}
 use Rattle.cover.specs.Cubes.{AreCubes}
 use Rattle.cover.specs.Places.{places}
+use Rattle.cover.proofs.SumMeets.{places-append}
+use Rattle.cover.proofs.SumSplit.{IsCube-with_symbol}
 use Rattle.minimum.specs.Neighbours.{flip}
 use Rattle.minimum.proofs.Growth.{same_sizes}
-use Rattle.minimum.proofs.Blocking.{row_added, row_left, freed_row, same_row}
+use Rattle.minimum.proofs.Blocking.{row_added, row_left, freed_row, same_row, apart_row}
 use Rattle.minimum.proofs.essential_by_neighbours.blocking.blocking_input.Goals as goal
-use Rattle.minimum.proofs.essential_by_neighbours.blocking.blocking_input.Goals.{then-not-is_same+in_ok-with_symbol+in_ok-add_meeting, else-not-is_same}
+use Rattle.minimum.proofs.essential_by_neighbours.blocking.blocking_input.Goals.{then-not-is_same+then-not-disjoint+in_ok-with_symbol+in_ok-push, else-not-is_same, else-not-is_same-via-then-not-is_same+else-not-disjoint, else-not-is_same-via-else-not-is_same}
 
 pub loop-row-preserved : goal.loop-row-preserved
 loop-row-preserved c =
@@ -21,25 +25,33 @@ loop-row-preserved c =
     let prime = c.args.prime.now in
     let i = c.args.i in
     let old = c.loop-row.list.items in
-    let size = same_sizes c.args.off.now.size prime row c.requires.prime (subst (IsCube c.args.off.now.size) (sym at) (c.as_slice-row-items.ensures.cubes k row lt)) in
+    let row_cube = subst (IsCube c.args.off.now.size) (sym at) (c.as_slice-row-items.ensures.cubes k row lt) in
+    let size = same_sizes c.args.off.now.size prime row c.requires.prime row_cube in
     let own = get_or_from_slice_get prime.symbols i c.symbol-literal.result Dash c.symbol-literal.ensures in
     let has = get_or_from_slice_get row.symbols i c.symbol.result Dash c.symbol.ensures in
     elim c.if-not-is_same.branch [
-      | then-not-is_same+in_ok-with_symbol+in_ok-add_meeting w ↦ (
-          let is = ap (λ z. z.items) w.list-is in
+      | then-not-is_same+then-not-disjoint+in_ok-with_symbol+in_ok-push w ↦ (
+          let is = ap (λ z. z.items) w.list-is ∙ w.in_ok-push.ensures.items in
+          let e = w.in_ok-with_symbol.field-0 in
+          let freed = freed_row prime row size i c.requires.literal in
+          let cube = subst (IsCube (size_of prime)) (sym w.in_ok-with_symbol.ensures.value) (IsCube-with_symbol (size_of prime) row i Dash (record { has_size = size; some_output = row_cube.some_output })) in
           record {
-            cubes = subst (AreCubes (size_of prime)) (sym is) (w.in_ok-add_meeting.ensures.size c.loop-row.invariant.cubes);
+            cubes = subst (AreCubes (size_of prime)) (sym is)
+                (All-append (IsCube (size_of prime)) old (e ∷ []) c.loop-row.invariant.cubes (All-cons (IsCube (size_of prime)) e [] cube (All-nil (IsCube (size_of prime)))));
             same = λ p in_c. ap (λ l. places l p) is
-                ∙ row_added rows k row lt at p (flip i p) old w.add_meeting.new.near.items (c.loop-row.invariant.same p in_c) (holds w.in_ok-with_symbol.field-0 p)
-                (freed_row prime row size i c.requires.literal p in_c (λ e. false≢true (sym w.if-not-is_same.true ∙ c.is_same.ensures.1 (sym has ∙ e ∙ own))) w.in_ok-with_symbol.field-0 w.in_ok-with_symbol.ensures.value)
-                (w.in_ok-add_meeting.ensures.places p in_c);
+                ∙ row_added rows k row lt at p (flip i p) old (old ++ e ∷ []) (c.loop-row.invariant.same p in_c) (holds e p)
+                (freed p in_c (λ same. false≢true (sym w.if-not-is_same.true ∙ c.is_same.ensures.1 (sym has ∙ same ∙ own))) e w.in_ok-with_symbol.ensures.value)
+                (places-append old (e ∷ []) p ∙ ap (λ b. places old p || b) (or-false (holds e p)));
           })
       | else-not-is_same w ↦ (
           let is = ap (λ z. z.items) w.list-is in
           record {
             cubes = subst (AreCubes (size_of prime)) (sym is) c.loop-row.invariant.cubes;
             same = λ p in_c. ap (λ l. places l p) is
-                ∙ row_left rows k row lt at p (flip i p) old old (c.loop-row.invariant.same p in_c)
-                (same_row prime row size i c.requires.literal p in_c (has ∙ c.is_same.ensures.0 w.if-not-is_same.false ∙ sym own));
+                ∙ row_left rows k row lt at p (flip i p) old old (c.loop-row.invariant.same p in_c) (elim w.else-not-is_same.branch [
+                  | else-not-is_same-via-then-not-is_same+else-not-disjoint w' ↦
+                      apart_row prime row size i c.requires.literal p in_c c.in_ok-freed.freed c.in_ok-freed.ensures.value (w'.disjoint.ensures.0 w'.if-not-disjoint.false)
+                  | else-not-is_same-via-else-not-is_same w' ↦ same_row prime row size i c.requires.literal p in_c (has ∙ c.is_same.ensures.0 w'.if-not-is_same.false ∙ sym own)
+                ]);
           })
     ]
