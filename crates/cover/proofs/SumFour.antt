@@ -18,8 +18,8 @@ use Rattle.cube.proofs.SumLemmas.{complete_sum-same, sorted-complete_sum}
 use Rattle.cover.specs.Cubes.{AreCubes}
 use Rattle.cover.specs.Places.{places}
 use Rattle.cover.specs.Complete.{literal, cofactor_at, consensus_at}
-use Rattle.cover.specs.Marks.{is_symbol, has_symbols}
-use Rattle.cover.specs.Parts.{part, combination, without_equal_rows}
+use Rattle.cover.specs.Marks.{is_symbol}
+use Rattle.cover.specs.Parts.{part, has_symbols, combination, without_equal_rows}
 use Rattle.cover.proofs.ContainmentLemmas.{is_symbol-same}
 use Rattle.cover.proofs.Found.{meet_IsCube}
 use Rattle.cover.proofs.SumBranches.{IsBranch-side}

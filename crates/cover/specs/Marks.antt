@@ -33,11 +33,6 @@ is_symbol Zero Zero = true
 is_symbol One One = true
 is_symbol s t = false
 
--- the cube has these symbols at inputs i and j
-abbrev pub has_symbols : ℕ → Symbol → ℕ → Symbol → Cube → Bool
-has_symbols i s j t c =
-    is_symbol s (slice_index_or c.symbols i Dash) && is_symbol t (slice_index_or c.symbols j Dash)
-
 -- what has the second symbol can lie in what has the first
 abbrev pub is_over : Symbol → Symbol → Bool
 is_over Dash t = true

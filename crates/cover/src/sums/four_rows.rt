@@ -8,7 +8,7 @@ ghost use Rattle.cube.specs.Size.{Size};
 ghost use Rattle.cube.specs.Cube.{Place, IsCube, SameSize, IsDisjoint, holds, intersection, with_symbol as cube_with_symbol};
 ghost use Rattle.cube.specs.Sum.{complete_sum};
 ghost use Rattle.cover.specs.Cubes.{AreCubes};
-ghost use Rattle.cover.specs.Marks.{has_symbols};
+ghost use Rattle.cover.specs.Parts.{has_symbols};
 ghost use Rattle.cover.specs.Places.{places};
 ghost use Rattle.cover.specs.Sizes.{HaveOneSize};
 
