@@ -363,7 +363,7 @@ def for_control():
         listing_family("widely shared control logic", "more inputs in common and few literals a row: many ways to meet",
                        drawn(WIDE_CONTROL, style=WIDE)),
         listing_family("samples", "type fr: rows of control logic that fix the inputs of a cluster; all else is free",
-                       [samples(*shape) for shape, *_ in CONTROL]),
+                       [samples(*shape) for shape in (*(shape for shape, *_ in CONTROL), (128, 60, 800), (128, 60, 1600))]),
         listing_family("rotators", "a word, rotated by a number",
                        [shifter(*size, rotate=True, primes=primes) for size, primes in (
                            ((4, 2), 69), ((8, 3), 2757), ((16, 3), 636357), ((16, 4), 1269957), ((32, 5), None),

@@ -1,11 +1,13 @@
 -- The blocking lists of a prime, and the essential primes of a sampled function.
-use Rattle.std.proofs.Common.{◌≡◌, ◌≢◌, ℕ, ◌+◌, ◌<◌, ◌≤◌, inl, inr, Bool, true, false, not, ◌&&◌, ◌||◌, List, [], ◌∷◌, ◌++◌, length, map, take, get_or, set, refl, ap, sym, subst, ◌∙◌, arith, Option, Some, None, IfSome, IfNone, All}
-use Rattle.std.specs.List.{Contains, filter, list_any}
+use Rattle.std.proofs.Common.{◌≡◌, ◌≢◌, ℕ, ◌+◌, ◌<◌, ◌≤◌, inl, inr, Bool, true, false, not, ◌&&◌, ◌||◌, List, [], ◌∷◌, ◌++◌, length, take, get_or, set, refl, ap, sym, subst, ◌∙◌, arith, Option, Some, None, IfSome, IfNone, All}
+use Rattle.std.specs.List.{Contains, filter}
+use Rattle.std.specs.List.Sorted.{IsPermutation}
 use Rattle.std.proofs.Math.Bool.{or-false}
-use Rattle.std.proofs.lemmas.Bool.{cases_Bool, cases_eq, cases_lt, false≢true, and_parts, and_from, or_cases, or_left}
+use Rattle.std.proofs.lemmas.Bool.{cases_Bool, cases_lt, false≢true, and_parts, and_from, or_left}
 use Rattle.std.proofs.lemmas.List.{get_or_default, get_or_past, get_or-set_same, length-set, set-set, take_more}
 use Rattle.std.proofs.lemmas.List.Elements.{Contains-append_cases, Contains-append_left, Contains-append_right}
 use Rattle.std.proofs.lemmas.List.Kept.{IsStrictlySortedBy-filter}
+use Rattle.std.proofs.lemmas.List.Sorted.{Contains-permutation, IsPermutation-sym}
 use Rattle.cube.specs.declared.symbol.Symbol.{Symbol}
 use Rattle.cube.specs.declared.symbol.Symbol.TheVariants.{Dash, Zero, One}
 use Rattle.cube.specs.Size.{Size}
@@ -13,16 +15,14 @@ use Rattle.cube.specs.Pattern.{agrees, matches}
 use Rattle.cube.specs.Cube.{Cube, Place, holds, with_symbol, intersection, IsCube, IsPlace, IsSubset, IsDisjoint, HasSize, SameSize}
 use Rattle.cube.specs.Order.{row_cmp}
 use Rattle.cube.specs.Sum.{complete_sum, is_subset, IsMaximal}
-use Rattle.cube.proofs.HoldsLemmas.{agrees_at-matches, pick}
+use Rattle.cube.proofs.HoldsLemmas.{agrees_at-matches}
 use Rattle.cube.proofs.Members.{Contains-here, Contains-nil, Contains-cases, Contains-filter, Contains-filter_cases, same_from_members}
-use Rattle.cube.proofs.SharpLemmas.{some_true}
 use Rattle.cube.proofs.SumLemmas.{IsPlace-from_holds, is_subset-from_fact, implied_at, row_asymmetric, Contains-complete_sum, complete_sum-from_members, sorted-complete_sum}
 use Rattle.cover.specs.Cubes.{Cubes, AreCubes}
 use Rattle.cover.specs.Places.{places}
 use Rattle.cover.proofs.Everywhere.{same_test}
 use Rattle.cover.proofs.Inputs.{matches-set_bit, matches-own}
-use Rattle.cover.proofs.Lists.{list_any_from, list_any_witness, all_members}
-use Rattle.cover.proofs.Regions.{place_at}
+use Rattle.cover.proofs.Lists.{list_any_witness, all_members}
 use Rattle.cover.proofs.SumMeets.{places-append}
 use Rattle.pla.specs.Sets.{SetLists}
 use Rattle.minimum.specs.declared.essential_by_neighbours.growth.Side.TheVariants.{Outside}
@@ -157,6 +157,15 @@ module _ (size : Size) (c : Cube) (lists : List Cubes) (fact more : Place → Ty
     ];
   })
 
+pub blocking_sorted : (size : Size) (c : Cube) (lists sorted : List Cubes) (fact : Place → Type 0) → AreBlocking size c lists fact → IsPermutation lists sorted → AreBlocking size c sorted fact
+blocking_sorted size c lists sorted fact so moved =
+    let here : (l : Cubes) → Contains sorted l → Contains lists l = λ l. Contains-permutation sorted lists l (IsPermutation-sym lists sorted moved) in
+    record {
+      sizes = λ l member. so.sizes l (here l member);
+      to = λ p in_c all. so.to p in_c (λ l member. all l (Contains-permutation lists sorted l moved member));
+      back = λ p in_c h l member. so.back p in_c h l (here l member);
+    }
+
 -- the steps at the first literals
 abbrev pub AloneSoFar : List Cube → Cube → ℕ → Place → Type 0
 AloneSoFar off c i p = (k : ℕ) → k < i → get_or c.symbols k Dash ≢ Dash → on_side Outside off (flip k p) ≡ false
@@ -216,43 +225,12 @@ module _ (size : Size) (off : List Cube) (c : Cube) (cube : IsCube size c) (list
       ))
       (λ p a. (a.0, λ k lt lack. a.1 k (omega (arith, lt)) lack))
 
+  pub outputs_all : (j : ℕ) → size.outputs ≡ j → AreBlocking size c lists (OutputsSoFar off c j) → AreBlocking size c lists (IsAlone (on_side Outside off) c)
+  outputs_all j end so = blocking_same size c lists (OutputsSoFar off c j) (IsAlone (on_side Outside off) c) so
+      (λ p a. record { inputs = a.0; outputs = λ k lt lacks. a.1 k (omega (arith, cube.has_size.1, lt, end)) lacks })
+      (λ p a. (a.inputs, λ k lt lacks. a.outputs k (omega (arith, cube.has_size.1, lt, end)) lacks))
+
 -- ---- a place in all lists
-
-pub common_none : (region : Cube) (lists : List Cubes) (from : ℕ) → length lists ≤ from → list_any (λ b. b) region.outputs ≡ true → HasCommon region lists from
-common_none region lists from past some =
-    let w = some_true region.outputs some in
-    record {
-      place = record { point = map pick region.symbols; output = w.0 };
-      held = place_at region w.0 w.1;
-      each = λ k d low lt. absurd (omega (arith, past, low, lt));
-    }
-
-module _ (region row part : Cube) (lists : List Cubes) (from : ℕ) (both : (p : Place) → holds part p ≡ intersection (holds region) (holds row) p) where
-  pub common_more : (list : Cubes) → from < length lists → list ≡ get_or lists from list → Contains list.cubes row → HasCommon part lists (from + 1) → HasCommon region lists from
-  common_more list in_lists at member h =
-      let parts = and_parts (holds region h.place) (holds row h.place) (sym (both h.place) ∙ h.held) in
-      record {
-        place = h.place;
-        held = parts.0;
-        each = λ k d low lt. elim (cases_eq k from) [
-          | inl e ↦ ap (λ n. places (get_or lists n d).cubes h.place) e ∙ ap (λ z. places z.cubes h.place) (get_or_default lists from d list in_lists ∙ sym at)
-              ∙ list_any_from (λ e. holds e h.place) list.cubes row member parts.1
-          | inr ne ↦ h.each k d (omega (arith, low, ne)) lt
-        ];
-      }
-
-  pub part_none : (HasCommon part lists (from + 1) → ⊥) → (common : HasCommon region lists from) → holds row common.place ≡ true → ⊥
-  part_none none common here = none (record {
-    place = common.place;
-    held = both common.place ∙ and_from (holds region common.place) (holds row common.place) common.held here;
-    each = λ k d low lt. common.each k d (omega (arith, low)) lt;
-  })
-
-pub common_next : (region : Cube) (lists : List Cubes) (from : ℕ) (rows : List Cube) (i : ℕ) (row : Cube) → i < length rows → row ≡ get_or rows i row
-    → ((common : HasCommon region lists from) → places (take i rows) common.place ≡ true → ⊥) → ((common : HasCommon region lists from) → holds row common.place ≡ true → ⊥)
-    → (common : HasCommon region lists from) → places (take (i + 1) rows) common.place ≡ true → ⊥
-common_next region lists from rows i row lt at before here common h =
-    elim (or_cases (places (take i rows) common.place) (holds row common.place) (sym (more_places rows i row lt at common.place) ∙ h)) [ inl was ↦ before common was | inr now ↦ here common now ]
 
 module _ (size : Size) (c cube region : Cube) (lists : List Cubes) (fact : Place → Type 0) (blocking : AreBlocking size c lists fact) (both : (p : Place) → holds region p ≡ intersection (holds c) (holds cube) p) where
   pub own_from_common : HasCommon region lists 0 → (p : Place) × (holds c p ≡ true) × (holds cube p ≡ true) × fact p

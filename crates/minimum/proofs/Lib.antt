@@ -15,5 +15,6 @@ pub mod Growth
 pub mod Neighbours
 pub mod EssentialByNeighbours
 pub mod Blocking
+pub mod CommonPlace
 pub mod Near
 pub mod Reached

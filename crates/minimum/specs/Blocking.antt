@@ -1,7 +1,7 @@
 -- The blocking lists of a prime. No public clause cites this module but for `IsSampled`.
 use Rattle.std.specs.Prelude.{◌≡◌, ℕ, ◌≤◌, ◌<◌, Bool, true, not, ◌||◌, List, length, slice_index_or, Contains}
 use Rattle.cube.specs.Size.{Size}
-use Rattle.cube.specs.Cube.{Cube, Place, holds, IsPlace}
+use Rattle.cube.specs.Cube.{Cube, Place, holds, intersection, IsPlace, IsSubset, SameSize}
 use Rattle.cover.specs.Cubes.{Cubes}
 use Rattle.cover.specs.Places.{places}
 use Rattle.pla.specs.Sets.{SetLists}
@@ -45,3 +45,15 @@ pub record HasCommon (region : Cube) (lists : List Cubes) (from : ℕ) : Type 0 
   pub held : holds region place ≡ true
   pub each : (k : ℕ) (d : Cubes) → from ≤ k → k < length lists
       → places (slice_index_or lists k d).cubes place ≡ true
+
+-- the cube lies around the region, and no place of it is in each of the lists from a number on
+pub record IsNogood (lists : List Cubes) (from : ℕ) (region c : Cube) : Type 0 where
+  pub size : SameSize c region
+  pub around : IsSubset (holds region) (holds c)
+  pub none : HasCommon c lists from → ⊥
+
+-- the cube lies around the region, and what it has of the rows lies in the nogoods
+pub record IsReason (rows nogoods : List Cube) (region c : Cube) : Type 0 where
+  pub size : SameSize c region
+  pub around : IsSubset (holds region) (holds c)
+  pub parts : IsSubset (intersection (holds c) (places rows)) (places nogoods)

@@ -1,10 +1,11 @@
 //! Small questions about cubes and symbols, and small steps: a cube of one output, a point, a copy.
 
-ghost use Rattle.std.specs.Prelude.{◌≡◌, ◌<◌, ◌↔◌, ◌++◌, ◌∷◌, [], IsTrue, true, false, IfOk, OnOk, replicate, slice_set};
-ghost use Rattle.cube.specs.Cube.{HasSize, IsDisjoint, holds, size_of};
+ghost use Rattle.std.specs.Prelude.{◌≡◌, ◌<◌, ◌↔◌, ◌++◌, ◌∷◌, [], IsTrue, true, false, IfOk, OnOk, All, replicate, slice_set};
+ghost use Rattle.cube.specs.Cube.{HasSize, SameSize, IsDisjoint, holds, size_of};
 ghost use Rattle.cube.specs.Sharp.{opposite as opposite_of};
 ghost use Rattle.cover.specs.Cubes.{AreCubes};
 ghost use Rattle.cover.specs.Places.{places};
+ghost use Rattle.minimum.specs.Neighbours.{LiesInOneOf};
 ghost use Rattle.minimum.specs.Points.{IsPointOf};
 
 use cover::Cover;
@@ -40,6 +41,19 @@ pub(crate) fn are_apart(cubes: &[Cube], region: &Cube) -> bool
         }
     }
     true
+}
+
+/// Whether the region lies in one of the cubes.
+pub(crate) fn lies_in_one_of(region: &Cube, cubes: &[Cube]) -> bool
+    requires { All (λ d. SameSize d region.now) cubes.now }
+    ensures { result ≡ true → LiesInOneOf cubes.now region.now }
+{
+    for cube in cubes {
+        if cube.contains(region) {
+            return true;
+        }
+    }
+    false
 }
 
 /// The cube of all places with this output.

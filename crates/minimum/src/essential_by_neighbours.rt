@@ -21,9 +21,11 @@ ghost use Rattle.minimum.specs.Primes.{primes_of, essential_of, care_on};
 ghost use Rattle.minimum.specs.Neighbours.{has_own, AreNear, HaveSize, AddsEssential};
 
 mod blocking;
+mod common_place;
 mod grown_primes;
 pub(crate) mod growth;
 mod near_rows;
+mod needed_literals;
 pub(crate) mod neighbours;
 mod reached_outputs;
 mod sampled;

@@ -1,18 +1,15 @@
 //! The blocking lists of a prime, if implicants lie outside a list of cubes.
 //!
 //! A step out of the prime, at a literal or to an output that it lacks, is blocked at the places
-//! from which it leads into the list. There is a blocking list for each step. Whether some place of
-//! a region is in each of the lists is asked row by row: the region becomes its part in a row,
-//! which is looked for in the next list. A part that meets no row of some list is given up at once.
+//! from which it leads into the list. There is a blocking list for each step.
 
-ghost use Rattle.std.specs.Prelude.{◌≡◌, ◌≢◌, ◌<◌, IsTrue, true, false, All, IfOk, slice_index_or};
-ghost use Rattle.std.specs.List.{list_any};
-ghost use Rattle.cube.specs.Cube.{HasSize, IsCube};
+ghost use Rattle.std.specs.Prelude.{◌≡◌, ◌≢◌, ◌<◌, IfOk, slice_index_or};
+ghost use Rattle.cube.specs.Cube.{IsCube};
 ghost use Rattle.minimum.specs.declared.essential_by_neighbours.growth.Side.{Side};
 ghost use Rattle.minimum.specs.Neighbours.{on_side, IsAlone, IsAloneByInputs};
-ghost use Rattle.minimum.specs.Blocking.{AreBlocking, Blocks, flip_in, under_in, HasCommon};
+ghost use Rattle.minimum.specs.Blocking.{AreBlocking, Blocks, flip_in, under_in};
 
-use crate::cubes::{are_apart, is_same};
+use crate::cubes::is_same;
 use crate::essential_by_neighbours::neighbours::add_meeting;
 use cover::Cover;
 use cube::{Cube, Symbol};
@@ -68,7 +65,7 @@ fn blocking_inputs(alloc: Global, off: &Cover, prime: &Cube) -> Result<Vec<Cover
     Ok(lists)
 }
 
-/// All blocking lists of the prime.
+/// All blocking lists of the prime, the shortest first.
 pub(crate) fn blocking_lists(
     alloc: Global,
     off: &Cover,
@@ -84,41 +81,6 @@ pub(crate) fn blocking_lists(
             lists.push(blocking_output(alloc, off, prime, j)?)?;
         }
     }
+    lists.sort_unstable_by_key(|list| list.len());
     Ok(lists)
-}
-
-/// Whether each of the lists from a number on has a row that meets the region.
-fn all_meet(lists: &[Cover], from: usize, region: &Cube) -> bool
-    requires { All (λ l. HasSize region.now l.size) lists.now }
-    ensures { result ≡ false → HasCommon region.now lists.now from → ⊥ }
-{
-    for number in from..lists.len() {
-        if are_apart(lists[number].as_slice(), region) {
-            return false;
-        }
-    }
-    true
-}
-
-/// Whether some place of the region is in each of the lists from a number on.
-pub(crate) fn has_common(lists: &[Cover], from: usize, region: &Cube) -> Result<bool, AllocError>
-    requires sizes { All (λ l. HasSize region.now l.size) lists.now }
-    requires output { IsTrue (list_any (λ b. b) region.now.outputs) }
-    ensures some { IfOk result (λ b. b ≡ true → HasCommon region.now lists.now from) }
-    ensures none { IfOk result (λ b. b ≡ false → HasCommon region.now lists.now from → ⊥) }
-{
-    if from >= lists.len() {
-        return Ok(true);
-    }
-    if !all_meet(lists, from, region) {
-        return Ok(false);
-    }
-    for row in lists[from].as_slice() {
-        if let Some(part) = region.meet(row)? {
-            if has_common(lists, from + 1, &part)? {
-                return Ok(true);
-            }
-        }
-    }
-    Ok(false)
 }

@@ -7,6 +7,7 @@ ghost use Rattle.std.specs.Prelude.{◌≡◌, ◌⊎◌, [], true, OnOk, All};
 ghost use Rattle.cube.specs.Cube.{SameSize};
 ghost use Rattle.minimum.specs.Neighbours.{LiesInOneOf, AddsPrime};
 
+use crate::cubes::lies_in_one_of;
 use cube::Cube;
 use std::alloc::{AllocError, Global};
 
@@ -17,19 +18,6 @@ pub(crate) struct GrownPrimes {
     pub(crate) essential: Vec<Cube>,
     /// Those that are not.
     pub(crate) others: Vec<Cube>,
-}
-
-/// Whether one of the cubes contains the region.
-fn any_contains(cubes: &[Cube], region: &Cube) -> bool
-    requires { All (λ d. SameSize d region.now) cubes.now }
-    ensures { result ≡ true → LiesInOneOf cubes.now region.now }
-{
-    for cube in cubes {
-        if cube.contains(region) {
-            return true;
-        }
-    }
-    false
 }
 
 impl GrownPrimes {
@@ -51,7 +39,7 @@ impl GrownPrimes {
         ensures { result ≡ true → LiesInOneOf self.now.essential.items cube.now
             ⊎ LiesInOneOf self.now.others.items cube.now }
     {
-        any_contains(&self.essential, cube) || any_contains(&self.others, cube)
+        lies_in_one_of(cube, &self.essential) || lies_in_one_of(cube, &self.others)
     }
 
     /// Adds a prime.

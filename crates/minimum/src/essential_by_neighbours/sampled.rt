@@ -12,7 +12,8 @@ ghost use Rattle.minimum.specs.Primes.{primes_of, essential_of};
 ghost use Rattle.minimum.specs.Neighbours.{on_side, IsAlone, HaveSize, AddsEssential};
 ghost use Rattle.minimum.specs.Blocking.{IsSampled};
 
-use crate::essential_by_neighbours::blocking::{blocking_lists, has_common};
+use crate::essential_by_neighbours::blocking::blocking_lists;
+use crate::essential_by_neighbours::common_place::has_common;
 use crate::essential_by_neighbours::grown_primes::GrownPrimes;
 use crate::essential_by_neighbours::growth::{Growth, Side, grow};
 use crate::essential_by_neighbours::near_rows::rows_to_ask;
@@ -34,7 +35,7 @@ fn has_own_place(alloc: Global, on: &Cover, off: &Cover, prime: &Cube) -> Result
     let lists = blocking_lists(alloc, off, prime)?;
     for cube in on.as_slice() {
         if let Some(region) = prime.meet(cube)? {
-            if has_common(&lists, 0, &region)? {
+            if has_common(alloc, &lists, &region)? {
                 return Ok(true);
             }
         }

@@ -1,7 +1,9 @@
-use Rattle.std.proofs.Common.{◌+◌, ap, sym, subst, ◌∙◌, false}
+use Rattle.std.proofs.Common.{◌+◌, arith, ap, sym, subst, ◌∙◌, false}
 use Rattle.std.proofs.lemmas.Option.{get_or_from_slice_get}
 use Rattle.minimum.specs.Blocking.{AreBlocking}
-use Rattle.minimum.proofs.Blocking.{OutputsSoFar, outputs_next, outputs_skipped}
+use Rattle.minimum.specs.declared.essential_by_neighbours.growth.Side.TheVariants.{Outside}
+use Rattle.minimum.specs.Neighbours.{on_side, IsAlone}
+use Rattle.minimum.proofs.Blocking.{OutputsSoFar, outputs_next, outputs_skipped, outputs_all, blocking_sorted}
 use Rattle.minimum.proofs.essential_by_neighbours.blocking.blocking_lists.Goals as goal
 use Rattle.minimum.proofs.essential_by_neighbours.blocking.blocking_lists.Goals.{then-not-output+in_ok-blocking_output+in_ok-push, else-not-output}
 
@@ -21,3 +23,12 @@ loop-j-preserved c =
           subst (λ z. AreBlocking off.size prime z (OutputsSoFar off.cubes prime (j + 1))) (sym (ap (λ z. z.items) w.lists-is))
           (outputs_skipped off.size off.cubes prime c.requires lists j c.loop-j.invariant (own ∙ w.if-not-output.false))
     ]
+
+pub returns : goal.returns
+returns c =
+    let off = c.args.off.now in
+    let prime = c.args.prime.now in
+    let lists = c.loop-j.lists.items in
+    blocking_sorted off.size prime lists c.sort_unstable_by_key.new.self.items (IsAlone (on_side Outside off.cubes) prime)
+    (outputs_all off.size off.cubes prime c.requires lists c.loop-j.j (omega (arith, c.loop-j-test.false, c.loop-j.auto.j-end, c.outputs-j-end.ensures.value, ap (λ z. z.outputs) c.shape.ensures.size)) c.loop-j.invariant)
+    c.sort_unstable_by_key.ensures.permutation
