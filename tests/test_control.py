@@ -99,6 +99,21 @@ def drawn(number):
     return Description(inputs, outputs, kind, (*rows, *chance.sample(rows, len(rows) // 4)))
 
 
+def sampled(number):
+    """Samples of a random function, of type fr: at an output a row says whether its cube lies in the products, or outside them."""
+    chance, inputs, outputs = random.Random(number), 7, 2 + number % 5
+    products = [[{i: chance.choice("01") for i in chance.sample(range(inputs), chance.randint(2, 4))} for _ in range(2)]
+                for _ in range(outputs)]
+    rows = []
+    for _ in range(60):
+        row = {i: chance.choice("01") for i in chance.sample(range(inputs), chance.randint(5, inputs))}
+        parted = [[any(row.get(i, bit) != bit for i, bit in product.items()) for product in some] for some in products]
+        inside = [any(product.items() <= row.items() for product in some) for some in products]
+        rows.append(("".join(row.get(i, "-") for i in range(inputs)),
+                     "".join("1" if held else "0" if all(apart) else "~" for held, apart in zip(inside, parted))))
+    return Description(inputs, outputs, "fr", tuple(rows))
+
+
 class ManyOutputs(ProgramTest):
     def due(self, name, text, shape, rows, commands=ALL):
         """These commands print these rows."""
@@ -239,6 +254,11 @@ class ByDefinition(ManyOutputs):
                          for words, rows in answers.items()),
                        on_input(f"{number}, all lists", "-Dexact -o fdr", function.text(),
                                 function.printed_lists(function.exact())))
+
+    def test_essential_primes_of_samples(self):
+        for number in range(60):
+            function = sampled(number)
+            self.check(on_input(f"samples {number}", ESSEN, function.text(), function.printed(function.essential())))
 
     def test_random_functions_compared(self):
         """With the same rows in another order, under another type, without one, and with the least cover."""
