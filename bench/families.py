@@ -353,9 +353,9 @@ def for_control():
     return [
         listing_family("control logic",
                        "clusters of outputs, each with a window of the inputs and an opcode that most rows decode",
-                       drawn((shape, primes) for shape, primes, _ in CONTROL)),
+                       [*drawn((shape, primes) for shape, primes, _ in CONTROL), control(83, 60, 500)]),
         listing_family("control logic with don't-cares", "the same, three rows in twenty of don't-cares",
-                       drawn(((shape, primes) for shape, _, primes in CONTROL), free=0.15)),
+                       [*drawn(((shape, primes) for shape, _, primes in CONTROL), free=0.15), control(83, 60, 500, free=0.15)]),
         listing_family("decoded control logic", "wider opcodes, fewer outputs a row", drawn(DECODED_CONTROL, style=DECODED)),
         listing_family("shapes of known files",
                        "as many inputs, outputs and rows as misg, ibm, mish, x2dn, ti, jbp, soar and ex4; the rows are drawn",

@@ -31,9 +31,8 @@ DC-set is the places outside the second. `exact` is the first of the smallest co
 contract says which primes are listed on the way. `primes_of_pla`, `essential_of_pla` and `exact_of_pla` return the same of a description of any type. The covers of a table that `Table::build` makes are exactly the covers by primes.
 
 The law `points_are_enough`: given are three sets with an ON list of cubes of their size; points, each a cube of one wanted place; and
-columns, primes that rise strictly in row order, with all primes that contain one of the points among them. If for each wanted place
-there is a point whose primes all hold that place, then the least cover of the table with a row for each point is the least cover by
-primes, for either choice of what is least."""),
+columns, primes that rise strictly in row order, with all primes that contain one of the points among them. The least cover of the
+table with a row for each point is the least cover by primes if its primes hold each wanted place, for either choice of what is least."""),
     ("covering", "The covering problem", """`least_cover`, `least_cover_with_effort` and `least_cover_plain` return the first by list order of the shortest covers of a table, or of
 those with the fewest literals: for every table, and there is one (`least_is_unique`). Lists of one length compare by the least
 number in which they differ (`least_difference_decides`). A reduced table comes from the old one by steps that drop a row, choose a

@@ -1,4 +1,4 @@
--- A cube that a call found has an output, since it has a place.
+-- What a cube is that a call found: a meet, or a cube of symbols and outputs.
 use Rattle.std.proofs.Common.{◌≡◌, ◌∙◌, Bool, true, false, ◌&&◌, IsTrue, IsNone, ◌↔◌, get_or, length, sym, subst, refl, inl, inr}
 use Rattle.std.specs.Prelude.{Option, Some, None, Result, Ok, Err, IsSome, IfSome, IfOk, List}
 use Rattle.std.specs.List.{Contains, list_any}
@@ -6,13 +6,25 @@ use Rattle.std.proofs.lemmas.Bool.{cases_Bool, false≢true, and_parts, and_from
 use Rattle.cube.specs.declared.symbol.Symbol.{Symbol}
 use Rattle.cube.specs.Size.{Size}
 use Rattle.cube.specs.Pattern.{matches}
-use Rattle.cube.specs.Cube.{Cube, Place, IsCube, IsDisjoint, SameSize, holds}
+use Rattle.cube.specs.Cube.{Cube, Place, IsCube, IsDisjoint, SameSize, holds, intersection}
 use Rattle.cube.proofs.SharpLemmas.{true_some}
 use Rattle.cover.proofs.Lists.{list_any_from}
 
 -- a cube with a place has its output
 pub output_of_place : (c : Cube) (p : Place) → holds c p ≡ true → list_any (λ b. b) c.outputs ≡ true
 output_of_place c p h = true_some c.outputs p.output (and_parts (matches c.symbols p.point) (get_or c.outputs p.output false) h).1
+
+-- what a call that looks for the meet of two cubes has found: without a meet they share no place, and a meet has the size of the
+-- first, and the places that both have
+pub apart_from_none : (a b : Cube) (found : Option Cube) → (IsNone found ↔ IsDisjoint (holds a) (holds b)) → found ≡ None → IsDisjoint (holds a) (holds b)
+apart_from_none a b found apart is = (subst (λ o. IsNone o ↔ IsDisjoint (holds a) (holds b)) is apart).0 refl
+
+pub same_from_some : (a m : Cube) (found : Option Cube) → IfSome found (λ d. SameSize d a) → found ≡ Some m → SameSize m a
+same_from_some a m found size is = subst (λ o. IfSome o (λ d. SameSize d a)) is size
+
+pub part_from_some : (a b m : Cube) (found : Option Cube) → IfSome found (λ d. (p : Place) → holds d p ≡ intersection (holds a) (holds b) p) → found ≡ Some m
+    → (p : Place) → holds m p ≡ intersection (holds a) (holds b) p
+part_from_some a b m found both is = subst (λ o. IfSome o (λ d. (p : Place) → holds d p ≡ intersection (holds a) (holds b) p)) is both
 
 -- a meet that was found has an output
 pub meet_output : (a b m : Cube) (found : Option Cube) → found ≡ Some m → (IsNone found ↔ IsDisjoint (holds a) (holds b))

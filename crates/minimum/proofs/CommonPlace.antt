@@ -1,10 +1,10 @@
 -- A place of a region in each of some lists, and cubes that have none.
-use Rattle.std.proofs.Common.{◌≡◌, ℕ, ◌+◌, ◌<◌, ◌≤◌, inl, inr, true, ◌&&◌, List, [], ◌∷◌, ◌++◌, length, map, take, get_or, refl, ap, sym, subst, ◌∙◌, arith, All, Option, Some, None, IfSome, IsNone, ◌↔◌}
+use Rattle.std.proofs.Common.{◌≡◌, ℕ, ◌+◌, ◌<◌, ◌≤◌, inl, inr, true, ◌&&◌, List, [], ◌∷◌, ◌++◌, length, map, take, get_or, ap, sym, subst, ◌∙◌, arith, All}
 use Rattle.std.specs.List.{Contains, list_any}
 use Rattle.std.proofs.lemmas.Bool.{cases_eq, and_parts, and_from, or_cases}
 use Rattle.std.proofs.lemmas.List.{get_or_default}
 use Rattle.std.proofs.lemmas.List.Elements.{Contains-append_cases, Contains-append_left, Contains-append_right}
-use Rattle.cube.specs.Cube.{Cube, Place, holds, intersection, IsSubset, IsDisjoint, SameSize}
+use Rattle.cube.specs.Cube.{Cube, Place, holds, intersection, IsSubset, SameSize}
 use Rattle.cube.proofs.HoldsLemmas.{pick}
 use Rattle.cube.proofs.Members.{Contains-here, Contains-nil, Contains-cases}
 use Rattle.cube.proofs.SharpLemmas.{some_true}
@@ -13,7 +13,7 @@ use Rattle.cover.specs.Places.{places}
 use Rattle.cover.proofs.Lists.{list_any_from, list_any_witness}
 use Rattle.cover.proofs.Regions.{place_at}
 use Rattle.minimum.specs.Neighbours.{LiesInOneOf}
-use Rattle.minimum.specs.Blocking.{HasCommon, IsNogood, IsReason}
+use Rattle.minimum.specs.Blocking.{HasCommon, IsNogood, IsWidening}
 use Rattle.minimum.proofs.Blocking.{more_places}
 
 pub common_none : (region : Cube) (lists : List Cubes) (from : ℕ) → length lists ≤ from → list_any (λ b. b) region.outputs ≡ true → HasCommon region lists from
@@ -93,27 +93,17 @@ nogood_earlier lists from next region part c le same nogood around = record {
 
 -- what a cube has of a list lies in nogoods of the lists after it
 pub nogood_by_rows : (lists : List Cubes) (from number : ℕ) → from ≤ number → number < length lists → (list : Cubes) → list ≡ get_or lists number list → (region c : Cube) (nogoods : List Cube)
-    → AreNogoods lists (number + 1) region nogoods → IsReason list.cubes nogoods region c → IsNogood lists from region c
-nogood_by_rows lists from number le in_lists list at region c nogoods so reason = record {
-  size = reason.size;
-  around = reason.around;
+    → AreNogoods lists (number + 1) region nogoods → IsWidening list.cubes nogoods region c → IsNogood lists from region c
+nogood_by_rows lists from number le in_lists list at region c nogoods so widening = record {
+  size = widening.size;
+  around = widening.around;
   none = λ h.
       let here : places list.cubes h.place ≡ true = ap (λ z. places z.cubes h.place) at ∙ h.each number list le in_lists in
-      let w = list_any_witness (λ d. holds d h.place) nogoods (reason.parts h.place (and_from (holds c h.place) (places list.cubes h.place) h.held here)) in
+      let w = list_any_witness (λ d. holds d h.place) nogoods (widening.parts h.place (and_from (holds c h.place) (places list.cubes h.place) h.held here)) in
       so.none w.0 w.1 (record { place = h.place; held = w.2; each = λ k d low lt. h.each k d (omega (arith, le, low)) lt });
 }
 
 -- ---- what a region has of a row, and of the first rows
-
-pub apart_from_none : (region row : Cube) (found : Option Cube) → (IsNone found ↔ IsDisjoint (holds region) (holds row)) → found ≡ None → IsDisjoint (holds region) (holds row)
-apart_from_none region row found apart is = (subst (λ o. IsNone o ↔ IsDisjoint (holds region) (holds row)) is apart).0 refl
-
-pub same_from_some : (region part : Cube) (found : Option Cube) → IfSome found (λ d. SameSize d region) → found ≡ Some part → SameSize part region
-same_from_some region part found size is = subst (λ o. IfSome o (λ d. SameSize d region)) is size
-
-pub part_from_some : (region row part : Cube) (found : Option Cube) → IfSome found (λ d. (p : Place) → holds d p ≡ intersection (holds region) (holds row) p) → found ≡ Some part
-    → (p : Place) → holds part p ≡ intersection (holds region) (holds row) p
-part_from_some region row part found both is = subst (λ o. IfSome o (λ d. (p : Place) → holds d p ≡ intersection (holds region) (holds row) p)) is both
 
 pub first_rows_more : (region row : Cube) (rows : List Cube) (i : ℕ) (t : Place → Type 0) → i < length rows → row ≡ get_or rows i row
     → ((p : Place) → (holds region p && places (take i rows) p) ≡ true → t p) → ((p : Place) → holds region p ≡ true → holds row p ≡ true → t p)

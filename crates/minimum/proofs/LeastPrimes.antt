@@ -16,9 +16,9 @@ use Rattle.cube.proofs.Members.{Contains-here, Contains-there, Contains-nil, Con
 use Rattle.pla.specs.Sets.{SetLists}
 use Rattle.covering.specs.declared.choice.Choice.{Choice}
 use Rattle.covering.specs.Table.{Table, has, RisesFrom}
-use Rattle.covering.specs.Cover.{IsLeast, Precedes, counted, sum_over}
+use Rattle.covering.specs.Cover.{IsCover, IsLeast, Precedes, counted, sum_over}
 use Rattle.minimum.specs.Primes.{primes_of, sublists, is_prime_cover, prime_covers, cover_cmp, prime_count, least_prime_cover, chosen}
-use Rattle.minimum.specs.PrimeTable.{HasPrimeCovers, HasPrimeColumns}
+use Rattle.minimum.specs.PrimeTable.{IsPrimeCover, HasPrimeCovers, HasPrimeColumns}
 use Rattle.covering.proofs.Sets.{has_here, has_later, has_cases, rises_above, rises_lower}
 use Rattle.covering.proofs.Rising.{range_rises, range_has, range_below}
 
@@ -142,11 +142,12 @@ module _ (count : ℕ → ℕ) where
           ap (λ o. ordering_then o (ordering_then (nat_cmp (sum_over count s) (sum_over count x)) (slice_cmp nat_cmp s x))) (sym (nat_cmp_is (length s) (length x) Equal long))
           ∙ ap (λ o. ordering_then o (slice_cmp nat_cmp s x)) (sym (nat_cmp_is (sum_over count s) (sum_over count x) Equal tied)) ∙ first
 
-pub least_is : (choice : Choice) (sets : SetLists) (t : Table) (s : List ℕ) → HasPrimeColumns sets t → HasPrimeCovers sets t → IsLeast choice t s → s ≡ least_prime_cover choice sets
-least_is choice sets t s columns covers least =
+-- a cover by primes that is least in a table which all covers by primes meet
+pub least_among : (choice : Choice) (sets : SetLists) (t : Table) (s : List ℕ) → HasPrimeColumns sets t → ((x : List ℕ) → IsPrimeCover sets x → IsCover t x) → IsPrimeCover sets s → IsLeast choice t s
+    → s ≡ least_prime_cover choice sets
+least_among choice sets t s columns met mine least =
     let count = prime_count choice sets in
     let n = length (primes_of sets) in
-    let mine = (covers s).0 least.cover in
     let all = sublists (range_with_len 0 n) in
     sym (least_in (cover_cmp count) (λ a b. (order count).antisymm a b) s (prime_covers sets) []
     (Contains-filter (is_prime_cover sets) all s
@@ -154,11 +155,14 @@ least_is choice sets t s columns covers least =
     (λ y there.
     let parts = Contains-filter_cases (is_prime_cover sets) all y there in
     let sub = sublist_parts 0 (range_with_len 0 n) y (range_rises 0 n) parts.0 in
-    let cover = (covers y).1 (record { rises = sub.0; below = λ k h. (let b = range_below k 0 n (sub.1 k h) in omega arith); holds = parts.1 }) in
+    let cover = met y (record { rises = sub.0; below = λ k h. (let b = range_below k 0 n (sub.1 k h) in omega arith); holds = parts.1 }) in
     elim (least.first y cover) [
       | inl e ↦ inl e
       | inr before ↦ inr (precedes_less count s y (subst (λ w. Precedes (counted choice w) s y) columns.weights before))
     ]))
+
+pub least_is : (choice : Choice) (sets : SetLists) (t : Table) (s : List ℕ) → HasPrimeColumns sets t → HasPrimeCovers sets t → IsLeast choice t s → s ≡ least_prime_cover choice sets
+least_is choice sets t s columns covers least = least_among choice sets t s columns (λ x. (covers x).1) ((covers s).0 least.cover) least
 
 -- ---- cubes by their numbers
 

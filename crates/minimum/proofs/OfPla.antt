@@ -11,7 +11,7 @@ use Rattle.pla.specs.declared.file_type.FileType.TheVariants.{Fr}
 use Rattle.pla.specs.Completed.{dc_list, off_list, outside, sets_of}
 use Rattle.pla.specs.Description.{Description}
 use Rattle.pla.specs.Sets.{SetLists}
-use Rattle.minimum.specs.declared.signatures.source.Source.TheVariants.{Outside, Primes}
+use Rattle.minimum.specs.declared.points.source.Source.TheVariants.{Outside, Primes}
 use Rattle.minimum.specs.Primes.{care_on, primes_of}
 use Rattle.minimum.specs.Points.{StandsFor}
 use Rattle.minimum.specs.Blocking.{IsSampled}

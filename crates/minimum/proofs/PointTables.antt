@@ -7,7 +7,7 @@ use Rattle.std.specs.declared.cmp.Ordering.TheVariants.{Less}
 use Rattle.std.proofs.lemmas.Bool.{true≢false}
 use Rattle.std.proofs.lemmas.List.{length-map, get_or_default}
 use Rattle.std.proofs.lemmas.Option.{slice_get-get_or}
-use Rattle.cube.specs.Cube.{Cube, Place, holds, literals, IsSubset, size_of}
+use Rattle.cube.specs.Cube.{Cube, holds, literals, IsSubset, size_of}
 use Rattle.cube.specs.Order.{row_cmp}
 use Rattle.cube.proofs.Members.{Contains-here, Contains-there, Contains-nil, Contains-cases}
 use Rattle.cube.proofs.SumLemmas.{is_subset-from_fact, row_asymmetric, sorted-complete_sum}
@@ -21,17 +21,17 @@ use Rattle.covering.specs.Table.{Table, has, RisesFrom, IsWithin, IsTable, AreRo
 use Rattle.covering.specs.Cover.{meets, IsCover, IsLeast, Precedes, counted}
 use Rattle.covering.specs.Choices.{union_of}
 use Rattle.covering.specs.Parts.{pick}
-use Rattle.covering.specs.Steps.{HasRow}
-use Rattle.minimum.specs.Primes.{primes_of, chosen, least_prime_cover, exact_of}
-use Rattle.minimum.specs.PrimeRows.{contains_region, IsDemand, AreRowsOf, AllHold}
-use Rattle.minimum.specs.Points.{function_of, IsWantedPoint, AreHolders, Forces, AreForced, holders, point_table, HasExact}
+use Rattle.minimum.specs.Primes.{primes_of, care_on, chosen, least_prime_cover, exact_of}
+use Rattle.minimum.specs.PrimeRows.{contains_region, IsDemand}
+use Rattle.minimum.specs.PrimeTable.{IsPrimeCover}
+use Rattle.minimum.specs.Points.{function_of, IsWantedPoint, AreHolders, holders, point_table, PointsAreEnough}
 use Rattle.covering.proofs.Sets.{has_here, has_later, has_cases, filter_parts, filter_keeps, filter_rises, filter_length, meets_at, meets_from}
 use Rattle.covering.proofs.Subsets.{same_list, union_rises, union_right, union_only}
 use Rattle.covering.proofs.Rising.{range_rises, range_has, range_below}
 use Rattle.minimum.proofs.Numbers.{holds_at-below, cube_at-member}
 use Rattle.minimum.proofs.PrimeRows.{spans_holds}
-use Rattle.minimum.proofs.PrimeTables.{enough_for, same_covers}
-use Rattle.minimum.proofs.LeastPrimes.{least_is}
+use Rattle.minimum.proofs.PrimeTables.{enough_for, demands_met}
+use Rattle.minimum.proofs.LeastPrimes.{least_among}
 use Rattle.covering.proofs.Renumbered.{pick_has, map_keeps, map_only, map_rises, renumbered}
 
 -- ---- a part of a list that rises, by the numbers of its cubes
@@ -126,10 +126,6 @@ all_mapped_twice : (Q : List ℕ → Type 0) (g : List ℕ → List ℕ) (f : Cu
 all_mapped_twice Q g f [] h = tt
 all_mapped_twice Q g f (x ∷ xs) h = (h x (Contains-here x xs), all_mapped_twice Q g f xs (λ y k. h y (Contains-there x xs y k)))
 
-row_mapped_twice : (g : List ℕ → List ℕ) (f : Cube → List ℕ) (xs : List Cube) (x : Cube) → Contains xs x → HasRow (g (f x)) (map g (map f xs))
-row_mapped_twice g f [] x h = absurd (Contains-nil x h)
-row_mapped_twice g f (y ∷ ys) x h = elim (Contains-cases y ys x h) [ inl e ↦ inl (ap (λ z. g (f z)) (sym e)) | inr there ↦ inr (row_mapped_twice g f ys x there) ]
-
 some_mapped : (f : ℕ → ℕ) (row : List ℕ) → row ≢ [] → map f row ≢ []
 some_mapped f [] h e = h refl
 some_mapped f (x ∷ xs) h e = cc
@@ -200,7 +196,7 @@ module _ (choice : Choice) (n : ℕ) (live : List ℕ) (rows : List (List ℕ)) 
 -- ---- the table of the points
 
 module _ (sets : SetLists) (points columns : List Cube) (on_cubes : AreCubes sets.size sets.on) (rising : IsStrictlySortedBy row_cmp columns)
-    (h : AreHolders (function_of sets) points columns) (forced : AreForced (function_of sets) points (λ p. true)) where
+    (h : AreHolders (function_of sets) points columns) where
   abbrev primes : List Cube
   primes = primes_of sets
 
@@ -292,23 +288,11 @@ module _ (sets : SetLists) (points columns : List Cube) (on_cubes : AreCubes set
         meets_from i.0 s (far x) i.1 (subst (λ m. has m (far x) ≡ true) number (map_keeps (pick live) k.0 (holders columns x) k.2));
   }
 
-  far_hold : (x : Cube) (p : Place) → Forces (function_of sets) x p → AllHold primes (far x) p
-  far_hold x p f n e =
-      let r = far_parts x n e in
-      let c = cube_at columns r.0 in
-      let held = f c (h.primes c (cube_at-member columns r.0 r.1)) r.3 in
-      ap (λ m. holds (cube_at primes m) p) (sym r.2) ∙ ap (λ d. holds d p) (same_cube r.0 r.1) ∙ held
-
   abbrev rows : List (List ℕ)
   rows = map (map (pick live)) (map (holders columns) points)
 
-  are_rows_of : AreRowsOf primes sets.on sets.dc rows
-  are_rows_of = record {
-    demands = all_mapped_twice (IsDemand primes sets.on sets.dc) (map (pick live)) (holders columns) points far_demand;
-    has_rows = λ p inside want.
-        let w = forced p refl want in
-        (far w.0, row_mapped_twice (map (pick live)) (holders columns) points w.0 w.1, far_hold w.0 p w.2);
-  }
+  demands : AllByRecursion (IsDemand primes sets.on sets.dc) rows
+  demands = all_mapped_twice (IsDemand primes sets.on sets.dc) (map (pick live)) (holders columns) points far_demand
 
   abbrev weights : List ℕ
   weights = map literals primes
@@ -336,27 +320,20 @@ module _ (sets : SetLists) (points columns : List Cube) (on_cubes : AreCubes set
 
   -- ---- the least covers
 
-  module _ (choice : Choice) (s : List ℕ) (least : IsLeast choice (point_table points columns) s) where
+  module _ (choice : Choice) (s : List ℕ) (least : IsLeast choice (point_table points columns) s) (held : IsSubset (care_on sets) (places (chosen columns s))) where
     s_below : (i : ℕ) → has i s ≡ true → i < length columns
     s_below i e = let l = range_below i 0 (length (map literals columns)) (least.cover.only i e) in let m = length-map columns literals in omega arith
 
     in_middle : IsLeast choice middle (union_of [] (map (pick live) s))
     in_middle = (renumbered middle middle_table (map (holders columns) points) (map literals columns) refl same_weights (Some (point_table points columns)) (are_point_rows, refl)).least choice s least
 
+    far_s_rises : RisesFrom 0 (map (pick live) s)
+    far_s_rises = map_rises live 0 0 s is.rises least.cover.rises (λ i e. let l = s_below i e in let m = long in omega arith) (λ i a b. omega arith)
+
     joined : union_of [] (map (pick live) s) ≡ map (pick live) s
-    joined = same_list 0 (union_of [] (map (pick live) s)) (map (pick live) s) (union_rises [] (map (pick live) s) tt)
-        (map_rises live 0 0 s is.rises least.cover.rises (λ i e. let l = s_below i e in let m = long in omega arith) (λ i a b. omega arith))
+    joined = same_list 0 (union_of [] (map (pick live) s)) (map (pick live) s) (union_rises [] (map (pick live) s) tt) far_s_rises
         (λ n e. elim (union_only n [] (map (pick live) s) e) [ inl f ↦ absurd (true≢false (sym f)) | inr f ↦ f ])
         (λ n e. union_right n [] (map (pick live) s) e)
-
-    is_least_cover : map (pick live) s ≡ least_prime_cover choice sets
-    is_least_cover =
-        least_is choice sets (fresh rows weights) (map (pick live) s)
-        (record { columns = long_weights; taken = refl; live = ap (range_with_len 0) long_weights; weights = refl })
-        (same_covers sets on_cubes rows weights long_weights are_rows_of)
-        (part_least choice (length primes) live rows weights (λ c e. let l = is.below c e in let m = long_weights in omega arith)
-        (all_mapped_twice (λ row. IsWithin row live) (map (pick live)) (holders columns) points (λ x there. far_within x))
-        (map (pick live) s) (subst (IsLeast choice middle) joined in_middle))
 
     same_chosen : (xs : List ℕ) → ((i : ℕ) → has i xs ≡ true → i < length columns) → chosen primes (map (pick live) xs) ≡ chosen columns xs
     same_chosen [] e = refl
@@ -367,8 +344,26 @@ module _ (sets : SetLists) (points columns : List Cube) (on_cubes : AreCubes set
         ap (λ o. cons_option o (chosen primes (map (pick live) xs))) one
         ∙ ap (cons_option (slice_get columns x)) (same_chosen xs (λ i k. e i (has_later i x xs k)))
 
-    exact_from : chosen columns s ≡ exact_of choice sets
+    holds_wanted : IsPrimeCover sets (map (pick live) s)
+    holds_wanted = record {
+      rises = far_s_rises;
+      below = λ n e. let p = map_only (pick live) n s e in subst (λ m. m < length primes) p.2 (pick_below p.0 (s_below p.0 p.1));
+      holds = is_subset-from_fact sets.size (care_on sets) (places (chosen primes (map (pick live) s))) (subst (λ l. IsSubset (care_on sets) (places l)) (sym (same_chosen s s_below)) held);
+    }
+
+    is_least_cover : map (pick live) s ≡ least_prime_cover choice sets
+    is_least_cover =
+        least_among choice sets (fresh rows weights) (map (pick live) s)
+        (record { columns = long_weights; taken = refl; live = ap (range_with_len 0) long_weights; weights = refl })
+        (demands_met sets on_cubes rows weights long_weights demands) holds_wanted
+        (part_least choice (length primes) live rows weights (λ c e. let l = is.below c e in let m = long_weights in omega arith)
+        (all_mapped_twice (λ row. IsWithin row live) (map (pick live)) (holders columns) points (λ x there. far_within x))
+        (map (pick live) s) (subst (IsLeast choice middle) joined in_middle))
+
+    pub exact_from : chosen columns s ≡ exact_of choice sets
     exact_from = sym (same_chosen s s_below) ∙ ap (chosen primes) is_least_cover
 
-  pub has_exact : HasExact sets columns (point_table points columns)
-  has_exact choice s least = exact_from choice s least
+-- the least cover of a table of points that holds all wanted places
+pub points_are_enough : PointsAreEnough
+points_are_enough choice sets points list on_cubes least held =
+    least.cubes ∙ exact_from sets points least.columns on_cubes least.rising least.are_holders choice least.numbers least.least (subst (λ l. IsSubset (care_on sets) (places l)) least.cubes held)

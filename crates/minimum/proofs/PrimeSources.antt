@@ -8,7 +8,7 @@ use Rattle.cover.specs.Cubes.{Cubes}
 use Rattle.cover.specs.Places.{places}
 use Rattle.cover.proofs.SumEnds.{complete_sum-agree}
 use Rattle.pla.specs.Sets.{SetLists}
-use Rattle.minimum.specs.declared.signatures.source.Source.TheVariants.{Outside, Primes}
+use Rattle.minimum.specs.declared.points.source.Source.TheVariants.{Outside, Primes}
 use Rattle.minimum.specs.Primes.{primes_of}
 use Rattle.minimum.specs.Points.{IsSource, StandsFor}
 

@@ -19,10 +19,10 @@ use Rattle.cover.proofs.ContainmentLemmas.{All-range}
 use Rattle.cover.proofs.Everywhere.{holds_universal}
 use Rattle.pla.specs.Sets.{SetLists}
 use Rattle.covering.specs.Table.{has, RisesFrom, AreRows, fresh}
-use Rattle.covering.specs.Cover.{meets}
+use Rattle.covering.specs.Cover.{meets, IsCover}
 use Rattle.covering.specs.Steps.{HasRow}
 use Rattle.minimum.specs.Primes.{primes_of, care_on, chosen, is_prime_cover}
-use Rattle.minimum.specs.PrimeTable.{HasPrimeCovers}
+use Rattle.minimum.specs.PrimeTable.{HasPrimeCovers, IsPrimeCover}
 use Rattle.minimum.specs.PrimeRows.{holds_at, AreCandidates, AreEnough, IsSplit, IsHolding, IsDemand, AddsRows, AreRowsOf, RowsSoFar}
 use Rattle.covering.proofs.Sets.{meets_at}
 use Rattle.covering.proofs.Rising.{range_rises, range_has, range_below}
@@ -91,6 +91,15 @@ module _ (sets : SetLists) (on_cubes : AreCubes sets.size sets.on) where
   all_met s [] holding d = tt
   all_met s (r ∷ rows) holding d = (d.0.met s holding, all_met s rows holding d.1)
 
+  -- each cover by primes meets rows that are demands
+  pub demands_met : (rows : List (List ℕ)) (weights : List ℕ) → length weights ≡ length (primes_of sets) → AllByRecursion (IsDemand (primes_of sets) sets.on sets.dc) rows → (s : List ℕ) → IsPrimeCover sets s → IsCover (fresh rows weights) s
+  demands_met rows weights long demands s cover = record {
+    rises = cover.rises;
+    taken = λ n h. absurd (false≢true h);
+    only = λ n h. range_has n 0 (length weights) (omega arith) (let k = subst (λ k. n < k) (sym long) (cover.below n h) in omega arith);
+    rows = all_met s rows (holding_from s cover.holds) demands;
+  }
+
   pub same_covers : (rows : List (List ℕ)) (weights : List ℕ) → length weights ≡ length (primes_of sets) → AreRowsOf (primes_of sets) sets.on sets.dc rows → HasPrimeCovers sets (fresh rows weights)
   same_covers rows weights long of s = (
     λ cover. record {
@@ -101,12 +110,7 @@ module _ (sets : SetLists) (on_cubes : AreCubes sets.size sets.on) where
           let m = meets_at s r.0 (met_row s r.0 rows cover.rows r.1) in
           (m.0, m.1, r.2 m.0 m.2));
     },
-    λ cover. record {
-      rises = cover.rises;
-      taken = λ n h. absurd (false≢true h);
-      only = λ n h. range_has n 0 (length weights) (omega arith) (let k = subst (λ k. n < k) (sym long) (cover.below n h) in omega arith);
-      rows = all_met s rows (holding_from s cover.holds) of.demands;
-    },
+    demands_met rows weights long of.demands s,
   )
 
   pub are_rows : (rows : List (List ℕ)) (n : ℕ) → n ≡ length (primes_of sets) → AllByRecursion (IsDemand (primes_of sets) sets.on sets.dc) rows → AreRows n rows

@@ -1,18 +1,34 @@
 -- The outputs that rows reach inside a cube.
-use Rattle.std.proofs.Common.{◌≡◌, ℕ, ◌+◌, ◌<◌, inl, inr, Bool, true, false, not, ◌&&◌, ◌||◌, List, length, take, map, get_or, refl, ap, sym, ◌∙◌}
+use Rattle.std.proofs.Common.{◌≡◌, ℕ, ◌+◌, ◌<◌, inl, inr, Bool, true, false, not, ◌&&◌, ◌||◌, List, length, take, map, get_or, slice_get, Some, refl, ap, sym, subst, ◌∙◌}
 use Rattle.std.specs.List.{list_any}
 use Rattle.std.proofs.lemmas.Bool.{cases_Bool, false≢true, and_parts, and_from, or_right, not_from_false}
-use Rattle.std.proofs.lemmas.List.{set-get_or}
+use Rattle.std.proofs.lemmas.List.{set-get_or, length-set}
+use Rattle.std.proofs.lemmas.Option.{slice_get_within, get_or_from_slice_get}
 use Rattle.cube.specs.Size.{Size}
+use Rattle.cube.specs.declared.symbol.Symbol.{Symbol}
+use Rattle.cube.specs.declared.symbol.Symbol.TheVariants.{Dash, Zero}
 use Rattle.cube.specs.Pattern.{matches}
-use Rattle.cube.specs.Cube.{Cube, Place, holds, SameSize, IsCube}
+use Rattle.cube.specs.Cube.{Cube, Place, holds, with_symbol, SameSize, IsCube}
 use Rattle.cube.proofs.HoldsLemmas.{pick, matches-map_pick}
 use Rattle.cube.specs.Sharp.{minus}
 use Rattle.cube.proofs.SharpLemmas.{some_true, true_some, get_or-minus}
 use Rattle.cover.specs.Cubes.{Cubes}
 use Rattle.cover.specs.Places.{places}
+use Rattle.cover.proofs.Regions.{narrowed}
 use Rattle.minimum.specs.Neighbours.{Grows, IsSettledOutput, IsBeside, AreNear, IsPartOf, AreReached}
 use Rattle.minimum.proofs.Blocking.{more_places, row_left}
+
+-- ---- a part to begin with
+
+pub part_whole : (c part : Cube) → part ≡ c → IsPartOf c part
+part_whole c part e = record { size = (ap (λ (d : Cube). length d.symbols) e, ap (λ (d : Cube). length d.outputs) e); outputs = ap (λ d. d.outputs) e; within = λ p h. ap (λ d. holds d p) (sym e) ∙ h }
+
+pub part_narrowed : (c part new : Cube) (i : ℕ) (s : Symbol) → slice_get part.symbols i ≡ Some s → s ≡ Dash → new ≡ with_symbol part i Zero → IsPartOf c part → IsPartOf c new
+part_narrowed c part new i s is dash e so = subst (IsPartOf c) (sym e) (record {
+  size = (length-set part.symbols i Zero ∙ so.size.0, so.size.1);
+  outputs = so.outputs;
+  within = λ p h. so.within p (narrowed part i Zero (slice_get_within part.symbols i s is) (get_or_from_slice_get part.symbols i s Dash is ∙ dash) p h);
+})
 
 -- ---- one more row
 

@@ -53,7 +53,7 @@ pub record IsNogood (lists : List Cubes) (from : ℕ) (region c : Cube) : Type 0
   pub none : HasCommon c lists from → ⊥
 
 -- the cube lies around the region, and what it has of the rows lies in the nogoods
-pub record IsReason (rows nogoods : List Cube) (region c : Cube) : Type 0 where
+pub record IsWidening (rows nogoods : List Cube) (region c : Cube) : Type 0 where
   pub size : SameSize c region
   pub around : IsSubset (holds region) (holds c)
   pub parts : IsSubset (intersection (holds c) (places rows)) (places nogoods)

@@ -11,13 +11,13 @@ use Rattle.cover.specs.Cubes.{AreCubes}
 use Rattle.cover.specs.Places.{places}
 use Rattle.pla.specs.Sets.{SetLists}
 use Rattle.covering.specs.declared.choice.Choice.{Choice}
-use Rattle.minimum.specs.declared.signatures.source.Source.{Source}
-use Rattle.minimum.specs.declared.signatures.source.Source.TheVariants.{Outside, Primes}
-use Rattle.minimum.specs.declared.signatures.picked_points.PickedPoints.{PickedPoints}
+use Rattle.minimum.specs.declared.points.source.Source.{Source}
+use Rattle.minimum.specs.declared.points.source.Source.TheVariants.{Outside, Primes}
+use Rattle.minimum.specs.declared.points.picked_points.PickedPoints.{PickedPoints}
 use Rattle.covering.specs.Table.{Table, fresh}
 use Rattle.covering.specs.Cover.{IsLeast}
 use Rattle.minimum.specs.Primes.{primes_of, care_on, chosen, exact_of}
-use Rattle.minimum.specs.PrimeRows.{contains_region, HasOneOutput, AreCandidates}
+use Rattle.minimum.specs.PrimeRows.{contains_region}
 
 -- a function as minimisation sees it: its primes, and the places that a cover has to hold
 pub record Function : Type 0 where
@@ -67,15 +67,6 @@ pub record AreHolders (f : Function) (points columns : List Cube) : Type 0 where
       → Contains columns c
   pub primes : (c : Cube) → Contains columns c → Contains f.primes c
 
--- each prime that contains the point holds the place
-abbrev pub Forces : Function → Cube → Place → Type 0
-Forces f x p = (c : Cube) → Contains f.primes c → IsSubset (holds x) (holds c) → holds c p ≡ true
-
--- for each wanted place of the region one of the points whose primes all hold it
-abbrev pub AreForced : Function → List Cube → (Place → Bool) → Type 0
-AreForced f points region = (p : Place) → region p ≡ true → f.wanted p ≡ true → (x : Cube)
-    × Contains points x × Forces f x p
-
 -- the numbers of the columns that contain the point
 abbrev pub holders : List Cube → Cube → List ℕ
 holders columns x = filter (contains_region columns x) (range_with_len 0 (length columns))
@@ -84,17 +75,20 @@ holders columns x = filter (contains_region columns x) (range_with_len 0 (length
 abbrev pub point_table : List Cube → List Cube → Table
 point_table points columns = fresh (map (holders columns) points) (map literals columns)
 
--- what is least in the table stands for the least cover by primes
-abbrev pub HasExact : SetLists → List Cube → Table → Type 0
-HasExact sets columns t = (choice : Choice) (s : List ℕ) → IsLeast choice t s
-    → chosen columns s ≡ exact_of choice sets
+-- the least cover of the table of some points: its cubes, among the primes that contain a point
+pub record IsLeastOfPoints (choice : Choice) (f : Function) (points list : List Cube) : Type 0 where
+  pub columns : List Cube
+  pub rising : IsStrictlySortedBy row_cmp columns
+  pub are_holders : AreHolders f points columns
+  pub numbers : List ℕ
+  pub least : IsLeast choice (point_table points columns) numbers
+  pub cubes : list ≡ chosen columns numbers
 
--- if the points force all wanted places, so it is in their table
+-- if it holds all wanted places, it is the least cover by primes
 abbrev pub PointsAreEnough : Type 0
-PointsAreEnough = (sets : SetLists) (points columns : List Cube) → AreCubes sets.size sets.on
-    → IsStrictlySortedBy row_cmp columns → AreHolders (function_of sets) points columns
-    → AreForced (function_of sets) points (λ p. true)
-    → HasExact sets columns (point_table points columns)
+PointsAreEnough = (choice : Choice) (sets : SetLists) (points list : List Cube)
+    → AreCubes sets.size sets.on → IsLeastOfPoints choice (function_of sets) points list
+    → IsSubset (care_on sets) (places list) → list ≡ exact_of choice sets
 
 -- lists and a source that stand for the same function as others: the same places are wanted, and
 -- the source tells the primes; the ON lists are the same
@@ -104,51 +98,11 @@ pub record StandsFor (sets given : SetLists) (source : Source) : Type 0 where
   pub wanted : (p : Place) → IsPlace sets.size p → care_on given p ≡ care_on sets p
   pub primes : source_primes source ≡ primes_of sets
 
--- holders of points, and cubes of which each place is forced by one of the points
-pub record AreFound (f : Function) (points columns signatures : List Cube) : Type 0 where
-  pub are_holders : AreHolders f points columns
-  pub column_cubes : AreCubes f.size columns
-  pub signature_cubes : AreCubes f.size signatures
-  pub signs : (s : Cube) → Contains signatures s → (x : Cube) × Contains points x
-      × ((p : Place) → holds s p ≡ true → Forces f x p)
-
-abbrev pub IsFound : Function → PickedPoints → Type 0
-IsFound f found = AreFound f found.points.items found.columns.items found.signatures.items
-
--- each wanted place of the region is in a signature
-abbrev pub AreInSignatures : SetLists → List Cube → (Place → Bool) → Type 0
-AreInSignatures sets signatures region = (p : Place) → region p ≡ true → care_on sets p ≡ true
-    → places signatures p ≡ true
-
--- more points, which force the wanted places of the region
-pub record AddsPoints (f : Function) (region : Place → Bool) (old new : List Cube) : Type 0 where
-  pub kept : (x : Cube) → Contains old x → Contains new x
-  pub forced : AreForced f new region
+-- points that were picked, and their holders
+pub record IsFound (f : Function) (found : PickedPoints) : Type 0 where
+  pub are_holders : AreHolders f found.points.items found.columns.cubes
+  pub size : found.columns.size ≡ f.size
 
 -- no literal is missing
 abbrev pub IsOnePoint : Cube → Type 0
 IsOnePoint c = (k : ℕ) → k < length c.symbols → slice_index_or c.symbols k Dash ≢ Dash
-
--- a cube within the region that has one point, and is the region if that has one
-pub record IsPointOf (region c : Cube) : Type 0 where
-  pub one_point : IsOnePoint c
-  pub outputs : c.outputs ≡ region.outputs
-  pub long : length c.symbols ≡ length region.symbols
-  pub within : IsSubset (holds c) (holds region)
-  pub same : IsOnePoint region → c ≡ region
-
--- a region of one output, and the ON cubes and DC cubes that are candidates for it
-pub record IsPart (sets : SetLists) (region : Cube) (on dc : List ℕ) : Type 0 where
-  pub is_cube : IsCube sets.size region
-  pub one : HasOneOutput region
-  pub on_cubes : AreCubes sets.size sets.on
-  pub dc_cubes : AreCubes sets.size sets.dc
-  pub on_candidates : AreCandidates sets.on region on
-  pub dc_candidates : AreCandidates sets.dc region dc
-
--- the numbers of all ON cubes and of all DC cubes
-pub record AreLists (sets : SetLists) (on dc : List ℕ) : Type 0 where
-  pub on_all : on ≡ range_with_len 0 (length sets.on)
-  pub dc_all : dc ≡ range_with_len 0 (length sets.dc)
-  pub on_cubes : AreCubes sets.size sets.on
-  pub dc_cubes : AreCubes sets.size sets.dc

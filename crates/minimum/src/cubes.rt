@@ -1,4 +1,4 @@
-//! Small questions about cubes and symbols, and small steps: a cube of one output, a point, a copy.
+//! Small questions about cubes and symbols, and small steps: a cube of one output, a copy.
 
 ghost use Rattle.std.specs.Prelude.{◌≡◌, ◌<◌, ◌↔◌, ◌++◌, ◌∷◌, [], IsTrue, true, false, IfOk, OnOk, All, replicate, slice_set};
 ghost use Rattle.cube.specs.Cube.{HasSize, SameSize, IsDisjoint, holds, size_of};
@@ -6,7 +6,6 @@ ghost use Rattle.cube.specs.Sharp.{opposite as opposite_of};
 ghost use Rattle.cover.specs.Cubes.{AreCubes};
 ghost use Rattle.cover.specs.Places.{places};
 ghost use Rattle.minimum.specs.Neighbours.{LiesInOneOf};
-ghost use Rattle.minimum.specs.Points.{IsPointOf};
 
 use cover::Cover;
 use cube::{Cube, Shape, Symbol};
@@ -71,19 +70,6 @@ pub(crate) fn one_output(alloc: Global, shape: Shape, j: usize) -> Result<Cube, 
         Some(cube) => Ok(cube),
         None => unreachable!(),
     }
-}
-
-/// A point of the region with all of its outputs.
-pub(crate) fn point_of(region: &Cube) -> Result<Cube, AllocError>
-    ensures { IfOk result (IsPointOf region.now) }
-{
-    let mut point = region.try_clone()?;
-    for i in 0..region.shape().inputs() {
-        if point.symbol(i) == Symbol::Dash {
-            point.set_symbol(i, Symbol::Zero);
-        }
-    }
-    Ok(point)
 }
 
 /// Adds a copy of the cube.

@@ -1,29 +1,38 @@
 //! The least cover by primes.
 //!
 //! Three ways lead to it. With many inputs and several outputs there may be far too many primes to
-//! list: points are picked, and only the primes that contain one of them are made
-//! ([`crate::signatures`]). With one output or fewer inputs all primes are listed: points are
-//! picked by them where the inputs are many, and else the rows of their table come from regions.
-//! Which way is taken is a hint; where one has spent its budget, the next one follows.
+//! list: points are picked, and only the primes that contain one of them are made. With one output
+//! or fewer inputs all primes are listed: points are picked by them where the inputs are many, and
+//! else the rows of their table come from regions. Which way is taken is a hint; where one has spent
+//! its budget, the next one follows.
+//!
+//! Points are picked in rounds: the least cover of the table so far is made, and points are added
+//! for what it leaves out of the ON cubes. The last table has few more rows than the cover has
+//! primes, where to make sure of a cover beforehand took a point for each maximal signature. A round
+//! costs what [`least_cover`] does, and a look at the ON cubes that are left out.
 
-ghost use Rattle.std.specs.Prelude.{◌≡◌, ◌<◌, ◌||◌, IfOk, IfSome, not};
-ghost use Rattle.cube.specs.Cube.{IsPlace, Place};
+ghost use Rattle.std.specs.Prelude.{◌≡◌, ◌<◌, ◌||◌, [], IfOk, IfSome, not};
+ghost use Rattle.cube.specs.Cube.{IsPlace, IsSubset, Place};
 ghost use Rattle.cube.specs.Limits.{IsWithinLimits, format_limits};
+ghost use Rattle.cover.specs.Cubes.{AreCubes};
 ghost use Rattle.cover.specs.Places.{places};
 ghost use Rattle.pla.specs.Sets.{SetLists};
-ghost use Rattle.minimum.specs.Points.{IsSource, StandsFor};
-ghost use Rattle.minimum.specs.Primes.{chosen, exact_of, primes_of};
+ghost use Rattle.minimum.specs.Points.{AreHolders, function_of, IsLeastOfPoints, IsSource, StandsFor};
+ghost use Rattle.minimum.specs.Primes.{care_on, chosen, exact_of, primes_of};
 
 use crate::cubes::add_copy;
+use crate::points::picked_points::PickedPoints;
+use crate::points::proposals::{
+    first_places, places_left_out, proposer_by_off, proposer_by_primes,
+};
+use crate::points::source::Source;
+use crate::points::{add_places, point_table};
 use crate::prime_implicants::{on_and_dc, primes};
 use crate::prime_table::OfPrimes;
-use crate::signatures::picks::{proposals_by_off, proposals_by_primes};
-use crate::signatures::source::{Source, Stop};
-use crate::signatures::table_of_points;
-use cover::{Budget, Cover, outside};
+use cover::{Budget, Cover, in_row_order, outside};
 use covering::{Choice, Table, least_cover, reduce};
 use pla::Sets;
-use signature_search::Place as ProposedPlace;
+use signature_search::Proposer;
 use std::alloc::{AllocError, Global};
 
 /// The cubes with these numbers.
@@ -95,12 +104,51 @@ fn off_of(sets: &Sets) -> Result<Option<Cover>, AllocError>
     outside(&all, budget_outside(&all))
 }
 
-/// The least cover by the primes of some points, or none where a point has too many.
+// At most this many rounds are made.
+const MOST_ROUNDS: usize = 200;
+
+/// The least cover of the table of the points.
+fn least_of_points(alloc: Global, found: &PickedPoints, choice: Choice) -> Result<Cover, AllocError>
+    ghost sets: { SetLists }
+    requires on { AreCubes sets.size sets.on }
+    requires holders { AreHolders (function_of sets) found.now.points.items found.now.columns.cubes }
+    requires size { found.now.columns.size ≡ sets.size }
+    requires limits { IsWithinLimits format_limits sets.size }
+    ensures size { IfOk result (λ list. list.size ≡ sets.size) }
+    ensures least { IfOk result (λ list. IsLeastOfPoints choice (function_of sets) found.now.points.items list.cubes) }
+{
+    let columns = in_row_order(&found.columns)?;
+    let table = point_table(alloc, &found.points, &columns)?;
+    let table = reduce(table, choice)?;
+    let least = least_cover(&table, choice)?;
+    cubes_at(alloc, &columns, &least)
+}
+
+/// The ON cubes of which the list and the DC list leave out a place.
+fn left_out(alloc: Global, sets: &Sets, list: &Cover) -> Result<Cover, AllocError>
+    requires { list.now.size ≡ sets.now.size }
+    ensures { IfOk result (λ left. left.cubes ≡ [] → IsSubset (care_on sets.now) (places list.now.cubes)) }
+{
+    let mut held = list.try_clone()?;
+    held.append(sets.dc())?;
+    let cubes = sets.on().as_slice();
+    let are_held = held.holds_cubes(cubes)?;
+    let mut left = Cover::new(alloc, list.shape());
+    for k in 0..cubes.len() {
+        if !are_held[k] {
+            add_copy(&mut left, &cubes[k])?;
+        }
+    }
+    Ok(left)
+}
+
+/// The least cover by the primes of points, or none where the points that are proposed are not
+/// enough, or have too many primes.
 pub(crate) fn exact_by_points(
     alloc: Global,
     given: &Sets,
     source: &Source,
-    places: &[ProposedPlace],
+    proposer: &Proposer,
     choice: Choice,
 ) -> Result<Option<Cover>, AllocError>
     ghost sets: { SetLists }
@@ -110,16 +158,21 @@ pub(crate) fn exact_by_points(
     ensures { IfOk result (λ o. IfSome o (λ list. list ≡ record
         { size = given.now.size; cubes = exact_of choice sets })) }
 {
-    match table_of_points(alloc, given, source, places) {
-        Ok((columns, table)) => {
-            let table = reduce(table, choice)?;
-            let least = least_cover(&table, choice)?;
-            let list = cubes_at(alloc, &columns, &least)?;
-            Ok(Some(list))
+    let mut found = PickedPoints::new(alloc, given.on().shape());
+    let places = first_places(alloc, proposer, given.on())?;
+    add_places(alloc, given, source, &places, &mut found)?;
+    for _ in 0..MOST_ROUNDS {
+        let list = least_of_points(alloc, &found, choice)?;
+        let left = left_out(alloc, given, &list)?;
+        if left.is_empty() {
+            return Ok(Some(list));
         }
-        Err(Stop::Spent) => Ok(None),
-        Err(Stop::Memory) => Err(AllocError),
+        let places = places_left_out(alloc, proposer, &left, &list)?;
+        if !add_places(alloc, given, source, &places, &mut found)? {
+            return Ok(None);
+        }
     }
+    Ok(None)
 }
 
 /// The least cover by the primes of points outside these cubes.
@@ -135,8 +188,8 @@ fn exact_outside(
     ensures { IfOk result (λ o. IfSome o (λ list. list ≡ record
         { size = sets.now.size; cubes = exact_of choice sets.now })) }
 {
-    let places = proposals_by_off(alloc, sets, &off, false)?;
-    exact_by_points(alloc, sets, &Source::Outside(off), &places, choice)
+    let proposer = proposer_by_off(alloc, sets, &off, false)?;
+    exact_by_points(alloc, sets, &Source::Outside(off), &proposer, choice)
 }
 
 /// The least cover by the primes of points, from a list of all primes, if that is of use.
@@ -153,9 +206,9 @@ fn exact_among(
     if !uses_points_of_primes(sets) {
         return Ok(None);
     }
-    let places = proposals_by_primes(alloc, sets, primes, false)?;
+    let proposer = proposer_by_primes(alloc, sets, primes, false)?;
     let source = Source::Primes(primes.try_clone()?);
-    exact_by_points(alloc, sets, &source, &places, choice)
+    exact_by_points(alloc, sets, &source, &proposer, choice)
 }
 
 /// The least cover by primes, from the table of all of them.

@@ -11,9 +11,10 @@
 //! With several outputs and more than 12 inputs the table has a row for each of some picked points,
 //! and only the primes that contain one of them are made, by cubes with the places outside ON-set
 //! and DC-set (McGeer, Sanghavi, Brayton and Sangiovanni-Vincentelli, ESPRESSO-SIGNATURE, 1993).
-//! That such a table is enough is the law [`points_are_enough`]. Else, and where a point has too
-//! many primes or the places outside take too many cubes, all primes are listed: with more than 20
-//! inputs points are picked by them, and else `Table::build` makes the table. Of type fr
+//! Points are picked where the least cover of the table so far leaves out a place; once it leaves
+//! out none, it is the least cover by primes: the law [`points_are_enough`]. Else, and where a point
+//! has too many primes or the places outside take too many cubes, all primes are listed: with more
+//! than 20 inputs points are picked by them, and else `Table::build` makes the table. Of type fr
 //! ([`exact_of_pla`]) one output takes the first way too, and from all primes points are picked.
 //!
 //! The table is one of the covering problem (`covering`), which knows no cubes; what its callers
@@ -40,9 +41,9 @@ mod exact_minimum;
 mod laws;
 mod numbered_cubes;
 mod of_pla;
+mod points;
 mod prime_implicants;
 mod prime_table;
-mod signatures;
 
 pub use covering::{
     Choice, Effort, Table, least_cover, least_cover_plain, least_cover_with_effort,

@@ -10,9 +10,9 @@ ghost use Rattle.minimum.specs.Primes.{essential_of, exact_of, primes_of};
 use crate::essential_by_neighbours::{find_essential, find_essential_outside};
 use crate::essential_primes::essential;
 use crate::exact_minimum::{exact, exact_by_points, uses_points};
+use crate::points::proposals::{proposer_by_off, proposer_by_primes};
+use crate::points::source::Source;
 use crate::prime_implicants::primes;
-use crate::signatures::picks::{proposals_by_off, proposals_by_primes};
-use crate::signatures::source::Source;
 use cover::{Budget, Cover, subtract};
 use covering::Choice;
 use pla::{FileType, Pla, Sets};
@@ -206,9 +206,9 @@ fn exact_outside_off(
     if !uses_points(&samples) {
         return Ok(None);
     }
-    let places = proposals_by_off(alloc, &samples, off, true)?;
+    let proposer = proposer_by_off(alloc, &samples, off, true)?;
     let source = Source::Outside(off.try_clone()?);
-    exact_by_points(alloc, &samples, &source, &places, choice)
+    exact_by_points(alloc, &samples, &source, &proposer, choice)
 }
 
 // The least cover under fr by points that are picked by a list of all primes: the largest cubes
@@ -230,8 +230,8 @@ fn exact_among_primes(
 {
     let samples = samples_of(alloc, pla)?;
     let primes = primes_outside(off)?;
-    let places = proposals_by_primes(alloc, &samples, &primes, true)?;
-    exact_by_points(alloc, &samples, &Source::Primes(primes), &places, choice)
+    let proposer = proposer_by_primes(alloc, &samples, &primes, true)?;
+    exact_by_points(alloc, &samples, &Source::Primes(primes), &proposer, choice)
 }
 
 // The least cover under fr without a DC list; none for other types, and where that is too much.

@@ -93,9 +93,9 @@ impl Finder<'_> {
         }
     }
 
-    /// A large signature cube with a place of its own, found from cubes between a point of the cube
-    /// near and the wide cube, which contains it. `None` if the cube near meets OFF.
-    pub(crate) fn descend(
+    // A large signature cube with a place of its own, found from cubes between a point of the cube
+    // near and the wide cube, which contains it. `None` if the cube near meets OFF.
+    fn descend(
         &mut self,
         wide: &[Literals],
         near: &[Literals],
@@ -130,5 +130,22 @@ impl Finder<'_> {
             }
         }
         Ok(Some(best))
+    }
+
+    /// A signature cube of a place of the cube near, which lies in the wide cube: a maximal one, if
+    /// own places can be found. `None` if the cube near meets OFF.
+    pub(crate) fn signature_near(
+        &mut self,
+        wide: &[Literals],
+        near: &[Literals],
+        output: usize,
+    ) -> Result<Option<Signature>, AllocError> {
+        if !self.function.finds_own_places {
+            return self.signature_at_point(near, output);
+        }
+        match self.descend(wide, near, output)? {
+            Some(found) => Ok(Some(self.climb(found)?)),
+            None => Ok(None),
+        }
     }
 }

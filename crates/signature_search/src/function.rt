@@ -17,6 +17,8 @@ pub(crate) struct Function {
     pub(crate) output_words: usize,
     /// Whether wanted places lie in ON cubes alone, and not in all that is outside OFF and DC.
     pub(crate) samples: bool,
+    /// Whether a cube's own place can be looked for: by ON with DC, or by a list of all primes.
+    pub(crate) finds_own_places: bool,
     on: Vec<Vec<Literals>>,
     dc: Vec<Vec<Literals>>,
     off: Vec<Vec<Literals>>,
@@ -94,39 +96,36 @@ fn list_at(lists: &[Vec<Literals>], index: usize) -> &[Literals] {
 }
 
 impl Function {
-    /// The function of these rows. With `samples` DC is all that neither ON nor OFF holds. `None`
-    /// if the complement of OFF is past the budget.
+    /// The function of these rows. With `samples` DC is all that neither ON nor OFF holds.
     pub(crate) fn new(
         alloc: Global,
         on: &Rows,
         dc: &Rows,
         off: &Rows,
         samples: bool,
-    ) -> Result<Option<Function>, AllocError> {
+    ) -> Result<Function, AllocError> {
         let (inputs, outputs) = (on.inputs(), on.outputs());
         let width = words_for(inputs);
         let wanted = rows_by_output(alloc, on, outputs)?;
         let free = rows_by_output(alloc, dc, outputs)?;
         let outside = rows_by_output(alloc, off, outputs)?;
-        let on_and_dc = if samples {
-            match complements_by_output(alloc, &outside, width)? {
-                Some(lists) => lists,
-                None => return Ok(None),
-            }
+        let union = if samples {
+            complements_by_output(alloc, &outside, width)?
         } else {
-            unions_by_output(alloc, &wanted, &free, width)?
+            Some(unions_by_output(alloc, &wanted, &free, width)?)
         };
-        Ok(Some(Function {
+        Ok(Function {
             inputs,
             outputs,
             width,
             output_words: words_for(outputs),
             samples,
+            finds_own_places: union.is_some(),
             on: wanted,
             dc: free,
             off: outside,
-            on_and_dc,
-        }))
+            on_and_dc: union.unwrap_or(Vec::new(alloc)),
+        })
     }
 
     /// The function of these rows, without OFF.
@@ -143,6 +142,7 @@ impl Function {
             width: words_for(inputs),
             output_words: words_for(outputs),
             samples,
+            finds_own_places: true,
             on: rows_by_output(alloc, on, outputs)?,
             dc: rows_by_output(alloc, dc, outputs)?,
             off: Vec::new(alloc),

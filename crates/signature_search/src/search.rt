@@ -1,5 +1,5 @@
-//! The passes of the search: ON cubes as they stand, then what is left of them; at the end the
-//! signature cubes that lie in others are dropped (`maximal_places`).
+//! The signature cubes of ON cubes as they stand, and of places that a cover leaves out; at the end
+//! those that lie in others are dropped (`maximal_places`).
 
 use crate::bits::{Literals, bit_count, contains, has_bit, is_within, literal_count, meets};
 use crate::cube::Cube;
@@ -8,8 +8,11 @@ use crate::function::Function;
 use crate::rows::{Place, Rows};
 use std::alloc::{AllocError, Global};
 
-// At most this many regions are looked at for a place of an ON cube that no signature cube holds.
+// At most this many regions are looked at for a place of an ON cube that a cover leaves out.
 const REGION_BUDGET: u64 = 1 << 16;
+
+// At most this many signature cubes are looked for at a time.
+const MOST_SIGNATURES: usize = 20000;
 
 /// A signature cube and a place of its own.
 #[derive(Drop)]
@@ -32,12 +35,26 @@ impl SignatureCube {
     }
 }
 
+/// Adds the rows of a list that have the output and meet the cube.
+fn push_rows_meeting(
+    held: &mut Vec<Literals>,
+    list: &Rows,
+    cube: &[Literals],
+    output: usize,
+) -> Result<(), AllocError> {
+    for row in 0..list.len() {
+        if has_bit(list.outputs_of(row), output) && meets(list.literals_of(row), cube) {
+            held.extend_from_slice(list.literals_of(row))?;
+        }
+    }
+    Ok(())
+}
+
 /// The signature cubes found so far.
 #[derive(Drop)]
 pub(crate) struct Search<'a> {
     finder: Finder<'a>,
     signatures: Vec<SignatureCube>,
-    limit: usize,
 }
 
 impl<'a> Search<'a> {
@@ -45,27 +62,20 @@ impl<'a> Search<'a> {
         alloc: Global,
         function: &'a Function,
         primes: Option<&'a Rows>,
-        limit: usize,
     ) -> Result<Search<'a>, AllocError> {
         Ok(Search {
             finder: Finder::new(alloc, function, primes)?,
             signatures: Vec::new(alloc),
-            limit,
         })
     }
 
-    /// The places of the maximal signature cubes that are found.
-    pub(crate) fn run(mut self, on: &Rows) -> Result<Vec<Place>, AllocError> {
-        self.add_signatures_of_rows(on)?;
-        self.add_signatures_of_rest()?;
-        self.maximal_places()
-    }
-
-    // Adds the signature cubes of the ON cubes as they stand. This finds most signature cubes of
-    // functions that are written by people.
-    fn add_signatures_of_rows(&mut self, on: &Rows) -> Result<(), AllocError> {
+    /// Adds the signature cubes of the ON cubes as they stand.
+    pub(crate) fn add_signatures_of_rows(&mut self, on: &Rows) -> Result<(), AllocError> {
         let alloc = self.finder.alloc;
         let mut tried: Vec<u64> = Vec::new(alloc);
+        if !self.finder.function.finds_own_places {
+            return Ok(());
+        }
         for row in 0..on.len() {
             let cube = Cube::of(alloc, on.literals_of(row), on.outputs_of(row))?;
             let Some((signature, rows)) = self.finder.signature_cube(&cube)? else {
@@ -82,33 +92,49 @@ impl<'a> Search<'a> {
         Ok(())
     }
 
-    // Adds signature cubes that hold what no signature cube holds yet, ON cube by ON cube.
-    fn add_signatures_of_rest(&mut self) -> Result<(), AllocError> {
-        let function = self.finder.function;
-        for output in 0..function.outputs {
-            for wide in function.on(output).chunks_exact(function.width.max(1)) {
-                self.add_rest_of_cube(wide, output)?;
+    /// Adds a signature cube for each ON cube and output of which the cover, and the signature
+    /// cubes before, leave out a place.
+    pub(crate) fn add_signatures_left_out(
+        &mut self,
+        on: &Rows,
+        cover: &Rows,
+    ) -> Result<(), AllocError> {
+        for row in 0..on.len() {
+            self.add_signatures_left_out_of_row(on.literals_of(row), on.outputs_of(row), cover)?;
+        }
+        Ok(())
+    }
+
+    // The same for one ON cube.
+    fn add_signatures_left_out_of_row(
+        &mut self,
+        wide: &[Literals],
+        outputs: &[u64],
+        cover: &Rows,
+    ) -> Result<(), AllocError> {
+        for output in 0..cover.outputs() {
+            if has_bit(outputs, output) && self.signatures.len() < MOST_SIGNATURES {
+                self.add_signature_left_out(wide, cover, output)?;
             }
         }
         Ok(())
     }
 
-    // Adds signature cubes that hold what no signature cube holds yet of an ON cube.
-    fn add_rest_of_cube(&mut self, wide: &[Literals], output: usize) -> Result<(), AllocError> {
-        let alloc = self.finder.alloc;
+    // Adds a signature cube with a place that the cover leaves out of an ON cube, if there is one.
+    fn add_signature_left_out(
+        &mut self,
+        wide: &[Literals],
+        cover: &Rows,
+        output: usize,
+    ) -> Result<(), AllocError> {
         let mut held = self.dc_and_signatures_meeting(wide, output)?;
-        for _ in self.signatures.len()..self.limit {
-            let mut budget = REGION_BUDGET;
-            if !self.finder.question.ask(wide, &held, &mut budget)? {
-                break;
+        push_rows_meeting(&mut held, cover, wide, output)?;
+        let mut budget = REGION_BUDGET;
+        if self.finder.question.ask(wide, &held, &mut budget)? {
+            let near = self.finder.question.answer().to_vec(self.finder.alloc)?;
+            if let Some(found) = self.finder.signature_near(wide, &near, output)? {
+                self.add_signature(found)?;
             }
-            let near = self.finder.question.answer().to_vec(alloc)?;
-            let Some(found) = self.finder.descend(wide, &near, output)? else {
-                break;
-            };
-            let found = self.finder.climb(found)?;
-            held.extend_from_slice(&found.cube.literals)?;
-            self.add_signature(found)?;
         }
         Ok(())
     }
@@ -138,8 +164,8 @@ impl<'a> Search<'a> {
         Ok(())
     }
 
-    // The places of the signature cubes that lie in no other one.
-    fn maximal_places(self) -> Result<Vec<Place>, AllocError> {
+    /// The places of the signature cubes that lie in no other one.
+    pub(crate) fn maximal_places(self) -> Result<Vec<Place>, AllocError> {
         let alloc = self.finder.alloc;
         let mut signatures = self.signatures;
         signatures.sort_by_key(|signature| signature.size())?;

@@ -8,7 +8,7 @@ use crate::rules::{Outputs, Rule};
 use crate::tables::{has_taken, least_is, rings, rings_are_solved};
 use covering::{all_marked, copy_of, is_marked, numbers, unmark};
 use minimum::{Choice, Effort, Table, least_cover_plain, least_cover_with_effort, reduce};
-use signature_search::{Rows, signature_places};
+use signature_search::{Proposer, Rows};
 use std::alloc::{AllocError, Global};
 use std::test::Fail;
 
@@ -194,7 +194,9 @@ fn each_row_of_a_large_decoder_has_a_place(rt: HostRuntime) -> Result<(), Fail> 
     let alloc = rt.alloc();
     let (on, off) = (decoder(alloc)?, outside_decoder(alloc)?);
     let none = Rows::new(alloc, 10, 1024);
-    let places = signature_places(alloc, &on, &none, &off, false, 20_000)?;
-    assert!(rt; places.len() == 1024);
+    let proposer = Proposer::by_off(alloc, &on, &none, &off, false)?;
+    assert!(rt; proposer.first_places(&on)?.len() == 1024);
+    assert!(rt; proposer.places_left_out(&on, &none)?.len() == 1024);
+    assert!(rt; proposer.places_left_out(&on, &on)?.is_empty());
     Ok(())
 }

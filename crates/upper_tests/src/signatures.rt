@@ -1,13 +1,13 @@
-//! The places that a search by signatures picks of a decoder: one for each row, as each row is the
-//! only prime of its output.
-use signature_search::{Place, Rows, signature_places};
+//! The places that a search by signatures proposes of a decoder: one for each row, as each row is
+//! the only prime of its output.
+use signature_search::{Place, Proposer, Rows};
 use std::alloc::{AllocError, Global};
 use std::test::Fail;
 
-/// A row for each number of six bits, with the output of this number.
-fn decoder(alloc: Global) -> Result<Rows, AllocError> {
+/// A row for each number of six bits below `count`, with the output of this number.
+fn decoder(alloc: Global, count: usize) -> Result<Rows, AllocError> {
     let mut rows = Rows::new(alloc, 6, 64);
-    for number in 0..64usize {
+    for number in 0..count {
         rows.begin_row()?;
         for input in 0..6usize {
             rows.put_literal(input, number >> input & 1 == 1);
@@ -54,12 +54,44 @@ fn are_of_rows(places: &[Place]) -> bool {
     true
 }
 
+/// What proposes places of the decoder, by the rows outside.
+fn proposer(alloc: Global) -> Result<Proposer, AllocError> {
+    let (on, off) = (decoder(alloc, 64)?, outside_decoder(alloc)?);
+    Proposer::by_off(alloc, &on, &Rows::new(alloc, 6, 64), &off, false)
+}
+
 #[test]
 fn each_row_of_a_decoder_has_a_place(rt: HostRuntime) -> Result<(), Fail> {
     let alloc = rt.alloc();
-    let (on, off) = (decoder(alloc)?, outside_decoder(alloc)?);
-    let places = signature_places(alloc, &on, &Rows::new(alloc, 6, 64), &off, false, 1000)?;
+    let places = proposer(alloc)?.first_places(&decoder(alloc, 64)?)?;
     assert!(rt; places.len() == 64);
+    assert!(rt; are_of_rows(&places));
+    Ok(())
+}
+
+#[test]
+fn each_row_that_a_cover_leaves_out_has_a_place(rt: HostRuntime) -> Result<(), Fail> {
+    let alloc = rt.alloc();
+    for count in [0usize, 1, 40, 63, 64] {
+        let places = proposer(alloc)?.places_left_out(
+            &decoder(alloc, 64)?,
+            &decoder(alloc, count)?,
+        )?;
+        assert!(rt; places.len() == 64 - count);
+        assert!(rt; are_of_rows(&places));
+        assert!(rt; places.iter().all(|place| place.output() >= count));
+    }
+    Ok(())
+}
+
+#[test]
+fn the_primes_of_a_decoder_show_the_same(rt: HostRuntime) -> Result<(), Fail> {
+    let alloc = rt.alloc();
+    let (on, dc) = (decoder(alloc, 64)?, Rows::new(alloc, 6, 64));
+    let by_primes = Proposer::by_primes(alloc, &on, &dc, decoder(alloc, 64)?, false)?;
+    assert!(rt; are_of_rows(&by_primes.first_places(&on)?));
+    let places = by_primes.places_left_out(&on, &decoder(alloc, 60)?)?;
+    assert!(rt; places.len() == 4);
     assert!(rt; are_of_rows(&places));
     Ok(())
 }

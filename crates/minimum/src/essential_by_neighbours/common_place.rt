@@ -11,7 +11,7 @@ ghost use Rattle.std.specs.Prelude.{◌≡◌, ◌≤◌, IsTrue, true, false, N
 ghost use Rattle.std.specs.List.{list_any};
 ghost use Rattle.cube.specs.Cube.{HasSize, SameSize, IsSubset, holds, intersection};
 ghost use Rattle.cover.specs.Places.{places};
-ghost use Rattle.minimum.specs.Blocking.{HasCommon, IsNogood, IsReason};
+ghost use Rattle.minimum.specs.Blocking.{HasCommon, IsNogood, IsWidening};
 
 use crate::cubes::{are_apart, lies_in_one_of};
 use crate::essential_by_neighbours::needed_literals::{
@@ -83,7 +83,7 @@ fn widen(rows: &[Cube], nogoods: &[Cube], region: Cube, needed: &[bool]) -> Resu
     requires rows { All (λ d. SameSize d region) rows.now }
     requires nogoods { All (λ d. SameSize d region) nogoods.now }
     requires parts { IsSubset (intersection (holds region) (places rows.now)) (places nogoods.now) }
-    ensures { IfOk result (IsReason rows.now nogoods.now region) }
+    ensures { IfOk result (IsWidening rows.now nogoods.now region) }
 {
     let wide = with_needed_literals(&region, needed)?;
     if wide.contains(&region) && parts_lie_in(&wide, rows, nogoods)? {

@@ -9,11 +9,23 @@ ghost use Rattle.cube.specs.Cube.{Cube as Row, HasSize, Place};
 ghost use Rattle.cover.specs.Places.{places};
 ghost use Rattle.minimum.specs.Neighbours.{on_side, IsPartOf, AreReached};
 
-use crate::cubes::point_of;
 use crate::essential_by_neighbours::growth::Side;
 use cover::Cover;
-use cube::Cube;
+use cube::{Cube, Symbol};
 use std::alloc::AllocError;
+
+/// A point of the cube, with all of its outputs.
+fn point_of(cube: &Cube) -> Result<Cube, AllocError>
+    ensures { IfOk result (IsPartOf cube.now) }
+{
+    let mut point = cube.try_clone()?;
+    for i in 0..cube.shape().inputs() {
+        if point.symbol(i) == Symbol::Dash {
+            point.set_symbol(i, Symbol::Zero);
+        }
+    }
+    Ok(point)
+}
 
 /// A part of the cube to begin with: a point if implicants lie inside the list, as few rows reach
 /// it and outputs that none reaches are refused; the whole cube if they lie outside, as many rows

@@ -7,4 +7,4 @@ exact_by_points-requires c =
     let sets = c.args.sets.now in
     let list = c.in_ok-try_clone.field-0 in
     let same = c.in_ok-try_clone.ensures ∙ c.requires in
-    (primes_among sets list same, (stands_among sets list same, c.in_ok-places.ensures))
+    (primes_among sets list same, (stands_among sets list same, c.in_ok-proposer.ensures))

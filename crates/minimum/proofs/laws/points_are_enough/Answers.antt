@@ -1,5 +1,5 @@
-use Rattle.minimum.proofs.PointTables.{has_exact}
+use Rattle.minimum.proofs.PointTables.{points_are_enough}
 use Rattle.minimum.proofs.laws.points_are_enough.Goals as goal
 
 pub returns : goal.returns
-returns c = has_exact
+returns c = points_are_enough

@@ -15,7 +15,7 @@ exact_by_points-requires c =
     let list = c.in_ok-primes.primes in
     let all : SetLists → Cubes = λ sets. record { size = sets.size; cubes = primes_of sets } in
     let same : list ≡ all (with_open given) = c.in_ok-primes.ensures pla c.requires.file_type c.requires.size c.requires.places ∙ ap all (sym (open_sets pla given is c.requires.file_type)) in
-    (primes_among (with_open given) list same, (stands_primes given (ap (λ (s : SetLists). s.dc) is) list (ap (λ (l : Cubes). l.cubes) same), c.in_ok-places.ensures))
+    (primes_among (with_open given) list same, (stands_primes given (ap (λ (s : SetLists). s.dc) is) list (ap (λ (l : Cubes). l.cubes) same), c.in_ok-proposer.ensures))
 
 pub returns : goal.returns
 returns c =

@@ -19,7 +19,7 @@ exact_by_points-requires c =
     let sized : off.size ≡ given.size = ap (λ (l : Cubes). l.size) same ∙ c.requires.size ∙ ap (λ (s : SetLists). s.size) (sym is) in
     let places_are = subst (λ (l : Cubes). (p : Place) → IsPlace pla.size p → places l.cubes p ≡ difference (places pla.off) (places pla.on) p) (sym same) c.requires.places in
     let alone = subst (λ (s : SetLists). (p : Place) → IsPlace s.size p → places off.cubes p ≡ difference (places s.off) (places s.on) p) (sym is) places_are in
-    (primes_outside given off sized, (stands_alone given (ap (λ (s : SetLists). s.dc) is) off sized alone, c.in_ok-places.ensures))
+    (primes_outside given off sized, (stands_alone given (ap (λ (s : SetLists). s.dc) is) off sized alone, c.in_ok-proposer.ensures))
 
 pub returns : goal.returns
 returns c =

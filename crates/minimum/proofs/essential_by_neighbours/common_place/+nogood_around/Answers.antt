@@ -4,9 +4,9 @@ use Rattle.std.proofs.lemmas.Bool.{false≢true, and_parts}
 use Rattle.std.proofs.lemmas.List.{take_all}
 use Rattle.cube.specs.Cube.{holds, intersection, IsSubset, SameSize}
 use Rattle.cover.specs.Places.{places}
-use Rattle.cover.proofs.Found.{meet_output}
-use Rattle.minimum.specs.Blocking.{IsNogood, IsReason}
-use Rattle.minimum.proofs.CommonPlace.{AreNogoods, no_nogoods, nogood_sizes, nogoods_more, nogood_earlier, nogood_by_rows, common_none, common_more, apart_from_none, same_from_some, part_from_some, first_rows_more, parts_more}
+use Rattle.cover.proofs.Found.{meet_output, apart_from_none, same_from_some, part_from_some}
+use Rattle.minimum.specs.Blocking.{IsNogood, IsWidening}
+use Rattle.minimum.proofs.CommonPlace.{AreNogoods, no_nogoods, nogood_sizes, nogoods_more, nogood_earlier, nogood_by_rows, common_none, common_more, first_rows_more, parts_more}
 use Rattle.minimum.proofs.essential_by_neighbours.common_place.+nogood_around.Goals as goal
 
 pub returns-then-next-lists-clause-common : goal.returns-then-next-lists-clause-common
@@ -98,7 +98,7 @@ returns-clause-nogood t c =
     let rows = c.as_slice-rows.result.now in
     let list = c.index-lists-next.result in
     let nogoods = c.loop-row.nogoods.items in
-    let reason : IsReason list.cubes nogoods region c.in_ok-widen.field-0 = subst (λ l. IsReason l nogoods region c.in_ok-widen.field-0) c.as_slice-rows.ensures.value
-    (subst (λ l. IsReason rows l region c.in_ok-widen.field-0) c.deref.ensures.value c.in_ok-widen.ensures) in
+    let widening : IsWidening list.cubes nogoods region c.in_ok-widen.field-0 = subst (λ l. IsWidening l nogoods region c.in_ok-widen.field-0) c.as_slice-rows.ensures.value
+    (subst (λ l. IsWidening rows l region c.in_ok-widen.field-0) c.deref.ensures.value c.in_ok-widen.ensures) in
     nogood_by_rows c.args.lists.now c.args.from c.next_list-next.result c.next_list-next.ensures.from (omega (arith, c.if-next-lists.false)) list c.index-lists-next.is region c.in_ok-widen.field-0 nogoods
-    c.loop-row.invariant.0 reason
+    c.loop-row.invariant.0 widening

@@ -1,10 +1,10 @@
-use Rattle.std.proofs.Common.{◌≡◌, inl, inr, List, Option, None, Some, IfSome, IsNone, ◌↔◌, sym, subst, ◌∙◌, true, refl}
+use Rattle.std.proofs.Common.{◌≡◌, inl, inr, List, Option, Some, IfSome, sym, subst, ◌∙◌, true}
 use Rattle.std.specs.List.{Contains}
 use Rattle.std.proofs.lemmas.Bool.{or_cases}
 use Rattle.cube.specs.Size.{Size}
-use Rattle.cube.specs.Cube.{Cube, Place, holds, intersection, IsCube, IsDisjoint, SameSize}
+use Rattle.cube.specs.Cube.{Cube, Place, holds, intersection, IsCube}
 use Rattle.cover.specs.Cubes.{Cubes}
-use Rattle.cover.proofs.Found.{meet_output}
+use Rattle.cover.proofs.Found.{meet_output, apart_from_none, same_from_some, part_from_some}
 use Rattle.cover.proofs.Lists.{list_any_from}
 use Rattle.minimum.specs.declared.essential_by_neighbours.growth.Side.TheVariants.{Outside}
 use Rattle.minimum.specs.Neighbours.{on_side, IsAlone}
@@ -17,16 +17,15 @@ pub has_common-requires-clause-output : goal.has_common-requires-clause-output
 has_common-requires-clause-output c =
     let prime = c.args.prime.now in
     let cube = c.cube-item.result in
-    let both : (p : Place) → holds c.in-Some.region p ≡ intersection (holds prime) (holds cube) p =
-    subst (λ o. IfSome o (λ d. (p : Place) → holds d p ≡ intersection (holds prime) (holds cube) p)) c.in-Some.is c.in_ok-region.ensures.places in
-    meet_output prime cube c.in-Some.region c.in_ok-region.field-0 c.in-Some.is c.in_ok-region.ensures.none both
+    let found = c.in_ok-region.field-0 in
+    meet_output prime cube c.in-Some.region found c.in-Some.is c.in_ok-region.ensures.none (part_from_some prime cube c.in-Some.region found c.in_ok-region.ensures.places c.in-Some.is)
 
 pub has_common-requires-clause-sizes : goal.has_common-requires-clause-sizes
 has_common-requires-clause-sizes c =
     let off = c.args.off.now in
     let prime = c.args.prime.now in
     lists_fit off.size prime c.in_ok-lists.lists.items (IsAlone (on_side Outside off.cubes) prime) c.in_ok-lists.ensures (subst (λ z. IsCube z prime) (sym c.requires.size) c.requires.prime)
-    c.in-Some.region (subst (λ o. IfSome o (λ d. SameSize d prime)) c.in-Some.is c.in_ok-region.ensures.size) c.deref.result.now c.deref.ensures.value
+    c.in-Some.region (same_from_some prime c.in-Some.region c.in_ok-region.field-0 c.in_ok-region.ensures.size c.in-Some.is) c.deref.result.now c.deref.ensures.value
 
 pub returns-then-branch-clause-some : goal.returns-then-branch-clause-some
 returns-then-branch-clause-some c _ =
@@ -36,8 +35,7 @@ returns-then-branch-clause-some c _ =
     let cube = c.cube-item.result in
     let region = c.in-Some.region in
     let fact = IsAlone (on_side Outside off.cubes) prime in
-    let both : (p : Place) → holds region p ≡ intersection (holds prime) (holds cube) p =
-    subst (λ o. IfSome o (λ d. (p : Place) → holds d p ≡ intersection (holds prime) (holds cube) p)) c.in-Some.is c.in_ok-region.ensures.places in
+    let both = part_from_some prime cube region c.in_ok-region.field-0 c.in_ok-region.ensures.places c.in-Some.is in
     let w = own_from_common off.size prime cube region c.deref.result.now fact (subst (λ l. AreBlocking off.size prime l fact) (sym c.deref.ensures.value) c.in_ok-lists.ensures) both
     (c.in_ok-has_common.ensures.some c.if-branch.true) in
     let member : Contains on.cubes cube = subst (λ l. Contains l cube) c.as_slice-cube-items.ensures.value (c.loop-cube.cube-index, c.loop-cube-test.true, sym c.cube-item.is) in
@@ -48,10 +46,7 @@ there : (size : Size) (prime cube region : Cube) (lists lent : List Cubes) (fact
     → (p : Place) → holds prime p ≡ true → holds cube p ≡ true → fact p → ⊥
 there size prime cube region lists lent fact found blocking e both is none p in_c now a =
     none (common_from_own size prime cube region lent fact (subst (λ l. AreBlocking size prime l fact) (sym e) blocking)
-    (subst (λ o. IfSome o (λ d. (p : Place) → holds d p ≡ intersection (holds prime) (holds cube) p)) is both) p in_c now a)
-
-here : (prime cube : Cube) (found : Option Cube) → (IsNone found ↔ IsDisjoint (holds prime) (holds cube)) → found ≡ None → (p : Place) → holds prime p ≡ true → holds cube p ≡ true → ⊥
-here prime cube found apart is p in_c now = (subst (λ o. IsNone o ↔ IsDisjoint (holds prime) (holds cube)) is apart).0 refl p in_c now
+    (part_from_some prime cube region found both is) p in_c now a)
 
 pub loop-cube-preserved : goal.loop-cube-preserved
 loop-cube-preserved c p in_c h alone =
@@ -69,6 +64,6 @@ loop-cube-preserved c p in_c h alone =
             (w.in_ok-has_common.ensures.none w.if-branch.false) p in_c now alone
         | in-Some+in_ok-has_common+else-branch+in-Inline-1 w ↦ there off.size prime cube w.in-Some.region lists w.deref.result.now fact found c.in_ok-lists.ensures w.deref.ensures.value c.in_ok-region.ensures.places w.in-Some.is
             (w.in_ok-has_common.ensures.none w.if-branch.false) p in_c now alone
-        | in_default w ↦ here prime cube found c.in_ok-region.ensures.none w.in_default.is p in_c now
+        | in_default w ↦ apart_from_none prime cube found c.in_ok-region.ensures.none w.in_default.is p in_c now
       ]
     ]

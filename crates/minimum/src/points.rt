@@ -1,0 +1,176 @@
+//! Tables of the primes that contain some wanted points.
+//!
+//! Each cover by primes has for each wanted point a prime that contains it. So no cover is less than
+//! the least cover of a table with a row for each of some points, and a column for each prime that
+//! contains one of them; and if that cover holds all wanted places, it is the least cover by primes.
+//! There may be few such primes where the function has far too many to list.
+//!
+//! Which points are picked is a hint, and each is looked at before it is taken.
+
+ghost use Rattle.std.specs.Prelude.{◌≡◌, ◌≢◌, true, IfOk, IfSome, OnOk, All, length, map};
+ghost use Rattle.std.specs.List.{Contains};
+ghost use Rattle.cube.specs.declared.symbol.Symbol.TheVariants.{Dash};
+ghost use Rattle.cube.specs.Cube.{IsCube, SameSize, literals, Cube as Row, Place, holds};
+ghost use Rattle.cube.specs.Limits.{IsWithinLimits, format_limits};
+ghost use Rattle.covering.specs.Table.{AreRows};
+ghost use Rattle.minimum.specs.Primes.{care_on};
+ghost use Rattle.minimum.specs.PrimeRows.{HasOneOutput};
+ghost use Rattle.minimum.specs.Points.{IsSource, IsOnePoint, function_by, holders, IsFound, point_table as point_table_of};
+
+pub(crate) mod picked_points;
+pub(crate) mod proposals;
+pub(crate) mod source;
+
+use crate::cubes::{are_apart, lies_in_one_of};
+use crate::numbered_cubes::numbers_containing;
+use crate::points::picked_points::{PickedPoints, add_point};
+use crate::points::source::{Source, primes_containing};
+use crate::prime_table::weights;
+use cover::Cover;
+use covering::{Table, numbers};
+use cube::{Cube, Shape, Symbol};
+use pla::Sets;
+use signature_search::Place as ProposedPlace;
+use std::alloc::{AllocError, Global};
+
+/// The literals of the place's point.
+fn literals_of(
+    alloc: Global,
+    inputs: usize,
+    place: &ProposedPlace,
+) -> Result<Vec<Symbol>, AllocError>
+    ensures length { IfOk result (λ v. length v.items ≡ inputs) }
+    ensures literals { IfOk result (λ v. All (λ s. s ≢ Dash) v.items) }
+{
+    let mut symbols = vec![in alloc; Symbol::Zero; inputs]?;
+    for i in 0..inputs {
+        if place.bit(i) {
+            symbols[i] = Symbol::One;
+        }
+    }
+    Ok(symbols)
+}
+
+/// The place as a cube, or `None` if there is no such output.
+fn point_of_place(
+    alloc: Global,
+    shape: Shape,
+    place: &ProposedPlace,
+) -> Result<Option<Cube>, AllocError>
+    ensures cube { IfOk result (λ o. IfSome o (IsCube shape)) }
+    ensures one { IfOk result (λ o. IfSome o HasOneOutput) }
+    ensures point { IfOk result (λ o. IfSome o IsOnePoint) }
+{
+    let j = place.output();
+    if j >= shape.outputs() {
+        return Ok(None);
+    }
+    let symbols = literals_of(alloc, shape.inputs(), place)?;
+    let mut outputs = vec![in alloc; false; shape.outputs()]?;
+    outputs[j] = true;
+    Cube::from_symbols(alloc, shape, &symbols, &outputs)
+}
+
+/// Whether the point is wanted: it lies in an ON cube, and in no DC cube.
+fn is_wanted(sets: &Sets, point: &Cube) -> bool
+    requires { IsCube sets.now.size point.now }
+    ensures { result ≡ true → (p : Place) → holds point.now p ≡ true → care_on sets.now p ≡ true }
+{
+    lies_in_one_of(point, sets.on().as_slice()) && are_apart(sets.dc().as_slice(), point)
+}
+
+/// Adds the proposed place, if it is wanted and has at most so many primes.
+fn add_place(
+    alloc: Global,
+    sets: &Sets,
+    source: &Source,
+    place: &ProposedPlace,
+    most: usize,
+    found: &mut PickedPoints,
+) -> Result<(), AllocError>
+    requires source { IsSource sets.now.size source.now }
+    requires found { IsFound (function_by sets.now source.now) found.old }
+    ensures { OnOk result (IsFound (function_by sets.now source.now) found.new) }
+{
+    let Some(point) = point_of_place(alloc, sets.on().shape(), place)? else {
+        return Ok(());
+    };
+    if is_wanted(sets, &point) {
+        if let Some(row) = primes_containing(source, &point, most)? {
+            add_point(point, &row, found)?;
+        }
+    }
+    Ok(())
+}
+
+/// Adds the proposed places that are wanted and have at most so many primes.
+fn add_places_of_few_primes(
+    alloc: Global,
+    sets: &Sets,
+    source: &Source,
+    places: &[ProposedPlace],
+    most: usize,
+    found: &mut PickedPoints,
+) -> Result<(), AllocError>
+    requires source { IsSource sets.now.size source.now }
+    requires found { IsFound (function_by sets.now source.now) found.old }
+    ensures { OnOk result (IsFound (function_by sets.now source.now) found.new) }
+{
+    for place in places {
+        add_place(alloc, sets, source, place, most, found)?;
+    }
+    Ok(())
+}
+
+// Places with more primes than this are put off while others are added, then those with more than
+// the next number: a place with many primes makes the table wide, and is mostly covered by a prime
+// of other places in the end.
+const MOST_PRIMES: [usize; 3] = [500, 4_000, 30_000];
+
+/// Adds some of the proposed places, those with few primes, where they are wanted. Whether there is
+/// one.
+pub(crate) fn add_places(
+    alloc: Global,
+    sets: &Sets,
+    source: &Source,
+    places: &[ProposedPlace],
+    found: &mut PickedPoints,
+) -> Result<bool, AllocError>
+    requires source { IsSource sets.now.size source.now }
+    requires found { IsFound (function_by sets.now source.now) found.old }
+    ensures { OnOk result (IsFound (function_by sets.now source.now) found.new) }
+{
+    let count = found.points.len();
+    for most in &MOST_PRIMES {
+        add_places_of_few_primes(alloc, sets, source, places, *most, found)?;
+        if found.points.len() > count {
+            return Ok(true);
+        }
+    }
+    Ok(false)
+}
+
+/// The table with a row for each point and a column for each prime.
+pub(crate) fn point_table(
+    alloc: Global,
+    points: &[Cube],
+    columns: &Cover,
+) -> Result<Table, AllocError>
+    requires points { (x : Row) → Contains points.now x
+        → All (λ d. SameSize d x) columns.now.cubes }
+    requires rows { AreRows (length (map literals columns.now.cubes))
+        (map (holders columns.now.cubes) points.now) }
+    requires limits { IsWithinLimits format_limits columns.now.size }
+    ensures { IfOk result (λ t. t ≡ point_table_of points.now columns.now.cubes) }
+{
+    let all = numbers(alloc, columns.len())?;
+    let mut rows = Vec::new(alloc);
+    for point in points {
+        rows.push(numbers_containing(alloc, columns.as_slice(), point, &all)?)?;
+    }
+    let weights = weights(alloc, columns)?;
+    match Table::new(alloc, rows, weights)? {
+        Some(table) => Ok(table),
+        None => unreachable!(),
+    }
+}

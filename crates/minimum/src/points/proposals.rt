@@ -1,0 +1,95 @@
+//! Places that a search proposes for points.
+
+ghost use Rattle.std.specs.Prelude.{IfOk};
+ghost use Rattle.cube.specs.Limits.{IsWithinLimits, format_limits};
+
+use cover::Cover;
+use cube::{Cube, Symbol};
+use pla::Sets;
+use signature_search::{Place, Proposer, Rows};
+use std::alloc::{AllocError, Global};
+
+/// Gives the last row the outputs of the cube.
+fn put_outputs(rows: &mut Rows, cube: &Cube) {
+    for j in 0..cube.shape().outputs() {
+        if cube.output(j) {
+            rows.put_output(j);
+        }
+    }
+}
+
+/// Adds the cube as a row.
+fn put_cube(rows: &mut Rows, cube: &Cube) -> Result<(), AllocError> {
+    rows.begin_row()?;
+    for i in 0..cube.shape().inputs() {
+        match cube.symbol(i) {
+            Symbol::Dash => {}
+            Symbol::Zero => rows.put_literal(i, false),
+            Symbol::One => rows.put_literal(i, true),
+        }
+    }
+    put_outputs(rows, cube);
+    Ok(())
+}
+
+/// The list as rows.
+fn rows_of(alloc: Global, list: &Cover) -> Result<Rows, AllocError>
+    ensures { IfOk result (λ _. IsWithinLimits format_limits list.now.size) }
+{
+    let shape = list.shape();
+    let mut rows = Rows::new(alloc, shape.inputs(), shape.outputs());
+    for cube in list.as_slice() {
+        put_cube(&mut rows, cube)?;
+    }
+    Ok(rows)
+}
+
+/// What proposes places of the sets, by cubes with the places that neither ON nor DC has. With
+/// `sampled` all that is neither in the ON list nor in `off` is in the DC-set.
+pub(crate) fn proposer_by_off(
+    alloc: Global,
+    sets: &Sets,
+    off: &Cover,
+    sampled: bool,
+) -> Result<Proposer, AllocError>
+    ensures { IfOk result (λ _. IsWithinLimits format_limits sets.now.size) }
+{
+    let on = rows_of(alloc, sets.on())?;
+    let dc = rows_of(alloc, sets.dc())?;
+    let off = rows_of(alloc, off)?;
+    Proposer::by_off(alloc, &on, &dc, &off, sampled)
+}
+
+/// The same by a list of all primes.
+pub(crate) fn proposer_by_primes(
+    alloc: Global,
+    sets: &Sets,
+    primes: &Cover,
+    sampled: bool,
+) -> Result<Proposer, AllocError>
+    ensures { IfOk result (λ _. IsWithinLimits format_limits sets.now.size) }
+{
+    let on = rows_of(alloc, sets.on())?;
+    let dc = rows_of(alloc, sets.dc())?;
+    let primes = rows_of(alloc, primes)?;
+    Proposer::by_primes(alloc, &on, &dc, primes, sampled)
+}
+
+/// Places to begin with.
+pub(crate) fn first_places(
+    alloc: Global,
+    proposer: &Proposer,
+    on: &Cover,
+) -> Result<Vec<Place>, AllocError> {
+    proposer.first_places(&rows_of(alloc, on)?)
+}
+
+/// Places of these ON cubes that the cover leaves out.
+pub(crate) fn places_left_out(
+    alloc: Global,
+    proposer: &Proposer,
+    on: &Cover,
+    cover: &Cover,
+) -> Result<Vec<Place>, AllocError> {
+    proposer.places_left_out(&rows_of(alloc, on)?, &rows_of(alloc, cover)?)
+}

@@ -1,0 +1,66 @@
+//! What proposes places of a function.
+
+use crate::function::Function;
+use crate::rows::{Place, Rows};
+use crate::search::Search;
+use std::alloc::{AllocError, Global};
+
+/// A function, of which places are proposed.
+#[derive(Drop)]
+pub struct Proposer {
+    alloc: Global,
+    function: Function,
+    // All primes, where they are known.
+    primes: Option<Rows>,
+}
+
+impl Proposer {
+    /// By the OFF rows, which hold all places that neither ON nor DC holds, and no other. With
+    /// `samples` DC is all that neither ON nor OFF holds, and the DC rows are empty.
+    pub fn by_off(
+        alloc: Global,
+        on: &Rows,
+        dc: &Rows,
+        off: &Rows,
+        samples: bool,
+    ) -> Result<Proposer, AllocError> {
+        let function = Function::new(alloc, on, dc, off, samples)?;
+        Ok(Proposer {
+            alloc,
+            function,
+            primes: None,
+        })
+    }
+
+    /// By a list of all primes in place of OFF rows. With `samples` wanted places lie in ON rows
+    /// alone.
+    pub fn by_primes(
+        alloc: Global,
+        on: &Rows,
+        dc: &Rows,
+        primes: Rows,
+        samples: bool,
+    ) -> Result<Proposer, AllocError> {
+        let function = Function::without_off(alloc, on, dc, samples)?;
+        Ok(Proposer {
+            alloc,
+            function,
+            primes: Some(primes),
+        })
+    }
+
+    /// Wanted places, one for each signature cube of these ON rows that has a place of its own.
+    pub fn first_places(&self, on: &Rows) -> Result<Vec<Place>, AllocError> {
+        let mut search = Search::new(self.alloc, &self.function, self.primes.as_ref())?;
+        search.add_signatures_of_rows(on)?;
+        search.maximal_places()
+    }
+
+    /// Wanted places of these ON rows that the cover leaves out, at most one for each row and each
+    /// of its outputs.
+    pub fn places_left_out(&self, on: &Rows, cover: &Rows) -> Result<Vec<Place>, AllocError> {
+        let mut search = Search::new(self.alloc, &self.function, self.primes.as_ref())?;
+        search.add_signatures_left_out(on, cover)?;
+        search.maximal_places()
+    }
+}
