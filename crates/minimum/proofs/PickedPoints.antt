@@ -1,10 +1,11 @@
 -- Points that are picked, and the primes that contain them.
-use Rattle.std.proofs.Common.{◌≡◌, ◌≢◌, ℕ, suc, ◌<◌, Bool, true, false, not, ◌||◌, List, [], ◌∷◌, ◌++◌, length, map, get_or, set, All, refl, ap, ap₂, sym, subst, ◌∙◌, arith, inl, inr}
+use Rattle.std.proofs.Common.{◌≡◌, ◌≢◌, ℕ, suc, ◌<◌, Bool, true, false, cond, not, ◌||◌, List, [], ◌∷◌, ◌++◌, length, map, get_or, set, All, refl, ap, ap₂, sym, subst, ◌∙◌, arith, inl, inr}
 use Rattle.std.specs.Prelude.{filter}
-use Rattle.std.specs.List.{Contains}
+use Rattle.std.specs.List.{Contains, range_with_len}
 use Rattle.std.proofs.lemmas.Bool.{cases_eq, false≢true, and_parts, not-true, both_ways}
 use Rattle.std.proofs.lemmas.List.{length-set, get_or-set_same, get_or-set_other, get_or-map}
-use Rattle.std.proofs.lemmas.List.Elements.{Contains-append_left, Contains-append_right, Contains-append_cases}
+use Rattle.std.proofs.lemmas.List.FromFn.{get_or-map-range_with_len}
+use Rattle.std.proofs.lemmas.List.Elements.{All-filter, Contains-append_left, Contains-append_right, Contains-append_cases}
 use Rattle.cube.specs.Size.{Size}
 use Rattle.cube.specs.declared.symbol.Symbol.{Symbol}
 use Rattle.cube.specs.declared.symbol.Symbol.TheVariants.{Dash, Zero, One}
@@ -18,16 +19,19 @@ use Rattle.cube.proofs.SumLemmas.{Contains-complete_sum, IsPlace-from_holds, imp
 use Rattle.cover.specs.Cubes.{AreCubes, Cubes}
 use Rattle.cover.specs.Places.{places}
 use Rattle.cover.specs.Contained.{is_within}
+use Rattle.cover.specs.Marks.{cube_at}
 use Rattle.cover.specs.Reduced.{HasSameCubes}
+use Rattle.cover.proofs.ContainmentLemmas.{All-range}
 use Rattle.cover.proofs.Lists.{all_members, members_all, list_any_from, list_any_witness}
 use Rattle.cover.proofs.OverRegion.{within_from_fact}
 use Rattle.cover.proofs.Regions.{place_at}
 use Rattle.pla.specs.Sets.{SetLists}
 use Rattle.minimum.specs.Primes.{care_on, primes_of}
-use Rattle.minimum.specs.PrimeRows.{HasOneOutput}
+use Rattle.minimum.specs.PrimeRows.{contains_region, has_output, with_output, HasOneOutput}
 use Rattle.minimum.specs.declared.points.source.Source.{Source}
 use Rattle.minimum.specs.declared.points.picked_points.PickedPoints.{PickedPoints}
-use Rattle.minimum.specs.Points.{Function, function_of, function_by, source_size, source_primes, IsSource, StandsFor, IsFound, IsPointAt, IsWantedPoint, AreHolders, IsOnePoint}
+use Rattle.minimum.specs.Points.{Function, function_of, function_by, source_size, source_primes, IsSource, StandsFor, IsFound, IsPointAt, IsWantedPoint, AreHolders, holders, IsOnePoint}
+use Rattle.minimum.proofs.PrimeRows.{spans_holds}
 
 -- ---- one point
 
@@ -116,7 +120,7 @@ module _ (sets : SetLists) (source : Source) where
       let p = point_at sets.size point is_cube literals one in
       record { is_cube = is_cube; place = p.0; at = p.1; wanted = want p.0 p.1.held }
 
-  module _ (point : Cube) (wanted : IsWantedPoint function point) (row : List Cube) (row_is : row ≡ filter (is_within sets.size point) function.primes) (points columns : List Cube) (holders : AreHolders function points columns) where
+  module _ (point : Cube) (wanted : IsWantedPoint function point) (row : List Cube) (row_is : row ≡ filter (is_within sets.size point) function.primes) (points columns : List Cube) (was : AreHolders function points columns) where
     in_row : (c : Cube) → Contains function.primes c → IsSubset (holds point) (holds c) → Contains row c
     in_row c member sub = subst (λ l. Contains l c) (sym row_is) (Contains-filter (is_within sets.size point) function.primes c member (within_from_fact sets.size point c sub))
 
@@ -126,15 +130,15 @@ module _ (sets : SetLists) (source : Source) where
     pub more_holders : AreHolders function (points ++ point ∷ []) (columns ++ row)
     more_holders = record {
       wanted = λ x h. elim (Contains-append_cases points (point ∷ []) x h) [
-        | inl k ↦ holders.wanted x k
+        | inl k ↦ was.wanted x k
         | inr k ↦ subst (IsWantedPoint function) (Contains-one point x k) wanted
       ];
       all = λ x c h member sub. elim (Contains-append_cases points (point ∷ []) x h) [
-        | inl k ↦ Contains-append_left columns row c (holders.all x c k member sub)
+        | inl k ↦ Contains-append_left columns row c (was.all x c k member sub)
         | inr k ↦ Contains-append_right columns row c (in_row c member (λ p held. sub p (ap (λ d. holds d p) (sym (Contains-one point x k)) ∙ held)))
       ];
       primes = λ c h. elim (Contains-append_cases columns row c h) [
-        | inl k ↦ holders.primes c k
+        | inl k ↦ was.primes c k
         | inr k ↦ row_prime c k
       ];
     }
@@ -154,6 +158,29 @@ pub holder_sizes : (sets : SetLists) (points columns : List Cube) → AreHolders
 holder_sizes sets points columns h x there =
     sizes_for sets.size columns x
     (members_all (IsCube sets.size) columns (λ c k. ((Contains-complete_sum sets.size (λ p. places sets.on p || places sets.dc p) c).0 (h.primes c k)).is_cube)) (h.wanted x there).is_cube
+
+-- ---- the columns that contain a point, by output
+
+filter_twice : (p q : ℕ → Bool) (xs : List ℕ) → ((k : ℕ) → q k ≡ true → p k ≡ true) → filter q (filter p xs) ≡ filter q xs
+filter_twice p q [] h = refl
+filter_twice p q (x ∷ xs) h = go (p x) (q x) refl refl (filter_twice p q xs h)
+  where
+    go : (b c : Bool) → p x ≡ b → q x ≡ c → filter q (filter p xs) ≡ filter q xs → filter q (cond b (x ∷ filter p xs) (filter p xs)) ≡ cond c (x ∷ filter q xs) (filter q xs)
+    go true c e f rest = ap (λ d. cond d (x ∷ filter q (filter p xs)) (filter q (filter p xs))) f ∙ ap (λ ys. cond c (x ∷ ys) ys) rest
+    go false true e f rest = absurd (false≢true (sym e ∙ h x f))
+    go false false e f rest = rest
+
+pub with_output_at : (columns : List Cube) (j n : ℕ) (lists : List (List ℕ)) → j < n → lists ≡ map (with_output columns) (range_with_len 0 n) → get_or lists j [] ≡ with_output columns j
+with_output_at columns j n lists lt e = ap (λ l. get_or l j []) e ∙ get_or-map-range_with_len (with_output columns) 0 n j j [] lt (omega arith)
+
+pub with_output_below : (columns : List Cube) (j : ℕ) → All (λ k. k < length columns) (with_output columns j)
+with_output_below columns j = All-filter (has_output columns j) (λ k. k < length columns) (range_with_len 0 (length columns)) (All-range (length columns) (range_with_len 0 (length columns)) refl)
+
+pub holders_with_output : (columns : List Cube) (x : Cube) (j : ℕ) → get_or x.outputs j false ≡ true → filter (contains_region columns x) (with_output columns j) ≡ holders columns x
+holders_with_output columns x j on =
+    filter_twice (has_output columns j) (contains_region columns x) (range_with_len 0 (length columns))
+    (λ k h. (and_parts (matches (cube_at columns k).symbols (map pick x.symbols)) (get_or (cube_at columns k).outputs j false)
+    (spans_holds columns x k h (record { point = map pick x.symbols; output = j }) (place_at x j on))).1)
 
 -- the columns in another order
 pub holders_sorted : (f : Function) (points columns sorted : List Cube) → HasSameCubes columns sorted → AreHolders f points columns → AreHolders f points sorted

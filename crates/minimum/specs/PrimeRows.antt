@@ -1,6 +1,6 @@
 -- How the places of regions become rows of a table. Public clauses cite `contains_region` alone.
-use Rattle.std.specs.Prelude.{◌≡◌, ◌≢◌, ℕ, nat_lt, ◌<◌, Bool, true, false, not, List, [], length, slice_index_or, slice_get, Some, All}
-use Rattle.std.specs.List.{AllByRecursion, list_any}
+use Rattle.std.specs.Prelude.{◌≡◌, ◌≢◌, ℕ, nat_lt, ◌<◌, Bool, true, false, not, List, [], length, filter, slice_index_or, slice_get, Some, All}
+use Rattle.std.specs.List.{AllByRecursion, list_any, range_with_len}
 use Rattle.cube.specs.declared.symbol.Symbol.TheVariants.{Dash}
 use Rattle.cube.specs.Cube.{Cube, Place, holds, difference, SameSize, size_of}
 use Rattle.cube.specs.Sum.{is_subset}
@@ -21,6 +21,14 @@ intersects_region cubes region i = not (is_disjoint (size_of region) (holds (cub
 -- whether it holds the region
 abbrev pub contains_region : List Cube → Cube → ℕ → Bool
 contains_region cubes region i = is_subset (size_of region) (holds region) (holds (cube_at cubes i))
+
+-- whether the cube with the number has the output
+abbrev pub has_output : List Cube → ℕ → ℕ → Bool
+has_output cubes j i = slice_index_or (cube_at cubes i).outputs j false
+
+-- the numbers of the cubes that have the output
+abbrev pub with_output : List Cube → ℕ → List ℕ
+with_output cubes j = filter (has_output cubes j) (range_with_len 0 (length cubes))
 
 -- rising numbers of cubes, of all that have a place of the region and maybe others
 pub record AreCandidates (cubes : List Cube) (region : Cube) (numbers : List ℕ) : Type 0 where

@@ -1,13 +1,15 @@
 //! Cubes of a list by their numbers, and what they do to a region: have a place of it, hold it, or
 //! have a literal inside it.
 
-ghost use Rattle.std.specs.Prelude.{◌≡◌, ◌<◌, ℕ, true, IfOk, MatchOption, All, length, filter};
-ghost use Rattle.std.specs.List.{list_any};
+ghost use Rattle.std.specs.Prelude.{◌≡◌, ◌<◌, ℕ, true, IfOk, MatchOption, All, length, map, filter};
+ghost use Rattle.std.specs.List.{list_any, range_with_len};
 ghost use Rattle.cube.specs.Cube.{SameSize};
 ghost use Rattle.cover.specs.Marks.{cube_at};
-ghost use Rattle.covering.specs.Table.{has};
-ghost use Rattle.minimum.specs.PrimeRows.{intersects_region, contains_region, HasNoneInside, IsFree};
+ghost use Rattle.covering.specs.Table.{has, items_of};
+ghost use Rattle.minimum.specs.PrimeRows.{intersects_region, contains_region, has_output, with_output, HasNoneInside, IsFree};
 
+use cover::Cover;
+use covering::numbers;
 use cube::{Cube, Symbol};
 use std::alloc::{AllocError, Global};
 
@@ -67,6 +69,48 @@ pub(crate) fn numbers_containing(
         }
     }
     Ok(kept)
+}
+
+/// Whether the cube has the output.
+fn has_output(list: &Cover, j: usize, number: usize) -> bool
+    requires output { j < list.now.size.outputs }
+    requires below { number < length list.now.cubes }
+    ensures { result ≡ has_output list.now.cubes j number }
+{
+    list.as_slice()[number].output(j)
+}
+
+/// Those of the cubes that have the output.
+fn numbers_with_output(
+    alloc: Global,
+    list: &Cover,
+    j: usize,
+    numbers: &[usize],
+) -> Result<Vec<usize>, AllocError>
+    requires output { j < list.now.size.outputs }
+    requires below { All (λ i. i < length list.now.cubes) numbers.now }
+    ensures { IfOk result (λ v. v.items ≡ filter (has_output list.now.cubes j) numbers.now) }
+{
+    let mut kept = Vec::new(alloc);
+    for number in numbers {
+        if has_output(list, j, *number) {
+            kept.push(*number)?;
+        }
+    }
+    Ok(kept)
+}
+
+/// For each output the numbers of the cubes that have it.
+pub(crate) fn numbers_by_output(alloc: Global, list: &Cover) -> Result<Vec<Vec<usize>>, AllocError>
+    ensures { IfOk result (λ v. items_of v.items ≡ map (with_output list.now.cubes)
+        (range_with_len 0 list.now.size.outputs)) }
+{
+    let all = numbers(alloc, list.len())?;
+    let mut lists = Vec::new(alloc);
+    for j in 0..list.shape().outputs() {
+        lists.push(numbers_with_output(alloc, list, j, &all)?)?;
+    }
+    Ok(lists)
 }
 
 /// Whether one of the cubes holds the region.

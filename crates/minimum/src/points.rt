@@ -8,13 +8,13 @@
 //! Which points are picked is a hint, and each is looked at before it is taken.
 
 ghost use Rattle.std.specs.Prelude.{◌≡◌, ◌≢◌, true, IfOk, IfSome, OnOk, All, length, map};
-ghost use Rattle.std.specs.List.{Contains};
+ghost use Rattle.std.specs.List.{Contains, range_with_len};
 ghost use Rattle.cube.specs.declared.symbol.Symbol.TheVariants.{Dash};
 ghost use Rattle.cube.specs.Cube.{IsCube, SameSize, literals, Cube as Row, Place, holds};
 ghost use Rattle.cube.specs.Limits.{IsWithinLimits, format_limits};
-ghost use Rattle.covering.specs.Table.{AreRows};
+ghost use Rattle.covering.specs.Table.{AreRows, items_of};
 ghost use Rattle.minimum.specs.Primes.{care_on};
-ghost use Rattle.minimum.specs.PrimeRows.{HasOneOutput};
+ghost use Rattle.minimum.specs.PrimeRows.{HasOneOutput, with_output};
 ghost use Rattle.minimum.specs.Points.{IsSource, IsOnePoint, function_by, holders, IsFound, point_table as point_table_of};
 
 pub(crate) mod picked_points;
@@ -22,7 +22,7 @@ pub(crate) mod proposals;
 pub(crate) mod source;
 
 use crate::cubes::{are_apart, lies_in_one_of};
-use crate::numbered_cubes::numbers_containing;
+use crate::numbered_cubes::{numbers_by_output, numbers_containing};
 use crate::points::picked_points::{PickedPoints, add_point};
 use crate::points::source::{Source, primes_containing};
 use crate::prime_table::weights;
@@ -150,23 +150,48 @@ pub(crate) fn add_places(
     Ok(false)
 }
 
+/// The numbers of the columns that contain the point: of those that have its output, which are
+/// given by output.
+fn holders_of(
+    alloc: Global,
+    columns: &Cover,
+    point: &Cube,
+    by_output: &[Vec<usize>],
+) -> Result<Vec<usize>, AllocError>
+    requires sizes { All (λ d. SameSize d point.now) columns.now.cubes }
+    requires outputs { length point.now.outputs ≡ columns.now.size.outputs }
+    requires by_output { items_of by_output.now ≡ map (with_output columns.now.cubes)
+        (range_with_len 0 columns.now.size.outputs) }
+    ensures { IfOk result (λ v. v.items ≡ holders columns.now.cubes point.now) }
+{
+    for j in 0..columns.shape().outputs() {
+        if point.output(j) {
+            return numbers_containing(alloc, columns.as_slice(), point, &by_output[j]);
+        }
+    }
+    let all = numbers(alloc, columns.len())?;
+    numbers_containing(alloc, columns.as_slice(), point, &all)
+}
+
 /// The table with a row for each point and a column for each prime.
 pub(crate) fn point_table(
     alloc: Global,
     points: &[Cube],
     columns: &Cover,
 ) -> Result<Table, AllocError>
-    requires points { (x : Row) → Contains points.now x
+    requires sizes { (x : Row) → Contains points.now x
         → All (λ d. SameSize d x) columns.now.cubes }
+    requires outputs { (x : Row) → Contains points.now x
+        → length x.outputs ≡ columns.now.size.outputs }
     requires rows { AreRows (length (map literals columns.now.cubes))
         (map (holders columns.now.cubes) points.now) }
     requires limits { IsWithinLimits format_limits columns.now.size }
     ensures { IfOk result (λ t. t ≡ point_table_of points.now columns.now.cubes) }
 {
-    let all = numbers(alloc, columns.len())?;
+    let by_output = numbers_by_output(alloc, columns)?;
     let mut rows = Vec::new(alloc);
     for point in points {
-        rows.push(numbers_containing(alloc, columns.as_slice(), point, &all)?)?;
+        rows.push(holders_of(alloc, columns, point, &by_output)?)?;
     }
     let weights = weights(alloc, columns)?;
     match Table::new(alloc, rows, weights)? {

@@ -7,12 +7,17 @@ use Rattle.minimum.proofs.PickedPoints.{holders_sorted, holder_sizes}
 use Rattle.minimum.proofs.PointTables.{are_point_rows}
 use Rattle.minimum.proofs.exact_minimum.least_of_points.Goals as goal
 
-pub point_table-requires-clause-points : goal.point_table-requires-clause-points
-point_table-requires-clause-points g c x there =
+pub point_table-requires-clause-sizes : goal.point_table-requires-clause-sizes
+point_table-requires-clause-sizes g c x there =
     let found = c.args.found.now in
     let sorted = c.in_ok-columns.columns.cubes in
     let holders = holders_sorted (function_of g.sets) found.points.items found.columns.cubes sorted c.in_ok-columns.ensures.cubes c.requires.1.0 in
     holder_sizes g.sets found.points.items sorted holders x (subst (λ l. Contains l x) c.deref.ensures.value there)
+
+pub point_table-requires-clause-outputs : goal.point_table-requires-clause-outputs
+point_table-requires-clause-outputs g c x there =
+    let w = c.requires.1.0.wanted x (subst (λ l. Contains l x) c.deref.ensures.value there) in
+    w.is_cube.has_size.1 ∙ sym (ap (λ z. z.outputs) (c.in_ok-columns.ensures.size ∙ c.requires.1.1.0))
 
 pub point_table-requires-clause-rows : goal.point_table-requires-clause-rows
 point_table-requires-clause-rows g c =
