@@ -1,9 +1,9 @@
 -- Points that are picked, and the primes that contain them.
-use Rattle.std.proofs.Common.{◌≡◌, ◌≢◌, ℕ, suc, ◌<◌, Bool, true, false, cond, not, ◌||◌, List, [], ◌∷◌, ◌++◌, length, map, get_or, set, All, refl, ap, ap₂, sym, subst, ◌∙◌, arith, inl, inr}
+use Rattle.std.proofs.Common.{◌≡◌, ◌≢◌, ℕ, suc, ◌<◌, Bool, true, false, cond, not, ◌||◌, List, [], ◌∷◌, ◌++◌, length, map, get_or, All, refl, ap, ap₂, sym, subst, ◌∙◌, arith, inl, inr}
 use Rattle.std.specs.Prelude.{filter}
 use Rattle.std.specs.List.{Contains, range_with_len}
-use Rattle.std.proofs.lemmas.Bool.{cases_eq, false≢true, and_parts, not-true, both_ways}
-use Rattle.std.proofs.lemmas.List.{length-set, get_or-set_same, get_or-set_other, get_or-map}
+use Rattle.std.proofs.lemmas.Bool.{false≢true, and_parts, not-true, both_ways}
+use Rattle.std.proofs.lemmas.List.{get_or-map}
 use Rattle.std.proofs.lemmas.List.FromFn.{get_or-map-range_with_len}
 use Rattle.std.proofs.lemmas.List.Elements.{All-filter, Contains-append_left, Contains-append_right, Contains-append_cases}
 use Rattle.cube.specs.Size.{Size}
@@ -66,12 +66,6 @@ point_at size c cube point one =
     let held : holds c p ≡ true = place_at c j.0 j.1 in
     (p, record { held = held; alone = λ q h. one_place c q p point one h held })
 
-pub point_set : (symbols : List Symbol) (i : ℕ) (s : Symbol) → i < length symbols → (s ≡ Dash → ⊥) → All (λ t. t ≢ Dash) symbols → All (λ t. t ≢ Dash) (set symbols i s)
-point_set symbols i s lt literal all k d less = elim (cases_eq k i) [
-  | inl e ↦ (λ f. literal (sym (get_or-set_same symbols i s d lt) ∙ ap (λ n. get_or (set symbols i s) n d) (sym e) ∙ f))
-  | inr other ↦ (λ f. all k d (omega (arith, less, length-set symbols i s)) (sym (get_or-set_other symbols i k s d other) ∙ f))
-]
-
 -- ---- sizes, and wanted places
 
 pub sizes_for : (size : Size) (cubes : List Cube) (region : Cube) → AreCubes size cubes → IsCube size region → All (λ d. SameSize d region) cubes
@@ -103,13 +97,6 @@ all_held size cubes held flags are e all p inside =
 
 Contains-one : (x y : Cube) → Contains (x ∷ []) y → x ≡ y
 Contains-one x y h = elim (Contains-cases x [] y h) [ inl e ↦ e | inr none' ↦ absurd (Contains-nil y none') ]
-
-pub no_holders : (f : Function) → AreHolders f [] []
-no_holders f = record {
-  wanted = λ x h. absurd (Contains-nil x h);
-  all = λ x c h. absurd (Contains-nil x h);
-  primes = λ c h. absurd (Contains-nil c h);
-}
 
 module _ (sets : SetLists) (source : Source) where
   abbrev function : Function
