@@ -17,7 +17,7 @@ use Rattle.cover.specs.Cubes.{AreCubes}
 use Rattle.cover.specs.Places.{places}
 use Rattle.cover.specs.Marks.{is_symbol}
 use Rattle.cover.specs.Parts.{has_literal, live}
-use Rattle.cover.specs.Apart.{IsFree, IsOnSide, HasSomeLiteral, IsDivided, IsInParts}
+use Rattle.cover.specs.Apart.{IsOnSide, HasSomeLiteral, IsDivided, IsInParts}
 use Rattle.cover.proofs.Lists.{all_members, members_all, list_any_from, list_any_witness}
 use Rattle.cover.proofs.SumMeets.{places-append}
 use Rattle.cover.proofs.SumParts.{has_literal-append, live-at_most, live-below}
@@ -103,11 +103,6 @@ literal_shown size rows row o are first some h =
     let member : Contains rows row = (0, lt, get_or_from_slice_get rows 0 row row (sym first)) in
     let long = (all_members (IsCube size) rows are row member).has_size.0 in
     (r.0, omega (arith, long, r.1.within), list_any_from (λ (c : Cube). not (is_symbol Dash (get_or c.symbols r.0 Dash))) rows row member (literal_symbol (get_or row.symbols r.0 Dash) r.1.literal))
-
-pub not_free : (row : Cube) (o : Option ℕ) → is_some o ≡ true → IfSome o (λ i. IsNextLiteral row 0 i) → IsFree row → ⊥
-not_free row o some h free =
-    let r = some_of (λ i. IsNextLiteral row 0 i) o some h in
-    false≢true (sym (ap is_literal (free r.0)) ∙ r.1.literal)
 
 -- ---- the parts
 

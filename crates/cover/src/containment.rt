@@ -47,12 +47,7 @@ fn is_absorbed_by_some(list: &Cover, k: usize, outer: &[usize]) -> bool
     requires outer { All (λ j. j < length list.now.cubes) outer.now }
     ensures { result ≡ list_any (is_absorbed_by list.now.size list.now.cubes k) outer.now }
 {
-    for j in outer {
-        if is_absorbed_by_one(list, k, *j) {
-            return true;
-        }
-    }
-    false
+    outer.iter().any(|j| is_absorbed_by_one(list, k, *j))
 }
 
 // Marks the indices of `inner` whose cubes are absorbed by cubes of `outer`, by a look at each
@@ -93,13 +88,11 @@ fn indices_with_symbol(
         (λ kept. kept.items
         ≡ filter (λ k. is_symbol (symbol_at list.now.cubes i k) symbol) indices.now) }
 {
-    let mut kept = Vec::new(alloc);
-    for k in indices {
-        if is_same_symbol(symbol_of_cube(list, i, *k), symbol) {
-            kept.push(*k)?;
-        }
-    }
-    Ok(kept)
+    indices
+        .iter()
+        .copied()
+        .filter(|k| is_same_symbol(symbol_of_cube(list, i, *k), symbol))
+        .collect(alloc)
 }
 
 // Those of the indices whose cubes have a symbol at input `i` that contains this one.
@@ -116,13 +109,11 @@ fn indices_with_containing_symbol(
         (λ kept. kept.items
         ≡ filter (λ k. is_over (symbol_at list.now.cubes i k) symbol) indices.now) }
 {
-    let mut kept = Vec::new(alloc);
-    for k in indices {
-        if symbol_contains(symbol_of_cube(list, i, *k), symbol) {
-            kept.push(*k)?;
-        }
-    }
-    Ok(kept)
+    indices
+        .iter()
+        .copied()
+        .filter(|k| symbol_contains(symbol_of_cube(list, i, *k), symbol))
+        .collect(alloc)
 }
 
 // Marks the indices of `inner` whose cubes are absorbed by cubes of `outer`, by splits at the

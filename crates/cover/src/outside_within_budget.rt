@@ -140,12 +140,7 @@ fn split_hint_of_region(shape: Shape, region: &Cube, rows: &[Cube]) -> Option<us
 fn any_contains(region: &Cube, rows: &[Cube]) -> bool
     requires { All (λ c. SameSize c region.now) rows.now }
 {
-    for row in rows {
-        if row.contains(region) {
-            return true;
-        }
-    }
-    false
+    rows.iter().any(|row| row.contains(region))
 }
 
 // An input to split the region at, where it has no literal. `None` if at most one row is left or a

@@ -11,11 +11,7 @@ use std::alloc::{AllocError, Global};
 pub(crate) fn references(alloc: Global, cubes: &[Cube]) -> Result<Vec<&Cube>, AllocError>
     ensures { IfOk result (λ refs. behind refs.items ≡ cubes.now) }
 {
-    let mut refs = Vec::with_capacity(alloc, cubes.len())?;
-    for cube in cubes {
-        refs.push(cube)?;
-    }
-    Ok(refs)
+    cubes.iter().collect(alloc)
 }
 
 // References to the cubes of a cover.

@@ -19,6 +19,7 @@ pub(crate) mod learned;
 pub(crate) mod nearest_first;
 pub(crate) mod nearest_rows;
 pub(crate) mod open_literals;
+pub(crate) mod passes;
 pub(crate) mod step_hint;
 
 ghost use Rattle.std.specs.Prelude.{◌≡◌, ◌≢◌, ◌↔◌, ℕ, ◌≤◌, ◌<◌, false, IsTrue, IfOk, IfErr, IfSome, IfNone, OnOk, ◌++◌, ◌∷◌, [], length, slice_get, slice_index_or, Some, Contains, All};
@@ -517,7 +518,7 @@ pub(crate) fn holds_by_splits_or_search(
     ensures held { IfOk result
         (λ held. IsTrue held ↔ IsSubset (holds region.now) (places (behind rows.now))) }
 {
-    learned.raise_row_budget(rows.len());
+    learned.raise_row_budget(rows);
     let allowance = Allowance {
         alloc,
         limited: true,

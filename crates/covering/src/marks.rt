@@ -112,13 +112,10 @@ pub(crate) fn marked_columns(
 ) -> Result<Vec<usize>, AllocError>
     ensures { IfOk result (λ v. v.items ≡ filter (marked keep.now) xs.now) }
 {
-    let mut kept = Vec::with_capacity(alloc, xs.len())?;
-    for x in xs {
-        if is_marked(keep, *x) {
-            kept.push(*x)?;
-        }
-    }
-    Ok(kept)
+    xs.iter()
+        .copied()
+        .filter(|x| is_marked(keep, *x))
+        .collect(alloc)
 }
 
 /// Keeps the marked columns.

@@ -1,8 +1,6 @@
 -- The cubes that have a place of a region, and those that hold it.
-use Rattle.std.proofs.Common.{◌≡◌, ℕ, ◌+◌, ◌<◌, ◌≤◌, Bool, true, false, not, ◌||◌, cond, List, [], ◌∷◌, ◌++◌, length, take, get_or, slice_get, Some, eqb, All, inl, inr, refl, ap, sym, subst, ◌∙◌, arith, ◌↔◌, IsTrue}
-use Rattle.std.specs.List.{list_any, filter}
-use Rattle.std.proofs.lemmas.List.{take_more, append-nil, get_or_default}
-use Rattle.std.proofs.lemmas.List.Elements.{filter-append}
+use Rattle.std.proofs.Common.{◌≡◌, ℕ, ◌+◌, ◌<◌, ◌≤◌, Bool, true, false, not, List, [], ◌∷◌, length, take, get_or, slice_get, Some, eqb, All, inl, inr, refl, ap, sym, subst, ◌∙◌, arith, ◌↔◌, IsTrue}
+use Rattle.std.proofs.lemmas.List.{take_more}
 use Rattle.std.proofs.lemmas.List.Folds.{list_any-append}
 use Rattle.std.proofs.lemmas.Bool.{cases_lt, cases_eq, or_cases, eqb-true, false≢true}
 use Rattle.std.proofs.lemmas.Option.{get_or_from_slice_get}
@@ -14,7 +12,6 @@ use Rattle.cover.specs.Marks.{cube_at}
 use Rattle.cover.proofs.ContainmentLemmas.{cube_at-is}
 use Rattle.cover.proofs.Everywhere.{same_test, is_subset-iff}
 use Rattle.cover.proofs.Meeting.{is_disjoint-from_answer}
-use Rattle.cover.proofs.Lists.{list_any_from}
 use Rattle.covering.specs.Table.{has}
 use Rattle.minimum.specs.PrimeRows.{intersects_region, contains_region, HasNoneInside}
 
@@ -29,32 +26,6 @@ module _ (cubes : List Cube) (region : Cube) (sizes : All (λ d. SameSize d regi
   contains_region-from_answer r h =
       same_test r (is_subset (size_of region) (holds region) (holds d)) h (is_subset-iff (size_of region) region (holds d) (refl, refl))
       ∙ ap (λ c. is_subset (size_of region) (holds region) (holds c)) (cube_at-is cubes i d lt at)
-
-module _ (test : ℕ → Bool) (xs : List ℕ) (i : ℕ) (lt : i < length xs) where
-  taken_next : take (i + 1) xs ≡ take i xs ++ get_or xs i 0 ∷ []
-  taken_next = take_more xs i 0 lt
-
-  pub filter-kept : (kept next : List ℕ) (r : Bool) → kept ≡ filter test (take i xs) → r ≡ test (get_or xs i 0) → r ≡ true → next ≡ kept ++ get_or xs i 0 ∷ [] → next ≡ filter test (take (i + 1) xs)
-  filter-kept kept next r so same on is =
-      is ∙ ap (λ l. l ++ get_or xs i 0 ∷ []) so
-      ∙ ap (λ b. filter test (take i xs) ++ cond b (get_or xs i 0 ∷ []) []) (sym on ∙ same)
-      ∙ sym (filter-append test (take i xs) (get_or xs i 0 ∷ []))
-      ∙ ap (filter test) (sym taken_next)
-
-  pub filter-skipped : (kept : List ℕ) (r : Bool) → kept ≡ filter test (take i xs) → r ≡ test (get_or xs i 0) → r ≡ false → kept ≡ filter test (take (i + 1) xs)
-  filter-skipped kept r so same off =
-      so ∙ sym (append-nil (filter test (take i xs)))
-      ∙ ap (λ b. filter test (take i xs) ++ cond b (get_or xs i 0 ∷ []) []) (sym off ∙ same)
-      ∙ sym (filter-append test (take i xs) (get_or xs i 0 ∷ []))
-      ∙ ap (filter test) (sym taken_next)
-
-  pub any-next : (r : Bool) → list_any test (take i xs) ≡ false → r ≡ test (get_or xs i 0) → r ≡ false → list_any test (take (i + 1) xs) ≡ false
-  any-next r before same off =
-      ap (list_any test) taken_next ∙ list_any-append test (take i xs) (get_or xs i 0 ∷ [])
-      ∙ ap (λ b. b || (test (get_or xs i 0) || false)) before ∙ ap (λ b. b || false) (sym same ∙ off)
-
-  pub any-here : (r : Bool) → r ≡ test (get_or xs i 0) → r ≡ true → true ≡ list_any test xs
-  any-here r same on = sym (list_any_from test xs (get_or xs i 0) (i, lt, get_or_default xs i (get_or xs i 0) 0 lt) (sym same ∙ on))
 
 -- the next literal of the cube is at no dash of the region
 pub none_inside_next : (cube region : Cube) (from i : ℕ) → ((k : ℕ) → k < from → get_or region.symbols k Dash ≡ Dash → get_or cube.symbols k Dash ≡ Dash)

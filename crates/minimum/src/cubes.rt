@@ -47,12 +47,7 @@ pub(crate) fn lies_in_one_of(region: &Cube, cubes: &[Cube]) -> bool
     requires { All (λ d. SameSize d region.now) cubes.now }
     ensures { result ≡ true → LiesInOneOf cubes.now region.now }
 {
-    for cube in cubes {
-        if cube.contains(region) {
-            return true;
-        }
-    }
-    false
+    cubes.iter().any(|cube| cube.contains(region))
 }
 
 /// The cube of all places with this output.

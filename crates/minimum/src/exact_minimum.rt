@@ -7,9 +7,9 @@
 //! its budget, the next one follows.
 //!
 //! Points are picked in rounds: the least cover of the table so far is made, and points are added
-//! for what it leaves out of the ON cubes. The last table has few more rows than the cover has
-//! primes, where to make sure of a cover beforehand took a point for each maximal signature. A round
-//! costs what [`least_cover`] does, and a look at the ON cubes that are left out.
+//! for what it leaves out of the ON cubes. The last table was seen to have one to seven times as
+//! many rows as the cover has primes. A round costs what [`least_cover`] does, and a look at the ON
+//! cubes that are left out.
 
 ghost use Rattle.std.specs.Prelude.{◌≡◌, ◌<◌, ◌||◌, [], IfOk, IfSome, not};
 ghost use Rattle.cube.specs.Cube.{IsPlace, IsSubset, Place};

@@ -123,8 +123,8 @@ fn add_places_of_few_primes(
 }
 
 // Places with more primes than this are put off while others are added, then those with more than
-// the next number: a place with many primes makes the table wide, and is mostly covered by a prime
-// of other places in the end.
+// the next number: a place with many primes makes the table wide, and a cover of the others may hold
+// it already.
 const MOST_PRIMES: [usize; 3] = [500, 4_000, 30_000];
 
 /// Adds some of the proposed places, those with few primes, where they are wanted. Whether there is

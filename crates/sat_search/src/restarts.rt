@@ -6,9 +6,11 @@ use std::alloc::AllocError;
 // The number of conflicts between two restarts is this one times a member of Luby's sequence.
 const RESTART_UNIT: u64 = 100;
 
-// After this many conflicts half of the learned clauses is dropped for the first time; later the
-// time between is longer by a quarter of the clauses that are left.
-const FIRST_DROP: u64 = 2000;
+// Half of the learned clauses is dropped for the first time after half as many conflicts as there
+// are nogoods, but not before the first number and not after the second: among few nogoods many
+// learned clauses take most of the time. Later the time between is longer by a quarter of the
+// clauses that are left.
+const FIRST_DROP: (u64, u64) = (100, 2000);
 
 /// How many conflicts there were, and at which numbers of conflicts the next restart and the next
 /// dropping of clauses are due.
@@ -26,7 +28,7 @@ impl Pace {
             conflicts: 0,
             restarts: 0,
             next_restart: RESTART_UNIT,
-            next_drop: FIRST_DROP,
+            next_drop: 0,
         }
     }
 
@@ -47,9 +49,12 @@ impl Pace {
         self.next_restart = self.conflicts.saturating_add(more);
     }
 
-    // Sets when clauses are dropped next, if this many are left now.
-    fn schedule_drop(&mut self, left: usize) {
-        let more = FIRST_DROP.saturating_add(left as u64 / 4);
+    /// Sets when clauses are dropped next, if this many were given and this many learned ones are
+    /// left now.
+    pub(crate) fn schedule_drop(&mut self, given: u32, left: usize) {
+        let (least, most) = FIRST_DROP;
+        let first = u64::from(given / 2).max(least).min(most);
+        let more = first.saturating_add(left as u64 / 4);
         self.next_drop = self.conflicts.saturating_add(more);
     }
 }
@@ -88,7 +93,8 @@ impl Search {
     fn drop_clauses(&mut self) -> Result<(), AllocError> {
         self.clauses.drop_half(self.alloc)?;
         self.watches.remove_dropped(&self.clauses);
-        self.pace.schedule_drop(self.clauses.watched_count());
+        self.pace
+            .schedule_drop(self.clauses.given, self.clauses.watched_count());
         Ok(())
     }
 }

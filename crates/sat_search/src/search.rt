@@ -115,6 +115,7 @@ impl Search {
 
     /// Prepares the first question, once all nogoods are there.
     pub fn begin(&mut self) -> Result<(), AllocError> {
+        self.pace.schedule_drop(self.clauses.given, 0);
         for variable in 0..saturating_u32(self.phases.len()) {
             self.order.insert(variable)?;
             self.choose_first_phase(variable);

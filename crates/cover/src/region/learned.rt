@@ -16,6 +16,7 @@ use crate::compare::pairwise::is_disjoint_from_all;
 use crate::cubes::cube_of_output;
 use crate::list::clone_referents;
 use crate::region::open_literals::first_open_literal;
+use crate::region::passes::passes_before_search;
 use crate::symbols::opposite;
 use cube::{Cube, Shape, Symbol};
 use sat_search::{Answer, Limits, Refutation, Search};
@@ -185,15 +186,6 @@ pub(crate) struct Learned {
     is_asked: bool,
 }
 
-// How many passes over `rows` rows the splits of the first question may make: about four times the
-// root of their number. Each later question allows a pass more; then a search is asked. Easy
-// questions about many rows, such as decision trees and symmetric functions, make at most half as
-// many passes, and a search has to read all rows before it begins.
-fn passes_before_search(rows: usize) -> u64 {
-    let bits = usize::BITS.saturating_sub(rows.leading_zeros());
-    4 << (bits / 2)
-}
-
 // A search looks at no more than this many watches for one question, so that it ends.
 const STEPS: u64 = 1 << 36;
 
@@ -214,8 +206,9 @@ impl Learned {
         }
     }
 
-    /// Lets splits look at more rows, for one more question about `rows` rows.
-    pub(crate) fn raise_row_budget(&mut self, rows: usize)
+    /// Lets splits look at more rows, for one more question about the rows: for the first question
+    /// some passes over them, and a pass for each later one.
+    pub(crate) fn raise_row_budget(&mut self, rows: &[&Cube])
         ensures { self.new.known ≡ self.old.known }
     {
         let passes = if self.is_asked {
@@ -223,7 +216,7 @@ impl Learned {
         } else {
             passes_before_search(rows)
         };
-        let more = passes.saturating_mul(rows as u64);
+        let more = passes.saturating_mul(rows.len() as u64);
         self.row_budget = self.row_budget.saturating_add(more);
         self.is_asked = true;
     }

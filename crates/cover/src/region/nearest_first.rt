@@ -41,12 +41,9 @@ fn literal_words(
 
 // Whether a row has one of the literals that [`literal_words`] answered.
 fn shares_literal(row: &Cube, words: &[(usize, u64)]) -> bool {
-    for (w, bits) in words {
-        if row.literal_bits(*w) & *bits != 0 {
-            return true;
-        }
-    }
-    false
+    words
+        .iter()
+        .any(|(w, bits)| row.literal_bits(*w) & *bits != 0)
 }
 
 // The rows that share a literal with the region. (Nothing depends on it.)

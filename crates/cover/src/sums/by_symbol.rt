@@ -59,10 +59,5 @@ pub(crate) fn has_symbol(rows: &[Cube], i: usize, symbol: Symbol) -> bool
             return true;
         }
     }
-    for row in rows {
-        if has_symbol_at(row, i, symbol) {
-            return true;
-        }
-    }
-    false
+    rows.iter().any(|row| has_symbol_at(row, i, symbol))
 }
