@@ -27,7 +27,8 @@ ALLOCATING = re.compile(r"\.(to_vec|sort|sort_by|sort_by_key|collect)\(")
 CLAUSE = re.compile(r"\b(?:requires|ensures)\b\*?[ \n]*(?:[a-z_0-9]+[ \n]*)?(?=\{)")
 GHOST_USE = re.compile(r"\bghost\s+use\b[^;]*;")
 GHOST_ITEM = re.compile(r"\bghost\s+[A-Za-z_]+\s*[:=]\s*(?=\{)")
-MODEL = re.compile(r"\bimpl(?:<[^{]*?>)?\s+Model\s+for\b[^{]*(?=\{)")
+# A model, or a `drop` that only takes its value apart: Rust does that by itself.
+LEFT_OUT = re.compile(r"\bimpl(?:<[^{]*?>)?\s+(?:Model|Drop)\s+for\b[^{]*(?=\{)")
 TACTIC = re.compile(r"#!?\[(?:tactic|cycle)\b(?:[^\[\]]|\[[^\]]*\])*\]")
 
 
@@ -66,7 +67,7 @@ def without_ghosts(text):
         if text[at] in "regi#":
             if found := GHOST_USE.match(text, at) or TACTIC.match(text, at):
                 end = found.end()
-            elif found := CLAUSE.match(text, at) or MODEL.match(text, at):
+            elif found := CLAUSE.match(text, at) or LEFT_OUT.match(text, at):
                 end = closing(text, found.end(), quiet)
             elif found := GHOST_ITEM.match(text, at):
                 end = closing(text, found.end(), quiet)

@@ -9,7 +9,6 @@ use std::marker::Model;
 
 /// The description that a file gives: the numbers of inputs and outputs, names if it has them, the
 /// type of its rows, and the three lists as the rows gave them, in their order and with repeats.
-#[derive(Drop)]
 pub struct Pla {
     shape: Shape,
     input_names: Option<Vec<Vec<u8>>>,
@@ -18,6 +17,21 @@ pub struct Pla {
     on: Cover,
     dc: Cover,
     off: Cover,
+}
+
+// Written out, so that where a description ends a proof has one call, and no case for each of its names.
+impl Drop for Pla {
+    fn drop(self) {
+        let Pla {
+            shape: _,
+            input_names: _,
+            output_names: _,
+            file_type: _,
+            on: _,
+            dc: _,
+            off: _,
+        } = self;
+    }
 }
 
 impl Model for Pla {

@@ -124,13 +124,25 @@ fn run_end(shape: Shape, place: usize) -> usize
 
 /// The rows read so far: the symbols since the last whole row (the pending ones), and the cubes of
 /// the whole rows.
-#[derive(Drop)]
 pub struct Rows {
     shape: Shape,
     pending: Vec<u8>,
     on: Cover,
     dc: Cover,
     off: Cover,
+}
+
+// Written out, so that where rows end a proof has one call.
+impl Drop for Rows {
+    fn drop(self) {
+        let Rows {
+            shape: _,
+            pending: _,
+            on: _,
+            dc: _,
+            off: _,
+        } = self;
+    }
 }
 
 impl Model for Rows {
@@ -375,14 +387,21 @@ impl Rows {
         } }
     {
         let file_type = head.file_type_or_fd();
+        let Rows {
+            shape,
+            pending: _,
+            on,
+            dc,
+            off,
+        } = self;
         Pla::new(
-            self.shape,
+            shape,
             head.input_names,
             head.output_names,
             file_type,
-            self.on,
-            self.dc,
-            self.off,
+            on,
+            dc,
+            off,
         )
     }
 }

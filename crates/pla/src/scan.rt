@@ -121,7 +121,6 @@ fn take_line<W: Output>(
 }
 
 /// Reading of a text that comes in pieces: what is kept between them.
-#[derive(Drop)]
 pub struct Scan {
     /// Whether comments are passed on.
     echo: Echo,
@@ -129,6 +128,17 @@ pub struct Scan {
     parser: Parser,
     /// The bytes after the last line feed.
     rest: Vec<u8>,
+}
+
+// Written out, so that where a scan ends a proof has one call.
+impl Drop for Scan {
+    fn drop(self) {
+        let Scan {
+            echo: _,
+            parser: _,
+            rest: _,
+        } = self;
+    }
 }
 
 impl Model for Scan {
@@ -289,8 +299,13 @@ impl Scan {
         ensures { (lines : List (List ℕ)) → StandsForLines format_limits self.parsed lines →
             Describes result (end_fault format_limits lines) (description_of format_limits lines) }
     {
-        let line = self.parser.lines();
-        match self.parser.finish() {
+        let Scan {
+            echo: _,
+            parser,
+            rest: _,
+        } = self;
+        let line = parser.lines();
+        match parser.finish() {
             Ok(pla) => Ok(pla),
             Err(kind) => Err(ReadFault { line, kind }),
         }

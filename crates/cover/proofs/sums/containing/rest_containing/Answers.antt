@@ -6,7 +6,7 @@ use Rattle.cube.specs.Sharp.{minus, rest_row, rest_rows}
 use Rattle.cube.proofs.SharpLemmas.{length-minus}
 use Rattle.cover.specs.Contained.{is_within}
 use Rattle.cover.proofs.sums.containing.rest_containing.Goals as goal
-use Rattle.cover.proofs.sums.containing.rest_containing.Goals.{then-has_outputs_beyond+in_ok-rest+then-contains+in_ok-push, then-has_outputs_beyond+in_ok-rest+else-contains+in-Heap-1, then-has_outputs_beyond+in_ok-rest+else-contains+in-Inline-1, else-has_outputs_beyond}
+use Rattle.cover.proofs.sums.containing.rest_containing.Goals.{then-has_outputs_beyond+in_ok-rest+then-contains+in_ok-push, then-has_outputs_beyond+in_ok-rest+else-contains, else-has_outputs_beyond}
 
 module _ (test : Cube → Bool) (cube row : Cube) where
   abbrev some : Bool
@@ -39,11 +39,7 @@ returns c =
           ap (λ v. v.items) w.rests-is ∙ w.in_ok-push.ensures.items ∙ ap (λ l. l ++ w.in_ok-rest.rest ∷ []) start ∙ ap (λ d. d ∷ []) w.in_ok-rest.ensures.value
           ∙ rests test cube row true true (c.has_outputs_beyond.ensures.0 w.if-has_outputs_beyond.true)
           (λ _. ap test (sym w.in_ok-rest.ensures.value) ∙ sym w.contains.ensures ∙ w.if-contains.true)
-      | then-has_outputs_beyond+in_ok-rest+else-contains+in-Heap-1 w ↦
-          ap (λ v. v.items) w.rests-is ∙ start
-          ∙ rests test cube row true false (c.has_outputs_beyond.ensures.0 w.if-has_outputs_beyond.true)
-          (λ _. ap test (sym w.in_ok-rest.ensures.value) ∙ sym w.contains.ensures ∙ w.if-contains.false)
-      | then-has_outputs_beyond+in_ok-rest+else-contains+in-Inline-1 w ↦
+      | then-has_outputs_beyond+in_ok-rest+else-contains w ↦
           ap (λ v. v.items) w.rests-is ∙ start
           ∙ rests test cube row true false (c.has_outputs_beyond.ensures.0 w.if-has_outputs_beyond.true)
           (λ _. ap test (sym w.in_ok-rest.ensures.value) ∙ sym w.contains.ensures ∙ w.if-contains.false)

@@ -6,7 +6,7 @@ use Rattle.cube.specs.Cube.{Cube, Place, IsCube, SameSize, holds}
 use Rattle.minimum.specs.Neighbours.{AreReached}
 use Rattle.minimum.proofs.Reached.{reached_none, reached_left, reached_already, reached_stacked, more_output}
 use Rattle.minimum.proofs.essential_by_neighbours.reached_outputs.outputs_at.Goals as goal
-use Rattle.minimum.proofs.essential_by_neighbours.reached_outputs.outputs_at.Goals.{in-Some+then-has_outputs_beyond, in-Some+else-has_outputs_beyond+in-Heap-1, in-Some+else-has_outputs_beyond+in-Inline-1, in_default}
+use Rattle.minimum.proofs.essential_by_neighbours.reached_outputs.outputs_at.Goals.{in-Some+then-has_outputs_beyond, in-Some+else-has_outputs_beyond, in_default}
 
 pub loop-row-init : goal.loop-row-init
 loop-row-init c = reached_none c.args.region c.args.rows.now.cubes
@@ -38,11 +38,7 @@ loop-row-preserved c =
           let size = long both w.in-Some.is in
           subst (AreReached region _) (sym w.here-is) (reached_stacked region here rows k row lt at c.loop-row.invariant both size
           (more_output both here size (w.has_outputs_beyond.ensures.0 w.if-has_outputs_beyond.true)) (stacked both w.in-Some.is)))
-      | in-Some+else-has_outputs_beyond+in-Heap-1 w ↦ (
-          let both = w.in-Some.both in
-          subst (AreReached region _) (sym w.here-is) (reached_already region here rows k row lt at c.loop-row.invariant both (long both w.in-Some.is) (stacked both w.in-Some.is)
-          (λ more. false≢true (sym w.if-has_outputs_beyond.false ∙ w.has_outputs_beyond.ensures.1 more))))
-      | in-Some+else-has_outputs_beyond+in-Inline-1 w ↦ (
+      | in-Some+else-has_outputs_beyond w ↦ (
           let both = w.in-Some.both in
           subst (AreReached region _) (sym w.here-is) (reached_already region here rows k row lt at c.loop-row.invariant both (long both w.in-Some.is) (stacked both w.in-Some.is)
           (λ more. false≢true (sym w.if-has_outputs_beyond.false ∙ w.has_outputs_beyond.ensures.1 more))))

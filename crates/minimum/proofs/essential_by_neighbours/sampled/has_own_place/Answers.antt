@@ -11,7 +11,7 @@ use Rattle.minimum.specs.Neighbours.{on_side, IsAlone}
 use Rattle.minimum.specs.Blocking.{AreBlocking, HasCommon}
 use Rattle.minimum.proofs.Blocking.{more_places, lists_fit, own_from_common, common_from_own}
 use Rattle.minimum.proofs.essential_by_neighbours.sampled.has_own_place.Goals as goal
-use Rattle.minimum.proofs.essential_by_neighbours.sampled.has_own_place.Goals.{in-Some+in_ok-has_common+else-branch+in-Heap-1, in-Some+in_ok-has_common+else-branch+in-Inline-1, in_default}
+use Rattle.minimum.proofs.essential_by_neighbours.sampled.has_own_place.Goals.{in-Some+in_ok-has_common+else-branch, in_default}
 
 pub has_common-requires-clause-output : goal.has_common-requires-clause-output
 has_common-requires-clause-output c =
@@ -60,9 +60,7 @@ loop-cube-preserved c p in_c h alone =
     elim (or_cases _ _ (sym (more_places cubes c.loop-cube.cube-index cube c.loop-cube-test.true c.cube-item.is p) ∙ h)) [
       | inl was ↦ c.loop-cube.invariant p in_c was alone
       | inr now ↦ elim c.match-branch-3.branch [
-        | in-Some+in_ok-has_common+else-branch+in-Heap-1 w ↦ there off.size prime cube w.in-Some.region lists w.deref.result.now fact found c.in_ok-lists.ensures w.deref.ensures.value c.in_ok-region.ensures.places w.in-Some.is
-            (w.in_ok-has_common.ensures.none w.if-branch.false) p in_c now alone
-        | in-Some+in_ok-has_common+else-branch+in-Inline-1 w ↦ there off.size prime cube w.in-Some.region lists w.deref.result.now fact found c.in_ok-lists.ensures w.deref.ensures.value c.in_ok-region.ensures.places w.in-Some.is
+        | in-Some+in_ok-has_common+else-branch w ↦ there off.size prime cube w.in-Some.region lists w.deref.result.now fact found c.in_ok-lists.ensures w.deref.ensures.value c.in_ok-region.ensures.places w.in-Some.is
             (w.in_ok-has_common.ensures.none w.if-branch.false) p in_c now alone
         | in_default w ↦ apart_from_none prime cube found c.in_ok-region.ensures.none w.in_default.is p in_c now
       ]

@@ -5,7 +5,7 @@ use Rattle.covering.specs.Table.{items_of}
 use Rattle.minimum.specs.PrimeRows.{AddsRows}
 use Rattle.minimum.proofs.RowsByCube.{among, split_part, parted_some, parted_skip, parted_all}
 use Rattle.minimum.proofs.prime_table.rows.Lists.add_rows_by_cubes.Goals as goal
-use Rattle.minimum.proofs.prime_table.rows.Lists.add_rows_by_cubes.Goals.{in-Some+in_ok-add_rows+in-Heap-1, in-Some+in_ok-add_rows+in-Inline-1, in_default}
+use Rattle.minimum.proofs.prime_table.rows.Lists.add_rows_by_cubes.Goals.{in-Some+in_ok-add_rows, in_default}
 
 pub add_rows-requires : goal.add_rows-requires
 add_rows-requires c =
@@ -33,10 +33,7 @@ loop-number-preserved c =
     let before = subst (λ ns. AddsRows lists.primes.now lists.on.now lists.dc.now (among lists.on.now c.args.region.now ns k) old mid) (sym is) c.loop-number.invariant in
     subst (λ ns. AddsRows lists.primes.now lists.on.now lists.dc.now (among lists.on.now c.args.region.now ns (k + 1)) old new) is (
     elim c.match-branch-2.branch [
-      | in-Some+in_ok-add_rows+in-Heap-1 w ↦ parted_some lists.primes.now lists.on.now lists.dc.now c.args.region.now numbers k c.loop-number-test.true cube below at
-          w.in-Some.part old mid new (rw w.in-Some.is at c.in_ok-part.ensures.places) before
-          (subst (λ r. AddsRows lists.primes.now lists.on.now lists.dc.now (holds w.in-Some.part) mid (items_of r.items)) (sym w.rows-is) w.in_ok-add_rows.ensures)
-      | in-Some+in_ok-add_rows+in-Inline-1 w ↦ parted_some lists.primes.now lists.on.now lists.dc.now c.args.region.now numbers k c.loop-number-test.true cube below at
+      | in-Some+in_ok-add_rows w ↦ parted_some lists.primes.now lists.on.now lists.dc.now c.args.region.now numbers k c.loop-number-test.true cube below at
           w.in-Some.part old mid new (rw w.in-Some.is at c.in_ok-part.ensures.places) before
           (subst (λ r. AddsRows lists.primes.now lists.on.now lists.dc.now (holds w.in-Some.part) mid (items_of r.items)) (sym w.rows-is) w.in_ok-add_rows.ensures)
       | in_default w ↦ (
