@@ -51,7 +51,6 @@ pub(crate) enum Decision {
 /// grow, which is no more than it has filled, while clauses are dropped three numbers for each, and
 /// while it walks two for each literal of the nogoods, four for each nogood and six for each
 /// variable.
-#[derive(Drop)]
 pub struct Search {
     pub(crate) alloc: Global,
     pub(crate) clauses: Clauses,
@@ -74,6 +73,28 @@ pub struct Search {
     pub(crate) walks: Walks,
     // How many watches were looked at, and clauses in walks.
     pub(crate) steps: u64,
+}
+
+// Written out, so that where a search ends a proof has one call, and not one for each of its lists.
+impl Drop for Search {
+    fn drop(self) {
+        let Search {
+            alloc: _,
+            clauses: _,
+            watches: _,
+            assignment: _,
+            order: _,
+            phases: _,
+            units: _,
+            unit_count: _,
+            names: _,
+            analysis: _,
+            contradiction: _,
+            pace: _,
+            walks: _,
+            steps: _,
+        } = self;
+    }
 }
 
 impl Search {

@@ -49,7 +49,6 @@ fn next_random(seed: u64) -> u64 {
 }
 
 /// A point, and what the given clauses are there.
-#[derive(Drop)]
 struct Walk {
     // By literal: the clauses that have it.
     by_literal: Lists,
@@ -70,6 +69,24 @@ struct Walk {
     seed: u64,
     // How many clauses were looked at.
     steps: u64,
+}
+
+// As for a search.
+impl Drop for Walk {
+    fn drop(self) {
+        let Walk {
+            by_literal: _,
+            negated: _,
+            fixed: _,
+            true_counts: _,
+            xors: _,
+            breaks: _,
+            false_clauses: _,
+            positions: _,
+            seed: _,
+            steps: _,
+        } = self;
+    }
 }
 
 // Adds to the number at an index, where there is one; the largest number takes one away.
