@@ -65,23 +65,24 @@ impl LocalSearch {
         }
     }
 
-    /// Starts with no column: each row is uncovered, and weighs one.
-    fn start_empty(&mut self, alloc: Global, table: &Compact) -> Result<(), AllocError> {
-        let columns = table.costs.len();
-        let rows = table.rows.len();
+    /// Starts with so many uncovered rows, each of which weighs one.
+    fn start_rows(&mut self, alloc: Global, rows: usize) -> Result<(), AllocError> {
         self.weights = vec![in alloc; 1; rows]?;
         self.held = vec![in alloc; 0; rows]?;
         self.holders = vec![in alloc; 0; rows]?;
         self.open = (0..rows).collect(alloc)?;
         self.places = (0..rows).collect(alloc)?;
+        Ok(())
+    }
+
+    /// Starts with no chosen column.
+    fn start_columns(&mut self, alloc: Global, table: &Compact) -> Result<(), AllocError> {
+        let columns = table.costs.len();
         self.inside = vec![in alloc; false; columns]?;
         self.slots = vec![in alloc; 0; columns]?;
         self.fresh = vec![in alloc; true; columns]?;
         self.stamps = vec![in alloc; 0; columns]?;
-        for column in 0..columns {
-            let rows = table.column_rows.list(column).len();
-            self.scores.push(i64::try_from(rows).unwrap_or(0))?;
-        }
+        self.scores = first_scores(alloc, table)?;
         Ok(())
     }
 
@@ -150,20 +151,24 @@ impl LocalSearch {
     fn add(&mut self, table: &Compact, column: usize, now: usize) -> Result<(), AllocError> {
         self.choose(table, column, now)?;
         for row in table.column_rows.list(column) {
-            let row = *row as usize;
-            let held = number(&self.held, row).wrapping_add(1);
-            let weight = at(&self.weights, row);
-            if held == 1 {
-                self.close(row);
-                self.raise_others(table.rows.list(row), column, 0i64.wrapping_sub(weight));
-            } else if held == 2 {
-                self.raise_holder(row, weight);
-            }
-            set(&mut self.held, row, held);
-            let holders = number(&self.holders, row).wrapping_add(column);
-            set(&mut self.holders, row, holders);
+            self.hold(table, *row as usize, column);
         }
         Ok(())
+    }
+
+    /// Counts the column, which is added, among the chosen ones of its row.
+    fn hold(&mut self, table: &Compact, row: usize, column: usize) {
+        let held = number(&self.held, row).wrapping_add(1);
+        let weight = at(&self.weights, row);
+        if held == 1 {
+            self.close(row);
+            self.raise_others(table.rows.list(row), column, 0i64.wrapping_sub(weight));
+        } else if held == 2 {
+            self.raise_holder(row, weight);
+        }
+        set(&mut self.held, row, held);
+        let holders = number(&self.holders, row).wrapping_add(column);
+        set(&mut self.holders, row, holders);
     }
 
     /// Drops the column from the list.
@@ -171,19 +176,24 @@ impl LocalSearch {
         self.discard(table, column, now);
         mark(&mut self.fresh, column, false);
         for row in table.column_rows.list(column) {
-            let row = *row as usize;
-            let held = number(&self.held, row).wrapping_sub(1);
-            let weight = at(&self.weights, row);
-            set(&mut self.held, row, held);
-            let holders = number(&self.holders, row).wrapping_sub(column);
-            set(&mut self.holders, row, holders);
-            if held == 0 {
-                set(&mut self.places, row, self.open.len());
-                self.open.push(row)?;
-                self.raise_others(table.rows.list(row), column, weight);
-            } else if held == 1 {
-                self.raise_holder(row, 0i64.wrapping_sub(weight));
-            }
+            self.release(table, *row as usize, column)?;
+        }
+        Ok(())
+    }
+
+    /// Counts the column, which is dropped, no longer among the chosen ones of its row.
+    fn release(&mut self, table: &Compact, row: usize, column: usize) -> Result<(), AllocError> {
+        let held = number(&self.held, row).wrapping_sub(1);
+        let weight = at(&self.weights, row);
+        set(&mut self.held, row, held);
+        let holders = number(&self.holders, row).wrapping_sub(column);
+        set(&mut self.holders, row, holders);
+        if held == 0 {
+            set(&mut self.places, row, self.open.len());
+            self.open.push(row)?;
+            self.raise_others(table.rows.list(row), column, weight);
+        } else if held == 1 {
+            self.raise_holder(row, 0i64.wrapping_sub(weight));
         }
         Ok(())
     }
@@ -208,13 +218,15 @@ impl LocalSearch {
     fn column_to_drop(&self, table: &Compact, last: usize) -> usize {
         let mut best = usize::MAX;
         let mut top = i64::MIN;
-        for (column, loss) in self.chosen.iter().zip(self.losses.iter()) {
-            if *loss >= top
-                && *column != last
-                && (*loss > top || self.is_better_to_drop(table, *column, best))
+        for slot in 0..self.chosen.len().min(self.losses.len()) {
+            let column = number(&self.chosen, slot);
+            let loss = at(&self.losses, slot);
+            if loss >= top
+                && column != last
+                && (loss > top || self.is_better_to_drop(table, column, best))
             {
-                best = *column;
-                top = *loss;
+                best = column;
+                top = loss;
             }
         }
         best
@@ -341,14 +353,14 @@ impl LocalSearch {
         Ok(())
     }
 
-    /// The best list of a search of `steps` steps; it stops once a list reaches the goal.
-    fn best_list(
+    /// Searches for `steps` steps for the best list; it stops once a list reaches the goal.
+    fn go_on(
         &mut self,
         alloc: Global,
         table: &Compact,
         goal: Goal,
         steps: usize,
-    ) -> Result<Vec<usize>, AllocError> {
+    ) -> Result<(), AllocError> {
         self.cover_greedily(table)?;
         self.keep(alloc)?;
         let mut least = (i64::MAX, i64::MAX);
@@ -375,8 +387,34 @@ impl LocalSearch {
             seed = next_random(seed);
             last = self.swap(table, goal, last, now, seed)?;
         }
-        self.best.to_vec(alloc)
+        Ok(())
     }
+
+    /// Starts a search of `steps` steps near the hint, and goes on to its end.
+    fn run(
+        &mut self,
+        alloc: Global,
+        table: &Compact,
+        live: &[usize],
+        hint: &[bool],
+        goal: Goal,
+        steps: usize,
+    ) -> Result<(), AllocError> {
+        self.start_rows(alloc, table.rows.len())?;
+        self.start_columns(alloc, table)?;
+        self.begin_with(table, live, hint)?;
+        self.go_on(alloc, table, goal, steps)
+    }
+}
+
+/// What it would gain to add each column first: how many rows it has.
+fn first_scores(alloc: Global, table: &Compact) -> Result<Vec<i64>, AllocError> {
+    let mut scores = Vec::with_capacity(alloc, table.costs.len())?;
+    for column in 0..table.costs.len() {
+        let rows = table.column_rows.list(column).len();
+        scores.push(i64::try_from(rows).unwrap_or(0))?;
+    }
+    Ok(scores)
 }
 
 /// The best list of columns that a search of `steps` steps finds, as indices of `live`; it stops
@@ -391,8 +429,8 @@ pub fn local_search(
     goal: Goal,
     steps: usize,
 ) -> Result<Vec<usize>, AllocError> {
+    let hint = marked(alloc, hint, columns)?;
     let mut search = LocalSearch::new(alloc);
-    search.start_empty(alloc, table)?;
-    search.begin_with(table, live, &marked(alloc, hint, columns)?)?;
-    search.best_list(alloc, table, goal, steps)
+    search.run(alloc, table, live, &hint, goal, steps)?;
+    Ok(search.best)
 }
