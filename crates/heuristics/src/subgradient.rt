@@ -210,22 +210,23 @@ fn cost_multiplier(table: &Compact) -> i64 {
         .min(4294967295)
 }
 
-/// Lowers the weights of rows with several overloaded columns, the least weight first.
+/// Lowers the weights of rows with several overloaded columns, the least weight first; `order` is
+/// room for these rows.
 fn lower(
-    alloc: Global,
     table: &Compact,
     slopes: &[i64],
     slacks: &mut Vec<i64>,
+    order: &mut Vec<(i64, usize)>,
     weights: &mut Vec<i64>,
 ) -> Result<(), AllocError> {
-    let mut order: Vec<(i64, usize)> = Vec::new(alloc);
+    order.clear();
     for (i, weight) in weights.iter().enumerate() {
         if *weight > 0 && at(slopes, i) < 0 {
             order.push((*weight, i))?;
         }
     }
     order.sort_unstable();
-    lower_each(table, &order, slacks, weights);
+    lower_each(table, order, slacks, weights);
     Ok(())
 }
 
@@ -247,22 +248,22 @@ fn lower_each(
 }
 
 /// Raises the weights of rows by the slack of their columns, the row first that weighed most before
-/// rows were lowered.
+/// rows were lowered; `order` is room for these rows.
 fn raise(
-    alloc: Global,
     table: &Compact,
     before: &[i64],
     slacks: &mut Vec<i64>,
+    order: &mut Vec<(i64, usize)>,
     weights: &mut Vec<i64>,
 ) -> Result<(), AllocError> {
-    let mut order: Vec<(i64, usize)> = Vec::new(alloc);
+    order.clear();
     for (i, weight) in before.iter().enumerate() {
         if least_slack(table.rows.list(i), slacks) > 0 {
             order.push((*weight, i))?;
         }
     }
     order.sort_unstable();
-    raise_each(table, &order, slacks, weights);
+    raise_each(table, order, slacks, weights);
     Ok(())
 }
 
@@ -294,8 +295,9 @@ fn polished(
     before: &[i64],
 ) -> Result<Vec<i64>, AllocError> {
     let mut weights = before.to_vec(alloc)?;
-    lower(alloc, table, slopes, slacks, &mut weights)?;
-    raise(alloc, table, before, slacks, &mut weights)?;
+    let mut order: Vec<(i64, usize)> = Vec::new(alloc);
+    lower(table, slopes, slacks, &mut order, &mut weights)?;
+    raise(table, before, slacks, &mut order, &mut weights)?;
     Ok(weights)
 }
 

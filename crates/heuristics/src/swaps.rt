@@ -218,15 +218,13 @@ impl LocalSearch {
     fn column_to_drop(&self, table: &Compact, last: usize) -> usize {
         let mut best = usize::MAX;
         let mut top = i64::MIN;
-        for slot in 0..self.chosen.len().min(self.losses.len()) {
-            let column = number(&self.chosen, slot);
-            let loss = at(&self.losses, slot);
-            if loss >= top
-                && column != last
-                && (loss > top || self.is_better_to_drop(table, column, best))
-            {
-                best = column;
-                top = loss;
+        for (slot, loss) in self.losses.iter().enumerate() {
+            if *loss >= top {
+                let column = number(&self.chosen, slot);
+                if column != last && (*loss > top || self.is_better_to_drop(table, column, best)) {
+                    best = column;
+                    top = *loss;
+                }
             }
         }
         best
@@ -370,27 +368,41 @@ impl LocalSearch {
         for step in 1..steps {
             let now = begun.saturating_add(step);
             if self.open.is_empty() {
-                if (self.size(), self.cost) < least {
-                    least = (self.size(), self.cost);
-                    self.keep(alloc)?;
-                }
-                if self.reaches(goal) {
+                if self.keep_and_drop(alloc, table, goal, now, &mut least)? {
                     break;
                 }
-                let column = self.column_to_drop(table, usize::MAX);
-                if column == usize::MAX {
-                    break;
-                }
-                self.remove(table, column, now)?;
-                continue;
+            } else {
+                seed = next_random(seed);
+                last = self.swap(table, goal, last, now, seed)?;
             }
-            seed = next_random(seed);
-            last = self.swap(table, goal, last, now, seed)?;
         }
         Ok(())
     }
 
-    /// Starts a search of `steps` steps near the hint, and goes on to its end.
+    /// Keeps the list, which covers all rows, if it is less than the least so far, and drops a
+    /// column; answers whether the search is over.
+    fn keep_and_drop(
+        &mut self,
+        alloc: Global,
+        table: &Compact,
+        goal: Goal,
+        now: usize,
+        least: &mut (i64, i64),
+    ) -> Result<bool, AllocError> {
+        let here = (self.size(), self.cost);
+        if here < *least {
+            *least = here;
+            self.keep(alloc)?;
+        }
+        let column = self.column_to_drop(table, usize::MAX);
+        if self.reaches(goal) || column == usize::MAX {
+            return Ok(true);
+        }
+        self.remove(table, column, now)?;
+        Ok(false)
+    }
+
+    /// The best list of a search of `steps` steps, which starts near the hint.
     fn run(
         &mut self,
         alloc: Global,
@@ -399,11 +411,12 @@ impl LocalSearch {
         hint: &[bool],
         goal: Goal,
         steps: usize,
-    ) -> Result<(), AllocError> {
+    ) -> Result<Vec<usize>, AllocError> {
         self.start_rows(alloc, table.rows.len())?;
         self.start_columns(alloc, table)?;
         self.begin_with(table, live, hint)?;
-        self.go_on(alloc, table, goal, steps)
+        self.go_on(alloc, table, goal, steps)?;
+        self.best.to_vec(alloc)
     }
 }
 
@@ -431,6 +444,5 @@ pub fn local_search(
 ) -> Result<Vec<usize>, AllocError> {
     let hint = marked(alloc, hint, columns)?;
     let mut search = LocalSearch::new(alloc);
-    search.run(alloc, table, live, &hint, goal, steps)?;
-    Ok(search.best)
+    search.run(alloc, table, live, &hint, goal, steps)
 }

@@ -259,11 +259,14 @@ impl WarmStart {
         }
     }
 
-    /// Makes the steps, until they reach the goal or gain nothing.
+    /// Makes the steps, until they reach the goal or gain nothing, and keeps how likely each live
+    /// column is; columns are below `columns`.
     fn climb(
-        &self,
+        &mut self,
         alloc: Global,
         table: &Compact,
+        live: &[usize],
+        columns: usize,
         goal: Goal,
         ascent: &mut Ascent,
     ) -> Result<(), AllocError> {
@@ -273,7 +276,7 @@ impl WarmStart {
                 break;
             }
         }
-        Ok(())
+        self.keep_likely(alloc, live, ascent.likely(), columns)
     }
 
     /// Keeps how likely each live column is; columns are below `columns`.
@@ -311,8 +314,7 @@ impl WarmStart {
         let numbers = self.row_ids(alloc, rows, live, columns)?;
         let mut ascent = self.ascent(alloc, table, &numbers)?;
         if !rows.is_empty() {
-            self.climb(alloc, table, goal, &mut ascent)?;
-            self.keep_likely(alloc, live, ascent.likely(), columns)?;
+            self.climb(alloc, table, live, columns, goal, &mut ascent)?;
             self.remember(alloc, rows, &numbers, &ascent)?;
         }
         ascent.multipliers(alloc)
