@@ -359,16 +359,36 @@ fn note_likely(likely: &mut Vec<i64>, overloaded: &[bool], fresh: bool) {
     }
 }
 
+impl Point {
+    /// No weights yet, with a value below all others.
+    fn new(alloc: Global, column: i64) -> Point {
+        Point {
+            value: i64::MIN,
+            weights: Vec::new(alloc),
+            column,
+        }
+    }
+}
+
 impl Marks {
-    /// No column is overloaded.
-    fn new(alloc: Global, rows: usize, columns: usize) -> Result<Marks, AllocError> {
-        Ok(Marks {
-            overloaded: vec![in alloc; false; columns]?,
-            changed: vec![in alloc; 0; columns]?,
+    /// No column is overloaded yet, and there is none.
+    fn new(alloc: Global) -> Marks {
+        Marks {
+            overloaded: Vec::new(alloc),
+            changed: Vec::new(alloc),
             number: 0,
-            slopes: vec![in alloc; SLOPE; rows]?,
-            likely: vec![in alloc; 0; columns]?,
-        })
+            slopes: Vec::new(alloc),
+            likely: Vec::new(alloc),
+        }
+    }
+
+    /// Makes room for so many rows and columns, none of which is overloaded.
+    fn make_room(&mut self, rows: usize, columns: usize) -> Result<(), AllocError> {
+        self.overloaded.resize(columns, false)?;
+        self.changed.resize(columns, 0)?;
+        self.slopes.resize(rows, SLOPE)?;
+        self.likely.resize(columns, 0)?;
+        Ok(())
     }
 
     /// Counts the changes of marks for each row of the columns, which are the first in `changed`.
@@ -452,27 +472,32 @@ impl Ascent {
         let mut ascent = Ascent {
             column,
             cost: if uneven { cost_multiplier(table) } else { 0 },
-            direction: vec![in alloc; 0; weights.len()]?,
+            direction: Vec::new(alloc),
             column_direction: 0,
-            scaled_costs: vec![in alloc; 0; table.costs.len()]?,
-            partial: vec![in alloc; 0; table.column_rows.size().saturating_add(1)]?,
-            marks: Marks::new(alloc, weights.len(), table.costs.len())?,
-            top: Point {
-                value: i64::MIN,
-                weights: weights.to_vec(alloc)?,
-                column,
-            },
-            best: Point {
-                value: i64::MIN,
-                weights: Vec::new(alloc),
-                column,
-            },
+            scaled_costs: Vec::new(alloc),
+            partial: Vec::new(alloc),
+            marks: Marks::new(alloc),
+            top: Point::new(alloc, column),
+            best: Point::new(alloc, column),
             pace,
             idle: 0,
             weights,
         };
+        ascent.make_room(table)?;
         ascent.set_scaled_costs(&table.costs, column);
         Ok(ascent)
+    }
+
+    /// Makes room for numbers of rows and of columns.
+    fn make_room(&mut self, table: &Compact) -> Result<(), AllocError> {
+        let rows = self.weights.len();
+        let columns = table.costs.len();
+        self.direction.resize(rows, 0)?;
+        self.top.weights.resize(rows, 0)?;
+        self.scaled_costs.resize(columns, 0)?;
+        self.partial
+            .resize(table.column_rows.size().saturating_add(1), 0)?;
+        self.marks.make_room(rows, columns)
     }
 
     /// Sets the scaled costs, for this multiplier of a column.

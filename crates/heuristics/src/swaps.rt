@@ -67,21 +67,21 @@ impl LocalSearch {
 
     /// Starts with so many uncovered rows, each of which weighs one.
     fn start_rows(&mut self, alloc: Global, rows: usize) -> Result<(), AllocError> {
-        self.weights = vec![in alloc; 1; rows]?;
-        self.held = vec![in alloc; 0; rows]?;
-        self.holders = vec![in alloc; 0; rows]?;
+        self.weights.resize(rows, 1)?;
+        self.held.resize(rows, 0)?;
+        self.holders.resize(rows, 0)?;
         self.open = (0..rows).collect(alloc)?;
-        self.places = (0..rows).collect(alloc)?;
+        self.places.extend_from_slice(&self.open)?;
         Ok(())
     }
 
     /// Starts with no chosen column.
     fn start_columns(&mut self, alloc: Global, table: &Compact) -> Result<(), AllocError> {
         let columns = table.costs.len();
-        self.inside = vec![in alloc; false; columns]?;
-        self.slots = vec![in alloc; 0; columns]?;
-        self.fresh = vec![in alloc; true; columns]?;
-        self.stamps = vec![in alloc; 0; columns]?;
+        self.inside.resize(columns, false)?;
+        self.slots.resize(columns, 0)?;
+        self.fresh.resize(columns, true)?;
+        self.stamps.resize(columns, 0)?;
         self.scores = first_scores(alloc, table)?;
         Ok(())
     }
