@@ -4,7 +4,7 @@
 //! structure (Tarjan, Efficiency of a good but not linear set union algorithm, 1975), and whole
 //! components are put on one side until it has half of the rows.
 
-use crate::numbers::{number, set};
+use crate::numbers::{mark, number, set};
 use std::alloc::{AllocError, Global};
 
 /// The column that stands for the component of this one. The path to it is halved.
@@ -43,8 +43,8 @@ fn sizes(
 ) -> Result<Vec<usize>, AllocError> {
     let mut sizes: Vec<usize> = vec![in alloc; 0; leaders.len()]?;
     for row in rows {
-        if let Some(first) = row.first() {
-            let component = leader(leaders, *first);
+        if !row.is_empty() {
+            let component = leader(leaders, row[0]);
             let more = number(&sizes, component).saturating_add(1);
             set(&mut sizes, component, more);
         }
@@ -76,10 +76,11 @@ fn columns_before(
     sizes: &[usize],
     end: usize,
 ) -> Result<Vec<bool>, AllocError> {
-    let mut side: Vec<bool> = Vec::with_capacity(alloc, sizes.len())?;
+    let mut side: Vec<bool> = vec![in alloc; false; sizes.len()]?;
     for column in 0..sizes.len() {
         let component = leader(leaders, column);
-        side.push(component < end && number(sizes, component) > 0)?;
+        let chosen = component < end && number(sizes, component) > 0;
+        mark(&mut side, column, chosen);
     }
     Ok(side)
 }

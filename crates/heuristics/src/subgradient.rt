@@ -308,11 +308,12 @@ fn slacks_of(
     scaled_costs: &[i64],
     partial: &[i64],
 ) -> Result<Vec<i64>, AllocError> {
-    let mut slacks = Vec::with_capacity(alloc, scaled_costs.len())?;
+    let mut slacks = vec![in alloc; 0; scaled_costs.len()]?;
     let mut before: i64 = 0;
     for (column, scaled_cost) in scaled_costs.iter().enumerate() {
         let now = at(partial, column_rows.end_of(column) as usize);
-        slacks.push(scaled_cost.wrapping_sub(now.wrapping_sub(before)))?;
+        let load = now.wrapping_sub(before);
+        put(&mut slacks, column, scaled_cost.wrapping_sub(load));
         before = now;
     }
     Ok(slacks)

@@ -66,11 +66,12 @@ impl LocalSearch {
     }
 
     /// Starts with so many uncovered rows, each of which weighs one.
-    fn start_rows(&mut self, alloc: Global, rows: usize) -> Result<(), AllocError> {
+    fn start_rows(&mut self, rows: usize) -> Result<(), AllocError> {
         self.weights.resize(rows, 1)?;
         self.held.resize(rows, 0)?;
         self.holders.resize(rows, 0)?;
-        self.open = (0..rows).collect(alloc)?;
+        self.open.resize(rows, 0)?;
+        number_each(&mut self.open);
         self.places.extend_from_slice(&self.open)?;
         Ok(())
     }
@@ -412,7 +413,7 @@ impl LocalSearch {
         goal: Goal,
         steps: usize,
     ) -> Result<Vec<usize>, AllocError> {
-        self.start_rows(alloc, table.rows.len())?;
+        self.start_rows(table.rows.len())?;
         self.start_columns(alloc, table)?;
         self.begin_with(table, live, hint)?;
         self.go_on(alloc, table, goal, steps)?;
@@ -420,12 +421,19 @@ impl LocalSearch {
     }
 }
 
+/// Sets each number to its index.
+fn number_each(numbers: &mut Vec<usize>) {
+    for index in 0..numbers.len() {
+        numbers[index] = index;
+    }
+}
+
 /// What it would gain to add each column first: how many rows it has.
 fn first_scores(alloc: Global, table: &Compact) -> Result<Vec<i64>, AllocError> {
-    let mut scores = Vec::with_capacity(alloc, table.costs.len())?;
+    let mut scores = vec![in alloc; 0; table.costs.len()]?;
     for column in 0..table.costs.len() {
         let rows = table.column_rows.list(column).len();
-        scores.push(i64::try_from(rows).unwrap_or(0))?;
+        put(&mut scores, column, i64::try_from(rows).unwrap_or(0));
     }
     Ok(scores)
 }

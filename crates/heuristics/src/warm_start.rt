@@ -11,7 +11,7 @@ use crate::compact::Compact;
 use crate::effort::Effort;
 use crate::goal::Goal;
 use crate::lists::Lists;
-use crate::numbers::{SEED, at, flag, marked, next_random, put};
+use crate::numbers::{SEED, at, flag, marked, next_random, number, put, set};
 use crate::subgradient::{
     Ascent, Course, FEW_STEPS, Multipliers, NEAR_PACE, NEAR_REACH, PACE, REACH, STEPS, UNIT,
 };
@@ -59,12 +59,13 @@ fn most_rows(table: &Compact, row: usize) -> i64 {
 /// Even weights, perturbed at random.
 fn first_weights(alloc: Global, table: &Compact) -> Result<Vec<i64>, AllocError> {
     let mut seed = SEED;
-    let mut weights = Vec::with_capacity(alloc, table.rows.len())?;
+    let mut weights = vec![in alloc; 0; table.rows.len()]?;
     for row in 0..table.rows.len() {
         let most = most_rows(table, row);
         seed = next_random(seed);
         let part = 512i64.wrapping_add(i64::try_from(seed >> 54).unwrap_or(0));
-        weights.push((UNIT.wrapping_div(most.max(1)) >> 10).wrapping_mul(part))?;
+        let even = UNIT.wrapping_div(most.max(1)) >> 10;
+        put(&mut weights, row, even.wrapping_mul(part));
     }
     Ok(weights)
 }
@@ -196,33 +197,29 @@ impl WarmStart {
         rows: &[Vec<usize>],
         live: &[bool],
     ) -> Result<Vec<usize>, AllocError> {
-        let mut numbers = Vec::with_capacity(alloc, rows.len())?;
+        let mut numbers = vec![in alloc; 0; rows.len()]?;
         let mut from: usize = 0;
         let mut next = self.weights.len();
-        for row in rows {
+        for (i, row) in rows.iter().enumerate() {
             let index = matching_row(&self.rows, row, live, from);
-            let mut number = next;
             if index < self.numbers.len() {
-                number = self.numbers[index];
+                set(&mut numbers, i, number(&self.numbers, index));
                 from = index.saturating_add(1);
             } else {
+                set(&mut numbers, i, next);
                 next = next.saturating_add(1);
             }
-            numbers.push(number)?;
         }
         Ok(numbers)
     }
 
     /// The weights of the rows with these numbers.
     fn weights_of(&self, alloc: Global, numbers: &[usize]) -> Result<Vec<i64>, AllocError> {
-        let mut weights = Vec::with_capacity(alloc, numbers.len())?;
-        for number in numbers {
-            let known = *number < self.weights.len();
-            weights.push(if known {
-                at(&self.weights, *number)
-            } else {
-                UNIT / 2
-            })?;
+        let mut weights = vec![in alloc; UNIT / 2; numbers.len()]?;
+        for (i, number) in numbers.iter().enumerate() {
+            if *number < self.weights.len() {
+                put(&mut weights, i, at(&self.weights, *number));
+            }
         }
         Ok(weights)
     }
