@@ -263,18 +263,19 @@ fn raise(
         }
     }
     order.sort_unstable();
+    order.reverse();
     raise_each(table, order, slacks, weights);
     Ok(())
 }
 
-/// Raises the weights of these rows by the slack of their columns, the last row first.
+/// Raises the weights of these rows by the slack of their columns, in this order.
 fn raise_each(
     table: &Compact,
     order: &[(i64, usize)],
     slacks: &mut Vec<i64>,
     weights: &mut Vec<i64>,
 ) {
-    for (_, i) in order.iter().rev() {
+    for (_, i) in order {
         let row = table.rows.list(*i);
         let more = least_slack(row, slacks);
         if more > 0 {
@@ -704,9 +705,11 @@ impl Ascent {
 
     /// The best multipliers, as the caller checks them.
     pub(crate) fn multipliers(&self, alloc: Global) -> Result<Multipliers, AllocError> {
-        let mut weights = Vec::with_capacity(alloc, self.best.weights.len())?;
-        for weight in &self.best.weights {
-            weights.push(u64::try_from((*weight).max(0)).unwrap_or(0))?;
+        let mut weights: Vec<u64> = vec![in alloc; 0; self.best.weights.len()]?;
+        for (row, weight) in self.best.weights.iter().enumerate() {
+            if row < weights.len() {
+                weights[row] = u64::try_from((*weight).max(0)).unwrap_or(0);
+            }
         }
         Ok(Multipliers {
             weights,
