@@ -705,11 +705,9 @@ impl Ascent {
 
     /// The best multipliers, as the caller checks them.
     pub(crate) fn multipliers(&self, alloc: Global) -> Result<Multipliers, AllocError> {
-        let mut weights: Vec<u64> = vec![in alloc; 0; self.best.weights.len()]?;
-        for (row, weight) in self.best.weights.iter().enumerate() {
-            if row < weights.len() {
-                weights[row] = u64::try_from((*weight).max(0)).unwrap_or(0);
-            }
+        let mut weights = Vec::with_capacity(alloc, self.best.weights.len())?;
+        for weight in &self.best.weights {
+            weights.push(u64::try_from((*weight).max(0)).unwrap_or(0))?;
         }
         Ok(Multipliers {
             weights,

@@ -8,7 +8,9 @@
 
 use crate::compact::Compact;
 use crate::goal::Goal;
-use crate::numbers::{SEED, add_to_each, at, flag, mark, marked, next_random, number, put, set};
+use crate::numbers::{
+    SEED, add_at, add_to, add_to_each, at, flag, mark, marked, next_random, number, put, set,
+};
 use std::alloc::{AllocError, Global};
 
 /// The present list of columns, and the best one so far.
@@ -92,8 +94,7 @@ impl LocalSearch {
         for other in row {
             let other = *other as usize;
             if other != column {
-                let score = at(&self.scores, other).wrapping_add(more);
-                put(&mut self.scores, other, score);
+                add_at(&mut self.scores, other, more);
                 mark(&mut self.fresh, other, true);
             }
         }
@@ -102,8 +103,7 @@ impl LocalSearch {
     /// Adds to what it would gain to drop the only chosen column of the row.
     fn raise_holder(&mut self, row: usize, more: i64) {
         let slot = number(&self.slots, number(&self.holders, row));
-        let loss = at(&self.losses, slot).wrapping_add(more);
-        put(&mut self.losses, slot, loss);
+        add_at(&mut self.losses, slot, more);
     }
 
     /// Takes the row, which is covered now, from the uncovered ones.
@@ -159,7 +159,7 @@ impl LocalSearch {
 
     /// Counts the column, which is added, among the chosen ones of its row.
     fn hold(&mut self, table: &Compact, row: usize, column: usize) {
-        let held = number(&self.held, row).wrapping_add(1);
+        let held = add_to(&mut self.held, row, 1);
         let weight = at(&self.weights, row);
         if held == 1 {
             self.close(row);
@@ -167,9 +167,7 @@ impl LocalSearch {
         } else if held == 2 {
             self.raise_holder(row, weight);
         }
-        set(&mut self.held, row, held);
-        let holders = number(&self.holders, row).wrapping_add(column);
-        set(&mut self.holders, row, holders);
+        add_to(&mut self.holders, row, column);
     }
 
     /// Drops the column from the list.
@@ -184,11 +182,9 @@ impl LocalSearch {
 
     /// Counts the column, which is dropped, no longer among the chosen ones of its row.
     fn release(&mut self, table: &Compact, row: usize, column: usize) -> Result<(), AllocError> {
-        let held = number(&self.held, row).wrapping_sub(1);
+        let held = add_to(&mut self.held, row, 0usize.wrapping_sub(1));
+        add_to(&mut self.holders, row, 0usize.wrapping_sub(column));
         let weight = at(&self.weights, row);
-        set(&mut self.held, row, held);
-        let holders = number(&self.holders, row).wrapping_sub(column);
-        set(&mut self.holders, row, holders);
         if held == 0 {
             set(&mut self.places, row, self.open.len());
             self.open.push(row)?;
@@ -269,8 +265,7 @@ impl LocalSearch {
     fn raise_uncovered_weights(&mut self, table: &Compact) {
         for i in 0..self.open.len() {
             let row = number(&self.open, i);
-            let weight = at(&self.weights, row).wrapping_add(1);
-            put(&mut self.weights, row, weight);
+            add_at(&mut self.weights, row, 1);
             add_to_each(&mut self.scores, table.rows.list(row), 1);
         }
     }
