@@ -373,7 +373,7 @@ impl Point {
 }
 
 impl Marks {
-    /// No column is overloaded yet, and there is none.
+    /// No rows and no columns yet.
     fn new(alloc: Global) -> Marks {
         Marks {
             overloaded: Vec::new(alloc),
