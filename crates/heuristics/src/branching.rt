@@ -84,7 +84,12 @@ pub fn likeliest(rows: &[Vec<usize>], likely: &[i64], counts: &[i64]) -> usize {
 
 /// Whether the list has the column.
 fn has(columns: &[usize], column: usize) -> bool {
-    columns.iter().any(|other| *other == column)
+    for other in columns {
+        if *other == column {
+            return true;
+        }
+    }
+    false
 }
 
 /// Marks the next columns to ask for: the first `size` live ones from `column` on, up to the first
@@ -103,7 +108,7 @@ pub fn batch(
     for other in live {
         if column <= *other {
             if number >= size || has(witness, *other) {
-                return Ok(marks);
+                break;
             }
             number = number.saturating_add(1);
             mark(&mut marks, *other, true);

@@ -49,12 +49,28 @@ fn size_of(rows: &[Vec<usize>]) -> usize {
     size
 }
 
-/// The rows, renumbered.
-fn renumber_rows(alloc: Global, rows: &[Vec<usize>], numbers: &[u32]) -> Result<Lists, AllocError> {
-    let mut renumbered = Lists::with_capacity(alloc, rows.len(), size_of(rows))?;
+/// Adds the rows, renumbered.
+fn push_rows(
+    renumbered: &mut Lists,
+    rows: &[Vec<usize>],
+    numbers: &[u32],
+) -> Result<(), AllocError> {
     for row in rows {
-        push_renumbered(&mut renumbered, row, numbers)?;
+        push_renumbered(renumbered, row, numbers)?;
     }
+    Ok(())
+}
+
+/// The rows, with their live columns renumbered.
+fn renumber_rows(
+    alloc: Global,
+    rows: &[Vec<usize>],
+    live: &[usize],
+    columns: usize,
+) -> Result<Lists, AllocError> {
+    let numbers = new_numbers(alloc, live, columns)?;
+    let mut renumbered = Lists::with_capacity(alloc, rows.len(), size_of(rows))?;
+    push_rows(&mut renumbered, rows, &numbers)?;
     Ok(renumbered)
 }
 
@@ -68,10 +84,7 @@ impl Compact {
         columns: usize,
         costs: Vec<i64>,
     ) -> Result<Compact, AllocError> {
-        let rows = {
-            let numbers = new_numbers(alloc, live, columns)?;
-            renumber_rows(alloc, rows, &numbers)?
-        };
+        let rows = renumber_rows(alloc, rows, live, columns)?;
         let column_rows = rows.transpose(alloc, live.len())?;
         Ok(Compact {
             column_rows,

@@ -4,7 +4,7 @@
 //! structure (Tarjan, Efficiency of a good but not linear set union algorithm, 1975), and whole
 //! components are put on one side until it has half of the rows.
 
-use crate::numbers::{flag, mark, number, set};
+use crate::numbers::{mark, number, set};
 use std::alloc::{AllocError, Global};
 
 /// The column that stands for the component of this one. The path to it is halved.
@@ -43,8 +43,8 @@ fn sizes(
 ) -> Result<Vec<usize>, AllocError> {
     let mut sizes: Vec<usize> = vec![in alloc; 0; leaders.len()]?;
     for row in rows {
-        if let Some(first) = row.first() {
-            let component = leader(leaders, *first);
+        if !row.is_empty() {
+            let component = leader(leaders, row[0]);
             let more = number(&sizes, component).saturating_add(1);
             set(&mut sizes, component, more);
         }
@@ -52,39 +52,50 @@ fn sizes(
     Ok(sizes)
 }
 
-/// Marks components, at the columns that stand for them, until they have half of the rows; `None`
-/// if one component has all rows.
-fn component_hints(
-    alloc: Global,
-    sizes: &[usize],
-    rows: usize,
-) -> Result<Option<Vec<bool>>, AllocError> {
-    let mut chosen: Vec<bool> = vec![in alloc; false; sizes.len()]?;
-    let mut marked_rows: usize = 0;
+/// The column before which components have half of the rows, at the columns that stand for them;
+/// `None` if one component has all rows.
+fn half_way(sizes: &[usize], rows: usize) -> Option<usize> {
+    let mut end: usize = 0;
+    let mut passed: usize = 0;
     for (column, size) in sizes.iter().enumerate() {
         if *size == rows {
-            return Ok(None);
+            return None;
         }
-        if *size > 0 && marked_rows < rows / 2 {
-            marked_rows = marked_rows.saturating_add(*size);
-            mark(&mut chosen, column, true);
+        if *size > 0 && passed < rows / 2 {
+            passed = passed.saturating_add(*size);
+            end = column.wrapping_add(1);
         }
     }
-    Ok(Some(chosen))
+    Some(end)
 }
 
-/// Marks the columns of the chosen components.
-fn columns_of(
+/// Marks the columns of the components that have rows and are before `end`.
+fn columns_before(
     alloc: Global,
     leaders: &mut Vec<usize>,
-    chosen: &[bool],
+    sizes: &[usize],
+    end: usize,
 ) -> Result<Vec<bool>, AllocError> {
-    let mut side: Vec<bool> = Vec::with_capacity(alloc, chosen.len())?;
-    for column in 0..chosen.len() {
+    let mut side: Vec<bool> = vec![in alloc; false; sizes.len()]?;
+    for column in 0..sizes.len() {
         let component = leader(leaders, column);
-        side.push(flag(chosen, component))?;
+        let chosen = component < end && number(sizes, component) > 0;
+        mark(&mut side, column, chosen);
     }
     Ok(side)
+}
+
+/// Marks the columns of some components that have half of the rows, or `None` if one has all.
+fn side_of(
+    alloc: Global,
+    rows: &[Vec<usize>],
+    leaders: &mut Vec<usize>,
+) -> Result<Option<Vec<bool>>, AllocError> {
+    let sizes = sizes(alloc, rows, leaders)?;
+    match half_way(&sizes, rows.len()) {
+        Some(end) => Ok(Some(columns_before(alloc, leaders, &sizes, end)?)),
+        None => Ok(None),
+    }
 }
 
 /// Marks the columns of one side, or `None` if all rows are connected; columns are below `columns`.
@@ -98,12 +109,5 @@ pub fn side_hint(
     for row in rows {
         join_columns(&mut leaders, row);
     }
-    let components = {
-        let sizes = sizes(alloc, rows, &mut leaders)?;
-        component_hints(alloc, &sizes, rows.len())?
-    };
-    match components {
-        Some(chosen) => Ok(Some(columns_of(alloc, &mut leaders, &chosen)?)),
-        None => Ok(None),
-    }
+    side_of(alloc, rows, &mut leaders)
 }

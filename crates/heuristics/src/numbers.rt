@@ -34,6 +34,13 @@ pub(crate) fn put(numbers: &mut Vec<i64>, index: usize, number: i64) {
     }
 }
 
+/// Adds `amount` to the number at the index; does nothing past the end.
+pub(crate) fn add_at(numbers: &mut Vec<i64>, index: usize, amount: i64) {
+    if index < numbers.len() {
+        numbers[index] = numbers[index].wrapping_add(amount);
+    }
+}
+
 /// Adds `amount` to the number of each of the row's columns.
 pub(crate) fn add_to_each(numbers: &mut Vec<i64>, row: &[u32], amount: i64) {
     for column in row {
@@ -74,6 +81,13 @@ pub(crate) fn set(numbers: &mut Vec<usize>, index: usize, number: usize) {
     if index < numbers.len() {
         numbers[index] = number;
     }
+}
+
+/// Adds `amount` to the number at the index, which is 0 past the end; answers the sum.
+pub(crate) fn add_to(numbers: &mut Vec<usize>, index: usize, amount: usize) -> usize {
+    let sum = number(numbers, index).wrapping_add(amount);
+    set(numbers, index, sum);
+    sum
 }
 
 /// Whether the index is marked.

@@ -11,8 +11,12 @@
 
 use crate::compact::Compact;
 use crate::goal::Goal;
-use crate::numbers::{add_to_each, at, flag, overwrite, put, set, total};
+use crate::lists::Lists;
+use crate::numbers::{add_to_each, at, flag, mark, number, overwrite, put, set, total};
 use std::alloc::{AllocError, Global};
+
+/// The highest likelihood of a column.
+const LIKELIEST: i64 = 1048576;
 
 /// The multiplier of a column where columns cost the same.
 pub(crate) const UNIT: i64 = 16777216;
@@ -61,6 +65,32 @@ pub struct Multipliers {
     pub cost: u32,
 }
 
+/// Weights of rows and the multiplier of a column, with their value.
+#[derive(Drop)]
+pub(crate) struct Point {
+    /// The Lagrangian bound less the goal.
+    pub(crate) value: i64,
+    /// The weight of each row.
+    pub(crate) weights: Vec<i64>,
+    /// The multiplier of a column.
+    pub(crate) column: i64,
+}
+
+/// Which columns are overloaded, and what this means for rows.
+#[derive(Drop)]
+struct Marks {
+    /// Which columns are overloaded.
+    overloaded: Vec<bool>,
+    /// The columns whose mark changed last, before others.
+    changed: Vec<usize>,
+    /// How many columns are overloaded.
+    number: i64,
+    /// The subgradient of each row, times `SLOPE`: one less how many overloaded columns it has.
+    slopes: Vec<i64>,
+    /// How likely each column is in a cover: the more, the more often it was overloaded of late.
+    likely: Vec<i64>,
+}
+
 /// The state of the steps: the present weights, their direction, and the best weights so far.
 #[derive(Drop)]
 pub(crate) struct Ascent {
@@ -68,38 +98,22 @@ pub(crate) struct Ascent {
     weights: Vec<i64>,
     /// The multiplier of a column.
     column: i64,
+    /// The multiplier of each unit of a column's cost; 0 where columns cost the same.
+    pub(crate) cost: i64,
     /// The direction of each weight.
     direction: Vec<i64>,
     /// The direction of the multiplier of a column.
     column_direction: i64,
     /// The scaled cost of each column.
     scaled_costs: Vec<i64>,
-    /// By how much each column's scaled cost is more than its load, while weights are polished.
-    slacks: Vec<i64>,
-    /// Room for sums of weights.
+    /// Sums of weights: the load of a column is what comes between two of them.
     partial: Vec<i64>,
     /// Which columns are overloaded.
-    pub(crate) overloaded: Vec<bool>,
-    /// The columns whose mark changed last, before others.
-    changed: Vec<usize>,
-    /// How many columns are overloaded.
-    number: i64,
-    /// The subgradient of each row, times `SLOPE`: one less how many overloaded columns it has.
-    slopes: Vec<i64>,
-    /// The multiplier of each unit of a column's cost; 0 where columns cost the same.
-    pub(crate) cost: i64,
-    /// The best value of a step.
-    top: i64,
-    /// The weights of the step with the best value.
-    pub(crate) top_weights: Vec<i64>,
-    /// The multiplier of a column of the step with the best value.
-    pub(crate) top_column: i64,
-    /// The best value of polished weights.
-    pub(crate) best_value: i64,
+    marks: Marks,
+    /// The step with the best value.
+    pub(crate) top: Point,
     /// The polished weights with the best value.
-    pub(crate) best_weights: Vec<i64>,
-    /// The multiplier of a column of the polished weights with the best value.
-    best_column: i64,
+    pub(crate) best: Point,
     /// The length of a step.
     pace: i64,
     /// How many steps there were without a gain.
@@ -196,6 +210,255 @@ fn cost_multiplier(table: &Compact) -> i64 {
         .min(4294967295)
 }
 
+/// Lowers the weights of rows with several overloaded columns, the least weight first; `order` is
+/// room for these rows.
+fn lower(
+    table: &Compact,
+    slopes: &[i64],
+    slacks: &mut Vec<i64>,
+    order: &mut Vec<(i64, usize)>,
+    weights: &mut Vec<i64>,
+) -> Result<(), AllocError> {
+    order.clear();
+    for (i, weight) in weights.iter().enumerate() {
+        if *weight > 0 && at(slopes, i) < 0 {
+            order.push((*weight, i))?;
+        }
+    }
+    order.sort_unstable();
+    lower_each(table, order, slacks, weights);
+    Ok(())
+}
+
+/// Lowers the weights of those of the rows that have several overloaded columns, in this order.
+fn lower_each(
+    table: &Compact,
+    order: &[(i64, usize)],
+    slacks: &mut Vec<i64>,
+    weights: &mut Vec<i64>,
+) {
+    for (weight, i) in order {
+        let row = table.rows.list(*i);
+        let less = weight_decrease(row, *weight, slacks);
+        if less > 0 {
+            put(weights, *i, weight.wrapping_sub(less));
+            add_to_each(slacks, row, less);
+        }
+    }
+}
+
+/// Raises the weights of rows by the slack of their columns, the row first that weighed most before
+/// rows were lowered; `order` is room for these rows.
+fn raise(
+    table: &Compact,
+    before: &[i64],
+    slacks: &mut Vec<i64>,
+    order: &mut Vec<(i64, usize)>,
+    weights: &mut Vec<i64>,
+) -> Result<(), AllocError> {
+    order.clear();
+    for (i, weight) in before.iter().enumerate() {
+        if least_slack(table.rows.list(i), slacks) > 0 {
+            order.push((*weight, i))?;
+        }
+    }
+    order.sort_unstable();
+    order.reverse();
+    raise_each(table, order, slacks, weights);
+    Ok(())
+}
+
+/// Raises the weights of these rows by the slack of their columns, in this order.
+fn raise_each(
+    table: &Compact,
+    order: &[(i64, usize)],
+    slacks: &mut Vec<i64>,
+    weights: &mut Vec<i64>,
+) {
+    for (_, i) in order {
+        let row = table.rows.list(*i);
+        let more = least_slack(row, slacks);
+        if more > 0 {
+            let weight = at(weights, *i);
+            put(weights, *i, weight.wrapping_add(more));
+            add_to_each(slacks, row, 0i64.wrapping_sub(more));
+        }
+    }
+}
+
+/// The weights, polished: lowered where columns are overloaded, and then raised by what is left of
+/// the slacks.
+fn polished(
+    alloc: Global,
+    table: &Compact,
+    slopes: &[i64],
+    slacks: &mut Vec<i64>,
+    before: &[i64],
+) -> Result<Vec<i64>, AllocError> {
+    let mut weights = before.to_vec(alloc)?;
+    let mut order: Vec<(i64, usize)> = Vec::new(alloc);
+    lower(table, slopes, slacks, &mut order, &mut weights)?;
+    raise(table, before, slacks, &mut order, &mut weights)?;
+    Ok(weights)
+}
+
+/// The slack of each column, from its scaled cost and from sums of weights.
+fn slacks_of(
+    alloc: Global,
+    column_rows: &Lists,
+    scaled_costs: &[i64],
+    partial: &[i64],
+) -> Result<Vec<i64>, AllocError> {
+    let mut slacks = vec![in alloc; 0; scaled_costs.len()]?;
+    let mut before: i64 = 0;
+    for (column, scaled_cost) in scaled_costs.iter().enumerate() {
+        let now = at(partial, column_rows.end_of(column) as usize);
+        let load = now.wrapping_sub(before);
+        put(&mut slacks, column, scaled_cost.wrapping_sub(load));
+        before = now;
+    }
+    Ok(slacks)
+}
+
+/// Marks the overloaded columns, and lists first in `changed` those where a mark changes; answers
+/// by how much the columns are overloaded together, and how many marks change. The loads are what
+/// comes between two of the sums in `partial`. Which marks change is hard to foretell, so that
+/// nothing branches on it here.
+fn mark_overloaded(
+    column_rows: &Lists,
+    scaled_costs: &[i64],
+    partial: &[i64],
+    overloaded: &mut Vec<bool>,
+    changed: &mut Vec<usize>,
+) -> (i64, usize) {
+    let mut overload: i64 = 0;
+    let mut before: i64 = 0;
+    let mut changes: usize = 0;
+    let columns = column_rows.len().min(scaled_costs.len());
+    for column in 0..columns.min(overloaded.len()) {
+        let now = at(partial, column_rows.end_of(column) as usize);
+        let load = now.wrapping_sub(before);
+        let over = load.wrapping_sub(at(scaled_costs, column)).max(0);
+        before = now;
+        overload = overload.wrapping_add(over);
+        set(changed, changes, column);
+        changes = changes.wrapping_add(usize::from(flag(overloaded, column) != (over > 0)));
+        mark(overloaded, column, over > 0);
+    }
+    (overload, changes)
+}
+
+/// Raises the likelihood of overloaded columns, and lowers the others'.
+fn note_likely(likely: &mut Vec<i64>, overloaded: &[bool], fresh: bool) {
+    for (column, overloaded) in overloaded.iter().enumerate() {
+        let now = if *overloaded { LIKELIEST } else { 0 };
+        let before = if fresh { now } else { at(likely, column) };
+        put(
+            likely,
+            column,
+            before.wrapping_add(now.wrapping_sub(before) >> 1),
+        );
+    }
+}
+
+impl Point {
+    /// No weights yet, with a value below all others.
+    fn new(alloc: Global, column: i64) -> Point {
+        Point {
+            value: i64::MIN,
+            weights: Vec::new(alloc),
+            column,
+        }
+    }
+}
+
+impl Marks {
+    /// No rows and no columns yet.
+    fn new(alloc: Global) -> Marks {
+        Marks {
+            overloaded: Vec::new(alloc),
+            changed: Vec::new(alloc),
+            number: 0,
+            slopes: Vec::new(alloc),
+            likely: Vec::new(alloc),
+        }
+    }
+
+    /// Makes room for so many rows and columns, none of which is overloaded.
+    fn make_room(&mut self, rows: usize, columns: usize) -> Result<(), AllocError> {
+        self.overloaded.resize(columns, false)?;
+        self.changed.resize(columns, 0)?;
+        self.slopes.resize(rows, SLOPE)?;
+        self.likely.resize(columns, 0)?;
+        Ok(())
+    }
+
+    /// Counts the changes of marks for each row of the columns, which are the first in `changed`.
+    fn count_changes(&mut self, column_rows: &Lists, changes: usize) {
+        for index in 0..changes {
+            let column = number(&self.changed, index);
+            let more = if flag(&self.overloaded, column) {
+                1
+            } else {
+                -1
+            };
+            self.number = self.number.wrapping_add(more);
+            let less = 0i64.wrapping_sub(SLOPE.wrapping_mul(more));
+            add_to_each(&mut self.slopes, column_rows.list(column), less);
+        }
+    }
+}
+
+/// Turns the direction: three quarters of the last one, plus the subgradient. Answers the square of
+/// its length, without the rows whose weight is 0 and would become less.
+fn turn(direction: &mut Vec<i64>, slopes: &[i64], weights: &[i64]) -> i64 {
+    let mut square: i64 = 0;
+    let rows = slopes.len().min(weights.len());
+    for row in 0..rows.min(direction.len()) {
+        let last = at(direction, row).wrapping_mul(12) >> 4;
+        let next = at(slopes, row).wrapping_add(last);
+        put(direction, row, next);
+        let moved = if next.max(at(weights, row)) > 0 {
+            next
+        } else {
+            0
+        };
+        square = square.wrapping_add(moved.wrapping_mul(moved));
+    }
+    square
+}
+
+/// The number after a step of this length in its direction; at least 0.
+fn moved(number: i64, direction: i64, pace: i64) -> i64 {
+    number
+        .wrapping_add(pace.wrapping_mul(direction) >> 8)
+        .max(0)
+}
+
+/// Moves each weight in its direction.
+fn move_each(weights: &mut Vec<i64>, direction: &[i64], pace: i64) {
+    for row in 0..weights.len().min(direction.len()) {
+        let weight = moved(at(weights, row), at(direction, row), pace);
+        put(weights, row, weight);
+    }
+}
+
+/// Moves weights a quarter of the way to their mean.
+fn draw_to_mean(weights: &mut Vec<i64>) {
+    let number = i64::try_from(weights.len()).unwrap_or(i64::MAX);
+    let mean = total(weights).wrapping_div(number.max(1));
+    for weight in weights.iter_mut() {
+        *weight = weight.wrapping_mul(3).wrapping_add(mean) >> 2;
+    }
+}
+
+/// Sets each number to 0.
+fn clear(numbers: &mut Vec<i64>) {
+    for number in numbers.iter_mut() {
+        *number = 0;
+    }
+}
+
 impl Ascent {
     /// The start of the steps, from these weights, with steps of this length. `column` is the
     /// multiplier of a column where columns have different costs.
@@ -209,29 +472,34 @@ impl Ascent {
         let uneven = table.is_uneven();
         let column = if uneven { column } else { UNIT };
         let mut ascent = Ascent {
-            direction: vec![in alloc; 0; weights.len()]?,
             column,
-            column_direction: 0,
-            scaled_costs: vec![in alloc; 0; table.costs.len()]?,
-            slacks: vec![in alloc; 0; table.costs.len()]?,
-            partial: vec![in alloc; 0; table.column_rows.size().saturating_add(1)]?,
-            overloaded: vec![in alloc; false; table.costs.len()]?,
-            changed: vec![in alloc; 0; table.costs.len()]?,
-            number: 0,
-            slopes: vec![in alloc; SLOPE; weights.len()]?,
             cost: if uneven { cost_multiplier(table) } else { 0 },
-            top: i64::MIN,
-            top_weights: weights.to_vec(alloc)?,
-            top_column: column,
-            best_value: i64::MIN,
-            best_weights: weights.to_vec(alloc)?,
-            best_column: column,
+            direction: Vec::new(alloc),
+            column_direction: 0,
+            scaled_costs: Vec::new(alloc),
+            partial: Vec::new(alloc),
+            marks: Marks::new(alloc),
+            top: Point::new(alloc, column),
+            best: Point::new(alloc, column),
             pace,
             idle: 0,
             weights,
         };
+        ascent.make_room(table)?;
         ascent.set_scaled_costs(&table.costs, column);
         Ok(ascent)
+    }
+
+    /// Makes room for numbers of rows and of columns.
+    fn make_room(&mut self, table: &Compact) -> Result<(), AllocError> {
+        let rows = self.weights.len();
+        let columns = table.costs.len();
+        self.direction.resize(rows, 0)?;
+        self.top.weights.resize(rows, 0)?;
+        self.scaled_costs.resize(columns, 0)?;
+        self.partial
+            .resize(table.column_rows.size().saturating_add(1), 0)?;
+        self.marks.make_room(rows, columns)
     }
 
     /// Sets the scaled costs, for this multiplier of a column.
@@ -243,209 +511,78 @@ impl Ascent {
     }
 
     /// The Lagrangian bound less the goal: positive if no cover reaches the goal.
-    fn value(&self, weights: &[i64], overload: i64, column: i64, goal: Goal) -> i64 {
+    fn value(&self, weights: &[i64], overload: i64, goal: Goal) -> i64 {
         total(weights)
             .wrapping_sub(overload)
-            .wrapping_sub(column.wrapping_mul(goal.columns))
+            .wrapping_sub(self.column.wrapping_mul(goal.columns))
             .wrapping_sub(self.cost.wrapping_mul(goal.cost))
     }
 
-    /// Lowers the weights of rows with several overloaded columns, the least weight first.
-    fn lower(
-        &mut self,
-        alloc: Global,
-        table: &Compact,
-        weights: &mut Vec<i64>,
-    ) -> Result<(), AllocError> {
-        let mut order: Vec<(i64, usize)> = Vec::new(alloc);
-        for (i, (weight, slope)) in weights.iter().zip(self.slopes.iter()).enumerate() {
-            if *weight > 0 && *slope < 0 {
-                order.push((*weight, i))?;
-            }
-        }
-        order.sort_unstable();
-        self.lower_each(table, &order, weights);
-        Ok(())
-    }
-
-    /// Lowers the weights of those of the rows that have several overloaded columns, in this order.
-    fn lower_each(&mut self, table: &Compact, order: &[(i64, usize)], weights: &mut Vec<i64>) {
-        for (weight, i) in order {
-            let row = table.rows.list(*i);
-            let less = weight_decrease(row, *weight, &self.slacks);
-            if less > 0 {
-                put(weights, *i, weight.wrapping_sub(less));
-                add_to_each(&mut self.slacks, row, less);
-            }
+    /// Keeps polished weights if their bound is better than the best so far; columns are overloaded
+    /// by `overload` together.
+    fn keep_if_best(&mut self, weights: Vec<i64>, overload: i64, goal: Goal) {
+        let value = self.value(&weights, overload, goal);
+        if value > self.best.value {
+            self.best.value = value;
+            self.best.weights = weights;
+            self.best.column = self.column;
         }
     }
 
-    /// Raises the weights of rows by the slack of their columns, the row first that weighed most
-    /// before rows were lowered.
-    fn raise(
-        &mut self,
-        alloc: Global,
-        table: &Compact,
-        before: &[i64],
-        weights: &mut Vec<i64>,
-    ) -> Result<(), AllocError> {
-        let mut order: Vec<(i64, usize)> = Vec::new(alloc);
-        for (i, weight) in before.iter().enumerate() {
-            if least_slack(table.rows.list(i), &self.slacks) > 0 {
-                order.push((*weight, i))?;
-            }
-        }
-        order.sort_unstable();
-        self.raise_each(table, &order, weights);
-        Ok(())
-    }
-
-    /// Raises the weights of these rows by the slack of their columns, the last row first.
-    fn raise_each(&mut self, table: &Compact, order: &[(i64, usize)], weights: &mut Vec<i64>) {
-        for (_, i) in order.iter().rev() {
-            let row = table.rows.list(*i);
-            let more = least_slack(row, &self.slacks);
-            if more > 0 {
-                let weight = at(weights, *i);
-                put(weights, *i, weight.wrapping_add(more));
-                add_to_each(&mut self.slacks, row, 0i64.wrapping_sub(more));
-            }
-        }
-    }
-
-    /// Sets the slack of each column, from the sums in `partial`.
-    fn set_slacks(&mut self, table: &Compact) {
-        let mut before: i64 = 0;
-        for ((slack, end), scaled_cost) in self
-            .slacks
-            .iter_mut()
-            .zip(table.column_rows.ends().iter())
-            .zip(self.scaled_costs.iter())
-        {
-            let now = at(&self.partial, *end as usize);
-            *slack = scaled_cost.wrapping_sub(now.wrapping_sub(before));
-            before = now;
-        }
-    }
-
-    /// Polishes weights, whose sums and overloaded columns are known, and keeps them if their bound
-    /// is better than the best so far.
-    fn polish(
-        &mut self,
-        alloc: Global,
-        table: &Compact,
-        before: Vec<i64>,
-        column: i64,
-        goal: Goal,
-    ) -> Result<(), AllocError> {
-        let mut weights = before.to_vec(alloc)?;
-        self.set_slacks(table);
-        self.lower(alloc, table, &mut weights)?;
-        self.raise(alloc, table, &before, &mut weights)?;
-        let overload = overload(&self.slacks);
-        let value = self.value(&weights, overload, column, goal);
-        if value > self.best_value {
-            self.best_value = value;
-            self.best_weights = weights;
-            self.best_column = column;
-        }
-        Ok(())
-    }
-
-    /// Marks the overloaded columns, and lists those where a mark changes; answers by how much the
-    /// columns are overloaded together. The loads are what comes between two of the sums in
-    /// `partial`. Which marks change is hard to foretell, so that nothing branches on it here.
+    /// Marks the overloaded columns; answers by how much they are overloaded together.
     fn mark_overloaded(&mut self, table: &Compact) -> i64 {
-        let mut overload: i64 = 0;
-        let mut before: i64 = 0;
-        let mut changes: usize = 0;
-        for (i, ((end, scaled_cost), mark)) in table
-            .column_rows
-            .ends()
-            .iter()
-            .zip(self.scaled_costs.iter())
-            .zip(self.overloaded.iter_mut())
-            .enumerate()
-        {
-            let now = at(&self.partial, *end as usize);
-            let over = now.wrapping_sub(before).wrapping_sub(*scaled_cost).max(0);
-            before = now;
-            overload = overload.wrapping_add(over);
-            set(&mut self.changed, changes, i);
-            changes = changes.wrapping_add(usize::from(*mark != (over > 0)));
-            *mark = over > 0;
-        }
-        self.count_changes(table, changes);
+        let marks = &mut self.marks;
+        let (overload, changes) = mark_overloaded(
+            &table.column_rows,
+            &self.scaled_costs,
+            &self.partial,
+            &mut marks.overloaded,
+            &mut marks.changed,
+        );
+        marks.count_changes(&table.column_rows, changes);
         overload
-    }
-
-    /// Counts the changes of marks for each row of the columns, which are the first in `changed`.
-    fn count_changes(&mut self, table: &Compact, changes: usize) {
-        for column in self.changed.iter().take(changes) {
-            let more = if flag(&self.overloaded, *column) {
-                1
-            } else {
-                -1
-            };
-            self.number = self.number.wrapping_add(more);
-            let less = 0i64.wrapping_sub(SLOPE.wrapping_mul(more));
-            add_to_each(&mut self.slopes, table.column_rows.list(*column), less);
-        }
     }
 
     /// A step in the direction of the subgradient plus three quarters of the last direction.
     fn step(&mut self, goal: Goal, far: i64) {
-        let mut square: i64 = 0;
-        for ((direction, slope), weight) in self
-            .direction
-            .iter_mut()
-            .zip(self.slopes.iter())
-            .zip(self.weights.iter())
-        {
-            let next = slope.wrapping_add(direction.wrapping_mul(12) >> 4);
-            *direction = next;
-            let moved = if next.max(*weight) > 0 { next } else { 0 };
-            square = square.wrapping_add(moved.wrapping_mul(moved));
-        }
+        let mut square = turn(&mut self.direction, &self.marks.slopes, &self.weights);
         if self.cost > 0 {
-            let slope = self.number.wrapping_sub(goal.columns).wrapping_mul(SLOPE);
-            self.column_direction = slope.wrapping_add(self.column_direction.wrapping_mul(12) >> 4);
-            square = square.wrapping_add(self.column_direction.wrapping_mul(self.column_direction));
+            let above = self.marks.number.wrapping_sub(goal.columns);
+            let last = self.column_direction.wrapping_mul(12) >> 4;
+            let next = above.wrapping_mul(SLOPE).wrapping_add(last);
+            self.column_direction = next;
+            square = square.wrapping_add(next.wrapping_mul(next));
         }
         if square <= 0 {
             return;
         }
         let pace = far.wrapping_div(square.max(1));
-        for (weight, direction) in self.weights.iter_mut().zip(self.direction.iter()) {
-            let more = pace.wrapping_mul(*direction) >> 8;
-            *weight = weight.wrapping_add(more).max(0);
-        }
-        let more = pace.wrapping_mul(self.column_direction) >> 8;
-        self.column = self.column.wrapping_add(more).max(0);
+        move_each(&mut self.weights, &self.direction, pace);
+        self.column = moved(self.column, self.column_direction, pace);
     }
 
     /// Notes the value of the present weights.
-    pub(crate) fn note(&mut self, value: i64) {
-        if value > self.top.saturating_add(UNIT / 1000) {
+    fn note(&mut self, value: i64) {
+        if value > self.top.value.saturating_add(UNIT / 1000) {
             self.idle = 0;
         } else {
             self.idle = self.idle.wrapping_add(1);
         }
-        if value > self.top {
-            self.top = value;
-            overwrite(&mut self.top_weights, &self.weights);
-            self.top_column = self.column;
+        if value > self.top.value {
+            self.top.value = value;
+            overwrite(&mut self.top.weights, &self.weights);
+            self.top.column = self.column;
         }
     }
 
     /// The value of the present weights; marks the columns that they overload.
-    pub(crate) fn present_value(&mut self, table: &Compact, goal: Goal) -> i64 {
+    fn present_value(&mut self, table: &Compact, goal: Goal) -> i64 {
         if self.cost > 0 {
             self.set_scaled_costs(&table.costs, self.column);
         }
         table.column_rows.add_up(&self.weights, &mut self.partial);
         let overload = self.mark_overloaded(table);
-        self.value(&self.weights, overload, self.column, goal)
+        self.value(&self.weights, overload, goal)
     }
 
     /// Whether the steps gain nothing and cannot become shorter.
@@ -455,20 +592,48 @@ impl Ascent {
 
     /// Whether to end the steps: there were enough, or they gain nothing, or too little to reach
     /// the goal.
-    pub(crate) fn is_over(&self, step: u32, course: &mut Course) -> bool {
-        step >= course.last || self.is_slow() || course.gives_up(step, self.top)
+    fn is_over(&self, step: u32, course: &mut Course) -> bool {
+        step >= course.last || self.is_slow() || course.gives_up(step, self.top.value)
+    }
+
+    /// Returns to the best weights.
+    fn return_to_top(&mut self) {
+        self.column = self.top.column;
+        overwrite(&mut self.weights, &self.top.weights);
     }
 
     /// Returns to the best weights, with shorter steps.
     fn slow_down(&mut self) {
         self.idle = 0;
         self.pace = self.pace.wrapping_mul(3) / 5;
-        self.column = self.top_column;
-        overwrite(&mut self.weights, &self.top_weights);
+        self.return_to_top();
+    }
+
+    /// Notes the present weights, and goes on from them to the next; answers whether the steps are
+    /// over.
+    pub(crate) fn go_on(
+        &mut self,
+        alloc: Global,
+        table: &Compact,
+        goal: Goal,
+        step: u32,
+        course: &mut Course,
+    ) -> Result<bool, AllocError> {
+        let value = self.present_value(table, goal);
+        if step % 4 == 0 {
+            let marks = &mut self.marks;
+            note_likely(&mut marks.likely, &marks.overloaded, step == 0);
+        }
+        self.note(value);
+        if self.is_over(step, course) {
+            self.end_or_restart(alloc, table, goal, step, course)
+        } else {
+            self.polish_and_step(alloc, table, goal, step, value)
+        }
     }
 
     /// Makes a step, and polishes every `SPAN` steps; answers whether the goal is reached.
-    pub(crate) fn go_on(
+    fn polish_and_step(
         &mut self,
         alloc: Global,
         table: &Compact,
@@ -477,9 +642,8 @@ impl Ascent {
         value: i64,
     ) -> Result<bool, AllocError> {
         if step % SPAN == 0 {
-            let weights = self.weights.to_vec(alloc)?;
-            self.polish(alloc, table, weights, self.column, goal)?;
-            if self.best_value > 0 {
+            self.polish(alloc, table, goal)?;
+            if self.best.value > 0 {
                 return Ok(true);
             }
         }
@@ -494,9 +658,18 @@ impl Ascent {
         Ok(false)
     }
 
+    /// Polishes the present weights, whose sums and overloaded columns are known.
+    fn polish(&mut self, alloc: Global, table: &Compact, goal: Goal) -> Result<(), AllocError> {
+        let slopes = &self.marks.slopes;
+        let mut slacks = slacks_of(alloc, &table.column_rows, &self.scaled_costs, &self.partial)?;
+        let weights = polished(alloc, table, slopes, &mut slacks, &self.weights)?;
+        self.keep_if_best(weights, overload(&slacks), goal);
+        Ok(())
+    }
+
     /// Polishes the best weights. If they end just short of the goal, the steps are restarted once.
     /// Answers whether the steps are over.
-    pub(crate) fn end_or_restart(
+    fn end_or_restart(
         &mut self,
         alloc: Global,
         table: &Compact,
@@ -504,53 +677,41 @@ impl Ascent {
         step: u32,
         course: &mut Course,
     ) -> Result<bool, AllocError> {
-        if self.cost > 0 {
-            self.set_scaled_costs(&table.costs, self.top_column);
-        }
-        table
-            .column_rows
-            .add_up(&self.top_weights, &mut self.partial);
-        self.mark_overloaded(table);
-        let weights = self.top_weights.to_vec(alloc)?;
-        self.polish(alloc, table, weights, self.top_column, goal)?;
-        if course.again || self.best_value > 0 || self.best_value <= 0 - UNIT / 8 {
+        self.return_to_top();
+        self.present_value(table, goal);
+        self.polish(alloc, table, goal)?;
+        if course.again || self.best.value > 0 || self.best.value <= 0 - UNIT / 8 {
             return Ok(true);
         }
         course.restart(step);
-        self.restart_near_best(alloc)?;
+        self.restart_near_best();
         Ok(false)
     }
 
     /// Moves from the best weights a quarter of the way to their mean, for a restart.
-    fn restart_near_best(&mut self, alloc: Global) -> Result<(), AllocError> {
-        let number = self.top_weights.len();
-        let mean = match i64::try_from(number.max(1)) {
-            Ok(number) => total(&self.top_weights).wrapping_div(number.max(1)),
-            Err(_) => 0,
-        };
-        let mut weights = Vec::with_capacity(alloc, number)?;
-        for weight in &self.top_weights {
-            weights.push(weight.wrapping_mul(3).wrapping_add(mean) >> 2)?;
-        }
-        self.weights = weights;
-        self.direction = vec![in alloc; 0; number]?;
+    fn restart_near_best(&mut self) {
+        draw_to_mean(&mut self.weights);
+        clear(&mut self.direction);
         self.column_direction = 0;
-        self.column = self.top_column;
         self.pace = PACE;
         self.idle = 0;
-        self.top = i64::MIN;
-        Ok(())
+        self.top.value = i64::MIN;
+    }
+
+    /// How likely each column is in a cover, as far as the steps tell.
+    pub(crate) fn likely(&self) -> &[i64] {
+        &self.marks.likely
     }
 
     /// The best multipliers, as the caller checks them.
     pub(crate) fn multipliers(&self, alloc: Global) -> Result<Multipliers, AllocError> {
-        let mut weights = Vec::with_capacity(alloc, self.best_weights.len())?;
-        for weight in &self.best_weights {
+        let mut weights = Vec::with_capacity(alloc, self.best.weights.len())?;
+        for weight in &self.best.weights {
             weights.push(u64::try_from((*weight).max(0)).unwrap_or(0))?;
         }
         Ok(Multipliers {
             weights,
-            column: u32::try_from(self.best_column).unwrap_or(u32::MAX),
+            column: u32::try_from(self.best.column).unwrap_or(u32::MAX),
             cost: u32::try_from(self.cost).unwrap_or(u32::MAX),
         })
     }

@@ -8,7 +8,9 @@
 
 use crate::compact::Compact;
 use crate::goal::Goal;
-use crate::numbers::{SEED, add_to_each, at, flag, mark, marked, next_random, number, put, set};
+use crate::numbers::{
+    SEED, add_at, add_to, add_to_each, at, flag, mark, marked, next_random, number, put, set,
+};
 use std::alloc::{AllocError, Global};
 
 /// The present list of columns, and the best one so far.
@@ -65,23 +67,25 @@ impl LocalSearch {
         }
     }
 
-    /// Starts with no column: each row is uncovered, and weighs one.
-    fn start_empty(&mut self, alloc: Global, table: &Compact) -> Result<(), AllocError> {
+    /// Starts with so many uncovered rows, each of which weighs one.
+    fn start_rows(&mut self, rows: usize) -> Result<(), AllocError> {
+        self.weights.resize(rows, 1)?;
+        self.held.resize(rows, 0)?;
+        self.holders.resize(rows, 0)?;
+        self.open.resize(rows, 0)?;
+        number_each(&mut self.open);
+        self.places.extend_from_slice(&self.open)?;
+        Ok(())
+    }
+
+    /// Starts with no chosen column.
+    fn start_columns(&mut self, alloc: Global, table: &Compact) -> Result<(), AllocError> {
         let columns = table.costs.len();
-        let rows = table.rows.len();
-        self.weights = vec![in alloc; 1; rows]?;
-        self.held = vec![in alloc; 0; rows]?;
-        self.holders = vec![in alloc; 0; rows]?;
-        self.open = (0..rows).collect(alloc)?;
-        self.places = (0..rows).collect(alloc)?;
-        self.inside = vec![in alloc; false; columns]?;
-        self.slots = vec![in alloc; 0; columns]?;
-        self.fresh = vec![in alloc; true; columns]?;
-        self.stamps = vec![in alloc; 0; columns]?;
-        for column in 0..columns {
-            let rows = table.column_rows.list(column).len();
-            self.scores.push(i64::try_from(rows).unwrap_or(0))?;
-        }
+        self.inside.resize(columns, false)?;
+        self.slots.resize(columns, 0)?;
+        self.fresh.resize(columns, true)?;
+        self.stamps.resize(columns, 0)?;
+        self.scores = first_scores(alloc, table)?;
         Ok(())
     }
 
@@ -90,8 +94,7 @@ impl LocalSearch {
         for other in row {
             let other = *other as usize;
             if other != column {
-                let score = at(&self.scores, other).wrapping_add(more);
-                put(&mut self.scores, other, score);
+                add_at(&mut self.scores, other, more);
                 mark(&mut self.fresh, other, true);
             }
         }
@@ -100,8 +103,7 @@ impl LocalSearch {
     /// Adds to what it would gain to drop the only chosen column of the row.
     fn raise_holder(&mut self, row: usize, more: i64) {
         let slot = number(&self.slots, number(&self.holders, row));
-        let loss = at(&self.losses, slot).wrapping_add(more);
-        put(&mut self.losses, slot, loss);
+        add_at(&mut self.losses, slot, more);
     }
 
     /// Takes the row, which is covered now, from the uncovered ones.
@@ -150,20 +152,22 @@ impl LocalSearch {
     fn add(&mut self, table: &Compact, column: usize, now: usize) -> Result<(), AllocError> {
         self.choose(table, column, now)?;
         for row in table.column_rows.list(column) {
-            let row = *row as usize;
-            let held = number(&self.held, row).wrapping_add(1);
-            let weight = at(&self.weights, row);
-            if held == 1 {
-                self.close(row);
-                self.raise_others(table.rows.list(row), column, 0i64.wrapping_sub(weight));
-            } else if held == 2 {
-                self.raise_holder(row, weight);
-            }
-            set(&mut self.held, row, held);
-            let holders = number(&self.holders, row).wrapping_add(column);
-            set(&mut self.holders, row, holders);
+            self.hold(table, *row as usize, column);
         }
         Ok(())
+    }
+
+    /// Counts the column, which is added, among the chosen ones of its row.
+    fn hold(&mut self, table: &Compact, row: usize, column: usize) {
+        let held = add_to(&mut self.held, row, 1);
+        let weight = at(&self.weights, row);
+        if held == 1 {
+            self.close(row);
+            self.raise_others(table.rows.list(row), column, 0i64.wrapping_sub(weight));
+        } else if held == 2 {
+            self.raise_holder(row, weight);
+        }
+        add_to(&mut self.holders, row, column);
     }
 
     /// Drops the column from the list.
@@ -171,19 +175,22 @@ impl LocalSearch {
         self.discard(table, column, now);
         mark(&mut self.fresh, column, false);
         for row in table.column_rows.list(column) {
-            let row = *row as usize;
-            let held = number(&self.held, row).wrapping_sub(1);
-            let weight = at(&self.weights, row);
-            set(&mut self.held, row, held);
-            let holders = number(&self.holders, row).wrapping_sub(column);
-            set(&mut self.holders, row, holders);
-            if held == 0 {
-                set(&mut self.places, row, self.open.len());
-                self.open.push(row)?;
-                self.raise_others(table.rows.list(row), column, weight);
-            } else if held == 1 {
-                self.raise_holder(row, 0i64.wrapping_sub(weight));
-            }
+            self.release(table, *row as usize, column)?;
+        }
+        Ok(())
+    }
+
+    /// Counts the column, which is dropped, no longer among the chosen ones of its row.
+    fn release(&mut self, table: &Compact, row: usize, column: usize) -> Result<(), AllocError> {
+        let held = add_to(&mut self.held, row, 0usize.wrapping_sub(1));
+        add_to(&mut self.holders, row, 0usize.wrapping_sub(column));
+        let weight = at(&self.weights, row);
+        if held == 0 {
+            set(&mut self.places, row, self.open.len());
+            self.open.push(row)?;
+            self.raise_others(table.rows.list(row), column, weight);
+        } else if held == 1 {
+            self.raise_holder(row, 0i64.wrapping_sub(weight));
         }
         Ok(())
     }
@@ -208,13 +215,13 @@ impl LocalSearch {
     fn column_to_drop(&self, table: &Compact, last: usize) -> usize {
         let mut best = usize::MAX;
         let mut top = i64::MIN;
-        for (column, loss) in self.chosen.iter().zip(self.losses.iter()) {
-            if *loss >= top
-                && *column != last
-                && (*loss > top || self.is_better_to_drop(table, *column, best))
-            {
-                best = *column;
-                top = *loss;
+        for (slot, loss) in self.losses.iter().enumerate() {
+            if *loss >= top {
+                let column = number(&self.chosen, slot);
+                if column != last && (*loss > top || self.is_better_to_drop(table, column, best)) {
+                    best = column;
+                    top = *loss;
+                }
             }
         }
         best
@@ -258,8 +265,7 @@ impl LocalSearch {
     fn raise_uncovered_weights(&mut self, table: &Compact) {
         for i in 0..self.open.len() {
             let row = number(&self.open, i);
-            let weight = at(&self.weights, row).wrapping_add(1);
-            put(&mut self.weights, row, weight);
+            add_at(&mut self.weights, row, 1);
             add_to_each(&mut self.scores, table.rows.list(row), 1);
         }
     }
@@ -341,14 +347,14 @@ impl LocalSearch {
         Ok(())
     }
 
-    /// The best list of a search of `steps` steps; it stops once a list reaches the goal.
-    fn best_list(
+    /// Searches for `steps` steps for the best list; it stops once a list reaches the goal.
+    fn go_on(
         &mut self,
         alloc: Global,
         table: &Compact,
         goal: Goal,
         steps: usize,
-    ) -> Result<Vec<usize>, AllocError> {
+    ) -> Result<(), AllocError> {
         self.cover_greedily(table)?;
         self.keep(alloc)?;
         let mut least = (i64::MAX, i64::MAX);
@@ -358,25 +364,73 @@ impl LocalSearch {
         for step in 1..steps {
             let now = begun.saturating_add(step);
             if self.open.is_empty() {
-                if (self.size(), self.cost) < least {
-                    least = (self.size(), self.cost);
-                    self.keep(alloc)?;
-                }
-                if self.reaches(goal) {
+                if self.keep_and_drop(alloc, table, goal, now, &mut least)? {
                     break;
                 }
-                let column = self.column_to_drop(table, usize::MAX);
-                if column == usize::MAX {
-                    break;
-                }
-                self.remove(table, column, now)?;
-                continue;
+            } else {
+                seed = next_random(seed);
+                last = self.swap(table, goal, last, now, seed)?;
             }
-            seed = next_random(seed);
-            last = self.swap(table, goal, last, now, seed)?;
         }
+        Ok(())
+    }
+
+    /// Keeps the list, which covers all rows, if it is less than the least so far, and drops a
+    /// column; answers whether the search is over.
+    fn keep_and_drop(
+        &mut self,
+        alloc: Global,
+        table: &Compact,
+        goal: Goal,
+        now: usize,
+        least: &mut (i64, i64),
+    ) -> Result<bool, AllocError> {
+        let here = (self.size(), self.cost);
+        if here < *least {
+            *least = here;
+            self.keep(alloc)?;
+        }
+        let column = self.column_to_drop(table, usize::MAX);
+        if self.reaches(goal) || column == usize::MAX {
+            return Ok(true);
+        }
+        self.remove(table, column, now)?;
+        Ok(false)
+    }
+
+    /// The best list of a search of `steps` steps, which starts near the hint.
+    fn run(
+        &mut self,
+        alloc: Global,
+        table: &Compact,
+        live: &[usize],
+        hint: &[bool],
+        goal: Goal,
+        steps: usize,
+    ) -> Result<Vec<usize>, AllocError> {
+        self.start_rows(table.rows.len())?;
+        self.start_columns(alloc, table)?;
+        self.begin_with(table, live, hint)?;
+        self.go_on(alloc, table, goal, steps)?;
         self.best.to_vec(alloc)
     }
+}
+
+/// Sets each number to its index.
+fn number_each(numbers: &mut Vec<usize>) {
+    for index in 0..numbers.len() {
+        numbers[index] = index;
+    }
+}
+
+/// What it would gain to add each column first: how many rows it has.
+fn first_scores(alloc: Global, table: &Compact) -> Result<Vec<i64>, AllocError> {
+    let mut scores = vec![in alloc; 0; table.costs.len()]?;
+    for column in 0..table.costs.len() {
+        let rows = table.column_rows.list(column).len();
+        put(&mut scores, column, i64::try_from(rows).unwrap_or(0));
+    }
+    Ok(scores)
 }
 
 /// The best list of columns that a search of `steps` steps finds, as indices of `live`; it stops
@@ -391,8 +445,7 @@ pub fn local_search(
     goal: Goal,
     steps: usize,
 ) -> Result<Vec<usize>, AllocError> {
+    let hint = marked(alloc, hint, columns)?;
     let mut search = LocalSearch::new(alloc);
-    search.start_empty(alloc, table)?;
-    search.begin_with(table, live, &marked(alloc, hint, columns)?)?;
-    search.best_list(alloc, table, goal, steps)
+    search.run(alloc, table, live, &hint, goal, steps)
 }

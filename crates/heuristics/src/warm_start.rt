@@ -11,14 +11,11 @@ use crate::compact::Compact;
 use crate::effort::Effort;
 use crate::goal::Goal;
 use crate::lists::Lists;
-use crate::numbers::{SEED, at, flag, marked, next_random, put};
+use crate::numbers::{SEED, at, flag, marked, next_random, number, put, set};
 use crate::subgradient::{
     Ascent, Course, FEW_STEPS, Multipliers, NEAR_PACE, NEAR_REACH, PACE, REACH, STEPS, UNIT,
 };
 use std::alloc::{AllocError, Global};
-
-/// The highest likelihood of a column.
-const LIKELIEST: i64 = 1048576;
 
 /// Whether to compute a bound again: `before` is how many columns there were at the last one, `now`
 /// how many are left, and at least an eighth has to be gone.
@@ -62,33 +59,22 @@ fn most_rows(table: &Compact, row: usize) -> i64 {
 /// Even weights, perturbed at random.
 fn first_weights(alloc: Global, table: &Compact) -> Result<Vec<i64>, AllocError> {
     let mut seed = SEED;
-    let mut weights = Vec::with_capacity(alloc, table.rows.len())?;
+    let mut weights = vec![in alloc; 0; table.rows.len()]?;
     for row in 0..table.rows.len() {
         let most = most_rows(table, row);
         seed = next_random(seed);
         let part = 512i64.wrapping_add(i64::try_from(seed >> 54).unwrap_or(0));
-        weights.push((UNIT.wrapping_div(most.max(1)) >> 10).wrapping_mul(part))?;
+        let even = UNIT.wrapping_div(most.max(1)) >> 10;
+        put(&mut weights, row, even.wrapping_mul(part));
     }
     Ok(weights)
-}
-
-/// Raises the likelihood of overloaded columns, and lowers the others'.
-fn note_likely(likely: &mut Vec<i64>, overloaded: &[bool], fresh: bool) {
-    for (likely, overloaded) in likely.iter_mut().zip(overloaded.iter()) {
-        let now = if *overloaded { LIKELIEST } else { 0 };
-        *likely = if fresh {
-            now
-        } else {
-            likely.wrapping_add(now.wrapping_sub(*likely) >> 1)
-        };
-    }
 }
 
 /// What a search remembers from table to table, and how much work it did.
 #[derive(Drop)]
 pub struct WarmStart {
-    /// The rows of the last bound, if there was one.
-    rows: Option<Lists>,
+    /// The rows of the last bound; none before the first.
+    rows: Lists,
     /// The number of each row of the last bound, by which its weight is remembered.
     numbers: Vec<usize>,
     /// The weight of each row, by its number.
@@ -111,7 +97,7 @@ impl WarmStart {
     /// Remembers nothing yet; `effort` is the work before.
     pub fn new(alloc: Global, effort: Effort) -> WarmStart {
         WarmStart {
-            rows: None,
+            rows: Lists::new(alloc),
             numbers: Vec::new(alloc),
             weights: Vec::new(alloc),
             column: 4 * UNIT,
@@ -168,12 +154,8 @@ impl WarmStart {
 
     /// A copy of what is remembered.
     pub fn copy(&self, alloc: Global) -> Result<WarmStart, AllocError> {
-        let rows = match &self.rows {
-            Some(rows) => Some(rows.copy(alloc)?),
-            None => None,
-        };
         Ok(WarmStart {
-            rows,
+            rows: self.rows.copy(alloc)?,
             numbers: self.numbers.to_vec(alloc)?,
             weights: self.weights.to_vec(alloc)?,
             column: self.column,
@@ -188,36 +170,43 @@ impl WarmStart {
     /// Takes over what a branch or a question has learned, which started with a copy: the weights
     /// of the rows that are known here, the multiplier of a column, and the work.
     pub fn learn(&mut self, branch: &WarmStart) {
-        for (number, weight) in self.weights.iter_mut().enumerate() {
-            if number < branch.weights.len() {
-                *weight = branch.weights[number];
-            }
+        for (number, weight) in branch.weights.iter().enumerate() {
+            put(&mut self.weights, number, *weight);
         }
         self.column = branch.column;
         self.effort = branch.effort;
     }
 
+    /// The number of the remembered row that each row comes from; columns are below `columns`.
+    fn row_ids(
+        &self,
+        alloc: Global,
+        rows: &[Vec<usize>],
+        live: &[usize],
+        columns: usize,
+    ) -> Result<Vec<usize>, AllocError> {
+        let marks = marked(alloc, live, columns)?;
+        self.numbers_of(alloc, rows, &marks)
+    }
+
     /// The number of the remembered row that each row comes from. Since then rows may have been
     /// dropped, have lost columns, or been added at the end; an added row gets a new number.
-    fn row_ids(
+    fn numbers_of(
         &self,
         alloc: Global,
         rows: &[Vec<usize>],
         live: &[bool],
     ) -> Result<Vec<usize>, AllocError> {
-        let mut numbers = Vec::with_capacity(alloc, rows.len())?;
+        let mut numbers = vec![in alloc; 0; rows.len()]?;
         let mut from: usize = 0;
         let mut next = self.weights.len();
-        for row in rows {
-            let index = match &self.rows {
-                Some(known) => matching_row(known, row, live, from),
-                None => usize::MAX,
-            };
+        for (i, row) in rows.iter().enumerate() {
+            let index = matching_row(&self.rows, row, live, from);
             if index < self.numbers.len() {
-                numbers.push(self.numbers[index])?;
+                set(&mut numbers, i, number(&self.numbers, index));
                 from = index.saturating_add(1);
             } else {
-                numbers.push(next)?;
+                set(&mut numbers, i, next);
                 next = next.saturating_add(1);
             }
         }
@@ -226,15 +215,18 @@ impl WarmStart {
 
     /// The weights of the rows with these numbers.
     fn weights_of(&self, alloc: Global, numbers: &[usize]) -> Result<Vec<i64>, AllocError> {
-        let mut weights = Vec::with_capacity(alloc, numbers.len())?;
-        for number in numbers {
+        let mut weights = vec![in alloc; UNIT / 2; numbers.len()]?;
+        for (i, number) in numbers.iter().enumerate() {
             if *number < self.weights.len() {
-                weights.push(self.weights[*number])?;
-            } else {
-                weights.push(UNIT / 2)?;
+                put(&mut weights, i, at(&self.weights, *number));
             }
         }
         Ok(weights)
+    }
+
+    /// Whether there was no bound yet.
+    fn is_new(&self) -> bool {
+        self.rows.len() == 0
     }
 
     /// The start of the steps.
@@ -244,7 +236,7 @@ impl WarmStart {
         table: &Compact,
         numbers: &[usize],
     ) -> Result<Ascent, AllocError> {
-        if self.rows.is_none() {
+        if self.is_new() {
             let weights = first_weights(alloc, table)?;
             return Ascent::new(alloc, table, weights, self.column, PACE);
         }
@@ -253,47 +245,51 @@ impl WarmStart {
         Ascent::new(alloc, table, weights, self.column, pace)
     }
 
-    /// Makes the steps, until they reach the goal or gain nothing.
+    /// The course of the steps; `uneven` is whether columns have different costs.
+    fn course(&self, uneven: bool) -> Course {
+        if self.is_new() {
+            Course::new(STEPS, REACH)
+        } else if uneven {
+            Course::new(self.steps, REACH)
+        } else {
+            Course::new(self.steps, NEAR_REACH)
+        }
+    }
+
+    /// Makes the steps, until they reach the goal or gain nothing, and keeps how likely each live
+    /// column is; columns are below `columns`.
     fn climb(
         &mut self,
         alloc: Global,
         table: &Compact,
         live: &[usize],
+        columns: usize,
         goal: Goal,
         ascent: &mut Ascent,
     ) -> Result<(), AllocError> {
-        let mut course = if self.rows.is_none() {
-            Course::new(STEPS, REACH)
-        } else if ascent.cost > 0 {
-            Course::new(self.steps, REACH)
-        } else {
-            Course::new(self.steps, NEAR_REACH)
-        };
-        let mut likely: Vec<i64> = vec![in alloc; 0; live.len()]?;
+        let mut course = self.course(ascent.cost > 0);
         for step in 0..STEPS * 2 + 2 {
-            let value = ascent.present_value(table, goal);
-            if step % 4 == 0 {
-                note_likely(&mut likely, &ascent.overloaded, step == 0);
-            }
-            ascent.note(value);
-            let over = if ascent.is_over(step, &mut course) {
-                ascent.end_or_restart(alloc, table, goal, step, &mut course)?
-            } else {
-                ascent.go_on(alloc, table, goal, step, value)?
-            };
-            if over {
+            if ascent.go_on(alloc, table, goal, step, &mut course)? {
                 break;
             }
         }
-        self.keep_likely(live, &likely);
-        Ok(())
+        self.keep_likely(alloc, live, ascent.likely(), columns)
     }
 
-    /// Keeps how likely each live column is.
-    fn keep_likely(&mut self, live: &[usize], likely: &[i64]) {
-        for (column, likely) in live.iter().zip(likely.iter()) {
-            put(&mut self.likely, *column, *likely);
+    /// Keeps how likely each live column is; columns are below `columns`.
+    fn keep_likely(
+        &mut self,
+        alloc: Global,
+        live: &[usize],
+        likely: &[i64],
+        columns: usize,
+    ) -> Result<(), AllocError> {
+        let mut all = vec![in alloc; 0; columns]?;
+        for (i, column) in live.iter().enumerate() {
+            put(&mut all, *column, at(likely, i));
         }
+        self.likely = all;
+        Ok(())
     }
 
     /// Multipliers that may show that no cover reaches the goal, or which columns are in no cover
@@ -312,25 +308,22 @@ impl WarmStart {
         goal: Goal,
     ) -> Result<Multipliers, AllocError> {
         self.effort.rounds = self.effort.rounds.saturating_add(1);
-        let marks = marked(alloc, live, columns)?;
-        let numbers = self.row_ids(alloc, rows, &marks)?;
+        let numbers = self.row_ids(alloc, rows, live, columns)?;
         let mut ascent = self.ascent(alloc, table, &numbers)?;
         if !rows.is_empty() {
-            self.likely = vec![in alloc; 0; columns]?;
-            self.climb(alloc, table, live, goal, &mut ascent)?;
-            self.keep_weights(&numbers, &ascent)?;
-            self.remember(alloc, rows, numbers, &ascent)?;
+            self.climb(alloc, table, live, columns, goal, &mut ascent)?;
+            self.remember(alloc, rows, &numbers, &ascent)?;
         }
         ascent.multipliers(alloc)
     }
 
     /// Keeps the best weights of the steps, by the numbers of their rows; new numbers are
     /// consecutive.
-    fn keep_weights(&mut self, numbers: &[usize], ascent: &Ascent) -> Result<(), AllocError> {
+    fn keep_weights(&mut self, numbers: &[usize], weights: &[i64]) -> Result<(), AllocError> {
         for (i, number) in numbers.iter().enumerate() {
-            let weight = at(&ascent.best_weights, i);
+            let weight = at(weights, i);
             if *number < self.weights.len() {
-                self.weights[*number] = weight;
+                put(&mut self.weights, *number, weight);
             } else {
                 self.weights.push(weight)?;
             }
@@ -343,19 +336,24 @@ impl WarmStart {
         &mut self,
         alloc: Global,
         rows: &[Vec<usize>],
-        numbers: Vec<usize>,
+        numbers: &[usize],
         ascent: &Ascent,
     ) -> Result<(), AllocError> {
-        self.rows = Some(Lists::of(alloc, rows)?);
-        self.numbers = numbers;
-        let short = 0i64.wrapping_sub(ascent.best_value).max(0);
-        let missing = if ascent.cost > 0 {
-            self.column = ascent.top_column;
-            short / ascent.cost.max(1)
-        } else {
-            short / UNIT
-        };
-        self.missing = u64::try_from(missing).unwrap_or(0);
+        self.keep_weights(numbers, &ascent.best.weights)?;
+        self.rows = Lists::of(alloc, rows)?;
+        self.numbers = numbers.to_vec(alloc)?;
+        self.note_shortfall(ascent);
         Ok(())
+    }
+
+    /// Notes by how much the steps fell short, and their multiplier of a column.
+    fn note_shortfall(&mut self, ascent: &Ascent) {
+        let short = 0i64.wrapping_sub(ascent.best.value).max(0);
+        let mut unit = UNIT;
+        if ascent.cost > 0 {
+            self.column = ascent.top.column;
+            unit = ascent.cost;
+        }
+        self.missing = u64::try_from(short.wrapping_div(unit.max(1))).unwrap_or(0);
     }
 }
