@@ -37,7 +37,11 @@ fn missing_inputs_by_weight(
         weighed.push((u64::MAX - input_weight(&signature.rows, *input), *input))?;
     }
     weighed.sort_unstable();
-    weighed.iter().map(|(_, input)| *input).collect(alloc)
+    let mut inputs: Vec<usize> = Vec::new(alloc);
+    for (_, input) in &weighed {
+        inputs.push(*input)?;
+    }
+    Ok(inputs)
 }
 
 /// The wide cube with the literals of the other one at the first `count` inputs.
@@ -93,6 +97,59 @@ impl Finder<'_> {
         }
     }
 
+    // The signature cube of the cube near or, if it has no place of its own, of a point of it.
+    fn first_signature(
+        &mut self,
+        near: &[Literals],
+        output: usize,
+    ) -> Result<Option<Signature>, AllocError> {
+        let words = self.function.output_words;
+        let cube = Cube::of_output(self.alloc, near, output, words)?;
+        match self.signature_of(&cube)? {
+            Some(signature) => Ok(Some(signature)),
+            None => self.signature_at_point(near, output),
+        }
+    }
+
+    // The signature cube of the wide cube with the literals at the first `count` inputs.
+    fn signature_with_literals(
+        &mut self,
+        wide: &Cube,
+        literals: &[Literals],
+        inputs: &[usize],
+        count: usize,
+    ) -> Result<Option<Signature>, AllocError> {
+        let cube = with_first_literals(self.alloc, wide, literals, inputs, count)?;
+        self.signature_of(&cube)
+    }
+
+    // Replaces a signature cube by that of the wide cube with its literals at as few of the first
+    // inputs as will do.
+    fn widen(
+        &mut self,
+        best: &mut Signature,
+        wide: &Cube,
+        literals: &[Literals],
+        inputs: &[usize],
+    ) -> Result<(), AllocError> {
+        let mut least: usize = 0;
+        let mut most = inputs.len();
+        for _ in 0..=inputs.len() {
+            if least >= most {
+                break;
+            }
+            let middle = least.wrapping_add(most) / 2;
+            match self.signature_with_literals(wide, literals, inputs, middle)? {
+                Some(signature) => {
+                    *best = signature;
+                    most = middle;
+                }
+                None => least = middle.saturating_add(1),
+            }
+        }
+        Ok(())
+    }
+
     // A large signature cube with a place of its own, found from cubes between a point of the cube
     // near and the wide cube, which contains it. `None` if the cube near meets OFF.
     fn descend(
@@ -101,34 +158,14 @@ impl Finder<'_> {
         near: &[Literals],
         output: usize,
     ) -> Result<Option<Signature>, AllocError> {
-        let words = self.function.output_words;
-        let cube = Cube::of_output(self.alloc, near, output, words)?;
-        let first = match self.signature_of(&cube)? {
-            Some(signature) => Some(signature),
-            None => self.signature_at_point(near, output)?,
-        };
-        let Some(mut best) = first else {
+        let Some(mut best) = self.first_signature(near, output)? else {
             return Ok(None);
         };
+        let words = self.function.output_words;
         let wide = Cube::of_output(self.alloc, wide, output, words)?;
         let inputs = missing_inputs_by_weight(self.alloc, &best, &wide.literals)?;
         let literals = best.cube.literals.to_vec(self.alloc)?;
-        let mut least: usize = 0;
-        let mut most = inputs.len();
-        for _ in 0..=inputs.len() {
-            if least >= most {
-                break;
-            }
-            let middle = least.wrapping_add(most) / 2;
-            let cube = with_first_literals(self.alloc, &wide, &literals, &inputs, middle)?;
-            match self.signature_of(&cube)? {
-                Some(signature) => {
-                    best = signature;
-                    most = middle;
-                }
-                None => least = middle.saturating_add(1),
-            }
-        }
+        self.widen(&mut best, &wide, &literals, &inputs)?;
         Ok(Some(best))
     }
 

@@ -9,10 +9,14 @@
 //! comes of this is outside ON and DC. Which ON and DC cubes hold an exchanged place depends only
 //! on the inputs where the cube has no literal; so the tests of all rows together are one question.
 
-use crate::bits::{Literals, all_bits, has_bit, meets, narrow_to, push_cofactor};
+use crate::bits::{
+    Literals, all_bits, has_bit, literals_at, meets, narrow_at, push_cofactor, row_at, row_count,
+    word_at,
+};
 use crate::blocking_matrix::{BlockingMatrix, BlockingRows};
 use crate::cube::Cube;
 use crate::function::Function;
+use crate::lists::push_cofactors;
 use crate::question::Question;
 use crate::rows::Rows;
 use std::alloc::{AllocError, Global};
@@ -53,14 +57,19 @@ pub(crate) struct Finder<'a> {
 /// Whether a cube meets the signature cube with the literals of some row exchanged. `compared` says
 /// where they have opposite literals, and where the same.
 fn meets_with_any_row_exchanged(compared: &[Literals], rows: &[u64], width: usize) -> bool {
-    rows.chunks_exact(width.max(1))
-        .any(|row| meets_with_row_exchanged(compared, row))
+    for row in rows.chunks_exact(width.max(1)) {
+        if meets_with_row_exchanged(compared, row) {
+            return true;
+        }
+    }
+    false
 }
 
 /// Whether a cube meets the signature cube with the literals of this row exchanged.
 fn meets_with_row_exchanged(compared: &[Literals], row: &[u64]) -> bool {
-    for (word, inputs) in compared.iter().zip(row.iter()) {
-        if (word.ones & *inputs) | (word.zeros & !*inputs) != 0 {
+    for k in 0..compared.len().min(row.len()) {
+        let (word, inputs) = (literals_at(compared, k), word_at(row, k));
+        if (word.ones & inputs) | (word.zeros & !inputs) != 0 {
             return false;
         }
     }
@@ -69,9 +78,12 @@ fn meets_with_row_exchanged(compared: &[Literals], row: &[u64]) -> bool {
 
 /// Notes where the cubes have opposite literals, as zeros, and where the same, as ones.
 fn compare(compared: &mut Vec<Literals>, a: &[Literals], b: &[Literals]) {
-    for (word, (one, other)) in compared.iter_mut().zip(a.iter().zip(b.iter())) {
-        word.zeros = one.opposites(*other);
-        word.ones = one.agreements(*other);
+    for k in 0..a.len().min(b.len()) {
+        let (one, other) = (literals_at(a, k), literals_at(b, k));
+        if let Some(word) = compared.get_mut(k) {
+            word.zeros = one.opposites(other);
+            word.ones = one.agreements(other);
+        }
     }
 }
 
@@ -81,16 +93,18 @@ impl<'a> Finder<'a> {
         function: &'a Function,
         primes: Option<&'a Rows>,
     ) -> Result<Finder<'a>, AllocError> {
-        let width = function.width;
+        let compared: Vec<Literals> = vec![in alloc; Literals::NONE; function.width]?;
+        let matrix = BlockingMatrix::new(alloc, function.width)?;
+        let question = Question::new(alloc, function.width)?;
         Ok(Finder {
             alloc,
             function,
-            question: Question::new(alloc, width)?,
-            matrix: BlockingMatrix::new(alloc, width)?,
+            question,
+            matrix,
             primes,
             avoided: Vec::new(alloc),
             without_own_place: BTreeSet::new(alloc),
-            compared: vec![in alloc; Literals::NONE; width]?,
+            compared,
         })
     }
 
@@ -118,8 +132,8 @@ impl<'a> Finder<'a> {
     ) -> Result<Vec<Literals>, AllocError> {
         let inputs = rows.occurring_inputs(self.alloc)?;
         let mut literals: Vec<Literals> = Vec::with_capacity(self.alloc, inputs.len())?;
-        for (word, kept) in cube.literals.iter().zip(inputs.iter()) {
-            literals.push(word.at(*kept))?;
+        for (k, kept) in inputs.iter().enumerate() {
+            literals.push(literals_at(&cube.literals, k).at(*kept))?;
         }
         Ok(literals)
     }
@@ -184,17 +198,30 @@ impl<'a> Finder<'a> {
         }
         let common = self.avoided.len();
         for output in 0..self.function.outputs {
-            if has_bit(&cube.outputs, output) && !self.function.on(output).is_empty() {
-                self.avoided.truncate(common);
-                if self.guess_own_place(cube, output)?
-                    || self.avoid_all(cube, rows, first, output)?
-                        && self.has_wanted_place_outside_avoided(cube, output)?
-                {
-                    return Ok(Some(output));
-                }
+            self.avoided.truncate(common);
+            if has_bit(&cube.outputs, output) && self.has_own_place(cube, rows, first, output)? {
+                return Ok(Some(output));
             }
         }
         Ok(None)
+    }
+
+    // Whether the cube has a place of its own under this output.
+    fn has_own_place(
+        &mut self,
+        cube: &Cube,
+        rows: &BlockingRows,
+        first: usize,
+        output: usize,
+    ) -> Result<bool, AllocError> {
+        if self.function.on(output).is_empty() {
+            return Ok(false);
+        }
+        Ok(
+            self.guess_own_place(cube, output)?
+                || self.avoid_all(cube, rows, first, output)?
+                    && self.has_wanted_place_outside_avoided(cube, output)?,
+        )
     }
 
     // Whether former answers give a place of the cube's own, if all primes are known to check it.
@@ -237,10 +264,12 @@ impl<'a> Finder<'a> {
         output: usize,
     ) -> Result<bool, AllocError> {
         let width = self.function.width;
-        for other in self.function.on_and_dc(output).chunks_exact(width.max(1)) {
-            compare(&mut self.compared, other, &cube.literals);
-            if meets_with_any_row_exchanged(&self.compared, rows, width)
-                && !push_cofactor(&mut self.avoided, other, &cube.literals)?
+        let (compared, avoided) = (&mut self.compared, &mut self.avoided);
+        let list = self.function.on_and_dc(output);
+        for other in list.chunks_exact(width.max(1)) {
+            compare(compared, other, &cube.literals);
+            if meets_with_any_row_exchanged(compared, rows, width)
+                && !push_cofactor(avoided, other, &cube.literals)?
             {
                 return Ok(false);
             }
@@ -250,15 +279,8 @@ impl<'a> Finder<'a> {
 
     // Gathers the DC cubes of an output that meet the cube. `false` if one contains it.
     fn avoid_dc(&mut self, cube: &Cube, output: usize) -> Result<bool, AllocError> {
-        let width = self.function.width;
-        for other in self.function.dc(output).chunks_exact(width.max(1)) {
-            if meets(other, &cube.literals)
-                && !push_cofactor(&mut self.avoided, other, &cube.literals)?
-            {
-                return Ok(false);
-            }
-        }
-        Ok(true)
+        let dc = self.function.dc(output);
+        push_cofactors(&mut self.avoided, dc, &cube.literals, self.function.width)
     }
 
     // Gathers the cubes to be avoided under this output. `false` if these are all places.
@@ -282,17 +304,30 @@ impl<'a> Finder<'a> {
         cube: &Cube,
         output: usize,
     ) -> Result<bool, AllocError> {
-        let mut budget = REGION_BUDGET;
-        if !self.function.samples {
-            return self
-                .question
-                .ask(&cube.literals, &self.avoided, &mut budget);
+        if self.function.samples {
+            return self.has_on_place_outside_avoided(&cube.literals, output);
         }
+        let mut budget = REGION_BUDGET;
+        self.question
+            .ask(&cube.literals, &self.avoided, &mut budget)
+    }
+
+    // Whether the cube has a place of an ON cube outside all that was gathered.
+    fn has_on_place_outside_avoided(
+        &mut self,
+        cube: &[Literals],
+        output: usize,
+    ) -> Result<bool, AllocError> {
         let width = self.function.width;
-        for wanted in self.function.on(output).chunks_exact(width.max(1)) {
-            if meets(wanted, &cube.literals) {
-                let mut inside = cube.literals.to_vec(self.alloc)?;
-                narrow_to(&mut inside, wanted);
+        let on = self.function.on(output);
+        let mut budget = REGION_BUDGET;
+        let mut inside = cube.to_vec(self.alloc)?;
+        for index in 0..row_count(on, width) {
+            let wanted = row_at(on, index.wrapping_mul(width), width);
+            if meets(wanted, cube) {
+                inside.clear();
+                inside.extend_from_slice(cube)?;
+                narrow_at(&mut inside, 0, wanted);
                 if self.question.ask(&inside, &self.avoided, &mut budget)? {
                     return Ok(true);
                 }

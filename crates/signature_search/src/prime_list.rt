@@ -4,11 +4,12 @@
 //! own if it lies in no other prime. This is used where the primes are few and the OFF cubes many.
 
 use crate::bits::{
-    Literals, all_bits, contains, has_bit, is_within, meet_bits, meets, narrow_to, push_cofactor,
+    Literals, all_bits, contains, has_bit, is_within, meet_bits, meets, narrow_at, push_cofactor,
 };
 use crate::blocking_matrix::BlockingRows;
 use crate::cube::Cube;
 use crate::finder::Finder;
+use crate::lists::any_meets;
 use crate::rows::Rows;
 use std::alloc::AllocError;
 
@@ -16,6 +17,19 @@ use std::alloc::AllocError;
 fn prime_contains(primes: &Rows, prime: usize, cube: &Cube) -> bool {
     contains(primes.literals_of(prime), &cube.literals)
         && is_within(&cube.outputs, primes.outputs_of(prime))
+}
+
+/// Whether a prime with the output that does not contain the cube meets the place.
+fn other_prime_meets(primes: &Rows, cube: &Cube, place: &[Literals], output: usize) -> bool {
+    for prime in 0..primes.len() {
+        if has_bit(primes.outputs_of(prime), output)
+            && meets(primes.literals_of(prime), place)
+            && !prime_contains(primes, prime, cube)
+        {
+            return true;
+        }
+    }
+    false
 }
 
 impl Finder<'_> {
@@ -33,7 +47,7 @@ impl Finder<'_> {
         for prime in 0..primes.len() {
             if prime_contains(primes, prime, cube) {
                 found = true;
-                narrow_to(&mut literals, primes.literals_of(prime));
+                narrow_at(&mut literals, 0, primes.literals_of(prime));
                 meet_bits(&mut outputs, primes.outputs_of(prime));
             }
         }
@@ -75,17 +89,10 @@ impl Finder<'_> {
     ) -> Result<bool, AllocError> {
         self.question.guess(&cube.literals)?;
         let guess = self.question.answer();
-        for prime in 0..primes.len() {
-            if has_bit(primes.outputs_of(prime), output)
-                && meets(primes.literals_of(prime), guess)
-                && !prime_contains(primes, prime, cube)
-            {
-                return Ok(false);
-            }
-        }
-        let width = self.function.width.max(1);
-        let mut dc = self.function.dc(output).chunks_exact(width);
-        Ok(!dc.any(|row| meets(row, guess)))
+        Ok(
+            !other_prime_meets(primes, cube, guess, output)
+                && !any_meets(self.function.dc(output), guess, self.function.width),
+        )
     }
 
     /// Gathers the primes with the output that meet the cube and do not contain it. `false` if one

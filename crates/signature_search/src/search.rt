@@ -28,11 +28,16 @@ impl SignatureCube {
             &self.cube.literals,
         )))
     }
+}
 
-    fn contains(&self, other: &SignatureCube) -> bool {
-        contains(&self.cube.literals, &other.cube.literals)
-            && is_within(&other.cube.outputs, &self.cube.outputs)
+/// Whether the cube lies in one of the list.
+fn lies_in_any(cube: &Cube, list: &[Cube]) -> bool {
+    for other in list {
+        if contains(&other.literals, &cube.literals) && is_within(&cube.outputs, &other.outputs) {
+            return true;
+        }
     }
+    false
 }
 
 /// Adds the rows of a list that have the output and meet the cube.
@@ -78,18 +83,29 @@ impl<'a> Search<'a> {
         }
         for row in 0..on.len() {
             let cube = Cube::of(alloc, on.literals_of(row), on.outputs_of(row))?;
-            let Some((signature, rows)) = self.finder.signature_cube(&cube)? else {
-                continue;
-            };
-            let hash = signature.hash();
-            if !tried.contains(&hash) {
-                tried.push(hash)?;
-                if let Some(found) = self.finder.signature_with_own_place(signature, rows)? {
-                    self.add_signature(found)?;
-                }
-            }
+            self.add_signature_of_cube(&cube, &mut tried)?;
         }
         Ok(())
+    }
+
+    // Adds the signature cube of a cube, if it was not tried before and has a place of its own.
+    fn add_signature_of_cube(
+        &mut self,
+        cube: &Cube,
+        tried: &mut Vec<u64>,
+    ) -> Result<(), AllocError> {
+        let Some((signature, rows)) = self.finder.signature_cube(cube)? else {
+            return Ok(());
+        };
+        let hash = signature.hash();
+        if tried.contains(&hash) {
+            return Ok(());
+        }
+        tried.push(hash)?;
+        match self.finder.signature_with_own_place(signature, rows)? {
+            Some(found) => self.add_signature(found),
+            None => Ok(()),
+        }
     }
 
     /// Adds a signature cube for each ON cube and output of which the cover, and the signature
@@ -127,16 +143,27 @@ impl<'a> Search<'a> {
         cover: &Rows,
         output: usize,
     ) -> Result<(), AllocError> {
+        if !self.finds_place_left_out(wide, cover, output)? {
+            return Ok(());
+        }
+        let near = self.finder.question.answer().to_vec(self.finder.alloc)?;
+        match self.finder.signature_near(wide, &near, output)? {
+            Some(found) => self.add_signature(found),
+            None => Ok(()),
+        }
+    }
+
+    // Whether the cover leaves out a place of an ON cube, which is then the answer of the question.
+    fn finds_place_left_out(
+        &mut self,
+        wide: &[Literals],
+        cover: &Rows,
+        output: usize,
+    ) -> Result<bool, AllocError> {
         let mut held = self.dc_and_signatures_meeting(wide, output)?;
         push_rows_meeting(&mut held, cover, wide, output)?;
         let mut budget = REGION_BUDGET;
-        if self.finder.question.ask(wide, &held, &mut budget)? {
-            let near = self.finder.question.answer().to_vec(self.finder.alloc)?;
-            if let Some(found) = self.finder.signature_near(wide, &near, output)? {
-                self.add_signature(found)?;
-            }
-        }
-        Ok(())
+        self.finder.question.ask(wide, &held, &mut budget)
     }
 
     // The DC cubes of the output, and the signature cubes with it that meet the ON cube.
@@ -169,17 +196,17 @@ impl<'a> Search<'a> {
         let alloc = self.finder.alloc;
         let mut signatures = self.signatures;
         signatures.sort_by_key(|signature| signature.size())?;
-        let mut kept: Vec<SignatureCube> = Vec::new(alloc);
+        let mut kept: Vec<Cube> = Vec::new(alloc);
+        let mut places: Vec<Place> = Vec::new(alloc);
         for _ in 0..signatures.len() {
             let Some(signature) = signatures.pop() else {
                 break;
             };
-            if !kept.iter().any(|other| other.contains(&signature)) {
-                kept.push(signature)?;
+            if !lies_in_any(&signature.cube, &kept) {
+                kept.push(signature.cube)?;
+                places.push(signature.place)?;
             }
         }
-        kept.into_iter()
-            .map(|signature| signature.place)
-            .collect(alloc)
+        Ok(places)
     }
 }
