@@ -270,17 +270,6 @@ pub(crate) fn meet_bits(words: &mut Vec<u64>, others: &[u64]) {
     }
 }
 
-/// The indices of the bits that are set, the least first.
-pub(crate) fn bit_indices(alloc: Global, words: &[u64]) -> Result<Vec<usize>, AllocError> {
-    let mut indices: Vec<usize> = Vec::new(alloc);
-    for index in 0..words.len().saturating_mul(64) {
-        if has_bit(words, index) {
-            indices.push(index)?;
-        }
-    }
-    Ok(indices)
-}
-
 /// 0, 1 or 2: as none of the word's bits is set, one, or more.
 pub(crate) fn few_in_word(word: u64) -> u32 {
     ((word != 0) as u32).wrapping_add((word & word.wrapping_sub(1) != 0) as u32)

@@ -50,7 +50,8 @@ impl Split {
     }
 }
 
-/// The cubes of the list that have points where the input is 1, or 0, without the input.
+/// The cubes of the list that have points where the input is 1, or 0, without the input and without
+/// absorbed ones.
 fn cofactor(
     alloc: Global,
     list: &[Literals],
@@ -58,7 +59,7 @@ fn cofactor(
     input: usize,
     one: bool,
 ) -> Result<Vec<Literals>, AllocError> {
-    let mut half: Vec<Literals> = Vec::with_capacity(alloc, list.len())?;
+    let mut half: Vec<Literals> = Vec::new(alloc);
     for index in 0..row_count(list, width) {
         let row = row_at(list, index.wrapping_mul(width), width);
         if literal_at(row, input) != Some(!one) {
@@ -67,7 +68,25 @@ fn cofactor(
             free_input(&mut half, begin.saturating_add(input));
         }
     }
-    Ok(half)
+    absorb_list(alloc, &half, width)
+}
+
+/// The halves of a list, and where it is split.
+#[derive(Drop)]
+struct Halves {
+    split: Split,
+    zeros: Vec<Literals>,
+    ones: Vec<Literals>,
+}
+
+impl Halves {
+    /// The halves of a list.
+    fn of(alloc: Global, list: &[Literals], width: usize) -> Result<Halves, AllocError> {
+        let split = Split::of(alloc, list, width)?;
+        let zeros = cofactor(alloc, list, width, split.input, false)?;
+        let ones = cofactor(alloc, list, width, split.input, true)?;
+        Ok(Halves { split, zeros, ones })
+    }
 }
 
 /// Adds a cube with one literal more.
@@ -160,7 +179,8 @@ pub(crate) fn complement(
     width: usize,
     budget: &mut usize,
 ) -> Result<Option<Vec<Literals>>, AllocError> {
-    complement_to_depth(alloc, list, width, budget, width.saturating_mul(64))
+    let rows = absorb_list(alloc, list, width)?;
+    complement_to_depth(alloc, &rows, width, budget, width.saturating_mul(64))
 }
 
 /// The list, or `None` if the budget has fewer words; it is lowered by a part of the list.
@@ -185,30 +205,28 @@ fn complement_of_one(
     Ok(within_budget(complement_of_cube(alloc, row)?, budget))
 }
 
-/// The complement, by at most `depth` splits one within the other: one for each input is enough.
+/// The complement of a list without absorbed cubes, by at most `depth` splits one within the other:
+/// one for each input is enough.
 fn complement_to_depth(
     alloc: Global,
-    list: &[Literals],
+    rows: &[Literals],
     width: usize,
     budget: &mut usize,
     depth: usize,
 ) -> Result<Option<Vec<Literals>>, AllocError> {
-    let rows = absorb_list(alloc, list, width)?;
     if rows.len() <= width {
-        return complement_of_one(alloc, &rows, width, budget);
+        return complement_of_one(alloc, rows, width, budget);
     }
     let Some(below) = depth.checked_sub(1) else {
         return Ok(None);
     };
-    let split = Split::of(alloc, &rows, width)?;
-    let zeros = cofactor(alloc, &rows, width, split.input, false)?;
-    let Some(low) = complement_to_depth(alloc, &zeros, width, budget, below)? else {
+    let halves = Halves::of(alloc, rows, width)?;
+    let Some(low) = complement_to_depth(alloc, &halves.zeros, width, budget, below)? else {
         return Ok(None);
     };
-    let ones = cofactor(alloc, &rows, width, split.input, true)?;
-    let Some(high) = complement_to_depth(alloc, &ones, width, budget, below)? else {
+    let Some(high) = complement_to_depth(alloc, &halves.ones, width, budget, below)? else {
         return Ok(None);
     };
-    let joined = join_halves(alloc, &low, &high, width, split)?;
+    let joined = join_halves(alloc, &low, &high, width, halves.split)?;
     Ok(within_budget(joined, budget))
 }

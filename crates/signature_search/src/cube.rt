@@ -1,7 +1,7 @@
 //! A cube by itself: its literals and its outputs. The search makes such cubes; those that it is
 //! given are rows of a list.
 
-use crate::bits::{Literals, literal_at, literals_at, put_bit};
+use crate::bits::{Literals, literal_at, put_bit};
 use std::alloc::{AllocError, Global};
 
 /// One step of a hash over words (Knuth, The art of computer programming, volume 3).
@@ -43,19 +43,6 @@ impl Cube {
             literals: literals.to_vec(alloc)?,
             outputs,
         })
-    }
-
-    /// The literals of this cube that the other lacks, as inputs.
-    pub(crate) fn inputs_beyond(
-        &self,
-        alloc: Global,
-        other: &[Literals],
-    ) -> Result<Vec<u64>, AllocError> {
-        let mut inputs: Vec<u64> = Vec::with_capacity(alloc, self.literals.len())?;
-        for (k, mine) in self.literals.iter().enumerate() {
-            inputs.push(mine.inputs() & !literals_at(other, k).inputs())?;
-        }
-        Ok(inputs)
     }
 
     /// A hash of the cube.

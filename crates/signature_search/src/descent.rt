@@ -5,7 +5,7 @@
 //! point has one always. So the literals that part the two cubes are put in an order, those of
 //! short rows first, and the least number of them that will do is found by binary search.
 
-use crate::bits::{Literals, bit_indices, has_bit, literal_at, put_literal};
+use crate::bits::{Literals, has_bit, has_literal_at, literal_at, put_literal, row_at};
 use crate::blocking_matrix::BlockingRows;
 use crate::cube::Cube;
 use crate::finder::{Finder, Signature};
@@ -25,35 +25,44 @@ fn input_weight(rows: &BlockingRows, input: usize) -> u64 {
     weight
 }
 
+/// The inputs of literals that the wide cube lacks, by decreasing weight, which stands first.
+fn weighed_missing_inputs(
+    alloc: Global,
+    signature: &Signature,
+    wide: &[Literals],
+) -> Result<Vec<(u64, usize)>, AllocError> {
+    let mut weighed: Vec<(u64, usize)> = Vec::new(alloc);
+    for input in 0..wide.len().saturating_mul(64) {
+        if signature.cube.literal(input).is_some() && !has_literal_at(wide, input) {
+            weighed.push((u64::MAX - input_weight(&signature.rows, input), input))?;
+        }
+    }
+    weighed.sort_unstable();
+    Ok(weighed)
+}
+
 /// The inputs of literals that the wide cube lacks, by decreasing weight.
 fn missing_inputs_by_weight(
     alloc: Global,
     signature: &Signature,
     wide: &[Literals],
 ) -> Result<Vec<usize>, AllocError> {
-    let missing = signature.cube.inputs_beyond(alloc, wide)?;
-    let mut weighed: Vec<(u64, usize)> = Vec::new(alloc);
-    for input in &bit_indices(alloc, &missing)? {
-        weighed.push((u64::MAX - input_weight(&signature.rows, *input), *input))?;
-    }
-    weighed.sort_unstable();
     let mut inputs: Vec<usize> = Vec::new(alloc);
-    for (_, input) in &weighed {
+    for (_, input) in &weighed_missing_inputs(alloc, signature, wide)? {
         inputs.push(*input)?;
     }
     Ok(inputs)
 }
 
-/// The wide cube with the literals of the other one at the first `count` inputs.
-fn with_first_literals(
+/// The wide cube with the literals of the other one at these inputs.
+fn with_literals_at(
     alloc: Global,
     wide: &Cube,
     literals: &[Literals],
     inputs: &[usize],
-    count: usize,
 ) -> Result<Cube, AllocError> {
     let mut cube = Cube::of(alloc, &wide.literals, &wide.outputs)?;
-    for input in inputs.iter().take(count) {
+    for input in inputs {
         if let Some(one) = literal_at(literals, *input) {
             put_literal(&mut cube.literals, *input, one);
         }
@@ -111,15 +120,14 @@ impl Finder<'_> {
         }
     }
 
-    // The signature cube of the wide cube with the literals at the first `count` inputs.
+    // The signature cube of the wide cube with the literals at these inputs.
     fn signature_with_literals(
         &mut self,
         wide: &Cube,
         literals: &[Literals],
         inputs: &[usize],
-        count: usize,
     ) -> Result<Option<Signature>, AllocError> {
-        let cube = with_first_literals(self.alloc, wide, literals, inputs, count)?;
+        let cube = with_literals_at(self.alloc, wide, literals, inputs)?;
         self.signature_of(&cube)
     }
 
@@ -139,7 +147,7 @@ impl Finder<'_> {
                 break;
             }
             let middle = least.wrapping_add(most) / 2;
-            match self.signature_with_literals(wide, literals, inputs, middle)? {
+            match self.signature_with_literals(wide, literals, row_at(inputs, 0, middle))? {
                 Some(signature) => {
                     *best = signature;
                     most = middle;

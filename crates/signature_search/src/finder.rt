@@ -10,8 +10,7 @@
 //! on the inputs where the cube has no literal; so the tests of all rows together are one question.
 
 use crate::bits::{
-    Literals, all_bits, has_bit, literals_at, meets, narrow_at, push_cofactor, row_at, row_count,
-    word_at,
+    Literals, all_bits, has_bit, literals_at, meets, narrow_at, push_cofactor, word_at,
 };
 use crate::blocking_matrix::{BlockingMatrix, BlockingRows};
 use crate::cube::Cube;
@@ -131,9 +130,11 @@ impl<'a> Finder<'a> {
         rows: &BlockingRows,
     ) -> Result<Vec<Literals>, AllocError> {
         let inputs = rows.occurring_inputs(self.alloc)?;
-        let mut literals: Vec<Literals> = Vec::with_capacity(self.alloc, inputs.len())?;
+        let mut literals = cube.literals.to_vec(self.alloc)?;
         for (k, kept) in inputs.iter().enumerate() {
-            literals.push(literals_at(&cube.literals, k).at(*kept))?;
+            if let Some(word) = literals.get_mut(k) {
+                *word = word.at(*kept);
+            }
         }
         Ok(literals)
     }
@@ -165,20 +166,33 @@ impl<'a> Finder<'a> {
         cube: Cube,
         rows: BlockingRows,
     ) -> Result<Option<Signature>, AllocError> {
+        let Some(output) = self.new_output_of_own_place(&cube, &rows)? else {
+            return Ok(None);
+        };
+        let place = self.question.answer().to_vec(self.alloc)?;
+        Ok(Some(Signature {
+            cube,
+            place,
+            output,
+            rows,
+        }))
+    }
+
+    // The output of the cube's own place; not looked for where there was none before.
+    fn new_output_of_own_place(
+        &mut self,
+        cube: &Cube,
+        rows: &BlockingRows,
+    ) -> Result<Option<usize>, AllocError> {
         let hash = cube.hash();
         if self.without_own_place.contains(&hash) {
             return Ok(None);
         }
-        let Some(output) = self.output_of_own_place(&cube, &rows)? else {
+        let output = self.output_of_own_place(cube, rows)?;
+        if output.is_none() {
             self.without_own_place.insert(hash)?;
-            return Ok(None);
-        };
-        Ok(Some(Signature {
-            cube,
-            place: self.question.answer().to_vec(self.alloc)?,
-            output,
-            rows,
-        }))
+        }
+        Ok(output)
     }
 
     // An output of the cube under which it has a place of its own, which is then the answer of the
@@ -319,20 +333,24 @@ impl<'a> Finder<'a> {
         output: usize,
     ) -> Result<bool, AllocError> {
         let width = self.function.width;
-        let on = self.function.on(output);
         let mut budget = REGION_BUDGET;
-        let mut inside = cube.to_vec(self.alloc)?;
-        for index in 0..row_count(on, width) {
-            let wanted = row_at(on, index.wrapping_mul(width), width);
-            if meets(wanted, cube) {
-                inside.clear();
-                inside.extend_from_slice(cube)?;
-                narrow_at(&mut inside, 0, wanted);
-                if self.question.ask(&inside, &self.avoided, &mut budget)? {
-                    return Ok(true);
-                }
+        for wanted in self.function.on(output).chunks_exact(width.max(1)) {
+            if meets(wanted, cube) && self.ask_for_meet(cube, wanted, &mut budget)? {
+                return Ok(true);
             }
         }
         Ok(false)
+    }
+
+    // Whether the cubes share a place outside all that was gathered.
+    fn ask_for_meet(
+        &mut self,
+        cube: &[Literals],
+        other: &[Literals],
+        budget: &mut u64,
+    ) -> Result<bool, AllocError> {
+        let mut inside = cube.to_vec(self.alloc)?;
+        narrow_at(&mut inside, 0, other);
+        self.question.ask(&inside, &self.avoided, budget)
     }
 }

@@ -11,7 +11,7 @@ use crate::cube::Cube;
 use crate::finder::Finder;
 use crate::lists::any_meets;
 use crate::rows::Rows;
-use std::alloc::AllocError;
+use std::alloc::{AllocError, Global};
 
 /// Whether a prime contains the cube.
 fn prime_contains(primes: &Rows, prime: usize, cube: &Cube) -> bool {
@@ -32,6 +32,33 @@ fn other_prime_meets(primes: &Rows, cube: &Cube, place: &[Literals], output: usi
     false
 }
 
+/// Narrows literals and outputs to the primes that contain the cube. Whether there is one.
+fn narrow_to_primes(
+    primes: &Rows,
+    cube: &Cube,
+    literals: &mut Vec<Literals>,
+    outputs: &mut Vec<u64>,
+) -> bool {
+    let mut found = false;
+    for prime in 0..primes.len() {
+        if prime_contains(primes, prime, cube) {
+            found = true;
+            narrow_at(literals, 0, primes.literals_of(prime));
+            meet_bits(outputs, primes.outputs_of(prime));
+        }
+    }
+    found
+}
+
+/// The inputs of literals.
+fn inputs_of(alloc: Global, literals: &[Literals]) -> Result<Vec<u64>, AllocError> {
+    let mut inputs: Vec<u64> = Vec::with_capacity(alloc, literals.len())?;
+    for word in literals {
+        inputs.push(word.inputs())?;
+    }
+    Ok(inputs)
+}
+
 impl Finder<'_> {
     /// The meet of the primes that contain the cube, and rows by which each of its literals may be
     /// left out. `None` if no prime contains the cube.
@@ -41,17 +68,9 @@ impl Finder<'_> {
         cube: &Cube,
     ) -> Result<Option<(Cube, BlockingRows)>, AllocError> {
         let width = self.function.width;
-        let mut literals: Vec<Literals> = vec![in self.alloc; Literals::NONE; width]?;
         let mut outputs = all_bits(self.alloc, self.function.outputs)?;
-        let mut found = false;
-        for prime in 0..primes.len() {
-            if prime_contains(primes, prime, cube) {
-                found = true;
-                narrow_at(&mut literals, 0, primes.literals_of(prime));
-                meet_bits(&mut outputs, primes.outputs_of(prime));
-            }
-        }
-        if !found {
+        let mut literals: Vec<Literals> = vec![in self.alloc; Literals::NONE; width]?;
+        if !narrow_to_primes(primes, cube, &mut literals, &mut outputs) {
             return Ok(None);
         }
         let rows = self.rows_of_all_literals(&literals, &outputs)?;
@@ -65,10 +84,7 @@ impl Finder<'_> {
         literals: &[Literals],
         outputs: &[u64],
     ) -> Result<BlockingRows, AllocError> {
-        let mut inputs: Vec<u64> = Vec::with_capacity(self.alloc, literals.len())?;
-        for word in literals {
-            inputs.push(word.inputs())?;
-        }
+        let inputs = inputs_of(self.alloc, literals)?;
         let mut rows = BlockingRows::new(self.alloc, self.function.width);
         rows.push(&inputs, None)?;
         for output in 0..self.function.outputs {

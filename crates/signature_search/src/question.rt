@@ -143,6 +143,19 @@ fn remember(remembered: &mut Vec<Literals>, answer: &[Literals], inside: &[Liter
     }
 }
 
+/// Adds the cube, with the remembered literals at inputs where it has none.
+fn push_guess(
+    rows: &mut Vec<Literals>,
+    inside: &[Literals],
+    remembered: &[Literals],
+) -> Result<(), AllocError> {
+    for (k, word) in inside.iter().enumerate() {
+        let kept = literals_at(remembered, k);
+        rows.push(word.meet(kept.at(!word.inputs())))?;
+    }
+    Ok(())
+}
+
 /// Counts the literals of cubes by input, and notes those that occur in the shortest cubes.
 fn count_literals(
     rows: &[Literals],
@@ -245,12 +258,7 @@ impl Question {
     pub(crate) fn guess(&mut self, inside: &[Literals]) -> Result<(), AllocError> {
         self.rows.clear();
         self.regions.clear();
-        let rows = &mut self.rows;
-        for (k, word) in inside.iter().enumerate() {
-            let kept = literals_at(&self.remembered, k);
-            rows.push(word.meet(kept.at(!word.inputs())))?;
-        }
-        Ok(())
+        push_guess(&mut self.rows, inside, &self.remembered)
     }
 
     // Remembers the literals of the answer at inputs where the cube asked for has none.

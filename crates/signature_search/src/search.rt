@@ -40,6 +40,35 @@ fn lies_in_any(cube: &Cube, list: &[Cube]) -> bool {
     false
 }
 
+/// Adds a signature cube and its place, if the cube lies in none of the list.
+fn push_maximal(
+    kept: &mut Vec<Cube>,
+    places: &mut Vec<Place>,
+    signature: SignatureCube,
+) -> Result<(), AllocError> {
+    if !lies_in_any(&signature.cube, kept) {
+        kept.push(signature.cube)?;
+        places.push(signature.place)?;
+    }
+    Ok(())
+}
+
+/// The places of the signature cubes that lie in no other one.
+fn maximal_places(
+    alloc: Global,
+    mut signatures: Vec<SignatureCube>,
+) -> Result<Vec<Place>, AllocError> {
+    signatures.sort_by_key(|signature| signature.size())?;
+    let mut kept: Vec<Cube> = Vec::new(alloc);
+    let mut places: Vec<Place> = Vec::new(alloc);
+    for _ in 0..signatures.len() {
+        if let Some(signature) = signatures.pop() {
+            push_maximal(&mut kept, &mut places, signature)?;
+        }
+    }
+    Ok(places)
+}
+
 /// Adds the rows of a list that have the output and meet the cube.
 fn push_rows_meeting(
     held: &mut Vec<Literals>,
@@ -193,20 +222,6 @@ impl<'a> Search<'a> {
 
     /// The places of the signature cubes that lie in no other one.
     pub(crate) fn maximal_places(self) -> Result<Vec<Place>, AllocError> {
-        let alloc = self.finder.alloc;
-        let mut signatures = self.signatures;
-        signatures.sort_by_key(|signature| signature.size())?;
-        let mut kept: Vec<Cube> = Vec::new(alloc);
-        let mut places: Vec<Place> = Vec::new(alloc);
-        for _ in 0..signatures.len() {
-            let Some(signature) = signatures.pop() else {
-                break;
-            };
-            if !lies_in_any(&signature.cube, &kept) {
-                kept.push(signature.cube)?;
-                places.push(signature.place)?;
-            }
-        }
-        Ok(places)
+        maximal_places(self.finder.alloc, self.signatures)
     }
 }
