@@ -110,6 +110,15 @@ pub(crate) fn narrow_at(rows: &mut Vec<Literals>, begin: usize, other: &[Literal
     }
 }
 
+/// Leaves the literals at these inputs.
+pub(crate) fn keep_inputs(row: &mut Vec<Literals>, inputs: &[u64]) {
+    for (k, kept) in inputs.iter().enumerate() {
+        if let Some(word) = row.get_mut(k) {
+            *word = word.at(*kept);
+        }
+    }
+}
+
 /// Adds the cofactor of a cube by another: its literals at inputs where the other has none. Whether
 /// there is such a literal.
 pub(crate) fn push_cofactor(

@@ -81,6 +81,14 @@ impl BlockingRows {
         Ok(())
     }
 
+    /// The end of the rows without an output, which stand first.
+    pub(crate) fn end_without_output(&self) -> usize {
+        match self.output(0) {
+            Some(_) => 0,
+            None => self.end_of_output(0),
+        }
+    }
+
     // Adds a row without literals.
     fn push_empty(&mut self, output: Option<usize>) -> Result<(), AllocError> {
         let end = self.inputs.len().saturating_add(self.width);
@@ -175,6 +183,25 @@ fn gather_rows(
         }
     }
     Ok(true)
+}
+
+/// Adds the lengths and indices of the rows that have none of the singles and contain none of the
+/// first `longer` rows found.
+fn push_rows_to_order(
+    order: &mut Vec<(u32, usize)>,
+    rows: &[u64],
+    singles: &[u64],
+    found: &BlockingRows,
+    longer: usize,
+) -> Result<(), AllocError> {
+    let width = found.width;
+    for index in 0..row_count(rows, width) {
+        let row = row_at(rows, index.wrapping_mul(width), width);
+        if !share_bit(row, singles) && !found.has_row_within(row, 0, longer) {
+            order.push((bit_count(row), index))?;
+        }
+    }
+    Ok(())
 }
 
 /// The blocking matrix of a cube, and memory that is kept from one to the next.
@@ -293,14 +320,9 @@ impl BlockingMatrix {
     // Orders the rows of several literals that contain no single one and none of the first `longer`
     // rows found.
     fn order_rows(&mut self, found: &BlockingRows, longer: usize) -> Result<(), AllocError> {
-        let order = &mut self.order;
-        order.clear();
-        for (index, row) in self.rows.chunks_exact(self.width.max(1)).enumerate() {
-            if !share_bit(row, &self.singles) && !found.has_row_within(row, 0, longer) {
-                order.push((bit_count(row), index))?;
-            }
-        }
-        order.sort_unstable();
+        self.order.clear();
+        push_rows_to_order(&mut self.order, &self.rows, &self.singles, found, longer)?;
+        self.order.sort_unstable();
         Ok(())
     }
 

@@ -16,6 +16,14 @@ enum Step {
     AddOutput(usize),
 }
 
+/// Whether a step leads to another cube.
+fn is_new(signature: &Signature, step: Step) -> bool {
+    match step {
+        Step::DropLiteral(input) => signature.cube.literal(input).is_some(),
+        Step::AddOutput(output) => !has_bit(&signature.cube.outputs, output),
+    }
+}
+
 impl Finder<'_> {
     // The inputs whose literals, and the absent outputs which, are a row by themselves: no
     // implicant that contains the cube lacks such a literal or has such an output.
@@ -75,35 +83,35 @@ impl Finder<'_> {
         Ok(steps)
     }
 
-    // The cube after a step, or `None` if an earlier step led as far.
-    fn cube_after(&self, signature: &Signature, step: Step) -> Result<Option<Cube>, AllocError> {
-        let is_new = match step {
-            Step::DropLiteral(input) => signature.cube.literal(input).is_some(),
-            Step::AddOutput(output) => !has_bit(&signature.cube.outputs, output),
-        };
-        if !is_new {
-            return Ok(None);
-        }
-        let mut cube = Cube::of(
-            self.alloc,
-            &signature.cube.literals,
-            &signature.cube.outputs,
-        )?;
+    // The cube after a step.
+    fn cube_after(&self, signature: &Signature, step: Step) -> Result<Cube, AllocError> {
+        let from = &signature.cube;
+        let mut cube = Cube::of(self.alloc, &from.literals, &from.outputs)?;
         match step {
             Step::DropLiteral(input) => free_input(&mut cube.literals, input),
             Step::AddOutput(output) => put_bit(&mut cube.outputs, output),
         }
-        Ok(Some(cube))
+        Ok(cube)
+    }
+
+    // Tries a step, unless an earlier one led as far. Whether it leads on.
+    fn try_step(&mut self, at: &mut Signature, step: Step) -> Result<bool, AllocError> {
+        if !is_new(at, step) {
+            return Ok(false);
+        }
+        let cube = self.cube_after(at, step)?;
+        let Some(signature) = self.signature_of(&cube)? else {
+            return Ok(false);
+        };
+        *at = signature;
+        Ok(true)
     }
 
     // Tries each step once. Whether one led on.
     fn climb_once(&mut self, at: &mut Signature) -> Result<bool, AllocError> {
         let mut rose = false;
         for step in &self.steps_from(at)? {
-            if let Some(cube) = self.cube_after(at, *step)?
-                && let Some(signature) = self.signature_of(&cube)?
-            {
-                *at = signature;
+            if self.try_step(at, *step)? {
                 rose = true;
             }
         }

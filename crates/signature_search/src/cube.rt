@@ -1,7 +1,7 @@
 //! A cube by itself: its literals and its outputs. The search makes such cubes; those that it is
 //! given are rows of a list.
 
-use crate::bits::{Literals, literal_at, put_bit};
+use crate::bits::{Literals, all_bits, literal_at, put_bit};
 use std::alloc::{AllocError, Global};
 
 /// One step of a hash over words (Knuth, The art of computer programming, volume 3).
@@ -28,6 +28,13 @@ impl Cube {
             literals: literals.to_vec(alloc)?,
             outputs: outputs.to_vec(alloc)?,
         })
+    }
+
+    /// All points under all outputs.
+    pub(crate) fn whole(alloc: Global, width: usize, outputs: usize) -> Result<Cube, AllocError> {
+        let outputs = all_bits(alloc, outputs)?;
+        let literals: Vec<Literals> = vec![in alloc; Literals::NONE; width]?;
+        Ok(Cube { literals, outputs })
     }
 
     /// These literals with one output.

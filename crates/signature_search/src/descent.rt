@@ -9,6 +9,7 @@ use crate::bits::{Literals, has_bit, has_literal_at, literal_at, put_literal, ro
 use crate::blocking_matrix::BlockingRows;
 use crate::cube::Cube;
 use crate::finder::{Finder, Signature};
+use crate::rows::Place;
 use std::alloc::{AllocError, Global};
 
 // The weight of a row, shared by its literals.
@@ -70,19 +71,13 @@ fn with_literals_at(
     Ok(cube)
 }
 
-/// The literals, with 0 at each input that has none.
-fn point_of(
-    alloc: Global,
-    literals: &[Literals],
-    inputs: usize,
-) -> Result<Vec<Literals>, AllocError> {
-    let mut point = literals.to_vec(alloc)?;
+/// Gives each input that has no literal a 0.
+fn put_missing_zeros(literals: &mut Vec<Literals>, inputs: usize) {
     for input in 0..inputs {
-        if literal_at(&point, input).is_none() {
-            put_literal(&mut point, input, false);
+        if !has_literal_at(literals, input) {
+            put_literal(literals, input, false);
         }
     }
-    Ok(point)
 }
 
 impl Finder<'_> {
@@ -92,16 +87,18 @@ impl Finder<'_> {
         near: &[Literals],
         output: usize,
     ) -> Result<Option<Signature>, AllocError> {
-        let place = point_of(self.alloc, near, self.function.inputs)?;
         let words = self.function.output_words;
-        let cube = Cube::of_output(self.alloc, &place, output, words)?;
+        let mut cube = Cube::of_output(self.alloc, near, output, words)?;
+        put_missing_zeros(&mut cube.literals, self.function.inputs);
         match self.signature_cube(&cube)? {
-            Some((cube, rows)) => Ok(Some(Signature {
-                cube,
-                place,
-                output,
-                rows,
-            })),
+            Some((signature, rows)) => {
+                let place = Place::of(self.alloc, &cube.literals, output)?;
+                Ok(Some(Signature {
+                    cube: signature,
+                    place,
+                    rows,
+                }))
+            }
             None => Ok(None),
         }
     }

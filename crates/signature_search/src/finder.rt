@@ -10,14 +10,14 @@
 //! on the inputs where the cube has no literal; so the tests of all rows together are one question.
 
 use crate::bits::{
-    Literals, all_bits, has_bit, literals_at, meets, narrow_at, push_cofactor, word_at,
+    Literals, all_bits, has_bit, keep_inputs, literals_at, meets, narrow_at, push_cofactor, word_at,
 };
 use crate::blocking_matrix::{BlockingMatrix, BlockingRows};
 use crate::cube::Cube;
 use crate::function::Function;
 use crate::lists::push_cofactors;
 use crate::question::Question;
-use crate::rows::Rows;
+use crate::rows::{Place, Rows};
 use std::alloc::{AllocError, Global};
 use std::collections::BTreeSet;
 
@@ -28,10 +28,8 @@ const REGION_BUDGET: u64 = 300;
 #[derive(Drop)]
 pub(crate) struct Signature {
     pub(crate) cube: Cube,
-    /// A cube whose points are places of its own, under the output.
-    pub(crate) place: Vec<Literals>,
-    /// The output of these places.
-    pub(crate) output: usize,
+    /// A place of its own.
+    pub(crate) place: Place,
     /// The minimal rows of the cube's blocking matrix.
     pub(crate) rows: BlockingRows,
 }
@@ -86,6 +84,27 @@ fn compare(compared: &mut Vec<Literals>, a: &[Literals], b: &[Literals]) {
     }
 }
 
+/// Adds the cofactors of a list's cubes that meet the cube with a row exchanged. `false` if one of
+/// them contains the cube then.
+fn push_exchanged(
+    avoided: &mut Vec<Literals>,
+    compared: &mut Vec<Literals>,
+    list: &[Literals],
+    cube: &[Literals],
+    rows: &[u64],
+) -> Result<bool, AllocError> {
+    let width = cube.len();
+    for other in list.chunks_exact(width.max(1)) {
+        compare(compared, other, cube);
+        if meets_with_any_row_exchanged(compared, rows, width)
+            && !push_cofactor(avoided, other, cube)?
+        {
+            return Ok(false);
+        }
+    }
+    Ok(true)
+}
+
 impl<'a> Finder<'a> {
     pub(crate) fn new(
         alloc: Global,
@@ -118,9 +137,15 @@ impl<'a> Finder<'a> {
         let Some(rows) = self.matrix.minimal_rows(self.function, cube)? else {
             return Ok(None);
         };
-        let literals = self.literals_of_rows(cube, &rows)?;
-        let outputs = self.outputs_without_row(&rows)?;
-        Ok(Some((Cube { literals, outputs }, rows)))
+        let signature = self.cube_of_rows(cube, &rows)?;
+        Ok(Some((signature, rows)))
+    }
+
+    // The signature cube of a cube with these minimal rows.
+    fn cube_of_rows(&self, cube: &Cube, rows: &BlockingRows) -> Result<Cube, AllocError> {
+        let literals = self.literals_of_rows(cube, rows)?;
+        let outputs = self.outputs_without_row(rows)?;
+        Ok(Cube { literals, outputs })
     }
 
     // The literals of the cube at inputs that some row has.
@@ -131,11 +156,7 @@ impl<'a> Finder<'a> {
     ) -> Result<Vec<Literals>, AllocError> {
         let inputs = rows.occurring_inputs(self.alloc)?;
         let mut literals = cube.literals.to_vec(self.alloc)?;
-        for (k, kept) in inputs.iter().enumerate() {
-            if let Some(word) = literals.get_mut(k) {
-                *word = word.at(*kept);
-            }
-        }
+        keep_inputs(&mut literals, &inputs);
         Ok(literals)
     }
 
@@ -169,13 +190,8 @@ impl<'a> Finder<'a> {
         let Some(output) = self.new_output_of_own_place(&cube, &rows)? else {
             return Ok(None);
         };
-        let place = self.question.answer().to_vec(self.alloc)?;
-        Ok(Some(Signature {
-            cube,
-            place,
-            output,
-            rows,
-        }))
+        let place = Place::of(self.alloc, self.question.answer(), output)?;
+        Ok(Some(Signature { cube, place, rows }))
     }
 
     // The output of the cube's own place; not looked for where there was none before.
@@ -203,10 +219,7 @@ impl<'a> Finder<'a> {
         rows: &BlockingRows,
     ) -> Result<Option<usize>, AllocError> {
         self.avoided.clear();
-        let first = match rows.output(0) {
-            Some(_) => 0,
-            None => rows.end_of_output(0),
-        };
+        let first = rows.end_without_output();
         if self.primes.is_none() && !self.avoid_rows_with_outputs(cube, rows, first)? {
             return Ok(None);
         }
@@ -277,18 +290,14 @@ impl<'a> Finder<'a> {
         rows: &[u64],
         output: usize,
     ) -> Result<bool, AllocError> {
-        let width = self.function.width;
-        let (compared, avoided) = (&mut self.compared, &mut self.avoided);
         let list = self.function.on_and_dc(output);
-        for other in list.chunks_exact(width.max(1)) {
-            compare(compared, other, &cube.literals);
-            if meets_with_any_row_exchanged(compared, rows, width)
-                && !push_cofactor(avoided, other, &cube.literals)?
-            {
-                return Ok(false);
-            }
-        }
-        Ok(true)
+        push_exchanged(
+            &mut self.avoided,
+            &mut self.compared,
+            list,
+            &cube.literals,
+            rows,
+        )
     }
 
     // Gathers the DC cubes of an output that meet the cube. `false` if one contains it.

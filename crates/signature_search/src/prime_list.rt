@@ -4,7 +4,7 @@
 //! own if it lies in no other prime. This is used where the primes are few and the OFF cubes many.
 
 use crate::bits::{
-    Literals, all_bits, contains, has_bit, is_within, meet_bits, meets, narrow_at, push_cofactor,
+    Literals, contains, has_bit, is_within, meet_bits, meets, narrow_at, push_cofactor,
 };
 use crate::blocking_matrix::BlockingRows;
 use crate::cube::Cube;
@@ -32,19 +32,14 @@ fn other_prime_meets(primes: &Rows, cube: &Cube, place: &[Literals], output: usi
     false
 }
 
-/// Narrows literals and outputs to the primes that contain the cube. Whether there is one.
-fn narrow_to_primes(
-    primes: &Rows,
-    cube: &Cube,
-    literals: &mut Vec<Literals>,
-    outputs: &mut Vec<u64>,
-) -> bool {
+/// Narrows the meet to the primes that contain the cube. Whether there is one.
+fn narrow_to_primes(meet: &mut Cube, primes: &Rows, cube: &Cube) -> bool {
     let mut found = false;
     for prime in 0..primes.len() {
         if prime_contains(primes, prime, cube) {
             found = true;
-            narrow_at(literals, 0, primes.literals_of(prime));
-            meet_bits(outputs, primes.outputs_of(prime));
+            narrow_at(&mut meet.literals, 0, primes.literals_of(prime));
+            meet_bits(&mut meet.outputs, primes.outputs_of(prime));
         }
     }
     found
@@ -52,7 +47,7 @@ fn narrow_to_primes(
 
 /// The inputs of literals.
 fn inputs_of(alloc: Global, literals: &[Literals]) -> Result<Vec<u64>, AllocError> {
-    let mut inputs: Vec<u64> = Vec::with_capacity(alloc, literals.len())?;
+    let mut inputs: Vec<u64> = Vec::new(alloc);
     for word in literals {
         inputs.push(word.inputs())?;
     }
@@ -67,32 +62,38 @@ impl Finder<'_> {
         primes: &Rows,
         cube: &Cube,
     ) -> Result<Option<(Cube, BlockingRows)>, AllocError> {
-        let width = self.function.width;
-        let mut outputs = all_bits(self.alloc, self.function.outputs)?;
-        let mut literals: Vec<Literals> = vec![in self.alloc; Literals::NONE; width]?;
-        if !narrow_to_primes(primes, cube, &mut literals, &mut outputs) {
+        let (width, outputs) = (self.function.width, self.function.outputs);
+        let mut meet = Cube::whole(self.alloc, width, outputs)?;
+        if !narrow_to_primes(&mut meet, primes, cube) {
             return Ok(None);
         }
-        let rows = self.rows_of_all_literals(&literals, &outputs)?;
-        Ok(Some((Cube { literals, outputs }, rows)))
+        let rows = self.rows_of_all_literals(&meet)?;
+        Ok(Some((meet, rows)))
     }
 
     // All literals as a row, without an output and with each output that is absent: no literal is a
     // row by itself, so each may be left out.
-    fn rows_of_all_literals(
-        &self,
-        literals: &[Literals],
-        outputs: &[u64],
-    ) -> Result<BlockingRows, AllocError> {
-        let inputs = inputs_of(self.alloc, literals)?;
+    fn rows_of_all_literals(&self, cube: &Cube) -> Result<BlockingRows, AllocError> {
+        let inputs = inputs_of(self.alloc, &cube.literals)?;
         let mut rows = BlockingRows::new(self.alloc, self.function.width);
         rows.push(&inputs, None)?;
+        self.push_for_absent_outputs(&mut rows, &inputs, &cube.outputs)?;
+        Ok(rows)
+    }
+
+    // Adds a row with each output that is absent.
+    fn push_for_absent_outputs(
+        &self,
+        rows: &mut BlockingRows,
+        inputs: &[u64],
+        outputs: &[u64],
+    ) -> Result<(), AllocError> {
         for output in 0..self.function.outputs {
             if !has_bit(outputs, output) {
-                rows.push(&inputs, Some(output))?;
+                rows.push(inputs, Some(output))?;
             }
         }
-        Ok(rows)
+        Ok(())
     }
 
     /// Whether former answers give a place of the cube that lies in no other prime and in no DC

@@ -201,6 +201,29 @@ fn move_row_without(rows: &mut Vec<Literals>, from: usize, to: usize, taken: &[L
     }
 }
 
+/// Copies the cubes from `begin` to `end` that meet the forced literals to the end, without the
+/// literals at forced inputs.
+fn copy_meeting(
+    rows: &mut Vec<Literals>,
+    begin: usize,
+    end: usize,
+    forced: &[Literals],
+    notes: &mut Notes,
+) -> Result<(), AllocError> {
+    let width = forced.len();
+    let mut from = begin;
+    for _ in 0..end.saturating_sub(begin) / width.max(1) {
+        if meets(row_at(rows, from, width), forced) {
+            let to = rows.len();
+            rows.extend_from_slice(forced)?;
+            move_row_without(rows, from, to, forced);
+            notes.add(row_at(rows, to, width));
+        }
+        from = from.saturating_add(width);
+    }
+    Ok(())
+}
+
 impl Question {
     pub(crate) fn new(alloc: Global, words: usize) -> Result<Question, AllocError> {
         let width = words.max(1);
@@ -392,17 +415,8 @@ impl Question {
         let width = self.width;
         push_narrowed(&mut self.rows, begin, &self.forced)?;
         self.notes.begin();
-        let count = end.saturating_sub(begin) / width.max(1);
-        let mut from = begin;
-        for _ in 1..count {
-            from = from.saturating_add(width);
-            if meets(row_at(&self.rows, from, width), &self.forced) {
-                let to = self.rows.len();
-                self.rows.extend_from_slice(&self.forced)?;
-                move_row_without(&mut self.rows, from, to, &self.forced);
-                self.notes.add(row_at(&self.rows, to, width));
-            }
-        }
+        let from = begin.saturating_add(width);
+        copy_meeting(&mut self.rows, from, end, &self.forced, &mut self.notes)?;
         self.end_notes();
         Ok(())
     }

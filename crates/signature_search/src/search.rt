@@ -212,11 +212,8 @@ impl<'a> Search<'a> {
 
     // Adds a signature cube, with a place of its own.
     fn add_signature(&mut self, found: Signature) -> Result<(), AllocError> {
-        let place = Place::of(self.finder.alloc, &found.place, found.output)?;
-        self.signatures.push(SignatureCube {
-            cube: found.cube,
-            place,
-        })?;
+        let (cube, place) = (found.cube, found.place);
+        self.signatures.push(SignatureCube { cube, place })?;
         Ok(())
     }
 
