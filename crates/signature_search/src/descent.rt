@@ -5,7 +5,7 @@
 //! point has one always. So the literals that part the two cubes are put in an order, those of
 //! short rows first, and the least number of them that will do is found by binary search.
 
-use crate::bits::{Literals, has_bit, has_literal_at, literal_at, put_literal, row_at};
+use crate::bits::{Literals, has_bit, has_literal_at, put_literal, row_at};
 use crate::blocking_matrix::BlockingRows;
 use crate::cube::Cube;
 use crate::finder::{Finder, Signature};
@@ -42,31 +42,30 @@ fn weighed_missing_inputs(
     Ok(weighed)
 }
 
-/// The inputs of literals that the wide cube lacks, by decreasing weight.
-fn missing_inputs_by_weight(
+/// The literals that the wide cube lacks, as inputs and senses, by decreasing weight.
+fn missing_literals_by_weight(
     alloc: Global,
     signature: &Signature,
     wide: &[Literals],
-) -> Result<Vec<usize>, AllocError> {
-    let mut inputs: Vec<usize> = Vec::new(alloc);
+) -> Result<Vec<(usize, bool)>, AllocError> {
+    let mut missing: Vec<(usize, bool)> = Vec::new(alloc);
     for (_, input) in &weighed_missing_inputs(alloc, signature, wide)? {
-        inputs.push(*input)?;
+        if let Some(one) = signature.cube.literal(*input) {
+            missing.push((*input, one))?;
+        }
     }
-    Ok(inputs)
+    Ok(missing)
 }
 
-/// The wide cube with the literals of the other one at these inputs.
-fn with_literals_at(
+/// The cube with these literals too.
+fn with_literals(
     alloc: Global,
     wide: &Cube,
-    literals: &[Literals],
-    inputs: &[usize],
+    literals: &[(usize, bool)],
 ) -> Result<Cube, AllocError> {
     let mut cube = Cube::of(alloc, &wide.literals, &wide.outputs)?;
-    for input in inputs {
-        if let Some(one) = literal_at(literals, *input) {
-            put_literal(&mut cube.literals, *input, one);
-        }
+    for (input, one) in literals {
+        put_literal(&mut cube.literals, *input, *one);
     }
     Ok(cube)
 }
@@ -117,34 +116,32 @@ impl Finder<'_> {
         }
     }
 
-    // The signature cube of the wide cube with the literals at these inputs.
+    // The signature cube of the wide cube with these literals, if it has a place of its own.
     fn signature_with_literals(
         &mut self,
         wide: &Cube,
-        literals: &[Literals],
-        inputs: &[usize],
+        literals: &[(usize, bool)],
     ) -> Result<Option<Signature>, AllocError> {
-        let cube = with_literals_at(self.alloc, wide, literals, inputs)?;
+        let cube = with_literals(self.alloc, wide, literals)?;
         self.signature_of(&cube)
     }
 
-    // Replaces a signature cube by that of the wide cube with its literals at as few of the first
-    // inputs as will do.
-    fn widen(
+    // Replaces a signature cube by that of the wide cube with as few of the first literals as will
+    // do.
+    fn leave_out_literals(
         &mut self,
         best: &mut Signature,
         wide: &Cube,
-        literals: &[Literals],
-        inputs: &[usize],
+        literals: &[(usize, bool)],
     ) -> Result<(), AllocError> {
         let mut least: usize = 0;
-        let mut most = inputs.len();
-        for _ in 0..=inputs.len() {
+        let mut most = literals.len();
+        for _ in 0..=literals.len() {
             if least >= most {
                 break;
             }
             let middle = least.wrapping_add(most) / 2;
-            match self.signature_with_literals(wide, literals, row_at(inputs, 0, middle))? {
+            match self.signature_with_literals(wide, row_at(literals, 0, middle))? {
                 Some(signature) => {
                     *best = signature;
                     most = middle;
@@ -153,6 +150,18 @@ impl Finder<'_> {
             }
         }
         Ok(())
+    }
+
+    // Replaces a signature cube by a larger one of a cube between it and the wide cube.
+    fn widen(
+        &mut self,
+        best: &mut Signature,
+        wide: &[Literals],
+        output: usize,
+    ) -> Result<(), AllocError> {
+        let wide = Cube::of_output(self.alloc, wide, output, self.function.output_words)?;
+        let literals = missing_literals_by_weight(self.alloc, best, &wide.literals)?;
+        self.leave_out_literals(best, &wide, &literals)
     }
 
     // A large signature cube with a place of its own, found from cubes between a point of the cube
@@ -166,11 +175,7 @@ impl Finder<'_> {
         let Some(mut best) = self.first_signature(near, output)? else {
             return Ok(None);
         };
-        let words = self.function.output_words;
-        let wide = Cube::of_output(self.alloc, wide, output, words)?;
-        let inputs = missing_inputs_by_weight(self.alloc, &best, &wide.literals)?;
-        let literals = best.cube.literals.to_vec(self.alloc)?;
-        self.widen(&mut best, &wide, &literals, &inputs)?;
+        self.widen(&mut best, wide, output)?;
         Ok(Some(best))
     }
 

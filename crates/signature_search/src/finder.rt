@@ -16,6 +16,7 @@ use crate::blocking_matrix::{BlockingMatrix, BlockingRows};
 use crate::cube::Cube;
 use crate::function::Function;
 use crate::lists::push_cofactors;
+use crate::prime_list::{meet_of_primes, push_primes};
 use crate::question::Question;
 use crate::rows::{Place, Rows};
 use std::alloc::{AllocError, Global};
@@ -84,6 +85,47 @@ fn compare(compared: &mut Vec<Literals>, a: &[Literals], b: &[Literals]) {
     }
 }
 
+/// The literals of the cube at inputs that some row has.
+fn literals_of_rows(
+    alloc: Global,
+    cube: &Cube,
+    rows: &BlockingRows,
+) -> Result<Vec<Literals>, AllocError> {
+    let inputs = rows.occurring_inputs(alloc)?;
+    let mut literals = cube.literals.to_vec(alloc)?;
+    keep_inputs(&mut literals, &inputs);
+    Ok(literals)
+}
+
+/// The outputs that no row has, of this many.
+fn outputs_without_row(
+    alloc: Global,
+    rows: &BlockingRows,
+    count: usize,
+) -> Result<Vec<u64>, AllocError> {
+    let mut outputs = all_bits(alloc, count)?;
+    for row in 0..rows.len() {
+        if let Some(output) = rows.output(row)
+            && let Some(word) = outputs.get_mut(output / 64)
+        {
+            *word &= !(1 << (output % 64));
+        }
+    }
+    Ok(outputs)
+}
+
+/// The signature cube of a cube with these minimal rows.
+fn cube_of_rows(
+    alloc: Global,
+    cube: &Cube,
+    rows: &BlockingRows,
+    outputs: usize,
+) -> Result<Cube, AllocError> {
+    let literals = literals_of_rows(alloc, cube, rows)?;
+    let outputs = outputs_without_row(alloc, rows, outputs)?;
+    Ok(Cube { literals, outputs })
+}
+
 /// Adds the cofactors of a list's cubes that meet the cube with a row exchanged. `false` if one of
 /// them contains the cube then.
 fn push_exchanged(
@@ -132,45 +174,13 @@ impl<'a> Finder<'a> {
         cube: &Cube,
     ) -> Result<Option<(Cube, BlockingRows)>, AllocError> {
         if let Some(primes) = self.primes {
-            return self.meet_of_primes(primes, cube);
+            return meet_of_primes(self.alloc, self.function, primes, cube);
         }
         let Some(rows) = self.matrix.minimal_rows(self.function, cube)? else {
             return Ok(None);
         };
-        let signature = self.cube_of_rows(cube, &rows)?;
+        let signature = cube_of_rows(self.alloc, cube, &rows, self.function.outputs)?;
         Ok(Some((signature, rows)))
-    }
-
-    // The signature cube of a cube with these minimal rows.
-    fn cube_of_rows(&self, cube: &Cube, rows: &BlockingRows) -> Result<Cube, AllocError> {
-        let literals = self.literals_of_rows(cube, rows)?;
-        let outputs = self.outputs_without_row(rows)?;
-        Ok(Cube { literals, outputs })
-    }
-
-    // The literals of the cube at inputs that some row has.
-    fn literals_of_rows(
-        &self,
-        cube: &Cube,
-        rows: &BlockingRows,
-    ) -> Result<Vec<Literals>, AllocError> {
-        let inputs = rows.occurring_inputs(self.alloc)?;
-        let mut literals = cube.literals.to_vec(self.alloc)?;
-        keep_inputs(&mut literals, &inputs);
-        Ok(literals)
-    }
-
-    // The outputs that no row has.
-    fn outputs_without_row(&self, rows: &BlockingRows) -> Result<Vec<u64>, AllocError> {
-        let mut outputs = all_bits(self.alloc, self.function.outputs)?;
-        for row in 0..rows.len() {
-            if let Some(output) = rows.output(row)
-                && let Some(word) = outputs.get_mut(output / 64)
-            {
-                *word &= !(1 << (output % 64));
-            }
-        }
-        Ok(outputs)
     }
 
     /// The signature cube of a cube, if it has a place of its own.
@@ -315,7 +325,7 @@ impl<'a> Finder<'a> {
         output: usize,
     ) -> Result<bool, AllocError> {
         let is_left = match self.primes {
-            Some(primes) => self.avoid_primes(primes, cube, output)?,
+            Some(primes) => push_primes(&mut self.avoided, primes, cube, output)?,
             None => self.avoid_exchanged(cube, rows.input_words_of_rows(0, first), output)?,
         };
         Ok(is_left && self.avoid_dc(cube, output)?)

@@ -201,6 +201,21 @@ fn move_row_without(rows: &mut Vec<Literals>, from: usize, to: usize, taken: &[L
     }
 }
 
+/// Opens a half of the last region, which begins at an index; the other half is left to that one.
+fn open_half(
+    regions: &mut Vec<Region>,
+    begin: usize,
+    input: usize,
+    one: bool,
+) -> Result<(), AllocError> {
+    if let Some(region) = regions.last_mut() {
+        region.input = input;
+        region.one = !one;
+    }
+    regions.push(Region { begin, input, one })?;
+    Ok(())
+}
+
 /// Copies the cubes from `begin` to `end` that meet the forced literals to the end, without the
 /// literals at forced inputs.
 fn copy_meeting(
@@ -389,16 +404,8 @@ impl Question {
         let begin = self.begin_of_last_region();
         let input = self.splitting_input(begin);
         let one = self.counts.ones(input) < self.counts.zeros(input);
-        if let Some(region) = self.regions.last_mut() {
-            region.input = input;
-            region.one = !one;
-        }
         let end = self.rows.len();
-        self.regions.push(Region {
-            begin: end,
-            input,
-            one,
-        })?;
+        open_half(&mut self.regions, end, input, one)?;
         self.force_literal(input, one);
         self.copy_region(begin, end)?;
         Ok(true)

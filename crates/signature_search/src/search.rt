@@ -56,7 +56,7 @@ fn push_maximal(
 /// The places of the signature cubes that lie in no other one.
 fn maximal_places(
     alloc: Global,
-    mut signatures: Vec<SignatureCube>,
+    signatures: &mut Vec<SignatureCube>,
 ) -> Result<Vec<Place>, AllocError> {
     signatures.sort_by_key(|signature| signature.size())?;
     let mut kept: Vec<Cube> = Vec::new(alloc);
@@ -79,6 +79,21 @@ fn push_rows_meeting(
     for row in 0..list.len() {
         if has_bit(list.outputs_of(row), output) && meets(list.literals_of(row), cube) {
             held.extend_from_slice(list.literals_of(row))?;
+        }
+    }
+    Ok(())
+}
+
+/// Adds the signature cubes that have the output and meet the cube.
+fn push_signatures_meeting(
+    held: &mut Vec<Literals>,
+    signatures: &[SignatureCube],
+    cube: &[Literals],
+    output: usize,
+) -> Result<(), AllocError> {
+    for signature in signatures {
+        if has_bit(&signature.cube.outputs, output) && meets(&signature.cube.literals, cube) {
+            held.extend_from_slice(&signature.cube.literals)?;
         }
     }
     Ok(())
@@ -202,11 +217,7 @@ impl<'a> Search<'a> {
         output: usize,
     ) -> Result<Vec<Literals>, AllocError> {
         let mut held = self.finder.function.dc(output).to_vec(self.finder.alloc)?;
-        for signature in &self.signatures {
-            if has_bit(&signature.cube.outputs, output) && meets(&signature.cube.literals, wide) {
-                held.extend_from_slice(&signature.cube.literals)?;
-            }
-        }
+        push_signatures_meeting(&mut held, &self.signatures, wide, output)?;
         Ok(held)
     }
 
@@ -218,7 +229,7 @@ impl<'a> Search<'a> {
     }
 
     /// The places of the signature cubes that lie in no other one.
-    pub(crate) fn maximal_places(self) -> Result<Vec<Place>, AllocError> {
-        maximal_places(self.finder.alloc, self.signatures)
+    pub(crate) fn maximal_places(&mut self) -> Result<Vec<Place>, AllocError> {
+        maximal_places(self.finder.alloc, &mut self.signatures)
     }
 }
