@@ -45,10 +45,26 @@ impl Literals {
     }
 }
 
+/// The literals at an index of a row, none past the end.
+pub(crate) fn literals_at(row: &[Literals], index: usize) -> Literals {
+    match row.get(index) {
+        Some(word) => *word,
+        None => Literals::NONE,
+    }
+}
+
+/// The word at an index, 0 past the end.
+pub(crate) fn word_at(words: &[u64], index: usize) -> u64 {
+    match words.get(index) {
+        Some(word) => *word,
+        None => 0,
+    }
+}
+
 /// Whether the cubes share a point.
 pub(crate) fn meets(a: &[Literals], b: &[Literals]) -> bool {
-    for (one, other) in a.iter().zip(b.iter()) {
-        if one.opposites(*other) != 0 {
+    for k in 0..a.len().min(b.len()) {
+        if literals_at(a, k).opposites(literals_at(b, k)) != 0 {
             return false;
         }
     }
@@ -57,7 +73,8 @@ pub(crate) fn meets(a: &[Literals], b: &[Literals]) -> bool {
 
 /// Whether the first cube contains the second: each literal of the first is one of the second.
 pub(crate) fn contains(a: &[Literals], b: &[Literals]) -> bool {
-    for (one, other) in a.iter().zip(b.iter()) {
+    for k in 0..a.len().min(b.len()) {
+        let (one, other) = (literals_at(a, k), literals_at(b, k));
         if (one.zeros & !other.zeros) | (one.ones & !other.ones) != 0 {
             return false;
         }
@@ -67,7 +84,12 @@ pub(crate) fn contains(a: &[Literals], b: &[Literals]) -> bool {
 
 /// Whether the cube has a literal.
 pub(crate) fn has_literal(row: &[Literals]) -> bool {
-    row.iter().any(|word| word.inputs() != 0)
+    for word in row {
+        if word.inputs() != 0 {
+            return true;
+        }
+    }
+    false
 }
 
 /// How many literals the cube has.
@@ -79,10 +101,21 @@ pub(crate) fn literal_count(row: &[Literals]) -> u32 {
     count
 }
 
-/// Narrows a cube to its meet with the other one, by adding its literals.
-pub(crate) fn narrow_to(row: &mut Vec<Literals>, other: &[Literals]) {
-    for (word, more) in row.iter_mut().zip(other.iter()) {
-        *word = word.meet(*more);
+/// Narrows the cube that begins at an index to its meet with the other one, by adding its literals.
+pub(crate) fn narrow_at(rows: &mut Vec<Literals>, begin: usize, other: &[Literals]) {
+    for (k, more) in other.iter().enumerate() {
+        if let Some(word) = rows.get_mut(begin.wrapping_add(k)) {
+            *word = word.meet(*more);
+        }
+    }
+}
+
+/// Leaves the literals at these inputs.
+pub(crate) fn keep_inputs(row: &mut Vec<Literals>, inputs: &[u64]) {
+    for (k, kept) in inputs.iter().enumerate() {
+        if let Some(word) = row.get_mut(k) {
+            *word = word.at(*kept);
+        }
     }
 }
 
@@ -94,8 +127,8 @@ pub(crate) fn push_cofactor(
     other: &[Literals],
 ) -> Result<bool, AllocError> {
     let mut left: u64 = 0;
-    for (word, free) in row.iter().zip(other.iter()) {
-        let rest = word.at(!free.inputs());
+    for (k, word) in row.iter().enumerate() {
+        let rest = word.at(!literals_at(other, k).inputs());
         left |= rest.inputs();
         rows.push(rest)?;
     }
@@ -110,6 +143,11 @@ pub(crate) fn row_at<T>(rows: &[T], begin: usize, width: usize) -> &[T] {
     } else {
         &[]
     }
+}
+
+/// How many rows of `width` words there are.
+pub(crate) fn row_count<T>(rows: &[T], width: usize) -> usize {
+    rows.len() / width.max(1)
 }
 
 /// The words from an index on.
@@ -196,8 +234,8 @@ pub(crate) fn all_bits(alloc: Global, count: usize) -> Result<Vec<u64>, AllocErr
 
 /// Whether each bit of the first set is in the second.
 pub(crate) fn is_within(a: &[u64], b: &[u64]) -> bool {
-    for (one, other) in a.iter().zip(b.iter()) {
-        if *one & !*other != 0 {
+    for k in 0..a.len().min(b.len()) {
+        if word_at(a, k) & !word_at(b, k) != 0 {
             return false;
         }
     }
@@ -206,8 +244,8 @@ pub(crate) fn is_within(a: &[u64], b: &[u64]) -> bool {
 
 /// Whether some bit is in both sets.
 pub(crate) fn share_bit(a: &[u64], b: &[u64]) -> bool {
-    for (one, other) in a.iter().zip(b.iter()) {
-        if *one & *other != 0 {
+    for k in 0..a.len().min(b.len()) {
+        if word_at(a, k) & word_at(b, k) != 0 {
             return true;
         }
     }
@@ -225,84 +263,23 @@ pub(crate) fn bit_count(words: &[u64]) -> u32 {
 
 /// Adds the bits of another set.
 pub(crate) fn join_bits(words: &mut Vec<u64>, others: &[u64]) {
-    for (word, more) in words.iter_mut().zip(others.iter()) {
-        *word |= *more;
+    for (k, more) in others.iter().enumerate() {
+        if let Some(word) = words.get_mut(k) {
+            *word |= *more;
+        }
     }
 }
 
 /// Leaves the bits that are in both.
 pub(crate) fn meet_bits(words: &mut Vec<u64>, others: &[u64]) {
-    for (word, other) in words.iter_mut().zip(others.iter()) {
-        *word &= *other;
-    }
-}
-
-/// The indices of the bits that are set, the least first.
-pub(crate) fn bit_indices(alloc: Global, words: &[u64]) -> Result<Vec<usize>, AllocError> {
-    let mut indices: Vec<usize> = Vec::new(alloc);
-    for index in 0..words.len().saturating_mul(64) {
-        if has_bit(words, index) {
-            indices.push(index)?;
-        }
-    }
-    Ok(indices)
-}
-
-/// Adds one to the count of each input of a word, the first bit of which is the input `first`.
-fn count_inputs(word: u64, first: usize, counts: &mut Vec<u32>) {
-    let mut rest = word;
-    for _ in 0..word.count_ones() {
-        let input = first.wrapping_add(rest.trailing_zeros() as usize);
-        if let Some(count) = counts.get_mut(input) {
-            *count = count.wrapping_add(1);
-        }
-        rest &= rest.wrapping_sub(1);
-    }
-}
-
-/// Adds one to the counts of a cube's literals, by input.
-pub(crate) fn count_literals_of(row: &[Literals], zeros: &mut Vec<u32>, ones: &mut Vec<u32>) {
-    for (k, word) in row.iter().enumerate() {
-        let first = k.wrapping_mul(64);
-        count_inputs(word.zeros, first, zeros);
-        count_inputs(word.ones, first, ones);
-    }
-}
-
-/// The count at an index, 0 past the end.
-pub(crate) fn count_at(counts: &[u32], index: usize) -> u32 {
-    match counts.get(index) {
-        Some(count) => *count,
-        None => 0,
-    }
-}
-
-/// None, one, or more of something.
-#[derive(Clone, Copy, PartialEq)]
-pub(crate) enum Few {
-    None,
-    One,
-    Many,
-}
-
-impl Few {
-    /// This number and that of the word's bits together.
-    pub(crate) fn with(self, word: u64) -> Few {
-        if word == 0 {
-            self
-        } else if self == Few::None && word & word.wrapping_sub(1) == 0 {
-            Few::One
-        } else {
-            Few::Many
+    for (k, other) in others.iter().enumerate() {
+        if let Some(word) = words.get_mut(k) {
+            *word &= *other;
         }
     }
 }
 
-/// Whether no bit is set, one, or more.
-pub(crate) fn few_bits(words: &[u64]) -> Few {
-    let mut few = Few::None;
-    for word in words {
-        few = few.with(*word);
-    }
-    few
+/// 0, 1 or 2: as none of the word's bits is set, one, or more.
+pub(crate) fn few_in_word(word: u64) -> u32 {
+    ((word != 0) as u32).wrapping_add((word & word.wrapping_sub(1) != 0) as u32)
 }

@@ -10,8 +10,8 @@
 //! pair by pair, the shorter ones first.
 
 use crate::bits::{
-    Few, Literals, bit_count, few_bits, has_bit, is_within, join_bits, put_bit, row_at, share_bit,
-    tail,
+    Literals, bit_count, few_in_word, has_bit, is_within, join_bits, literals_at, put_bit, row_at,
+    row_count, share_bit, word_at,
 };
 use crate::cube::Cube;
 use crate::function::Function;
@@ -81,21 +81,127 @@ impl BlockingRows {
         Ok(())
     }
 
+    /// The end of the rows without an output, which stand first.
+    pub(crate) fn end_without_output(&self) -> usize {
+        match self.output(0) {
+            Some(_) => 0,
+            None => self.end_of_output(0),
+        }
+    }
+
+    // Adds a row without literals.
+    fn push_empty(&mut self, output: Option<usize>) -> Result<(), AllocError> {
+        let end = self.inputs.len().saturating_add(self.width);
+        self.inputs.resize(end, 0)?;
+        self.outputs.push(output)?;
+        Ok(())
+    }
+
+    // Adds a row of the literal of one input.
+    fn push_single(&mut self, input: usize, output: Option<usize>) -> Result<(), AllocError> {
+        let begin = self.inputs.len().saturating_mul(64);
+        self.push_empty(output)?;
+        put_bit(&mut self.inputs, begin.saturating_add(input));
+        Ok(())
+    }
+
     // Whether the inputs of some row from `begin` to `end` are all among these.
     fn has_row_within(&self, inputs: &[u64], begin: usize, end: usize) -> bool {
-        self.input_words_of_rows(begin, end)
-            .chunks_exact(self.width.max(1))
-            .any(|other| is_within(other, inputs))
+        let rows = self.input_words_of_rows(begin, end);
+        for other in rows.chunks_exact(self.width.max(1)) {
+            if is_within(other, inputs) {
+                return true;
+            }
+        }
+        false
     }
 
     /// The inputs that occur in rows.
     pub(crate) fn occurring_inputs(&self, alloc: Global) -> Result<Vec<u64>, AllocError> {
         let mut all: Vec<u64> = vec![in alloc; 0; self.width]?;
-        for row in self.inputs.chunks_exact(self.width.max(1)) {
-            join_bits(&mut all, row);
+        for row in 0..self.len() {
+            join_bits(&mut all, self.inputs(row));
         }
         Ok(all)
     }
+}
+
+/// How two cubes are parted: as no input has opposite literals, one, or more (0, 1 or more); and
+/// whether one of these inputs is in the set.
+fn parting(cube: &[Literals], other: &[Literals], set: &[u64]) -> (u32, bool) {
+    let mut few: u32 = 0;
+    let mut shared: u64 = 0;
+    for (k, mine) in cube.iter().enumerate() {
+        let word = mine.opposites(literals_at(other, k));
+        few = few.wrapping_add(few_in_word(word));
+        shared |= word & word_at(set, k);
+    }
+    (few, shared != 0)
+}
+
+/// Adds a row of the inputs at which two cubes are parted.
+fn push_opposites(
+    rows: &mut Vec<u64>,
+    cube: &[Literals],
+    other: &[Literals],
+) -> Result<(), AllocError> {
+    for (k, mine) in cube.iter().enumerate() {
+        rows.push(mine.opposites(literals_at(other, k)))?;
+    }
+    Ok(())
+}
+
+/// Adds the inputs at which two cubes are parted to a set.
+fn join_opposites(set: &mut Vec<u64>, cube: &[Literals], other: &[Literals]) {
+    for (k, mine) in cube.iter().enumerate() {
+        if let Some(word) = set.get_mut(k) {
+            *word |= mine.opposites(literals_at(other, k));
+        }
+    }
+}
+
+/// Gathers the rows of OFF cubes: those of one literal as a set, and of the others those that have
+/// no literal of the set so far. `false` if one of the cubes meets this one.
+fn gather_rows(
+    rows: &mut Vec<u64>,
+    singles: &mut Vec<u64>,
+    cube: &[Literals],
+    off: &[Literals],
+    width: usize,
+) -> Result<bool, AllocError> {
+    for other in off.chunks_exact(width.max(1)) {
+        let (few, is_known) = parting(cube, other, singles);
+        if few == 0 {
+            return Ok(false);
+        }
+        if !is_known {
+            if few == 1 {
+                join_opposites(singles, cube, other);
+            } else {
+                push_opposites(rows, cube, other)?;
+            }
+        }
+    }
+    Ok(true)
+}
+
+/// Adds the lengths and indices of the rows that have none of the singles and contain none of the
+/// first `longer` rows found.
+fn push_rows_to_order(
+    order: &mut Vec<(u32, usize)>,
+    rows: &[u64],
+    singles: &[u64],
+    found: &BlockingRows,
+    longer: usize,
+) -> Result<(), AllocError> {
+    let width = found.width;
+    for index in 0..row_count(rows, width) {
+        let row = row_at(rows, index.wrapping_mul(width), width);
+        if !share_bit(row, singles) && !found.has_row_within(row, 0, longer) {
+            order.push((bit_count(row), index))?;
+        }
+    }
+    Ok(())
 }
 
 /// The blocking matrix of a cube, and memory that is kept from one to the next.
@@ -132,7 +238,24 @@ impl BlockingMatrix {
         function: &Function,
         cube: &Cube,
     ) -> Result<Option<BlockingRows>, AllocError> {
+        if !self.gather_rows_of_cube(function, cube)? {
+            return Ok(None);
+        }
         let mut found = BlockingRows::new(self.alloc, self.width);
+        self.push_minimal_rows(&mut found, 0, None)?;
+        let longer = found.len();
+        self.push_singles(&mut found, None)?;
+        join_bits(&mut self.common, &self.singles);
+        self.add_rows_of_other_outputs(&mut found, longer, function, cube)?;
+        Ok(Some(found))
+    }
+
+    // Gathers the rows of the outputs that the cube has. `false` if it meets an OFF cube.
+    fn gather_rows_of_cube(
+        &mut self,
+        function: &Function,
+        cube: &Cube,
+    ) -> Result<bool, AllocError> {
         self.common.fill(0);
         self.singles.fill(0);
         self.rows.clear();
@@ -140,69 +263,67 @@ impl BlockingMatrix {
             if has_bit(&cube.outputs, output)
                 && !self.gather_rows(&cube.literals, function.off(output))?
             {
-                return Ok(None);
+                return Ok(false);
             }
         }
-        self.push_minimal_rows(&mut found, 0, None)?;
-        let longer = found.len();
-        self.push_singles(&mut found, None)?;
+        Ok(true)
+    }
+
+    // Adds the minimal rows of each output that the cube lacks.
+    fn add_rows_of_other_outputs(
+        &mut self,
+        found: &mut BlockingRows,
+        longer: usize,
+        function: &Function,
+        cube: &Cube,
+    ) -> Result<(), AllocError> {
         for output in 0..function.outputs {
             if !has_bit(&cube.outputs, output) {
-                self.copy_common_to_singles();
-                self.add_rows_of_output(&mut found, longer, cube, function, output)?;
+                self.add_rows_of_output(
+                    found,
+                    longer,
+                    &cube.literals,
+                    function.off(output),
+                    output,
+                )?;
             }
         }
-        Ok(Some(found))
+        Ok(())
     }
 
-    // Begins the rows of one literal of another output with the common ones.
-    fn copy_common_to_singles(&mut self) {
-        self.singles.fill(0);
-        join_bits(&mut self.singles, &self.common);
-    }
-
-    // Adds the minimal rows of an output that the cube lacks. If the cube meets an OFF cube of it,
-    // that is one row without literals.
+    // Adds the minimal rows of an output that the cube lacks, with these OFF cubes. If the cube
+    // meets one of them, that is one row without literals.
     fn add_rows_of_output(
         &mut self,
         found: &mut BlockingRows,
         longer: usize,
-        cube: &Cube,
-        function: &Function,
+        cube: &[Literals],
+        off: &[Literals],
         output: usize,
     ) -> Result<(), AllocError> {
         self.rows.clear();
-        if self.gather_rows(&cube.literals, function.off(output))? {
+        self.singles.fill(0);
+        join_bits(&mut self.singles, &self.common);
+        if self.gather_rows(cube, off)? {
             self.push_minimal_rows(found, longer, Some(output))?;
             self.push_singles(found, Some(output))
         } else {
-            self.rows.clear();
-            self.rows.resize(self.width, 0)?;
-            found.push(&self.rows, Some(output))
+            found.push_empty(Some(output))
         }
     }
 
-    // Gathers the rows of OFF cubes: those of one literal as a set, and of the others those that
-    // have no literal of the set so far. `false` if one of the cubes meets this one.
+    // Gathers the rows of OFF cubes. `false` if one of them meets the cube.
     fn gather_rows(&mut self, cube: &[Literals], off: &[Literals]) -> Result<bool, AllocError> {
-        for other in off.chunks_exact(self.width.max(1)) {
-            let begin = self.rows.len();
-            for (mine, theirs) in cube.iter().zip(other.iter()) {
-                self.rows.push(mine.opposites(*theirs))?;
-            }
-            let row = tail(&self.rows, begin);
-            let few = few_bits(row);
-            if few == Few::None {
-                return Ok(false);
-            }
-            if few == Few::One {
-                join_bits(&mut self.singles, row);
-                self.rows.truncate(begin);
-            } else if share_bit(row, &self.singles) {
-                self.rows.truncate(begin);
-            }
-        }
-        Ok(true)
+        gather_rows(&mut self.rows, &mut self.singles, cube, off, self.width)
+    }
+
+    // Orders the rows of several literals that contain no single one and none of the first `longer`
+    // rows found.
+    fn order_rows(&mut self, found: &BlockingRows, longer: usize) -> Result<(), AllocError> {
+        self.order.clear();
+        push_rows_to_order(&mut self.order, &self.rows, &self.singles, found, longer)?;
+        self.order.sort_unstable();
+        Ok(())
     }
 
     // Adds the minimal ones of the rows of several literals that contain no single one and none of
@@ -213,13 +334,7 @@ impl BlockingMatrix {
         longer: usize,
         output: Option<usize>,
     ) -> Result<(), AllocError> {
-        self.order.clear();
-        for (index, row) in self.rows.chunks_exact(self.width.max(1)).enumerate() {
-            if !share_bit(row, &self.singles) && !found.has_row_within(row, 0, longer) {
-                self.order.push((bit_count(row), index))?;
-            }
-        }
-        self.order.sort_unstable();
+        self.order_rows(found, longer)?;
         let begin = found.len();
         for (_, index) in &self.order {
             let row = row_at(&self.rows, index.saturating_mul(self.width), self.width);
@@ -230,23 +345,16 @@ impl BlockingMatrix {
         Ok(())
     }
 
-    // Adds the rows of one literal that are not common to all outputs; the rows without an output
-    // become common.
+    // Adds the rows of one literal that are not common to all outputs.
     fn push_singles(
-        &mut self,
+        &self,
         found: &mut BlockingRows,
         output: Option<usize>,
     ) -> Result<(), AllocError> {
         for input in 0..self.width.saturating_mul(64) {
             if has_bit(&self.singles, input) && !has_bit(&self.common, input) {
-                self.rows.clear();
-                self.rows.resize(self.width, 0)?;
-                put_bit(&mut self.rows, input);
-                found.push(&self.rows, output)?;
+                found.push_single(input, output)?;
             }
-        }
-        if output.is_none() {
-            join_bits(&mut self.common, &self.singles);
         }
         Ok(())
     }

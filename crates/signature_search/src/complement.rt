@@ -5,51 +5,53 @@
 //! minimization algorithms for VLSI synthesis, 1984). A cube of one half that lies in a cube of the
 //! other needs no literal of that input. The number of cubes that are made is bounded.
 
-use crate::bits::{
-    Literals, count_at, count_literals_of, free_input, has_literal, literal_at, put_literal,
-    row_at, tail,
-};
+use crate::bits::{Literals, free_input, has_literal, literal_at, put_literal, row_at, row_count};
+use crate::counts::Counts;
 use crate::lists::{absorb_list, any_contains};
 use std::alloc::{AllocError, Global};
 
-/// How often each input has a literal, by sense.
-#[derive(Drop)]
-struct Counts {
-    zeros: Vec<u32>,
-    ones: Vec<u32>,
+/// The input at which a list is split, and whether its cubes have it as 0 and as 1.
+#[derive(Clone, Copy)]
+struct Split {
+    input: usize,
+    has_zeros: bool,
+    has_ones: bool,
 }
 
-impl Counts {
-    fn of(alloc: Global, list: &[Literals], width: usize) -> Result<Counts, AllocError> {
-        let inputs = width.saturating_mul(64);
-        let mut counts = Counts {
-            zeros: vec![in alloc; 0; inputs]?,
-            ones: vec![in alloc; 0; inputs]?,
-        };
-        for row in list.chunks_exact(width.max(1)) {
-            count_literals_of(row, &mut counts.zeros, &mut counts.ones);
+/// An input in both senses with most literals, else one with most literals.
+fn splitting_input(counts: &Counts) -> usize {
+    let mut best = 0;
+    let mut most = (false, 0, 0);
+    for input in 0..counts.inputs() {
+        let (zeros, ones) = (counts.zeros(input), counts.ones(input));
+        let rarer = zeros.min(ones);
+        let here = (rarer > 0, zeros.wrapping_add(ones), rarer);
+        if here > most {
+            most = here;
+            best = input;
         }
-        Ok(counts)
     }
+    best
+}
 
-    /// An input in both senses with most literals, else one with most literals.
-    fn splitting_input(&self) -> usize {
-        let mut best = 0;
-        let mut most = (false, 0, 0);
-        for input in 0..self.zeros.len() {
-            let (zeros, ones) = (count_at(&self.zeros, input), count_at(&self.ones, input));
-            let rarer = zeros.min(ones);
-            let here = (rarer > 0, zeros.wrapping_add(ones), rarer);
-            if here > most {
-                most = here;
-                best = input;
-            }
+impl Split {
+    /// The split of a list.
+    fn of(alloc: Global, list: &[Literals], width: usize) -> Result<Split, AllocError> {
+        let mut counts = Counts::new(alloc, width)?;
+        for index in 0..row_count(list, width) {
+            counts.add(row_at(list, index.wrapping_mul(width), width));
         }
-        best
+        let input = splitting_input(&counts);
+        Ok(Split {
+            input,
+            has_zeros: counts.zeros(input) != 0,
+            has_ones: counts.ones(input) != 0,
+        })
     }
 }
 
-/// The cubes of the list that have points where the input is 1, or 0, without the input.
+/// The cubes of the list that have points where the input is 1, or 0, without the input and without
+/// absorbed ones.
 fn cofactor(
     alloc: Global,
     list: &[Literals],
@@ -57,77 +59,94 @@ fn cofactor(
     input: usize,
     one: bool,
 ) -> Result<Vec<Literals>, AllocError> {
-    let mut half: Vec<Literals> = Vec::with_capacity(alloc, list.len())?;
-    for row in list.chunks_exact(width.max(1)) {
+    let mut half: Vec<Literals> = Vec::new(alloc);
+    for index in 0..row_count(list, width) {
+        let row = row_at(list, index.wrapping_mul(width), width);
         if literal_at(row, input) != Some(!one) {
-            let mut cube = row.to_vec(alloc)?;
-            free_input(&mut cube, input);
-            half.extend_from_slice(&cube)?;
+            let begin = half.len().saturating_mul(64);
+            half.extend_from_slice(row)?;
+            free_input(&mut half, begin.saturating_add(input));
         }
     }
-    Ok(half)
+    absorb_list(alloc, &half, width)
+}
+
+/// The halves of a list, and where it is split.
+#[derive(Drop)]
+struct Halves {
+    split: Split,
+    zeros: Vec<Literals>,
+    ones: Vec<Literals>,
+}
+
+impl Halves {
+    /// The halves of a list.
+    fn of(alloc: Global, list: &[Literals], width: usize) -> Result<Halves, AllocError> {
+        let split = Split::of(alloc, list, width)?;
+        let zeros = cofactor(alloc, list, width, split.input, false)?;
+        let ones = cofactor(alloc, list, width, split.input, true)?;
+        Ok(Halves { split, zeros, ones })
+    }
+}
+
+/// Adds a cube with one literal more.
+fn push_with_literal(
+    list: &mut Vec<Literals>,
+    row: &[Literals],
+    input: usize,
+    one: bool,
+) -> Result<(), AllocError> {
+    let begin = list.len().saturating_mul(64);
+    list.extend_from_slice(row)?;
+    put_literal(list, begin.saturating_add(input), one);
+    Ok(())
 }
 
 /// The complement of a cube: a cube for each literal.
 fn complement_of_cube(alloc: Global, row: &[Literals]) -> Result<Vec<Literals>, AllocError> {
+    let all: Vec<Literals> = vec![in alloc; Literals::NONE; row.len()]?;
     let mut list: Vec<Literals> = Vec::new(alloc);
     for input in 0..row.len().saturating_mul(64) {
         if let Some(one) = literal_at(row, input) {
-            let mut cube: Vec<Literals> = vec![in alloc; Literals::NONE; row.len()]?;
-            put_literal(&mut cube, input, !one);
-            list.extend_from_slice(&cube)?;
+            push_with_literal(&mut list, &all, input, !one)?;
         }
     }
     Ok(list)
 }
 
-/// Adds the cubes of one half: as they are to those of both halves where they are marked, else with
-/// the literal to the parted ones.
-fn add_half(
-    half: &[Literals],
-    width: usize,
-    is_in_both: &[bool],
-    literal: &[Literals],
-    both: &mut Vec<Literals>,
-    parted: &mut Vec<Literals>,
-) -> Result<(), AllocError> {
-    for (row, whole) in half.chunks_exact(width.max(1)).zip(is_in_both.iter()) {
-        if *whole {
-            both.extend_from_slice(row)?;
-        } else {
-            for (word, more) in row.iter().zip(literal.iter()) {
-                parted.push(word.meet(*more))?;
-            }
-        }
-    }
-    Ok(())
-}
-
-/// Marks the cubes of a half that lie in a cube of the other half, or all of them.
-fn marks_of_contained(
-    alloc: Global,
-    half: &[Literals],
-    other: &[Literals],
-    width: usize,
-    all: bool,
-) -> Result<Vec<bool>, AllocError> {
-    let mut marks: Vec<bool> = Vec::new(alloc);
-    for row in half.chunks_exact(width.max(1)) {
-        marks.push(all || any_contains(other, row, width))?;
-    }
-    Ok(marks)
-}
-
-/// A cube of one literal.
-fn cube_of_literal(
-    alloc: Global,
+/// A list that is joined of the complements of two halves.
+#[derive(Drop)]
+struct Joined {
     width: usize,
     input: usize,
-    one: bool,
-) -> Result<Vec<Literals>, AllocError> {
-    let mut cube: Vec<Literals> = vec![in alloc; Literals::NONE; width]?;
-    put_literal(&mut cube, input, one);
-    Ok(cube)
+    /// The cubes of both halves, without a literal of the input.
+    both: Vec<Literals>,
+    /// The other cubes.
+    parted: Vec<Literals>,
+}
+
+impl Joined {
+    /// Adds the cubes of one half: without a literal those that lie in a cube of the other half, or
+    /// all of them.
+    fn add_half(
+        &mut self,
+        half: &[Literals],
+        other: &[Literals],
+        one: bool,
+        all: bool,
+    ) -> Result<(), AllocError> {
+        let (width, input) = (self.width, self.input);
+        let (both, parted) = (&mut self.both, &mut self.parted);
+        for index in 0..row_count(half, width) {
+            let row = row_at(half, index.wrapping_mul(width), width);
+            if all || any_contains(other, row, width) {
+                both.extend_from_slice(row)?;
+            } else {
+                push_with_literal(parted, row, input, one)?;
+            }
+        }
+        Ok(())
+    }
 }
 
 /// The complements of the halves as one list. Where the input occurs in one sense alone, all that
@@ -137,22 +156,19 @@ fn join_halves(
     low: &[Literals],
     high: &[Literals],
     width: usize,
-    input: usize,
-    counts: &Counts,
+    split: Split,
 ) -> Result<Vec<Literals>, AllocError> {
-    let no_zeros = count_at(&counts.zeros, input) == 0;
-    let no_ones = count_at(&counts.ones, input) == 0;
-    let low_marks = marks_of_contained(alloc, low, high, width, no_ones)?;
-    let high_marks = marks_of_contained(alloc, high, low, width, no_zeros)?;
-    let mut both: Vec<Literals> = Vec::new(alloc);
-    let mut parted: Vec<Literals> = Vec::new(alloc);
-    let zero = cube_of_literal(alloc, width, input, false)?;
-    let one = cube_of_literal(alloc, width, input, true)?;
-    add_half(low, width, &low_marks, &zero, &mut both, &mut parted)?;
-    add_half(high, width, &high_marks, &one, &mut both, &mut parted)?;
-    let mut joined = absorb_list(alloc, &both, width)?;
-    joined.extend_from_slice(&parted)?;
-    Ok(joined)
+    let mut joined = Joined {
+        width,
+        input: split.input,
+        both: Vec::new(alloc),
+        parted: Vec::new(alloc),
+    };
+    joined.add_half(low, high, false, !split.has_ones)?;
+    joined.add_half(high, low, true, !split.has_zeros)?;
+    let mut list = absorb_list(alloc, &joined.both, width)?;
+    list.extend_from_slice(&joined.parted)?;
+    Ok(list)
 }
 
 /// Cubes with the points outside the list, or `None` if more words of cubes are made on the way
@@ -163,46 +179,54 @@ pub(crate) fn complement(
     width: usize,
     budget: &mut usize,
 ) -> Result<Option<Vec<Literals>>, AllocError> {
-    complement_to_depth(alloc, list, width, budget, width.saturating_mul(64))
+    let rows = absorb_list(alloc, list, width)?;
+    complement_to_depth(alloc, &rows, width, budget, width.saturating_mul(64))
 }
 
-/// The complement, by at most `depth` splits one within the other: one for each input is enough.
+/// The list, or `None` if the budget has fewer words; it is lowered by a part of the list.
+fn within_budget(list: Vec<Literals>, budget: &mut usize) -> Option<Vec<Literals>> {
+    if list.len() > *budget {
+        return None;
+    }
+    *budget = budget.saturating_sub(list.len() / 16);
+    Some(list)
+}
+
+/// The complement of a list of one cube or none.
+fn complement_of_one(
+    alloc: Global,
+    row: &[Literals],
+    width: usize,
+    budget: &mut usize,
+) -> Result<Option<Vec<Literals>>, AllocError> {
+    if row.is_empty() {
+        return Ok(Some(vec![in alloc; Literals::NONE; width]?));
+    }
+    Ok(within_budget(complement_of_cube(alloc, row)?, budget))
+}
+
+/// The complement of a list without absorbed cubes, by at most `depth` splits one within the other:
+/// one for each input is enough.
 fn complement_to_depth(
     alloc: Global,
-    list: &[Literals],
+    rows: &[Literals],
     width: usize,
     budget: &mut usize,
     depth: usize,
 ) -> Result<Option<Vec<Literals>>, AllocError> {
-    let rows = absorb_list(alloc, list, width)?;
-    let first = row_at(&rows, 0, width);
-    if first.is_empty() {
-        return Ok(Some(vec![in alloc; Literals::NONE; width]?));
-    }
-    if !has_literal(first) {
-        return Ok(Some(Vec::new(alloc)));
+    if rows.len() <= width {
+        return complement_of_one(alloc, rows, width, budget);
     }
     let Some(below) = depth.checked_sub(1) else {
         return Ok(None);
     };
-    let joined = if tail(&rows, width).is_empty() {
-        complement_of_cube(alloc, first)?
-    } else {
-        let counts = Counts::of(alloc, &rows, width)?;
-        let input = counts.splitting_input();
-        let zeros = cofactor(alloc, &rows, width, input, false)?;
-        let Some(low) = complement_to_depth(alloc, &zeros, width, budget, below)? else {
-            return Ok(None);
-        };
-        let ones = cofactor(alloc, &rows, width, input, true)?;
-        let Some(high) = complement_to_depth(alloc, &ones, width, budget, below)? else {
-            return Ok(None);
-        };
-        join_halves(alloc, &low, &high, width, input, &counts)?
-    };
-    if joined.len() > *budget {
+    let halves = Halves::of(alloc, rows, width)?;
+    let Some(low) = complement_to_depth(alloc, &halves.zeros, width, budget, below)? else {
         return Ok(None);
-    }
-    *budget = budget.saturating_sub(joined.len() / 16);
-    Ok(Some(joined))
+    };
+    let Some(high) = complement_to_depth(alloc, &halves.ones, width, budget, below)? else {
+        return Ok(None);
+    };
+    let joined = join_halves(alloc, &low, &high, width, halves.split)?;
+    Ok(within_budget(joined, budget))
 }

@@ -1,7 +1,7 @@
 //! A cube by itself: its literals and its outputs. The search makes such cubes; those that it is
 //! given are rows of a list.
 
-use crate::bits::{Literals, literal_at, put_bit};
+use crate::bits::{Literals, all_bits, literal_at, put_bit};
 use std::alloc::{AllocError, Global};
 
 /// One step of a hash over words (Knuth, The art of computer programming, volume 3).
@@ -30,6 +30,13 @@ impl Cube {
         })
     }
 
+    /// All points under all outputs.
+    pub(crate) fn whole(alloc: Global, width: usize, outputs: usize) -> Result<Cube, AllocError> {
+        let outputs = all_bits(alloc, outputs)?;
+        let literals: Vec<Literals> = vec![in alloc; Literals::NONE; width]?;
+        Ok(Cube { literals, outputs })
+    }
+
     /// These literals with one output.
     pub(crate) fn of_output(
         alloc: Global,
@@ -43,19 +50,6 @@ impl Cube {
             literals: literals.to_vec(alloc)?,
             outputs,
         })
-    }
-
-    /// The literals of this cube that the other lacks, as inputs.
-    pub(crate) fn inputs_beyond(
-        &self,
-        alloc: Global,
-        other: &[Literals],
-    ) -> Result<Vec<u64>, AllocError> {
-        let mut inputs: Vec<u64> = Vec::with_capacity(alloc, self.literals.len())?;
-        for (mine, theirs) in self.literals.iter().zip(other.iter()) {
-            inputs.push(mine.inputs() & !theirs.inputs())?;
-        }
-        Ok(inputs)
     }
 
     /// A hash of the cube.

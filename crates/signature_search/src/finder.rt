@@ -9,12 +9,16 @@
 //! comes of this is outside ON and DC. Which ON and DC cubes hold an exchanged place depends only
 //! on the inputs where the cube has no literal; so the tests of all rows together are one question.
 
-use crate::bits::{Literals, all_bits, has_bit, meets, narrow_to, push_cofactor};
+use crate::bits::{
+    Literals, all_bits, has_bit, keep_inputs, literals_at, meets, narrow_at, push_cofactor, word_at,
+};
 use crate::blocking_matrix::{BlockingMatrix, BlockingRows};
 use crate::cube::Cube;
 use crate::function::Function;
+use crate::lists::push_cofactors;
+use crate::prime_list::{meet_of_primes, push_primes};
 use crate::question::Question;
-use crate::rows::Rows;
+use crate::rows::{Place, Rows};
 use std::alloc::{AllocError, Global};
 use std::collections::BTreeSet;
 
@@ -25,10 +29,8 @@ const REGION_BUDGET: u64 = 300;
 #[derive(Drop)]
 pub(crate) struct Signature {
     pub(crate) cube: Cube,
-    /// A cube whose points are places of its own, under the output.
-    pub(crate) place: Vec<Literals>,
-    /// The output of these places.
-    pub(crate) output: usize,
+    /// A place of its own.
+    pub(crate) place: Place,
     /// The minimal rows of the cube's blocking matrix.
     pub(crate) rows: BlockingRows,
 }
@@ -53,14 +55,19 @@ pub(crate) struct Finder<'a> {
 /// Whether a cube meets the signature cube with the literals of some row exchanged. `compared` says
 /// where they have opposite literals, and where the same.
 fn meets_with_any_row_exchanged(compared: &[Literals], rows: &[u64], width: usize) -> bool {
-    rows.chunks_exact(width.max(1))
-        .any(|row| meets_with_row_exchanged(compared, row))
+    for row in rows.chunks_exact(width.max(1)) {
+        if meets_with_row_exchanged(compared, row) {
+            return true;
+        }
+    }
+    false
 }
 
 /// Whether a cube meets the signature cube with the literals of this row exchanged.
 fn meets_with_row_exchanged(compared: &[Literals], row: &[u64]) -> bool {
-    for (word, inputs) in compared.iter().zip(row.iter()) {
-        if (word.ones & *inputs) | (word.zeros & !*inputs) != 0 {
+    for k in 0..compared.len().min(row.len()) {
+        let (word, inputs) = (literals_at(compared, k), word_at(row, k));
+        if (word.ones & inputs) | (word.zeros & !inputs) != 0 {
             return false;
         }
     }
@@ -69,10 +76,75 @@ fn meets_with_row_exchanged(compared: &[Literals], row: &[u64]) -> bool {
 
 /// Notes where the cubes have opposite literals, as zeros, and where the same, as ones.
 fn compare(compared: &mut Vec<Literals>, a: &[Literals], b: &[Literals]) {
-    for (word, (one, other)) in compared.iter_mut().zip(a.iter().zip(b.iter())) {
-        word.zeros = one.opposites(*other);
-        word.ones = one.agreements(*other);
+    for k in 0..a.len().min(b.len()) {
+        let (one, other) = (literals_at(a, k), literals_at(b, k));
+        if let Some(word) = compared.get_mut(k) {
+            word.zeros = one.opposites(other);
+            word.ones = one.agreements(other);
+        }
     }
+}
+
+/// The literals of the cube at inputs that some row has.
+fn literals_of_rows(
+    alloc: Global,
+    cube: &Cube,
+    rows: &BlockingRows,
+) -> Result<Vec<Literals>, AllocError> {
+    let inputs = rows.occurring_inputs(alloc)?;
+    let mut literals = cube.literals.to_vec(alloc)?;
+    keep_inputs(&mut literals, &inputs);
+    Ok(literals)
+}
+
+/// The outputs that no row has, of this many.
+fn outputs_without_row(
+    alloc: Global,
+    rows: &BlockingRows,
+    count: usize,
+) -> Result<Vec<u64>, AllocError> {
+    let mut outputs = all_bits(alloc, count)?;
+    for row in 0..rows.len() {
+        if let Some(output) = rows.output(row)
+            && let Some(word) = outputs.get_mut(output / 64)
+        {
+            *word &= !(1 << (output % 64));
+        }
+    }
+    Ok(outputs)
+}
+
+/// The signature cube of a cube with these minimal rows.
+fn cube_of_rows(
+    alloc: Global,
+    cube: &Cube,
+    rows: &BlockingRows,
+    outputs: usize,
+) -> Result<Cube, AllocError> {
+    let literals = literals_of_rows(alloc, cube, rows)?;
+    let outputs = outputs_without_row(alloc, rows, outputs)?;
+    Ok(Cube { literals, outputs })
+}
+
+/// Adds the cofactors of a list's cubes that meet the cube with a row exchanged. `false` if one of
+/// them contains the cube then.
+fn push_exchanged(
+    avoided: &mut Vec<Literals>,
+    compared: &mut Vec<Literals>,
+    list: &[Literals],
+    cube: &[Literals],
+    rows: &[u64],
+) -> Result<bool, AllocError> {
+    let width = cube.len();
+    for other in list.chunks_exact(width.max(1)) {
+        compare(compared, other, cube);
+        if meets_with_any_row_exchanged(compared, rows, width)
+            && !push_cofactor(avoided, other, cube)?
+        {
+            return Ok(false);
+        }
+    }
+    Ok(true)
 }
 
 impl<'a> Finder<'a> {
@@ -81,16 +153,18 @@ impl<'a> Finder<'a> {
         function: &'a Function,
         primes: Option<&'a Rows>,
     ) -> Result<Finder<'a>, AllocError> {
-        let width = function.width;
+        let compared: Vec<Literals> = vec![in alloc; Literals::NONE; function.width]?;
+        let matrix = BlockingMatrix::new(alloc, function.width)?;
+        let question = Question::new(alloc, function.width)?;
         Ok(Finder {
             alloc,
             function,
-            question: Question::new(alloc, width)?,
-            matrix: BlockingMatrix::new(alloc, width)?,
+            question,
+            matrix,
             primes,
             avoided: Vec::new(alloc),
             without_own_place: BTreeSet::new(alloc),
-            compared: vec![in alloc; Literals::NONE; width]?,
+            compared,
         })
     }
 
@@ -100,41 +174,13 @@ impl<'a> Finder<'a> {
         cube: &Cube,
     ) -> Result<Option<(Cube, BlockingRows)>, AllocError> {
         if let Some(primes) = self.primes {
-            return self.meet_of_primes(primes, cube);
+            return meet_of_primes(self.alloc, self.function, primes, cube);
         }
         let Some(rows) = self.matrix.minimal_rows(self.function, cube)? else {
             return Ok(None);
         };
-        let literals = self.literals_of_rows(cube, &rows)?;
-        let outputs = self.outputs_without_row(&rows)?;
-        Ok(Some((Cube { literals, outputs }, rows)))
-    }
-
-    // The literals of the cube at inputs that some row has.
-    fn literals_of_rows(
-        &self,
-        cube: &Cube,
-        rows: &BlockingRows,
-    ) -> Result<Vec<Literals>, AllocError> {
-        let inputs = rows.occurring_inputs(self.alloc)?;
-        let mut literals: Vec<Literals> = Vec::with_capacity(self.alloc, inputs.len())?;
-        for (word, kept) in cube.literals.iter().zip(inputs.iter()) {
-            literals.push(word.at(*kept))?;
-        }
-        Ok(literals)
-    }
-
-    // The outputs that no row has.
-    fn outputs_without_row(&self, rows: &BlockingRows) -> Result<Vec<u64>, AllocError> {
-        let mut outputs = all_bits(self.alloc, self.function.outputs)?;
-        for row in 0..rows.len() {
-            if let Some(output) = rows.output(row)
-                && let Some(word) = outputs.get_mut(output / 64)
-            {
-                *word &= !(1 << (output % 64));
-            }
-        }
-        Ok(outputs)
+        let signature = cube_of_rows(self.alloc, cube, &rows, self.function.outputs)?;
+        Ok(Some((signature, rows)))
     }
 
     /// The signature cube of a cube, if it has a place of its own.
@@ -151,20 +197,28 @@ impl<'a> Finder<'a> {
         cube: Cube,
         rows: BlockingRows,
     ) -> Result<Option<Signature>, AllocError> {
+        let Some(output) = self.new_output_of_own_place(&cube, &rows)? else {
+            return Ok(None);
+        };
+        let place = Place::of(self.alloc, self.question.answer(), output)?;
+        Ok(Some(Signature { cube, place, rows }))
+    }
+
+    // The output of the cube's own place; not looked for where there was none before.
+    fn new_output_of_own_place(
+        &mut self,
+        cube: &Cube,
+        rows: &BlockingRows,
+    ) -> Result<Option<usize>, AllocError> {
         let hash = cube.hash();
         if self.without_own_place.contains(&hash) {
             return Ok(None);
         }
-        let Some(output) = self.output_of_own_place(&cube, &rows)? else {
+        let output = self.output_of_own_place(cube, rows)?;
+        if output.is_none() {
             self.without_own_place.insert(hash)?;
-            return Ok(None);
-        };
-        Ok(Some(Signature {
-            cube,
-            place: self.question.answer().to_vec(self.alloc)?,
-            output,
-            rows,
-        }))
+        }
+        Ok(output)
     }
 
     // An output of the cube under which it has a place of its own, which is then the answer of the
@@ -175,26 +229,36 @@ impl<'a> Finder<'a> {
         rows: &BlockingRows,
     ) -> Result<Option<usize>, AllocError> {
         self.avoided.clear();
-        let first = match rows.output(0) {
-            Some(_) => 0,
-            None => rows.end_of_output(0),
-        };
+        let first = rows.end_without_output();
         if self.primes.is_none() && !self.avoid_rows_with_outputs(cube, rows, first)? {
             return Ok(None);
         }
         let common = self.avoided.len();
         for output in 0..self.function.outputs {
-            if has_bit(&cube.outputs, output) && !self.function.on(output).is_empty() {
-                self.avoided.truncate(common);
-                if self.guess_own_place(cube, output)?
-                    || self.avoid_all(cube, rows, first, output)?
-                        && self.has_wanted_place_outside_avoided(cube, output)?
-                {
-                    return Ok(Some(output));
-                }
+            self.avoided.truncate(common);
+            if has_bit(&cube.outputs, output) && self.has_own_place(cube, rows, first, output)? {
+                return Ok(Some(output));
             }
         }
         Ok(None)
+    }
+
+    // Whether the cube has a place of its own under this output.
+    fn has_own_place(
+        &mut self,
+        cube: &Cube,
+        rows: &BlockingRows,
+        first: usize,
+        output: usize,
+    ) -> Result<bool, AllocError> {
+        if self.function.on(output).is_empty() {
+            return Ok(false);
+        }
+        Ok(
+            self.guess_own_place(cube, output)?
+                || self.avoid_all(cube, rows, first, output)?
+                    && self.has_wanted_place_outside_avoided(cube, output)?,
+        )
     }
 
     // Whether former answers give a place of the cube's own, if all primes are known to check it.
@@ -236,29 +300,20 @@ impl<'a> Finder<'a> {
         rows: &[u64],
         output: usize,
     ) -> Result<bool, AllocError> {
-        let width = self.function.width;
-        for other in self.function.on_and_dc(output).chunks_exact(width.max(1)) {
-            compare(&mut self.compared, other, &cube.literals);
-            if meets_with_any_row_exchanged(&self.compared, rows, width)
-                && !push_cofactor(&mut self.avoided, other, &cube.literals)?
-            {
-                return Ok(false);
-            }
-        }
-        Ok(true)
+        let list = self.function.on_and_dc(output);
+        push_exchanged(
+            &mut self.avoided,
+            &mut self.compared,
+            list,
+            &cube.literals,
+            rows,
+        )
     }
 
     // Gathers the DC cubes of an output that meet the cube. `false` if one contains it.
     fn avoid_dc(&mut self, cube: &Cube, output: usize) -> Result<bool, AllocError> {
-        let width = self.function.width;
-        for other in self.function.dc(output).chunks_exact(width.max(1)) {
-            if meets(other, &cube.literals)
-                && !push_cofactor(&mut self.avoided, other, &cube.literals)?
-            {
-                return Ok(false);
-            }
-        }
-        Ok(true)
+        let dc = self.function.dc(output);
+        push_cofactors(&mut self.avoided, dc, &cube.literals, self.function.width)
     }
 
     // Gathers the cubes to be avoided under this output. `false` if these are all places.
@@ -270,7 +325,7 @@ impl<'a> Finder<'a> {
         output: usize,
     ) -> Result<bool, AllocError> {
         let is_left = match self.primes {
-            Some(primes) => self.avoid_primes(primes, cube, output)?,
+            Some(primes) => push_primes(&mut self.avoided, primes, cube, output)?,
             None => self.avoid_exchanged(cube, rows.input_words_of_rows(0, first), output)?,
         };
         Ok(is_left && self.avoid_dc(cube, output)?)
@@ -282,22 +337,39 @@ impl<'a> Finder<'a> {
         cube: &Cube,
         output: usize,
     ) -> Result<bool, AllocError> {
-        let mut budget = REGION_BUDGET;
-        if !self.function.samples {
-            return self
-                .question
-                .ask(&cube.literals, &self.avoided, &mut budget);
+        if self.function.samples {
+            return self.has_on_place_outside_avoided(&cube.literals, output);
         }
+        let mut budget = REGION_BUDGET;
+        self.question
+            .ask(&cube.literals, &self.avoided, &mut budget)
+    }
+
+    // Whether the cube has a place of an ON cube outside all that was gathered.
+    fn has_on_place_outside_avoided(
+        &mut self,
+        cube: &[Literals],
+        output: usize,
+    ) -> Result<bool, AllocError> {
         let width = self.function.width;
+        let mut budget = REGION_BUDGET;
         for wanted in self.function.on(output).chunks_exact(width.max(1)) {
-            if meets(wanted, &cube.literals) {
-                let mut inside = cube.literals.to_vec(self.alloc)?;
-                narrow_to(&mut inside, wanted);
-                if self.question.ask(&inside, &self.avoided, &mut budget)? {
-                    return Ok(true);
-                }
+            if meets(wanted, cube) && self.ask_for_meet(cube, wanted, &mut budget)? {
+                return Ok(true);
             }
         }
         Ok(false)
+    }
+
+    // Whether the cubes share a place outside all that was gathered.
+    fn ask_for_meet(
+        &mut self,
+        cube: &[Literals],
+        other: &[Literals],
+        budget: &mut u64,
+    ) -> Result<bool, AllocError> {
+        let mut inside = cube.to_vec(self.alloc)?;
+        narrow_at(&mut inside, 0, other);
+        self.question.ask(&inside, &self.avoided, budget)
     }
 }

@@ -54,6 +54,18 @@ fn rows_of_output(alloc: Global, rows: &Rows, output: usize) -> Result<Vec<Liter
     Ok(list)
 }
 
+/// The cubes of two lists, without absorbed ones.
+fn union(
+    alloc: Global,
+    list: &[Literals],
+    other: &[Literals],
+    width: usize,
+) -> Result<Vec<Literals>, AllocError> {
+    let mut both = list.to_vec(alloc)?;
+    both.extend_from_slice(other)?;
+    absorb_list(alloc, &both, width)
+}
+
 /// For each output its list of ON and its list of DC together, without absorbed cubes.
 fn unions_by_output(
     alloc: Global,
@@ -62,10 +74,8 @@ fn unions_by_output(
     width: usize,
 ) -> Result<Vec<Vec<Literals>>, AllocError> {
     let mut lists: Vec<Vec<Literals>> = Vec::new(alloc);
-    for (wanted, free) in on.iter().zip(dc.iter()) {
-        let mut list = wanted.to_vec(alloc)?;
-        list.extend_from_slice(free)?;
-        lists.push(absorb_list(alloc, &list, width)?)?;
+    for (output, wanted) in on.iter().enumerate() {
+        lists.push(union(alloc, wanted, list_at(dc, output), width)?)?;
     }
     Ok(lists)
 }

@@ -21,6 +21,7 @@ mod bits;
 mod blocking_matrix;
 mod climb;
 mod complement;
+mod counts;
 mod cube;
 mod descent;
 mod finder;

@@ -4,13 +4,15 @@
 //! own if it lies in no other prime. This is used where the primes are few and the OFF cubes many.
 
 use crate::bits::{
-    Literals, all_bits, contains, has_bit, is_within, meet_bits, meets, narrow_to, push_cofactor,
+    Literals, contains, has_bit, is_within, meet_bits, meets, narrow_at, push_cofactor,
 };
 use crate::blocking_matrix::BlockingRows;
 use crate::cube::Cube;
 use crate::finder::Finder;
+use crate::function::Function;
+use crate::lists::any_meets;
 use crate::rows::Rows;
-use std::alloc::AllocError;
+use std::alloc::{AllocError, Global};
 
 /// Whether a prime contains the cube.
 fn prime_contains(primes: &Rows, prime: usize, cube: &Cube) -> bool {
@@ -18,53 +20,108 @@ fn prime_contains(primes: &Rows, prime: usize, cube: &Cube) -> bool {
         && is_within(&cube.outputs, primes.outputs_of(prime))
 }
 
+/// Narrows the meet to the primes that contain the cube. Whether there is one.
+fn narrow_to_primes(meet: &mut Cube, primes: &Rows, cube: &Cube) -> bool {
+    let mut found = false;
+    for prime in 0..primes.len() {
+        if prime_contains(primes, prime, cube) {
+            found = true;
+            narrow_at(&mut meet.literals, 0, primes.literals_of(prime));
+            meet_bits(&mut meet.outputs, primes.outputs_of(prime));
+        }
+    }
+    found
+}
+
+/// The inputs of literals.
+fn inputs_of(alloc: Global, literals: &[Literals]) -> Result<Vec<u64>, AllocError> {
+    let mut inputs: Vec<u64> = Vec::new(alloc);
+    for word in literals {
+        inputs.push(word.inputs())?;
+    }
+    Ok(inputs)
+}
+
+/// The meet of the primes that contain the cube, and rows by which each of its literals may be left
+/// out. `None` if no prime contains the cube.
+pub(crate) fn meet_of_primes(
+    alloc: Global,
+    function: &Function,
+    primes: &Rows,
+    cube: &Cube,
+) -> Result<Option<(Cube, BlockingRows)>, AllocError> {
+    let mut meet = Cube::whole(alloc, function.width, function.outputs)?;
+    if !narrow_to_primes(&mut meet, primes, cube) {
+        return Ok(None);
+    }
+    let rows = rows_of_all_literals(alloc, function, &meet)?;
+    Ok(Some((meet, rows)))
+}
+
+/// All literals as a row, without an output and with each output that is absent: no literal is a row
+/// by itself, so each may be left out.
+fn rows_of_all_literals(
+    alloc: Global,
+    function: &Function,
+    cube: &Cube,
+) -> Result<BlockingRows, AllocError> {
+    let inputs = inputs_of(alloc, &cube.literals)?;
+    let mut rows = BlockingRows::new(alloc, function.width);
+    rows.push(&inputs, None)?;
+    push_for_absent_outputs(&mut rows, &inputs, &cube.outputs, function.outputs)?;
+    Ok(rows)
+}
+
+/// Adds a row with each output that is absent, of this many.
+fn push_for_absent_outputs(
+    rows: &mut BlockingRows,
+    inputs: &[u64],
+    outputs: &[u64],
+    count: usize,
+) -> Result<(), AllocError> {
+    for output in 0..count {
+        if !has_bit(outputs, output) {
+            rows.push(inputs, Some(output))?;
+        }
+    }
+    Ok(())
+}
+
+/// Whether a prime with the output that does not contain the cube meets the place.
+fn other_prime_meets(primes: &Rows, cube: &Cube, place: &[Literals], output: usize) -> bool {
+    for prime in 0..primes.len() {
+        if has_bit(primes.outputs_of(prime), output)
+            && meets(primes.literals_of(prime), place)
+            && !prime_contains(primes, prime, cube)
+        {
+            return true;
+        }
+    }
+    false
+}
+
+/// Adds the cofactors of the primes with the output that meet the cube and do not contain it.
+/// `false` if one of them contains all of it under this output.
+pub(crate) fn push_primes(
+    avoided: &mut Vec<Literals>,
+    primes: &Rows,
+    cube: &Cube,
+    output: usize,
+) -> Result<bool, AllocError> {
+    for prime in 0..primes.len() {
+        let literals = primes.literals_of(prime);
+        if has_bit(primes.outputs_of(prime), output)
+            && meets(literals, &cube.literals)
+            && !prime_contains(primes, prime, cube)
+            && !push_cofactor(avoided, literals, &cube.literals)?
+        {
+            return Ok(false);
+        }
+    }
+    Ok(true)
+}
+
 impl Finder<'_> {
-    /// The meet of the primes that contain the cube, and rows by which each of its literals may be
-    /// left out. `None` if no prime contains the cube.
-    pub(crate) fn meet_of_primes(
-        &self,
-        primes: &Rows,
-        cube: &Cube,
-    ) -> Result<Option<(Cube, BlockingRows)>, AllocError> {
-        let width = self.function.width;
-        let mut literals: Vec<Literals> = vec![in self.alloc; Literals::NONE; width]?;
-        let mut outputs = all_bits(self.alloc, self.function.outputs)?;
-        let mut found = false;
-        for prime in 0..primes.len() {
-            if prime_contains(primes, prime, cube) {
-                found = true;
-                narrow_to(&mut literals, primes.literals_of(prime));
-                meet_bits(&mut outputs, primes.outputs_of(prime));
-            }
-        }
-        if !found {
-            return Ok(None);
-        }
-        let rows = self.rows_of_all_literals(&literals, &outputs)?;
-        Ok(Some((Cube { literals, outputs }, rows)))
-    }
-
-    // All literals as a row, without an output and with each output that is absent: no literal is a
-    // row by itself, so each may be left out.
-    fn rows_of_all_literals(
-        &self,
-        literals: &[Literals],
-        outputs: &[u64],
-    ) -> Result<BlockingRows, AllocError> {
-        let mut inputs: Vec<u64> = Vec::with_capacity(self.alloc, literals.len())?;
-        for word in literals {
-            inputs.push(word.inputs())?;
-        }
-        let mut rows = BlockingRows::new(self.alloc, self.function.width);
-        rows.push(&inputs, None)?;
-        for output in 0..self.function.outputs {
-            if !has_bit(outputs, output) {
-                rows.push(&inputs, Some(output))?;
-            }
-        }
-        Ok(rows)
-    }
-
     /// Whether former answers give a place of the cube that lies in no other prime and in no DC
     /// cube under this output. It is then the answer of the question.
     pub(crate) fn guess_own_place_by_primes(
@@ -75,37 +132,9 @@ impl Finder<'_> {
     ) -> Result<bool, AllocError> {
         self.question.guess(&cube.literals)?;
         let guess = self.question.answer();
-        for prime in 0..primes.len() {
-            if has_bit(primes.outputs_of(prime), output)
-                && meets(primes.literals_of(prime), guess)
-                && !prime_contains(primes, prime, cube)
-            {
-                return Ok(false);
-            }
-        }
-        let width = self.function.width.max(1);
-        let mut dc = self.function.dc(output).chunks_exact(width);
-        Ok(!dc.any(|row| meets(row, guess)))
-    }
-
-    /// Gathers the primes with the output that meet the cube and do not contain it. `false` if one
-    /// of them contains all of it under this output.
-    pub(crate) fn avoid_primes(
-        &mut self,
-        primes: &Rows,
-        cube: &Cube,
-        output: usize,
-    ) -> Result<bool, AllocError> {
-        for prime in 0..primes.len() {
-            let literals = primes.literals_of(prime);
-            if has_bit(primes.outputs_of(prime), output)
-                && meets(literals, &cube.literals)
-                && !prime_contains(primes, prime, cube)
-                && !push_cofactor(&mut self.avoided, literals, &cube.literals)?
-            {
-                return Ok(false);
-            }
-        }
-        Ok(true)
+        Ok(
+            !other_prime_meets(primes, cube, guess, output)
+                && !any_meets(self.function.dc(output), guess, self.function.width),
+        )
     }
 }

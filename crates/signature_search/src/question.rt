@@ -8,9 +8,11 @@
 //! costs some passes over its cubes, and the number of regions is bounded by a budget.
 
 use crate::bits::{
-    Few, Literals, count_at, count_literals_of, has_literal, has_literal_at, literal_count, meets,
-    narrow_to, push_cofactor, put_literal, row_at, tail,
+    Literals, few_in_word, has_literal, has_literal_at, literal_count, literals_at, meets,
+    narrow_at, put_literal, row_at, row_count, tail,
 };
+use crate::counts::Counts;
+use crate::lists::{any_meets, push_cofactors};
 use std::alloc::{AllocError, Global};
 use std::mem::swap;
 
@@ -33,6 +35,17 @@ enum State {
     Undecided,
 }
 
+/// What the cubes of the last region show together.
+#[derive(Drop)]
+struct Notes {
+    // The opposites of the cubes of one literal.
+    forced: Vec<Literals>,
+    // The literals that occur; while an input is chosen, those of the shortest cubes.
+    occurring: Vec<Literals>,
+    // Whether there is seen to be no place outside the cubes.
+    is_held: bool,
+}
+
 /// The state of a question, whose memory serves the next one too.
 #[derive(Drop)]
 pub(crate) struct Question {
@@ -41,52 +54,128 @@ pub(crate) struct Question {
     regions: Vec<Region>,
     // The literals that are forced in the last region.
     forced: Vec<Literals>,
-    // The literals that its cubes force, while they are looked at.
-    next_forced: Vec<Literals>,
-    // The literals that occur in its cubes; while an input is chosen, in its shortest ones.
-    occurring: Vec<Literals>,
+    notes: Notes,
     // By input: the literal that it last had in an answer, where the cube asked for had none.
     remembered: Vec<Literals>,
-    // Whether the last region is seen to have no place outside its cubes.
-    is_held: bool,
-    // By input: how many cubes have its literals.
-    zeros: Vec<u32>,
-    ones: Vec<u32>,
+    // How many cubes have the literals of an input.
+    counts: Counts,
 }
 
-/// Notes that the literals of a cube occur, and what it forces if it has one literal. Whether it
-/// has any.
-fn note_row(row: &[Literals], forced: &mut Vec<Literals>, occurring: &mut Vec<Literals>) -> bool {
-    let mut few = Few::None;
-    for (word, seen) in row.iter().zip(occurring.iter_mut()) {
-        few = few.with(word.inputs());
-        *seen = seen.meet(*word);
+/// Notes the literals of a cube. Whether it has none, one, or more (0, 1 or more).
+fn note_literals(row: &[Literals], occurring: &mut Vec<Literals>) -> u32 {
+    let mut few: u32 = 0;
+    for (k, word) in row.iter().enumerate() {
+        few = few.wrapping_add(few_in_word(word.inputs()));
+        if let Some(seen) = occurring.get_mut(k) {
+            *seen = seen.meet(*word);
+        }
     }
-    if few == Few::One {
-        force_opposites(row, forced);
-    }
-    few != Few::None
+    few
 }
 
 /// Adds the opposites of a cube's literals to the forced ones.
 fn force_opposites(row: &[Literals], forced: &mut Vec<Literals>) {
-    for (word, force) in row.iter().zip(forced.iter_mut()) {
-        force.zeros |= word.ones;
-        force.ones |= word.zeros;
+    for (k, word) in row.iter().enumerate() {
+        if let Some(force) = forced.get_mut(k) {
+            force.zeros |= word.ones;
+            force.ones |= word.zeros;
+        }
+    }
+}
+
+/// Forces, at inputs where one literal alone occurs, the other one: the cubes with it then do not
+/// hold the place.
+fn force_pure_literals(occurring: &[Literals], forced: &mut Vec<Literals>) {
+    for (k, seen) in occurring.iter().enumerate() {
+        if let Some(force) = forced.get_mut(k) {
+            force.zeros = seen.ones & !seen.zeros;
+            force.ones = seen.zeros & !seen.ones;
+        }
+    }
+}
+
+impl Notes {
+    fn new(alloc: Global, width: usize) -> Result<Notes, AllocError> {
+        let forced: Vec<Literals> = vec![in alloc; Literals::NONE; width]?;
+        let occurring: Vec<Literals> = vec![in alloc; Literals::NONE; width]?;
+        Ok(Notes {
+            forced,
+            occurring,
+            is_held: false,
+        })
+    }
+
+    // Before the cubes of a region are noted.
+    fn begin(&mut self) {
+        self.is_held = false;
+        self.forced.fill(Literals::NONE);
+        self.occurring.fill(Literals::NONE);
+    }
+
+    // Notes that the literals of a cube occur, and what it forces if it has one literal.
+    fn add(&mut self, row: &[Literals]) {
+        let few = note_literals(row, &mut self.occurring);
+        if few == 1 {
+            force_opposites(row, &mut self.forced);
+        } else if few == 0 {
+            self.is_held = true;
+        }
     }
 }
 
 /// Whether some input has both literals.
 fn has_both_literals(row: &[Literals]) -> bool {
-    row.iter().any(|word| word.zeros & word.ones != 0)
+    for word in row {
+        if word.zeros & word.ones != 0 {
+            return true;
+        }
+    }
+    false
 }
 
-/// Adds literals to the row that begins at an index.
-fn narrow_at(rows: &mut Vec<Literals>, begin: usize, literals: &[Literals]) {
-    for (k, more) in literals.iter().enumerate() {
-        if let Some(word) = rows.get_mut(begin.wrapping_add(k)) {
-            *word = word.meet(*more);
+/// Takes over the literals of an answer at inputs where the cube asked for has none.
+fn remember(remembered: &mut Vec<Literals>, answer: &[Literals], inside: &[Literals]) {
+    for (k, asked) in inside.iter().enumerate() {
+        if let Some(kept) = remembered.get_mut(k) {
+            let found = literals_at(answer, k).at(!asked.inputs());
+            *kept = found.meet(kept.at(!found.inputs()));
         }
+    }
+}
+
+/// Adds the cube, with the remembered literals at inputs where it has none.
+fn push_guess(
+    rows: &mut Vec<Literals>,
+    inside: &[Literals],
+    remembered: &[Literals],
+) -> Result<(), AllocError> {
+    for (k, word) in inside.iter().enumerate() {
+        let kept = literals_at(remembered, k);
+        rows.push(word.meet(kept.at(!word.inputs())))?;
+    }
+    Ok(())
+}
+
+/// Counts the literals of cubes by input, and notes those that occur in the shortest cubes.
+fn count_literals(
+    rows: &[Literals],
+    width: usize,
+    counts: &mut Counts,
+    occurring: &mut Vec<Literals>,
+) {
+    counts.clear();
+    let mut shortest = u32::MAX;
+    for index in 0..row_count(rows, width) {
+        let row = row_at(rows, index.wrapping_mul(width), width);
+        let count = literal_count(row);
+        if count < shortest {
+            shortest = count;
+            occurring.fill(Literals::NONE);
+        }
+        if count == shortest {
+            narrow_at(occurring, 0, row);
+        }
+        counts.add(row);
     }
 }
 
@@ -97,11 +186,7 @@ fn push_narrowed(
     literals: &[Literals],
 ) -> Result<(), AllocError> {
     for (k, more) in literals.iter().enumerate() {
-        let word = match rows.get(begin.wrapping_add(k)) {
-            Some(word) => word.meet(*more),
-            None => *more,
-        };
-        rows.push(word)?;
+        rows.push(literals_at(rows, begin.wrapping_add(k)).meet(*more))?;
     }
     Ok(())
 }
@@ -109,30 +194,66 @@ fn push_narrowed(
 /// Writes the row that begins at `from` to `to`, without its literals at the inputs of `taken`.
 fn move_row_without(rows: &mut Vec<Literals>, from: usize, to: usize, taken: &[Literals]) {
     for (k, word) in taken.iter().enumerate() {
-        let rest = match rows.get(from.wrapping_add(k)) {
-            Some(old) => old.at(!word.inputs()),
-            None => Literals::NONE,
-        };
+        let rest = literals_at(rows, from.wrapping_add(k)).at(!word.inputs());
         if let Some(new) = rows.get_mut(to.wrapping_add(k)) {
             *new = rest;
         }
     }
 }
 
+/// Opens a half of the last region, which begins at an index; the other half is left to that one.
+fn open_half(
+    regions: &mut Vec<Region>,
+    begin: usize,
+    input: usize,
+    one: bool,
+) -> Result<(), AllocError> {
+    if let Some(region) = regions.last_mut() {
+        region.input = input;
+        region.one = !one;
+    }
+    regions.push(Region { begin, input, one })?;
+    Ok(())
+}
+
+/// Copies the cubes from `begin` to `end` that meet the forced literals to the end, without the
+/// literals at forced inputs.
+fn copy_meeting(
+    rows: &mut Vec<Literals>,
+    begin: usize,
+    end: usize,
+    forced: &[Literals],
+    notes: &mut Notes,
+) -> Result<(), AllocError> {
+    let width = forced.len();
+    let mut from = begin;
+    for _ in 0..end.saturating_sub(begin) / width.max(1) {
+        if meets(row_at(rows, from, width), forced) {
+            let to = rows.len();
+            rows.extend_from_slice(forced)?;
+            move_row_without(rows, from, to, forced);
+            notes.add(row_at(rows, to, width));
+        }
+        from = from.saturating_add(width);
+    }
+    Ok(())
+}
+
 impl Question {
-    pub(crate) fn new(alloc: Global, width: usize) -> Result<Question, AllocError> {
-        let inputs = width.saturating_mul(64);
+    pub(crate) fn new(alloc: Global, words: usize) -> Result<Question, AllocError> {
+        let width = words.max(1);
+        let forced: Vec<Literals> = vec![in alloc; Literals::NONE; width]?;
+        let remembered: Vec<Literals> = vec![in alloc; Literals::NONE; width]?;
+        let notes = Notes::new(alloc, width)?;
+        let counts = Counts::new(alloc, words)?;
         Ok(Question {
-            width: width.max(1),
+            width,
             rows: Vec::new(alloc),
             regions: Vec::new(alloc),
-            forced: vec![in alloc; Literals::NONE; width.max(1)]?,
-            next_forced: vec![in alloc; Literals::NONE; width.max(1)]?,
-            occurring: vec![in alloc; Literals::NONE; width.max(1)]?,
-            remembered: vec![in alloc; Literals::NONE; width.max(1)]?,
-            is_held: false,
-            zeros: vec![in alloc; 0; inputs]?,
-            ones: vec![in alloc; 0; inputs]?,
+            forced,
+            notes,
+            remembered,
+            counts,
         })
     }
 
@@ -145,7 +266,7 @@ impl Question {
         budget: &mut u64,
     ) -> Result<bool, AllocError> {
         self.guess(inside)?;
-        if self.is_guess_right(list) {
+        if !any_meets(list, self.answer(), self.width) {
             return Ok(true);
         }
         if !self.load_rows(inside, list)? {
@@ -175,30 +296,14 @@ impl Question {
     pub(crate) fn guess(&mut self, inside: &[Literals]) -> Result<(), AllocError> {
         self.rows.clear();
         self.regions.clear();
-        for (word, kept) in inside.iter().zip(self.remembered.iter()) {
-            self.rows.push(word.meet(kept.at(!word.inputs())))?;
-        }
-        Ok(())
-    }
-
-    // Whether the cube that was guessed is outside the list.
-    fn is_guess_right(&self, list: &[Literals]) -> bool {
-        let guess = self.answer();
-        !list
-            .chunks_exact(self.width.max(1))
-            .any(|row| meets(row, guess))
+        push_guess(&mut self.rows, inside, &self.remembered)
     }
 
     // Remembers the literals of the answer at inputs where the cube asked for has none.
     fn remember_answer(&mut self, inside: &[Literals]) {
         let begin = self.begin_of_last_region();
-        for (k, (kept, asked)) in self.remembered.iter_mut().zip(inside.iter()).enumerate() {
-            let found = match self.rows.get(begin.wrapping_add(k)) {
-                Some(word) => word.at(!asked.inputs()),
-                None => Literals::NONE,
-            };
-            *kept = found.meet(kept.at(!found.inputs()));
-        }
+        let answer = row_at(&self.rows, begin, self.width);
+        remember(&mut self.remembered, answer, inside);
     }
 
     /// The cube that was found last, which is outside the list.
@@ -225,10 +330,8 @@ impl Question {
             one: false,
         })?;
         self.rows.extend_from_slice(inside)?;
-        for row in list.chunks_exact(self.width.max(1)) {
-            if meets(row, inside) && !push_cofactor(&mut self.rows, row, inside)? {
-                return Ok(false);
-            }
+        if !push_cofactors(&mut self.rows, list, inside, self.width)? {
+            return Ok(false);
         }
         self.note_all_rows();
         Ok(true)
@@ -237,8 +340,8 @@ impl Question {
     // Unit propagation: takes what is forced in the last region, until nothing is.
     fn propagate(&mut self) -> State {
         let begin = self.begin_of_last_region();
-        for _ in 0..=self.zeros.len() {
-            if self.is_held {
+        for _ in 0..=self.counts.inputs() {
+            if self.notes.is_held {
                 return State::Held;
             }
             if self.rows.len() <= begin.saturating_add(self.width) {
@@ -254,40 +357,24 @@ impl Question {
 
     // Notes the literals of all cubes of the first region.
     fn note_all_rows(&mut self) {
-        self.begin_notes();
-        for row in tail(&self.rows, self.width).chunks_exact(self.width.max(1)) {
-            if !note_row(row, &mut self.next_forced, &mut self.occurring) {
-                self.is_held = true;
-            }
+        self.notes.begin();
+        let rows = tail(&self.rows, self.width);
+        for index in 0..row_count(rows, self.width) {
+            let begin = index.wrapping_mul(self.width);
+            self.notes.add(row_at(rows, begin, self.width));
         }
         self.end_notes();
-    }
-
-    // Before the cubes of the last region are noted.
-    fn begin_notes(&mut self) {
-        self.is_held = false;
-        self.next_forced.fill(Literals::NONE);
-        self.occurring.fill(Literals::NONE);
     }
 
     // After the cubes of the last region are noted: what they force is known now. Where they force
     // nothing, pure literals do.
     fn end_notes(&mut self) {
-        swap(&mut self.forced, &mut self.next_forced);
+        swap(&mut self.forced, &mut self.notes.forced);
         if !has_literal(&self.forced) {
-            self.force_pure_literals();
+            force_pure_literals(&self.notes.occurring, &mut self.forced);
         }
         if has_both_literals(&self.forced) {
-            self.is_held = true;
-        }
-    }
-
-    // Forces, at inputs where one literal alone occurs, the other one: the cubes with it then do
-    // not hold the place.
-    fn force_pure_literals(&mut self) {
-        for (force, seen) in self.forced.iter_mut().zip(self.occurring.iter()) {
-            force.zeros = seen.ones & !seen.zeros;
-            force.ones = seen.zeros & !seen.ones;
+            self.notes.is_held = true;
         }
     }
 
@@ -296,7 +383,7 @@ impl Question {
     fn take_forced_literals(&mut self, begin: usize) {
         let width = self.width;
         narrow_at(&mut self.rows, begin, &self.forced);
-        self.begin_notes();
+        self.notes.begin();
         let count = self.rows.len().saturating_sub(begin) / width.max(1);
         let mut from = begin;
         let mut to = begin.saturating_add(width);
@@ -304,7 +391,7 @@ impl Question {
             from = from.saturating_add(width);
             if meets(row_at(&self.rows, from, width), &self.forced) {
                 move_row_without(&mut self.rows, from, to, &self.forced);
-                self.note_row_at(to);
+                self.notes.add(row_at(&self.rows, to, width));
                 to = to.saturating_add(width);
             }
         }
@@ -312,29 +399,13 @@ impl Question {
         self.end_notes();
     }
 
-    // Notes the row that begins at an index.
-    fn note_row_at(&mut self, begin: usize) {
-        let row = row_at(&self.rows, begin, self.width);
-        if !note_row(row, &mut self.next_forced, &mut self.occurring) {
-            self.is_held = true;
-        }
-    }
-
     // Splits the last region, and goes on with the half that has fewer cubes.
     fn split(&mut self) -> Result<bool, AllocError> {
         let begin = self.begin_of_last_region();
         let input = self.splitting_input(begin);
-        let one = count_at(&self.ones, input) < count_at(&self.zeros, input);
-        if let Some(region) = self.regions.last_mut() {
-            region.input = input;
-            region.one = !one;
-        }
+        let one = self.counts.ones(input) < self.counts.zeros(input);
         let end = self.rows.len();
-        self.regions.push(Region {
-            begin: end,
-            input,
-            one,
-        })?;
+        open_half(&mut self.regions, end, input, one)?;
         self.force_literal(input, one);
         self.copy_region(begin, end)?;
         Ok(true)
@@ -350,18 +421,9 @@ impl Question {
     fn copy_region(&mut self, begin: usize, end: usize) -> Result<(), AllocError> {
         let width = self.width;
         push_narrowed(&mut self.rows, begin, &self.forced)?;
-        self.begin_notes();
-        let count = end.saturating_sub(begin) / width.max(1);
-        let mut from = begin;
-        for _ in 1..count {
-            from = from.saturating_add(width);
-            if meets(row_at(&self.rows, from, width), &self.forced) {
-                let to = self.rows.len();
-                self.rows.extend_from_slice(&self.forced)?;
-                move_row_without(&mut self.rows, from, to, &self.forced);
-                self.note_row_at(to);
-            }
-        }
+        self.notes.begin();
+        let from = begin.saturating_add(width);
+        copy_meeting(&mut self.rows, from, end, &self.forced, &mut self.notes)?;
         self.end_notes();
         Ok(())
     }
@@ -386,36 +448,19 @@ impl Question {
     // The input of the shortest cubes of a region that has most literals, and among those the one
     // that has most of the rarer one.
     fn splitting_input(&mut self, begin: usize) -> usize {
-        self.count_literals(begin);
+        let (counts, occurring) = (&mut self.counts, &mut self.notes.occurring);
+        let rows = tail(&self.rows, begin.saturating_add(self.width));
+        count_literals(rows, self.width, counts, occurring);
         let mut best = 0;
         let mut most = (0, 0);
-        for input in 0..self.zeros.len() {
-            let (zeros, ones) = (count_at(&self.zeros, input), count_at(&self.ones, input));
+        for input in 0..counts.inputs() {
+            let (zeros, ones) = (counts.zeros(input), counts.ones(input));
             let here = (zeros.wrapping_add(ones), zeros.min(ones));
-            if has_literal_at(&self.occurring, input) && here >= most {
+            if has_literal_at(occurring, input) && here >= most {
                 most = here;
                 best = input;
             }
         }
         best
-    }
-
-    // Counts the literals of a region by input, and notes those that occur in its shortest cubes.
-    fn count_literals(&mut self, begin: usize) {
-        self.zeros.fill(0);
-        self.ones.fill(0);
-        let mut shortest = u32::MAX;
-        let rows = tail(&self.rows, begin.saturating_add(self.width));
-        for row in rows.chunks_exact(self.width.max(1)) {
-            let count = literal_count(row);
-            if count < shortest {
-                shortest = count;
-                self.occurring.fill(Literals::NONE);
-            }
-            if count == shortest {
-                narrow_to(&mut self.occurring, row);
-            }
-            count_literals_of(row, &mut self.zeros, &mut self.ones);
-        }
     }
 }

@@ -28,11 +28,45 @@ impl SignatureCube {
             &self.cube.literals,
         )))
     }
+}
 
-    fn contains(&self, other: &SignatureCube) -> bool {
-        contains(&self.cube.literals, &other.cube.literals)
-            && is_within(&other.cube.outputs, &self.cube.outputs)
+/// Whether the cube lies in one of the list.
+fn lies_in_any(cube: &Cube, list: &[Cube]) -> bool {
+    for other in list {
+        if contains(&other.literals, &cube.literals) && is_within(&cube.outputs, &other.outputs) {
+            return true;
+        }
     }
+    false
+}
+
+/// Adds a signature cube and its place, if the cube lies in none of the list.
+fn push_maximal(
+    kept: &mut Vec<Cube>,
+    places: &mut Vec<Place>,
+    signature: SignatureCube,
+) -> Result<(), AllocError> {
+    if !lies_in_any(&signature.cube, kept) {
+        kept.push(signature.cube)?;
+        places.push(signature.place)?;
+    }
+    Ok(())
+}
+
+/// The places of the signature cubes that lie in no other one.
+fn maximal_places(
+    alloc: Global,
+    signatures: &mut Vec<SignatureCube>,
+) -> Result<Vec<Place>, AllocError> {
+    signatures.sort_by_key(|signature| signature.size())?;
+    let mut kept: Vec<Cube> = Vec::new(alloc);
+    let mut places: Vec<Place> = Vec::new(alloc);
+    for _ in 0..signatures.len() {
+        if let Some(signature) = signatures.pop() {
+            push_maximal(&mut kept, &mut places, signature)?;
+        }
+    }
+    Ok(places)
 }
 
 /// Adds the rows of a list that have the output and meet the cube.
@@ -45,6 +79,21 @@ fn push_rows_meeting(
     for row in 0..list.len() {
         if has_bit(list.outputs_of(row), output) && meets(list.literals_of(row), cube) {
             held.extend_from_slice(list.literals_of(row))?;
+        }
+    }
+    Ok(())
+}
+
+/// Adds the signature cubes that have the output and meet the cube.
+fn push_signatures_meeting(
+    held: &mut Vec<Literals>,
+    signatures: &[SignatureCube],
+    cube: &[Literals],
+    output: usize,
+) -> Result<(), AllocError> {
+    for signature in signatures {
+        if has_bit(&signature.cube.outputs, output) && meets(&signature.cube.literals, cube) {
+            held.extend_from_slice(&signature.cube.literals)?;
         }
     }
     Ok(())
@@ -78,18 +127,29 @@ impl<'a> Search<'a> {
         }
         for row in 0..on.len() {
             let cube = Cube::of(alloc, on.literals_of(row), on.outputs_of(row))?;
-            let Some((signature, rows)) = self.finder.signature_cube(&cube)? else {
-                continue;
-            };
-            let hash = signature.hash();
-            if !tried.contains(&hash) {
-                tried.push(hash)?;
-                if let Some(found) = self.finder.signature_with_own_place(signature, rows)? {
-                    self.add_signature(found)?;
-                }
-            }
+            self.add_signature_of_cube(&cube, &mut tried)?;
         }
         Ok(())
+    }
+
+    // Adds the signature cube of a cube, if it was not tried before and has a place of its own.
+    fn add_signature_of_cube(
+        &mut self,
+        cube: &Cube,
+        tried: &mut Vec<u64>,
+    ) -> Result<(), AllocError> {
+        let Some((signature, rows)) = self.finder.signature_cube(cube)? else {
+            return Ok(());
+        };
+        let hash = signature.hash();
+        if tried.contains(&hash) {
+            return Ok(());
+        }
+        tried.push(hash)?;
+        match self.finder.signature_with_own_place(signature, rows)? {
+            Some(found) => self.add_signature(found),
+            None => Ok(()),
+        }
     }
 
     /// Adds a signature cube for each ON cube and output of which the cover, and the signature
@@ -127,16 +187,27 @@ impl<'a> Search<'a> {
         cover: &Rows,
         output: usize,
     ) -> Result<(), AllocError> {
+        if !self.finds_place_left_out(wide, cover, output)? {
+            return Ok(());
+        }
+        let near = self.finder.question.answer().to_vec(self.finder.alloc)?;
+        match self.finder.signature_near(wide, &near, output)? {
+            Some(found) => self.add_signature(found),
+            None => Ok(()),
+        }
+    }
+
+    // Whether the cover leaves out a place of an ON cube, which is then the answer of the question.
+    fn finds_place_left_out(
+        &mut self,
+        wide: &[Literals],
+        cover: &Rows,
+        output: usize,
+    ) -> Result<bool, AllocError> {
         let mut held = self.dc_and_signatures_meeting(wide, output)?;
         push_rows_meeting(&mut held, cover, wide, output)?;
         let mut budget = REGION_BUDGET;
-        if self.finder.question.ask(wide, &held, &mut budget)? {
-            let near = self.finder.question.answer().to_vec(self.finder.alloc)?;
-            if let Some(found) = self.finder.signature_near(wide, &near, output)? {
-                self.add_signature(found)?;
-            }
-        }
-        Ok(())
+        self.finder.question.ask(wide, &held, &mut budget)
     }
 
     // The DC cubes of the output, and the signature cubes with it that meet the ON cube.
@@ -146,40 +217,19 @@ impl<'a> Search<'a> {
         output: usize,
     ) -> Result<Vec<Literals>, AllocError> {
         let mut held = self.finder.function.dc(output).to_vec(self.finder.alloc)?;
-        for signature in &self.signatures {
-            if has_bit(&signature.cube.outputs, output) && meets(&signature.cube.literals, wide) {
-                held.extend_from_slice(&signature.cube.literals)?;
-            }
-        }
+        push_signatures_meeting(&mut held, &self.signatures, wide, output)?;
         Ok(held)
     }
 
     // Adds a signature cube, with a place of its own.
     fn add_signature(&mut self, found: Signature) -> Result<(), AllocError> {
-        let place = Place::of(self.finder.alloc, &found.place, found.output)?;
-        self.signatures.push(SignatureCube {
-            cube: found.cube,
-            place,
-        })?;
+        let (cube, place) = (found.cube, found.place);
+        self.signatures.push(SignatureCube { cube, place })?;
         Ok(())
     }
 
     /// The places of the signature cubes that lie in no other one.
-    pub(crate) fn maximal_places(self) -> Result<Vec<Place>, AllocError> {
-        let alloc = self.finder.alloc;
-        let mut signatures = self.signatures;
-        signatures.sort_by_key(|signature| signature.size())?;
-        let mut kept: Vec<SignatureCube> = Vec::new(alloc);
-        for _ in 0..signatures.len() {
-            let Some(signature) = signatures.pop() else {
-                break;
-            };
-            if !kept.iter().any(|other| other.contains(&signature)) {
-                kept.push(signature)?;
-            }
-        }
-        kept.into_iter()
-            .map(|signature| signature.place)
-            .collect(alloc)
+    pub(crate) fn maximal_places(&mut self) -> Result<Vec<Place>, AllocError> {
+        maximal_places(self.finder.alloc, &mut self.signatures)
     }
 }
