@@ -288,7 +288,7 @@ fn raise_each(
 
 /// The weights, polished: lowered where columns are overloaded, and then raised by what is left of
 /// the slacks.
-fn polished(
+fn polished_weights(
     alloc: Global,
     table: &Compact,
     slopes: &[i64],
@@ -429,7 +429,7 @@ fn turn(direction: &mut Vec<i64>, slopes: &[i64], weights: &[i64]) -> i64 {
 }
 
 /// The number after a step of this length in its direction; at least 0.
-fn moved(number: i64, direction: i64, pace: i64) -> i64 {
+fn number_after_step(number: i64, direction: i64, pace: i64) -> i64 {
     number
         .wrapping_add(pace.wrapping_mul(direction) >> 8)
         .max(0)
@@ -438,7 +438,7 @@ fn moved(number: i64, direction: i64, pace: i64) -> i64 {
 /// Moves each weight in its direction.
 fn move_each(weights: &mut Vec<i64>, direction: &[i64], pace: i64) {
     for row in 0..weights.len().min(direction.len()) {
-        let weight = moved(at(weights, row), at(direction, row), pace);
+        let weight = number_after_step(at(weights, row), at(direction, row), pace);
         put(weights, row, weight);
     }
 }
@@ -558,7 +558,7 @@ impl Ascent {
         }
         let pace = far.wrapping_div(square.max(1));
         move_each(&mut self.weights, &self.direction, pace);
-        self.column = moved(self.column, self.column_direction, pace);
+        self.column = number_after_step(self.column, self.column_direction, pace);
     }
 
     /// Notes the value of the present weights.
@@ -662,7 +662,7 @@ impl Ascent {
     fn polish(&mut self, alloc: Global, table: &Compact, goal: Goal) -> Result<(), AllocError> {
         let slopes = &self.marks.slopes;
         let mut slacks = slacks_of(alloc, &table.column_rows, &self.scaled_costs, &self.partial)?;
-        let weights = polished(alloc, table, slopes, &mut slacks, &self.weights)?;
+        let weights = polished_weights(alloc, table, slopes, &mut slacks, &self.weights)?;
         self.keep_if_best(weights, overload(&slacks), goal);
         Ok(())
     }

@@ -126,9 +126,9 @@ impl BlockingRows {
     }
 }
 
-/// How two cubes are parted: as no input has opposite literals, one, or more (0, 1 or more); and
-/// whether one of these inputs is in the set.
-fn parting(cube: &[Literals], other: &[Literals], set: &[u64]) -> (u32, bool) {
+/// At how many inputs two cubes have opposite literals (0, 1 or more), and whether one of these
+/// inputs is in the set.
+fn opposite_inputs(cube: &[Literals], other: &[Literals], set: &[u64]) -> (u32, bool) {
     let mut few: u32 = 0;
     let mut shared: u64 = 0;
     for (k, mine) in cube.iter().enumerate() {
@@ -170,7 +170,7 @@ fn gather_rows(
     width: usize,
 ) -> Result<bool, AllocError> {
     for other in off.chunks_exact(width.max(1)) {
-        let (few, is_known) = parting(cube, other, singles);
+        let (few, is_known) = opposite_inputs(cube, other, singles);
         if few == 0 {
             return Ok(false);
         }
