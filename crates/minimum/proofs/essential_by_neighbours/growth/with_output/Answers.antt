@@ -1,5 +1,6 @@
 use Rattle.std.proofs.Common.{◌≡◌, ◌&&◌, ◌||◌, false, true, not, arith, length, replicate, set, get_or, ap, sym, subst, ◌∙◌, IfSome}
 use Rattle.std.proofs.lemmas.Bool.{false≢true}
+use Rattle.std.proofs.lemmas.List.{length-set, length-replicate}
 use Rattle.std.proofs.lemmas.Option.{get_or_from_slice_get}
 use Rattle.cube.specs.declared.symbol.Symbol.TheVariants.{Dash}
 use Rattle.cube.specs.Size.{Size}
@@ -104,3 +105,16 @@ returns-then-is_refused-clause-settled c =
     off_settles rows.size (on_side c.args.side rows.cubes) cube c.args.reached.now rows.cubes c.args.j c.requires.is_cube c.requires.reached
     (get_or_from_slice_get cube.outputs c.args.j c.output.result false c.output.ensures ∙ c.if-output.false)
     (λ p same. c.is_refused.ensures rows.cubes p same ∙ ap not c.if-is_refused.true)
+
+pub returns-then-output-clause-settled : goal.returns-then-output-clause-settled
+returns-then-output-clause-settled c _ _ _ _ _ = get_or_from_slice_get c.args.growth.cube.outputs c.args.j c.output.result false c.output.ensures ∙ c.if-output.true
+
+pub output_consensus-requires : goal.output_consensus-requires
+output_consensus-requires c =
+    let rows = c.args.rows.now in
+    let region : Size → Cube = λ z. record { symbols = replicate z.inputs Dash; outputs = set (replicate z.outputs false) c.args.j true } in
+    let is = c.in_ok-output.ensures ∙ ap region c.shape.ensures.size in
+    let own = c.requires.is_cube.has_size in (
+      own.0 ∙ sym (ap (λ k. length k.symbols) is ∙ length-replicate rows.size.inputs Dash),
+      own.1 ∙ sym (ap (λ k. length k.outputs) is ∙ length-set (replicate rows.size.outputs false) c.args.j true ∙ length-replicate rows.size.outputs false),
+    )

@@ -1,7 +1,9 @@
-use Rattle.std.proofs.Common.{◌≡◌, ◌<◌, true, length, get_or, ap, sym, subst, ◌∙◌, arith}
+use denote.Enum.Bare.{same_true}
+use Rattle.std.proofs.Common.{rules, ◌≡◌, ◌<◌, true, length, get_or, ap, sym, subst, ◌∙◌, arith}
 use Rattle.std.proofs.lemmas.Bool.{false≢true}
 use Rattle.std.proofs.lemmas.Option.{get_or_from_slice_get}
 use Rattle.cube.specs.declared.symbol.Symbol.TheVariants.{Dash}
+use Rattle.cube.specs.contracts.symbol.Symbol.{the_type}
 use Rattle.cube.specs.Cube.{Place, holds, with_symbol}
 use Rattle.cube.specs.Sharp.{opposite}
 use Rattle.minimum.specs.Neighbours.{on_side, IsBeside, AreNear}
@@ -58,3 +60,8 @@ returns-then-is_none-clause-settled c =
     let rows = c.args.rows.now in
     let s = (goal.at.returns-then-is_none-clause-settled c).After-is_implicant in
     freed_settles rows.size (on_side c.args.side rows.cubes) c.args.growth.cube c.requires.is_cube c.args.i (within s) c.in_ok-cube.cube c.in_ok-cube.ensures.value
+
+pub returns-then-eq-clause-settled : goal.returns-then-eq-clause-settled
+returns-then-eq-clause-settled c _ _ _ _ _ =
+    get_or_from_slice_get c.args.growth.cube.symbols c.args.i c.symbol-literal.result Dash c.symbol-literal.ensures
+    ∙ same_true the_type (search rules) c.symbol-literal.result Dash (sym c.eq.ensures ∙ c.if-eq.true)
