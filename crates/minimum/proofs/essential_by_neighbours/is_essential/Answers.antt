@@ -28,7 +28,7 @@ from_cubes-requires c =
     let dc = subst (λ n. AreCubes n c.into_cubes-rest.result.items) (ap (λ k. k.size) (c.in_ok-try_clone.ensures ∙ c.dc.ensures)) c.into_cubes-rest.ensures.cubes in
     let own = c.requires.prime.is_cube.has_size in
     let beside : AreCubes size c.in_ok-beside.beside.items = λ k d lt.
-        let cube = c.in_ok-beside.ensures.are_cubes k d lt in
-        record { has_size = (cube.has_size.0 ∙ own.0, cube.has_size.1 ∙ own.1); some_output = cube.some_output } in
+    let cube = c.in_ok-beside.ensures.are_cubes k d lt in
+    record { has_size = (cube.has_size.0 ∙ own.0, cube.has_size.1 ∙ own.1); some_output = cube.some_output } in
     subst (λ n. AreCubes n c.append.new.self.items) (sym (c.shape.ensures.size ∙ ap (λ k. k.size) c.requires.rows))
     (subst (AreCubes size) (sym c.in_ok-append.ensures.items) (All-append P c.into_cubes-rest.result.items c.in_ok-beside.beside.items dc beside))
