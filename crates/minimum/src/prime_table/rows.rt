@@ -49,7 +49,12 @@ fn any_within(rows: &[Vec<usize>], columns: &[usize]) -> bool
     requires { RisesFrom 0 columns.now }
     ensures { result ≡ list_any (λ row. holds_all columns.now row.items) rows.now }
 {
-    rows.iter().any(|row| is_within(row, columns))
+    for row in rows {
+        if is_within(row, columns) {
+            return true;
+        }
+    }
+    false
 }
 
 impl<'a> Lists<'a> {
