@@ -1,8 +1,8 @@
-use Rattle.std.proofs.Common.{◌≡◌, ◌+◌, ◌<◌, [], All, IfSome, sym, subst, ◌∙◌, length, true, arith}
+use Rattle.std.proofs.Common.{◌≡◌, ◌+◌, ◌<◌, [], All, IfSome, None, Some, refl, sym, subst, ◌∙◌, length, true, arith}
 use Rattle.std.specs.List.{Contains}
 use Rattle.std.proofs.lemmas.Bool.{false≢true, and_parts}
 use Rattle.std.proofs.lemmas.List.{take_all}
-use Rattle.cube.specs.Cube.{holds, intersection, IsSubset, SameSize}
+use Rattle.cube.specs.Cube.{Cube, holds, intersection, HasSize, IsCube, IsSubset, SameSize}
 use Rattle.cover.specs.Places.{places}
 use Rattle.cover.proofs.Found.{meet_output, apart_from_none, same_from_some, part_from_some}
 use Rattle.minimum.specs.Blocking.{IsNogood, IsWidening}
@@ -102,3 +102,60 @@ returns-clause-nogood t c =
     (subst (λ l. IsWidening rows l region c.in_ok-widen.field-0) c.deref.ensures.value c.in_ok-widen.ensures) in
     nogood_by_rows c.args.lists.now c.args.from c.next_list-next.result c.next_list-next.ensures.from (omega (arith, c.if-next-lists.false)) list c.index-lists-next.is region c.in_ok-widen.field-0 nogoods
     c.loop-row.invariant.0 widening
+
+pub next_list-next-requires-clause-sizes : goal.next_list-next-requires-clause-sizes
+next_list-next-requires-clause-sizes t c = c.requires.sizes
+
+pub next_list-next-requires-clause-from : goal.next_list-next-requires-clause-from
+next_list-next-requires-clause-from t c = c.requires.from
+
+pub returns-then-next-lists-clause-nogood : goal.returns-then-next-lists-clause-nogood
+returns-then-next-lists-clause-nogood t c = tt
+
+pub nogood_by_one_list-requires : goal.nogood_by_one_list-requires
+nogood_by_one_list-requires t c = c.requires.sizes
+
+some_none : (c : Cube) → Some c ≡ None → ⊥
+some_none c e = cc
+
+pub returns-in-Some-clause-common : goal.returns-in-Some-clause-common
+returns-in-Some-clause-common t c e = absurd (some_none c.in-Some.nogood e)
+
+pub returns-in-Some-clause-nogood : goal.returns-in-Some-clause-nogood
+returns-in-Some-clause-nogood t c =
+    let region = c.args.region in
+    let lists = c.args.lists.now in
+    let next = c.next_list-next.result in
+    let is : IsNogood lists next region c.in-Some.nogood = subst (λ o. IfSome o (IsNogood lists next region)) c.in-Some.is c.in_ok-nogood.ensures in
+    nogood_earlier lists c.args.from next region region c.in-Some.nogood c.next_list-next.ensures.from (refl, refl) is is.around
+
+pub meet-requires : goal.meet-requires
+meet-requires t c =
+    let list = c.index-lists-next.result in
+    let lt = c.if-next-lists.false in
+    let own = subst (λ l. HasSize c.args.region l.size) (sym c.index-lists-next.is) (c.requires.sizes c.next_list-next.result list (omega (arith, lt))) in
+    let cube = subst (IsCube list.size) (sym c.row-item.is) (c.as_slice-rows.ensures.cubes c.loop-row.row-index c.row-item.result c.loop-row-test.true) in
+    (own.0 ∙ sym cube.has_size.0, own.1 ∙ sym cube.has_size.1)
+
+pub returns-in_default-3-clause-nogood : goal.returns-in_default-3-clause-nogood
+returns-in_default-3-clause-nogood t c = tt
+
+pub contains-requires : goal.contains-requires
+contains-requires t c =
+    let part = c.in-Some-2.part in
+    let same = same_from_some c.args.region part c.in_ok-part.field-0 c.in_ok-part.ensures.size c.in-Some-2.is in
+    let is : IsNogood c.args.lists.now (c.next_list-next.result + 1) part c.in-Some-3.nogood = subst (λ o. IfSome o (IsNogood c.args.lists.now (c.next_list-next.result + 1) part)) c.in-Some-3.is c.in_ok-nogood-2.ensures.nogood in
+    (is.size.0 ∙ same.0, is.size.1 ∙ same.1)
+
+pub returns-then-contains-clause-common : goal.returns-then-contains-clause-common
+returns-then-contains-clause-common t c e = absurd (some_none c.in-Some-3.nogood e)
+
+pub widen-requires-clause-rows : goal.widen-requires-clause-rows
+widen-requires-clause-rows t c =
+    let list = c.index-lists-next.result in
+    let lt = c.if-next-lists.false in
+    let own = subst (λ l. HasSize c.args.region l.size) (sym c.index-lists-next.is) (c.requires.sizes c.next_list-next.result list (omega (arith, lt))) in
+    λ k d below. let cube = c.as_slice-rows.ensures.cubes k d below in (cube.has_size.0 ∙ sym own.0, cube.has_size.1 ∙ sym own.1)
+
+pub returns-clause-common : goal.returns-clause-common
+returns-clause-common t c e = absurd (some_none c.in_ok-widen.field-0 e)
