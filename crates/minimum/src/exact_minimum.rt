@@ -17,7 +17,7 @@ ghost use Rattle.cube.specs.Limits.{IsWithinLimits, format_limits};
 ghost use Rattle.cover.specs.Cubes.{AreCubes};
 ghost use Rattle.cover.specs.Places.{places};
 ghost use Rattle.pla.specs.Sets.{SetLists};
-ghost use Rattle.minimum.specs.Points.{AreHolders, function_of, IsLeastOfPoints, IsSource, StandsFor};
+ghost use Rattle.minimum.specs.Points.{AreHolders, IsFound, function_by, function_of, IsLeastOfPoints, IsSource, StandsFor};
 ghost use Rattle.minimum.specs.Primes.{care_on, chosen, exact_of, primes_of};
 
 use crate::cubes::add_copy;
@@ -142,6 +142,39 @@ fn left_out(alloc: Global, sets: &Sets, list: &Cover) -> Result<Cover, AllocErro
     Ok(left)
 }
 
+/// The least cover by the primes of points from these points on: where the least cover of their
+/// table leaves out a place, points are added for what it leaves out.
+fn exact_in_rounds(
+    alloc: Global,
+    given: &Sets,
+    source: &Source,
+    proposer: &Proposer,
+    choice: Choice,
+    found: &mut PickedPoints,
+) -> Result<Option<Cover>, AllocError>
+    ghost sets: { SetLists }
+    requires source { IsSource given.now.size source.now }
+    requires same { StandsFor sets given.now source.now }
+    requires limits { IsWithinLimits format_limits given.now.size }
+    requires on { AreCubes given.now.size given.now.on }
+    requires found { IsFound (function_by given.now source.now) found.old }
+    ensures { IfOk result (λ o. IfSome o (λ list. list ≡ record
+        { size = given.now.size; cubes = exact_of choice sets })) }
+{
+    for _ in 0..MOST_ROUNDS {
+        let list = least_of_points(alloc, found, choice)?;
+        let left = left_out(alloc, given, &list)?;
+        if left.is_empty() {
+            return Ok(Some(list));
+        }
+        let places = places_left_out(alloc, proposer, &left, &list)?;
+        if !add_places(alloc, given, source, &places, found)? {
+            return Ok(None);
+        }
+    }
+    Ok(None)
+}
+
 /// The least cover by the primes of points, or none where the points that are proposed are not
 /// enough, or have too many primes.
 pub(crate) fn exact_by_points(
@@ -161,18 +194,7 @@ pub(crate) fn exact_by_points(
     let mut found = PickedPoints::new(alloc, given.on().shape());
     let places = first_places(alloc, proposer, given.on())?;
     add_places(alloc, given, source, &places, &mut found)?;
-    for _ in 0..MOST_ROUNDS {
-        let list = least_of_points(alloc, &found, choice)?;
-        let left = left_out(alloc, given, &list)?;
-        if left.is_empty() {
-            return Ok(Some(list));
-        }
-        let places = places_left_out(alloc, proposer, &left, &list)?;
-        if !add_places(alloc, given, source, &places, &mut found)? {
-            return Ok(None);
-        }
-    }
-    Ok(None)
+    exact_in_rounds(alloc, given, source, proposer, choice, &mut found)
 }
 
 /// The least cover by the primes of points outside these cubes.
