@@ -31,6 +31,7 @@ use crate::prime_implicants::{on_and_dc, primes};
 use crate::prime_table::OfPrimes;
 use cover::{Budget, Cover, in_row_order, outside};
 use covering::{Choice, Table, least_cover, reduce};
+use cube::Shape;
 use pla::Sets;
 use signature_search::Proposer;
 use std::alloc::{AllocError, Global};
@@ -75,14 +76,15 @@ fn budget_outside(all: &Cover) -> Budget {
 }
 
 /// Whether to pick points in place of listing all primes: functions of few inputs have few primes.
-pub(crate) fn uses_points(sets: &Sets) -> bool {
-    sets.on().shape().inputs() > 12
+pub(crate) fn uses_points(shape: Shape) -> bool {
+    shape.inputs() > 12
 }
 
 /// Whether to make the places outside. Of one output the primes are mostly few, and where
 /// many functions are joined in it the places outside take too many cubes to begin with.
 fn uses_outside(sets: &Sets) -> bool {
-    uses_points(sets) && sets.on().shape().outputs() > 1
+    let shape = sets.on().shape();
+    uses_points(shape) && shape.outputs() > 1
 }
 
 /// Whether to pick points where all primes are listed: with fewer inputs the rows from regions
