@@ -47,7 +47,12 @@ pub(crate) fn lies_in_one_of(region: &Cube, cubes: &[Cube]) -> bool
     requires { All (λ d. SameSize d region.now) cubes.now }
     ensures { result ≡ true → LiesInOneOf cubes.now region.now }
 {
-    cubes.iter().any(|cube| cube.contains(region))
+    for cube in cubes {
+        if cube.contains(region) {
+            return true;
+        }
+    }
+    false
 }
 
 /// The cube of all places with this output.

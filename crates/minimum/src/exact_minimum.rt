@@ -17,7 +17,7 @@ ghost use Rattle.cube.specs.Limits.{IsWithinLimits, format_limits};
 ghost use Rattle.cover.specs.Cubes.{AreCubes};
 ghost use Rattle.cover.specs.Places.{places};
 ghost use Rattle.pla.specs.Sets.{SetLists};
-ghost use Rattle.minimum.specs.Points.{AreHolders, function_of, IsLeastOfPoints, IsSource, StandsFor};
+ghost use Rattle.minimum.specs.Points.{AreHolders, IsFound, function_by, function_of, IsLeastOfPoints, IsSource, StandsFor};
 ghost use Rattle.minimum.specs.Primes.{care_on, chosen, exact_of, primes_of};
 
 use crate::cubes::add_copy;
@@ -31,6 +31,7 @@ use crate::prime_implicants::{on_and_dc, primes};
 use crate::prime_table::OfPrimes;
 use cover::{Budget, Cover, in_row_order, outside};
 use covering::{Choice, Table, least_cover, reduce};
+use cube::Shape;
 use pla::Sets;
 use signature_search::Proposer;
 use std::alloc::{AllocError, Global};
@@ -75,14 +76,15 @@ fn budget_outside(all: &Cover) -> Budget {
 }
 
 /// Whether to pick points in place of listing all primes: functions of few inputs have few primes.
-pub(crate) fn uses_points(sets: &Sets) -> bool {
-    sets.on().shape().inputs() > 12
+pub(crate) fn uses_points(shape: Shape) -> bool {
+    shape.inputs() > 12
 }
 
 /// Whether to make the places outside. Of one output the primes are mostly few, and where
 /// many functions are joined in it the places outside take too many cubes to begin with.
 fn uses_outside(sets: &Sets) -> bool {
-    uses_points(sets) && sets.on().shape().outputs() > 1
+    let shape = sets.on().shape();
+    uses_points(shape) && shape.outputs() > 1
 }
 
 /// Whether to pick points where all primes are listed: with fewer inputs the rows from regions
@@ -142,6 +144,39 @@ fn left_out(alloc: Global, sets: &Sets, list: &Cover) -> Result<Cover, AllocErro
     Ok(left)
 }
 
+/// The least cover by the primes of points from these points on: where the least cover of their
+/// table leaves out a place, points are added for what it leaves out.
+fn exact_in_rounds(
+    alloc: Global,
+    given: &Sets,
+    source: &Source,
+    proposer: &Proposer,
+    choice: Choice,
+    found: &mut PickedPoints,
+) -> Result<Option<Cover>, AllocError>
+    ghost sets: { SetLists }
+    requires source { IsSource given.now.size source.now }
+    requires same { StandsFor sets given.now source.now }
+    requires limits { IsWithinLimits format_limits given.now.size }
+    requires on { AreCubes given.now.size given.now.on }
+    requires found { IsFound (function_by given.now source.now) found.old }
+    ensures { IfOk result (λ o. IfSome o (λ list. list ≡ record
+        { size = given.now.size; cubes = exact_of choice sets })) }
+{
+    for _ in 0..MOST_ROUNDS {
+        let list = least_of_points(alloc, found, choice)?;
+        let left = left_out(alloc, given, &list)?;
+        if left.is_empty() {
+            return Ok(Some(list));
+        }
+        let places = places_left_out(alloc, proposer, &left, &list)?;
+        if !add_places(alloc, given, source, &places, found)? {
+            return Ok(None);
+        }
+    }
+    Ok(None)
+}
+
 /// The least cover by the primes of points, or none where the points that are proposed are not
 /// enough, or have too many primes.
 pub(crate) fn exact_by_points(
@@ -161,18 +196,7 @@ pub(crate) fn exact_by_points(
     let mut found = PickedPoints::new(alloc, given.on().shape());
     let places = first_places(alloc, proposer, given.on())?;
     add_places(alloc, given, source, &places, &mut found)?;
-    for _ in 0..MOST_ROUNDS {
-        let list = least_of_points(alloc, &found, choice)?;
-        let left = left_out(alloc, given, &list)?;
-        if left.is_empty() {
-            return Ok(Some(list));
-        }
-        let places = places_left_out(alloc, proposer, &left, &list)?;
-        if !add_places(alloc, given, source, &places, &mut found)? {
-            return Ok(None);
-        }
-    }
-    Ok(None)
+    exact_in_rounds(alloc, given, source, proposer, choice, &mut found)
 }
 
 /// The least cover by the primes of points outside these cubes.

@@ -42,11 +42,13 @@ pub(crate) fn numbers_intersecting(
     requires below { All (λ i. i < length cubes.now) numbers.now }
     ensures { IfOk result (λ v. v.items ≡ filter (intersects_region cubes.now region.now) numbers.now) }
 {
-    numbers
-        .iter()
-        .copied()
-        .filter(|n| intersects_region(cubes, region, *n))
-        .collect(alloc)
+    let mut kept = Vec::new(alloc);
+    for number in numbers {
+        if intersects_region(cubes, region, *number) {
+            kept.push(*number)?;
+        }
+    }
+    Ok(kept)
 }
 
 /// Those of the cubes that hold the region.
@@ -60,11 +62,13 @@ pub(crate) fn numbers_containing(
     requires below { All (λ i. i < length cubes.now) numbers.now }
     ensures { IfOk result (λ v. v.items ≡ filter (contains_region cubes.now region.now) numbers.now) }
 {
-    numbers
-        .iter()
-        .copied()
-        .filter(|n| contains_region(cubes, region, *n))
-        .collect(alloc)
+    let mut kept = Vec::new(alloc);
+    for number in numbers {
+        if contains_region(cubes, region, *number) {
+            kept.push(*number)?;
+        }
+    }
+    Ok(kept)
 }
 
 /// Whether the cube has the output.
@@ -87,11 +91,13 @@ fn numbers_with_output(
     requires below { All (λ i. i < length list.now.cubes) numbers.now }
     ensures { IfOk result (λ v. v.items ≡ filter (has_output list.now.cubes j) numbers.now) }
 {
-    numbers
-        .iter()
-        .copied()
-        .filter(|n| has_output(list, j, *n))
-        .collect(alloc)
+    let mut kept = Vec::new(alloc);
+    for number in numbers {
+        if has_output(list, j, *number) {
+            kept.push(*number)?;
+        }
+    }
+    Ok(kept)
 }
 
 /// For each output the numbers of the cubes that have it.
@@ -113,9 +119,12 @@ pub(crate) fn any_contains(cubes: &[Cube], region: &Cube, numbers: &[usize]) -> 
     requires below { All (λ i. i < length cubes.now) numbers.now }
     ensures { result ≡ list_any (contains_region cubes.now region.now) numbers.now }
 {
-    numbers
-        .iter()
-        .any(|number| contains_region(cubes, region, *number))
+    for number in numbers {
+        if contains_region(cubes, region, *number) {
+            return true;
+        }
+    }
+    false
 }
 
 /// An input at which the region has a dash and the cube a literal.

@@ -202,10 +202,10 @@ fn exact_outside_off(
       cubes = exact_of choice (sets_of pla.now true true);
     })) }
 {
-    let samples = samples_of(alloc, pla)?;
-    if !uses_points(&samples) {
+    if !uses_points(pla.shape()) {
         return Ok(None);
     }
+    let samples = samples_of(alloc, pla)?;
     let proposer = proposer_by_off(alloc, &samples, off, true)?;
     let source = Source::Outside(off.try_clone()?);
     exact_by_points(alloc, &samples, &source, &proposer, choice)

@@ -79,17 +79,22 @@ fn with_needed_literals(region: &Cube, needed: &[bool]) -> Result<Cube, AllocErr
 
 /// The region with the needed literals alone, if what it then has of the rows still lies in the
 /// nogoods; else the region.
-fn widen(rows: &[Cube], nogoods: &[Cube], region: Cube, needed: &[bool]) -> Result<Cube, AllocError>
-    requires rows { All (λ d. SameSize d region) rows.now }
-    requires nogoods { All (λ d. SameSize d region) nogoods.now }
-    requires parts { IsSubset (intersection (holds region) (places rows.now)) (places nogoods.now) }
-    ensures { IfOk result (IsWidening rows.now nogoods.now region) }
+fn widen(
+    rows: &[Cube],
+    nogoods: &[Cube],
+    region: &Cube,
+    needed: &[bool],
+) -> Result<Cube, AllocError>
+    requires rows { All (λ d. SameSize d region.now) rows.now }
+    requires nogoods { All (λ d. SameSize d region.now) nogoods.now }
+    requires parts { IsSubset (intersection (holds region.now) (places rows.now)) (places nogoods.now) }
+    ensures { IfOk result (IsWidening rows.now nogoods.now region.now) }
 {
-    let wide = with_needed_literals(&region, needed)?;
-    if wide.contains(&region) && parts_lie_in(&wide, rows, nogoods)? {
+    let wide = with_needed_literals(region, needed)?;
+    if wide.contains(region) && parts_lie_in(&wide, rows, nogoods)? {
         return Ok(wide);
     }
-    Ok(region)
+    region.try_clone()
 }
 
 /// A nogood around the region, if it meets no row of one of the lists from a number on.
@@ -106,7 +111,7 @@ fn nogood_by_one_list(
         let rows = lists[number].as_slice();
         if are_apart(rows, region) {
             let needed = conflicts_with(alloc, region, rows)?;
-            return Ok(Some(widen(rows, &[], region.try_clone()?, &needed)?));
+            return Ok(Some(widen(rows, &[], region, &needed)?));
         }
     }
     Ok(None)
@@ -118,19 +123,19 @@ fn nogood_around(
     alloc: Global,
     lists: &[Cover],
     from: usize,
-    region: Cube,
+    region: &Cube,
 ) -> Result<Option<Cube>, AllocError>
-    requires sizes { All (λ l. HasSize region l.size) lists.now }
+    requires sizes { All (λ l. HasSize region.now l.size) lists.now }
     requires from { from ≤ length lists.now }
-    requires output { IsTrue (list_any (λ b. b) region.outputs) }
-    ensures common { IfOk result (λ o. o ≡ None → HasCommon region lists.now from) }
-    ensures nogood { IfOk result (λ o. IfSome o (IsNogood lists.now from region)) }
+    requires output { IsTrue (list_any (λ b. b) region.now.outputs) }
+    ensures common { IfOk result (λ o. o ≡ None → HasCommon region.now lists.now from) }
+    ensures nogood { IfOk result (λ o. IfSome o (IsNogood lists.now from region.now)) }
 {
-    let next = next_list(lists, from, &region);
+    let next = next_list(lists, from, region);
     if next >= lists.len() {
         return Ok(None);
     }
-    if let Some(nogood) = nogood_by_one_list(alloc, lists, next, &region)? {
+    if let Some(nogood) = nogood_by_one_list(alloc, lists, next, region)? {
         return Ok(Some(nogood));
     }
     let mut needed = vec![in alloc; false; region.shape().inputs()]?;
@@ -138,13 +143,13 @@ fn nogood_around(
     let rows = lists[next].as_slice();
     for row in rows {
         let Some(part) = region.meet(row)? else {
-            keep_conflict(&mut needed, &region, row);
+            keep_conflict(&mut needed, region, row);
             continue;
         };
-        let Some(nogood) = nogood_around(alloc, lists, next + 1, part)? else {
+        let Some(nogood) = nogood_around(alloc, lists, next + 1, &part)? else {
             return Ok(None);
         };
-        if nogood.contains(&region) {
+        if nogood.contains(region) {
             return Ok(Some(nogood));
         }
         keep_literals(&mut needed, &nogood, row);
@@ -161,6 +166,6 @@ pub(crate) fn has_common(alloc: Global, lists: &[Cover], region: &Cube) -> Resul
     ensures some { IfOk result (λ b. b ≡ true → HasCommon region.now lists.now 0) }
     ensures none { IfOk result (λ b. b ≡ false → HasCommon region.now lists.now 0 → ⊥) }
 {
-    let nogood = nogood_around(alloc, lists, 0, region.try_clone()?)?;
+    let nogood = nogood_around(alloc, lists, 0, region)?;
     Ok(nogood.is_none())
 }

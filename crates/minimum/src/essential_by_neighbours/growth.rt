@@ -6,7 +6,7 @@
 //! these are looked for again. Most outputs are refused by what the rows reach in a part of the
 //! cube.
 
-ghost use Rattle.std.specs.Prelude.{◌<◌, ◌↔◌, IsTrue, IfOk};
+ghost use Rattle.std.specs.Prelude.{◌<◌, ◌↔◌, IsTrue, IfOk, OnOk};
 ghost use Rattle.cube.specs.Cube.{HasSize, IsCube, IsSubset, holds};
 ghost use Rattle.minimum.specs.Neighbours.{on_side, Grows, IsGrown, IsSettledInput, IsSettledOutput, AreNear, AreReached, near_or};
 
@@ -47,76 +47,77 @@ pub(crate) struct Growth {
     pub(crate) near: Option<Cover>,
 }
 
-/// The cube without its literal at an input, if that is an implicant.
+/// Takes the cube's literal at an input away, if what is left is an implicant.
 fn without_literal(
     alloc: Global,
     side: Side,
     rows: &Cover,
-    growth: Growth,
+    growth: &mut Growth,
     i: usize,
-) -> Result<Growth, AllocError>
-    requires is_cube { IsCube rows.now.size growth.cube }
-    requires near { AreNear growth.cube rows.now (near_or rows.now growth.near) }
+) -> Result<(), AllocError>
+    requires is_cube { IsCube rows.now.size growth.old.cube }
+    requires near { AreNear growth.old.cube rows.now (near_or rows.now growth.old.near) }
     requires input { i < rows.now.size.inputs }
-    ensures grows { IfOk result
-        (λ g. Grows rows.now.size (on_side side rows.now.cubes) growth.cube g.cube) }
-    ensures near { IfOk result (λ g. AreNear g.cube rows.now (near_or rows.now g.near)) }
-    ensures settled { IfOk result
-        (λ g. IsSettledInput rows.now.size (on_side side rows.now.cubes) g.cube i) }
+    ensures grows { OnOk result
+        (Grows rows.now.size (on_side side rows.now.cubes) growth.old.cube growth.new.cube) }
+    ensures near { OnOk result
+        (AreNear growth.new.cube rows.now (near_or rows.now growth.new.near)) }
+    ensures settled { OnOk result
+        (IsSettledInput rows.now.size (on_side side rows.now.cubes) growth.new.cube i) }
 {
-    let Growth { cube, near } = growth;
-    let literal = cube.symbol(i);
+    let literal = growth.cube.symbol(i);
     if literal == Symbol::Dash {
-        return Ok(Growth { cube, near });
+        return Ok(());
     }
-    let rest = cube.with_symbol(i, opposite(literal))?;
-    if !is_implicant(side, rows_to_ask(rows, &near), &rest)? {
-        return Ok(Growth { cube, near });
+    let rest = growth.cube.with_symbol(i, opposite(literal))?;
+    if !is_implicant(side, rows_to_ask(rows, &growth.near), &rest)? {
+        return Ok(());
     }
-    let cube = cube.with_symbol(i, Symbol::Dash)?;
-    if near.is_none() {
-        return Ok(Growth { cube, near: None });
+    growth.cube.set_symbol(i, Symbol::Dash);
+    if growth.near.is_none() {
+        return Ok(());
     }
-    let near = rows_near(alloc, rows, &cube)?;
-    Ok(Growth { cube, near })
+    growth.near = rows_near(alloc, rows, &growth.cube)?;
+    Ok(())
 }
 
-/// The cube with an output, if that is an implicant. Where it is not, the outputs that are reached
-/// mostly show it.
+/// Gives the cube an output, if it then is an implicant. Where it is not, the outputs that are
+/// reached mostly show it.
 fn with_output(
     alloc: Global,
     side: Side,
     rows: &Cover,
     reached: &Cube,
-    growth: Growth,
+    growth: &mut Growth,
     j: usize,
-) -> Result<Growth, AllocError>
-    requires is_cube { IsCube rows.now.size growth.cube }
-    requires near { AreNear growth.cube rows.now (near_or rows.now growth.near) }
-    requires reached { AreReached growth.cube rows.now.cubes reached.now }
+) -> Result<(), AllocError>
+    requires is_cube { IsCube rows.now.size growth.old.cube }
+    requires near { AreNear growth.old.cube rows.now (near_or rows.now growth.old.near) }
+    requires reached { AreReached growth.old.cube rows.now.cubes reached.now }
     requires output { j < rows.now.size.outputs }
-    ensures grows { IfOk result
-        (λ g. Grows rows.now.size (on_side side rows.now.cubes) growth.cube g.cube) }
-    ensures near { IfOk result (λ g. AreNear g.cube rows.now (near_or rows.now g.near)) }
-    ensures settled { IfOk result
-        (λ g. IsSettledOutput rows.now.size (on_side side rows.now.cubes) g.cube j) }
+    ensures grows { OnOk result
+        (Grows rows.now.size (on_side side rows.now.cubes) growth.old.cube growth.new.cube) }
+    ensures near { OnOk result
+        (AreNear growth.new.cube rows.now (near_or rows.now growth.new.near)) }
+    ensures settled { OnOk result
+        (IsSettledOutput rows.now.size (on_side side rows.now.cubes) growth.new.cube j) }
 {
-    let Growth { cube, near } = growth;
-    if cube.output(j) {
-        return Ok(Growth { cube, near });
+    if growth.cube.output(j) {
+        return Ok(());
     }
     if is_refused(side, reached, j) {
-        return Ok(Growth { cube, near });
+        return Ok(());
     }
     let output = one_output(alloc, rows.shape(), j)?;
-    let Some(wide) = cube.output_consensus(&output)? else {
+    let Some(wide) = growth.cube.output_consensus(&output)? else {
         unreachable!()
     };
-    let rest = wide.without_outputs(&cube)?;
-    if is_implicant(side, rows_to_ask(rows, &near), &rest)? {
-        return Ok(Growth { cube: wide, near });
+    let rest = wide.without_outputs(&growth.cube)?;
+    if !is_implicant(side, rows_to_ask(rows, &growth.near), &rest)? {
+        return Ok(());
     }
-    Ok(Growth { cube, near })
+    growth.cube = wide;
+    Ok(())
 }
 
 /// The cube without the literals that it can do without, one after the other.
@@ -138,7 +139,7 @@ fn grow_at_inputs(
         near,
     };
     for i in 0..rows.shape().inputs() {
-        growth = without_literal(alloc, side, rows, growth, i)?;
+        without_literal(alloc, side, rows, &mut growth, i)?;
     }
     Ok(growth)
 }
@@ -163,7 +164,7 @@ pub(crate) fn grow(
     let part = part_of(side, &growth.cube)?;
     let reached = outputs_at(rows_to_ask(rows, &growth.near), part)?;
     for j in 0..rows.shape().outputs() {
-        growth = with_output(alloc, side, rows, &reached, growth, j)?;
+        with_output(alloc, side, rows, &reached, &mut growth, j)?;
     }
     Ok(growth)
 }

@@ -20,6 +20,7 @@ use crate::prime_table::halving_input::halving_input;
 use covering::{copy_of, is_blank, is_within};
 use cube::{Cube, Symbol};
 use std::alloc::{AllocError, Global};
+use std::mem::replace;
 
 /// The lists that are split against each other.
 #[derive(Clone, Copy)]
@@ -30,11 +31,21 @@ pub(crate) struct Lists<'a> {
 }
 
 /// Those of their cubes that may have a place of a region, by their numbers.
-#[derive(Drop)]
 pub(crate) struct Candidates {
     pub(crate) primes: Vec<usize>,
     pub(crate) on: Vec<usize>,
     pub(crate) dc: Vec<usize>,
+}
+
+// Written out, so that where they end a proof has one call, and no case for each list.
+impl Drop for Candidates {
+    fn drop(self) {
+        let Candidates {
+            primes: _,
+            on: _,
+            dc: _,
+        } = self;
+    }
 }
 
 /// Whether there is one number.
@@ -49,7 +60,12 @@ fn any_within(rows: &[Vec<usize>], columns: &[usize]) -> bool
     requires { RisesFrom 0 columns.now }
     ensures { result ≡ list_any (λ row. holds_all columns.now row.items) rows.now }
 {
-    rows.iter().any(|row| is_within(row, columns))
+    for row in rows {
+        if is_within(row, columns) {
+            return true;
+        }
+    }
+    false
 }
 
 impl<'a> Lists<'a> {
@@ -144,12 +160,12 @@ impl<'a> Lists<'a> {
         ensures { OnOk result (AddsRows self.now.primes.now self.now.on.now self.now.dc.now
             (holds region.now) (items_of rows.old.items) (items_of rows.new.items)) }
     {
-        let candidates = self.candidates(alloc, candidates, region)?;
+        let mut candidates = self.candidates(alloc, candidates, region)?;
         if self.needs_no_row(alloc, &candidates, region, rows)? {
             return Ok(());
         }
         let Some(i) = self.split(&candidates, region) else {
-            rows.push(candidates.primes)?;
+            rows.push(replace(&mut candidates.primes, Vec::new(alloc)))?;
             return Ok(());
         };
         {

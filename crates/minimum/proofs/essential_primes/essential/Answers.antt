@@ -1,7 +1,8 @@
-use Rattle.std.proofs.Common.{◌≡◌, ap, sym, subst, ◌∙◌, ◌<◌, length, get_or}
+use Rattle.std.proofs.Common.{◌≡◌, ap, sym, subst, ◌∙◌, ◌<◌, ◌≤◌, filter, length, get_or}
+use Rattle.std.proofs.lemmas.List.{take_all}
 use Rattle.cover.specs.Cubes.{AreCubes}
 use Rattle.cover.proofs.ContainmentLemmas.{cube_at-is}
-use Rattle.minimum.specs.Primes.{primes_of, is_essential}
+use Rattle.minimum.specs.Primes.{primes_of, essential_of, is_essential}
 use Rattle.minimum.specs.EssentialPrimes.{AreNonCandidates}
 use Rattle.minimum.proofs.EssentialPrimes.{kept_next, skipped_next}
 use Rattle.minimum.proofs.NonCandidates.{same_sizes}
@@ -65,3 +66,13 @@ loop-number-preserved c =
         cubes = ap (λ l. l.cubes) w.list-is ∙ skipped_next test primes i lt c.prime-item.result at list.cubes c.in_ok-is_essential_at.field-0 c.loop-number.invariant.cubes asked w.if-branch.false;
       }
     ]
+
+pub returns : goal.returns
+returns c =
+    let sets = c.args.sets.now in
+    let primes = c.args.primes.now.cubes in
+    let n = c.loop-number.number in
+    let past = subst (λ l. length l ≤ n) c.as_slice-prime-items.ensures.value c.loop-number-test.false in
+    let cubes = c.loop-number.invariant.cubes ∙ ap (filter (is_essential sets primes)) (take_all n primes past) ∙ ap (λ k. essential_of sets k.cubes) c.requires in
+    let size = c.loop-number.invariant.size ∙ ap (λ k. k.size) c.requires in
+    λ i. record { size = size i; cubes = cubes i }

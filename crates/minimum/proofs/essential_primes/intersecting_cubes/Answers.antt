@@ -1,4 +1,5 @@
-use Rattle.std.proofs.Common.{◌++◌, ◌∷◌, [], ap, ◌∙◌}
+use Rattle.std.proofs.Common.{◌++◌, ◌∷◌, [], ap, filter, ◌∙◌}
+use Rattle.std.proofs.lemmas.List.{take_all}
 use Rattle.minimum.specs.EssentialPrimes.{intersects_cube}
 use Rattle.minimum.proofs.EssentialPrimes.{kept_next, skipped_next}
 use Rattle.minimum.proofs.essential_primes.intersecting_cubes.Goals as goal
@@ -16,3 +17,6 @@ loop-cube-preserved c =
           ap (λ k. k.items) w.kept-is
           ∙ skipped_next test c.args.cubes.now c.loop-cube.cube-index c.loop-cube-test.true c.cube-item.result c.cube-item.is c.loop-cube.kept.items c.intersects_cube.result c.loop-cube.invariant c.intersects_cube.ensures w.if-intersects_cube.false
     ]
+
+pub returns : goal.returns
+returns c = c.loop-cube.invariant ∙ ap (filter (intersects_cube c.args.prime.now)) (take_all c.loop-cube.cube-index c.args.cubes.now c.loop-cube-test.false)

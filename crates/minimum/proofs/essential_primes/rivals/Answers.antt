@@ -1,4 +1,5 @@
-use Rattle.std.proofs.Common.{◌++◌, ◌∷◌, [], ap, ◌∙◌}
+use Rattle.std.proofs.Common.{◌++◌, ◌∷◌, [], ap, filter, ◌∙◌}
+use Rattle.std.proofs.lemmas.List.{take_all}
 use Rattle.minimum.specs.EssentialPrimes.{is_rival}
 use Rattle.minimum.proofs.EssentialPrimes.{kept_next, skipped_next}
 use Rattle.minimum.proofs.essential_primes.rivals.Goals as goal
@@ -16,3 +17,6 @@ loop-cube-preserved c =
           ap (λ k. k.items) w.kept-is
           ∙ skipped_next test c.args.cubes.now c.loop-cube.cube-index c.loop-cube-test.true c.cube-item.result c.cube-item.is c.loop-cube.kept.items c.is_rival.result c.loop-cube.invariant c.is_rival.ensures w.if-is_rival.false
     ]
+
+pub returns : goal.returns
+returns c = c.loop-cube.invariant ∙ ap (filter (is_rival c.args.prime.now)) (take_all c.loop-cube.cube-index c.args.cubes.now c.loop-cube-test.false)

@@ -1,5 +1,6 @@
-use Rattle.std.proofs.Common.{◌∷◌, ◌++◌, [], ◌||◌, ap, sym, subst, ◌∙◌}
+use Rattle.std.proofs.Common.{◌≡◌, ◌∷◌, ◌++◌, [], ◌||◌, ap, sym, subst, ◌∙◌}
 use Rattle.std.proofs.Math.Bool.{or-false}
+use Rattle.std.proofs.lemmas.List.{take_all}
 use Rattle.std.proofs.lemmas.List.Elements.{All-nil, All-cons, All-append}
 use Rattle.std.proofs.lemmas.Bool.{false≢true}
 use Rattle.std.proofs.lemmas.Option.{get_or_from_slice_get}
@@ -10,6 +11,7 @@ use Rattle.cover.specs.Places.{places}
 use Rattle.cover.proofs.SumMeets.{places-append}
 use Rattle.cover.proofs.SumSplit.{IsCube-with_symbol}
 use Rattle.minimum.specs.Neighbours.{flip}
+use Rattle.minimum.specs.Blocking.{flip_in}
 use Rattle.minimum.proofs.Growth.{same_sizes}
 use Rattle.minimum.proofs.Blocking.{row_added, row_left, freed_row, same_row, apart_row}
 use Rattle.minimum.proofs.essential_by_neighbours.blocking.blocking_input.Goals as goal
@@ -55,3 +57,14 @@ loop-row-preserved c =
                 ]);
           })
     ]
+
+pub returns : goal.returns
+returns c =
+    let own = c.shape-shape.ensures.size in
+    let prime = c.requires.prime.has_size in
+    let size : c.shape-shape.result ≡ c.args.off.now.size = λ i. record { inputs = (sym own.0 ∙ prime.0) i; outputs = (sym own.1 ∙ prime.1) i } in
+    record {
+      size = ap (λ k. k.size) c.from_cubes.ensures ∙ size;
+      same = λ p in_c. ap (λ k. places k.cubes p) c.from_cubes.ensures ∙ c.loop-row.invariant.same p in_c
+          ∙ ap (λ l. flip_in l c.args.i p) (take_all c.loop-row.row-index c.as_slice-row-items.result.now c.loop-row-test.false ∙ c.as_slice-row-items.ensures.value);
+    }

@@ -31,3 +31,8 @@ returns c =
     let value = c.inputs-i-end.ensures.value in
     let past : off.size.inputs ≤ c.loop-i.i = omega (arith, size, value, c.loop-i-test.false) in
     inputs_all off.size off.cubes c.args.prime.now c.requires c.loop-i.lists.items c.loop-i.i past c.loop-i.invariant
+
+pub blocking_input-requires-clause-literal : goal.blocking_input-requires-clause-literal
+blocking_input-requires-clause-literal c e =
+    let own = get_or_from_slice_get c.args.prime.now.symbols c.loop-i.i c.symbol.result Dash c.symbol.ensures in
+    false≢true (sym c.if-not-is_same.true ∙ c.is_same.ensures.1 (sym own ∙ e))

@@ -8,4 +8,4 @@ abbrev pub decreases-nogood_around : goal.decreases-nogood_around
 decreases-nogood_around l = length l.lists.now - l.from
 
 abbrev pub invariant-loop-row : goal.invariant-loop-row
-invariant-loop-row l = AreNogoods l.lists (l.next + 1) l.fn.region l.nogoods.items × IsSubset (intersection (holds l.fn.region) (places (take l.row-index l.rows))) (places l.nogoods.items)
+invariant-loop-row l = AreNogoods l.lists (l.next + 1) l.region l.nogoods.items × IsSubset (intersection (holds l.region) (places (take l.row-index l.rows))) (places l.nogoods.items)

@@ -33,8 +33,8 @@ loop-j-preserved c =
     let rows = c.args.rows.now in
     let s = on_side c.args.side rows.cubes in
     record {
-      grown = grown_output rows.size s c.args.cube.now c.loop-j.growth.cube c.in_ok-growth-2.growth.cube rows.size.inputs c.loop-j.j c.loop-j.invariant.grown
-          c.in_ok-growth-2.ensures.grows c.in_ok-growth-2.ensures.settled;
-      near = c.in_ok-growth-2.ensures.near;
-      since = grows_both rows.size s c.in_ok-growth.growth.cube c.loop-j.growth.cube c.in_ok-growth-2.growth.cube c.loop-j.invariant.since c.in_ok-growth-2.ensures.grows;
+      grown = grown_output rows.size s c.args.cube.now c.loop-j.growth.cube c.with_output.new.growth.cube rows.size.inputs c.loop-j.j c.loop-j.invariant.grown
+          c.in_ok-with_output.ensures.grows c.in_ok-with_output.ensures.settled;
+      near = c.in_ok-with_output.ensures.near;
+      since = grows_both rows.size s c.in_ok-growth.growth.cube c.loop-j.growth.cube c.with_output.new.growth.cube c.loop-j.invariant.since c.in_ok-with_output.ensures.grows;
     }

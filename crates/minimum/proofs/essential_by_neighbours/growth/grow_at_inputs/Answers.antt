@@ -6,7 +6,7 @@ pub loop-i-preserved : goal.loop-i-preserved
 loop-i-preserved c =
     let rows = c.args.rows.now in
     record {
-      grown = grown_input rows.size (on_side c.args.side rows.cubes) c.args.cube.now c.loop-i.growth.cube c.in_ok-growth.growth.cube c.loop-i.i 0 c.loop-i.invariant.grown
-          c.in_ok-growth.ensures.grows c.in_ok-growth.ensures.settled;
-      near = c.in_ok-growth.ensures.near;
+      grown = grown_input rows.size (on_side c.args.side rows.cubes) c.args.cube.now c.loop-i.growth.cube c.without_literal.new.growth.cube c.loop-i.i 0 c.loop-i.invariant.grown
+          c.in_ok-without_literal.ensures.grows c.in_ok-without_literal.ensures.settled;
+      near = c.in_ok-without_literal.ensures.near;
     }

@@ -1,9 +1,11 @@
-use Rattle.std.proofs.Common.{◌≡◌, inl, inr, List, Option, Some, IfSome, sym, subst, ◌∙◌, true}
+use Rattle.std.proofs.Common.{◌≡◌, inl, inr, List, Option, Some, IfSome, ap, sym, subst, ◌∙◌, true}
 use Rattle.std.specs.List.{Contains}
 use Rattle.std.proofs.lemmas.Bool.{or_cases}
+use Rattle.std.proofs.lemmas.List.{take_all}
 use Rattle.cube.specs.Size.{Size}
 use Rattle.cube.specs.Cube.{Cube, Place, holds, intersection, IsCube}
 use Rattle.cover.specs.Cubes.{Cubes}
+use Rattle.cover.specs.Places.{places}
 use Rattle.cover.proofs.Found.{meet_output, apart_from_none, same_from_some, part_from_some}
 use Rattle.cover.proofs.Lists.{list_any_from}
 use Rattle.minimum.specs.declared.essential_by_neighbours.growth.Side.TheVariants.{Outside}
@@ -65,3 +67,8 @@ loop-cube-preserved c p in_c h alone =
         | in_default w ↦ apart_from_none prime cube found c.in_ok-region.ensures.none w.in_default.is p in_c now
       ]
     ]
+
+pub returns-clause-none : goal.returns-clause-none
+returns-clause-none c _ p in_c h alone =
+    let all = take_all c.loop-cube.cube-index c.as_slice-cube-items.result.now c.loop-cube-test.false ∙ c.as_slice-cube-items.ensures.value in
+    c.loop-cube.invariant p in_c (ap (λ l. places l p) all ∙ h) alone

@@ -1,9 +1,11 @@
-use Rattle.std.proofs.Common.{◌∙◌, ap, sym, subst, length}
+use Rattle.std.proofs.Common.{◌∙◌, ap, sym, subst, length, map}
+use Rattle.std.specs.List.{range_with_len}
 use Rattle.std.proofs.lemmas.List.{length-map}
 use Rattle.cube.specs.Cube.{literals}
 use Rattle.cube.specs.Limits.{IsWithinLimits, format_limits}
 use Rattle.cover.specs.Cubes.{AreCubes}
-use Rattle.covering.specs.Table.{items_of}
+use Rattle.covering.specs.Table.{fresh, items_of}
+use Rattle.minimum.specs.Primes.{primes_of}
 use Rattle.minimum.specs.PrimeTable.{HasPrimeCovers}
 use Rattle.minimum.proofs.PrimeTables.{enough_for, rows_for, same_covers, are_rows}
 use Rattle.minimum.proofs.prime_table.TableOfPrimes.build.Goals as goal
@@ -43,3 +45,16 @@ returns-clause-covers c =
 
 pub weights-requires : goal.weights-requires
 weights-requires c = subst (IsWithinLimits format_limits) c.shape.ensures.size c.in_ok-rows.ensures.limits
+
+pub returns-clause-columns : goal.returns-clause-columns
+returns-clause-columns c =
+    let primes = primes_of c.args.sets.now in
+    let some = rw c.in-Some.is at c.in_ok-table.ensures in
+    let is = some.1 ∙ ap (fresh (items_of c.in_ok-rows.rows.items)) (c.in_ok-weights.ensures ∙ ap (λ k. map literals k.cubes) c.requires) in
+    let long = length-map primes literals in
+    record {
+      columns = ap (λ t. t.columns) is ∙ long;
+      taken = ap (λ t. t.taken) is;
+      live = ap (λ t. t.live) is ∙ ap (range_with_len 0) long;
+      weights = ap (λ t. t.weights) is;
+    }

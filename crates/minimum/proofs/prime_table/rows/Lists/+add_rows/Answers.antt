@@ -1,4 +1,4 @@
-use Rattle.std.proofs.Common.{◌∙◌, ap, subst, arith}
+use Rattle.std.proofs.Common.{◌∙◌, ◌++◌, ◌∷◌, [], ap, subst, arith}
 use Rattle.std.proofs.lemmas.Option.{slice_get_within}
 use Rattle.std.proofs.lemmas.Result.{IfOk-weaker}
 use Rattle.std.proofs.lemmas.List.{map-append}
@@ -35,7 +35,8 @@ returns-in_default t c =
     let candidates = c.in_ok-candidates.candidates in
     let open' = match_false _ _ c.in_ok-needs_no_row.field-0 c.if-branch.false c.in_ok-needs_no_row.ensures in
     adds_row lists.primes.now lists.on.now lists.dc.now c.args.region.now candidates.primes.items candidates.on.items candidates.dc.items (items_of c.args.rows.now.items) (items_of c.push.new.self.items)
-    c.in_ok-candidates.ensures open'.some_on c.in_default.ensures (ap items_of c.in_ok-push.ensures.items ∙ map-append (λ row. row.items) c.args.rows.now.items _)
+    c.in_ok-candidates.ensures open'.some_on c.in_default.ensures (ap items_of c.in_ok-push.ensures.items ∙ map-append (λ row. row.items) c.args.rows.now.items (c.replace.result ∷ [])
+    ∙ ap (λ row. items_of c.args.rows.now.items ++ row.items ∷ []) c.replace.ensures.value)
 
 pub with_symbol-requires : goal.with_symbol-requires
 with_symbol-requires t c = slice_get_within c.args.region.now.symbols c.in-Some.i Dash c.in-Some.ensures

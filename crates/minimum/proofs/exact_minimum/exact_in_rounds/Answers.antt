@@ -1,0 +1,41 @@
+use Rattle.std.proofs.Common.{◌≡◌, ◌∙◌, [], length, ap, sym, subst}
+use Rattle.std.proofs.lemmas.Bool.{eqb-true}
+use Rattle.cube.specs.Cube.{IsSubset}
+use Rattle.cube.specs.Limits.{IsWithinLimits, format_limits}
+use Rattle.cover.specs.Cubes.{AreCubes}
+use Rattle.cover.specs.Places.{places}
+use Rattle.cover.proofs.SumRows.{nothing_left}
+use Rattle.minimum.specs.Primes.{care_on, exact_of}
+use Rattle.minimum.proofs.PickedPoints.{holders_same, wanted_given}
+use Rattle.minimum.proofs.PointTables.{points_are_enough}
+use Rattle.minimum.proofs.exact_minimum.exact_in_rounds.Goals as goal
+
+pub least_of_points-requires : goal.least_of_points-requires
+least_of_points-requires g c =
+    let sets = g.sets in
+    let given = c.args.given.now in
+    let same = c.requires.1.0 in
+    let found = c.loop.found in
+    let given_on = c.requires.1.1.1.0 in
+    let on : AreCubes sets.size sets.on = subst (λ z. AreCubes z sets.on) same.size (subst (AreCubes given.size) (sym same.on) given_on) in
+    (on, (holders_same sets given c.args.source.now on given_on same found.points.items found.columns.cubes c.loop.invariant.are_holders, (c.loop.invariant.size ∙ same.size, subst (IsWithinLimits format_limits) same.size c.requires.1.1.0)))
+
+pub returns-then-is_empty : goal.returns-then-is_empty
+returns-then-is_empty g c =
+    let sets = g.sets in
+    let given = c.args.given.now in
+    let same = c.requires.1.0 in
+    let list = c.in_ok-list.list in
+    let given_on = c.requires.1.1.1.0 in
+    let on : AreCubes sets.size sets.on = subst (λ z. AreCubes z sets.on) same.size (subst (AreCubes given.size) (sym same.on) given_on) in
+    let empty : c.in_ok-left.left.cubes ≡ [] = nothing_left c.in_ok-left.left.cubes (eqb-true (length c.in_ok-left.left.cubes) 0 (sym c.is_empty.ensures ∙ c.if-is_empty.true)) in
+    let held : IsSubset (care_on sets) (places list.cubes) = λ p want. c.in_ok-left.ensures empty p (wanted_given sets given c.args.source.now on given_on same p want) in
+    let cubes : list.cubes ≡ exact_of c.args.choice sets = points_are_enough c.args.choice sets c.loop.found.points.items list.cubes on c.in_ok-list.ensures.least held in
+    let size : list.size ≡ given.size = c.in_ok-list.ensures.size ∙ sym same.size in
+    λ i. record { size = size i; cubes = cubes i }
+
+pub left_out-requires : goal.left_out-requires
+left_out-requires g c = c.in_ok-list.ensures.size ∙ sym c.requires.1.0.size
+
+pub loop-preserved : goal.loop-preserved
+loop-preserved g c = c.in_ok-add_places.ensures
