@@ -115,9 +115,12 @@ impl Questions {
 fn all_cost(choice: Choice, literals: &[u32], columns: &[usize], same: u32) -> bool
     ensures { result ≡ list_all (λ c. counted choice literals.now c == same) columns.now }
 {
-    columns
-        .iter()
-        .all(|column| cost(choice, literals, *column) == same)
+    for column in columns {
+        if cost(choice, literals, *column) != same {
+            return false;
+        }
+    }
+    true
 }
 
 impl Partial {

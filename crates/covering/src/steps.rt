@@ -17,10 +17,13 @@ use std::alloc::{AllocError, Global};
 fn without_column(alloc: Global, xs: &[usize], column: usize) -> Result<Vec<usize>, AllocError>
     ensures { IfOk result (λ v. v.items ≡ without column xs.now) }
 {
-    xs.iter()
-        .copied()
-        .filter(|x| !(column == *x))
-        .collect(alloc)
+    let mut others = Vec::new(alloc);
+    for x in xs {
+        if column != *x {
+            others.push(*x)?;
+        }
+    }
+    Ok(others)
 }
 
 fn rows_without(
@@ -57,7 +60,12 @@ fn rows_lacking(
 fn any_blank(rows: &[Vec<usize>]) -> bool
     ensures { result ≡ list_any (λ row. is_blank row.items) rows.now }
 {
-    rows.iter().any(|row| is_blank(row))
+    for row in rows {
+        if is_blank(row) {
+            return true;
+        }
+    }
+    false
 }
 
 impl Table {
