@@ -35,19 +35,37 @@ const BATCH_TABLES: u64 = 600;
 const FIRST_BATCH: usize = 4;
 
 /// A partial solution: the table of what is undecided, and a cover of it within the budget.
-#[derive(Drop)]
 struct Partial {
     table: Table,
     witness: Vec<usize>,
 }
 
+// Written out, so that where a partial solution ends a proof has one call, and not one for each list.
+impl Drop for Partial {
+    fn drop(self) {
+        let Partial {
+            table: _,
+            witness: _,
+        } = self;
+    }
+}
+
 /// How questions are asked: from which row weights, and for how many columns at once.
-#[derive(Drop)]
 struct Questions {
     /// Row weights and the last cover, from which the next question starts.
     warm_start: WarmStart,
     /// How many columns the next batch has at most.
     batch_size: usize,
+}
+
+// Written out for the same reason.
+impl Drop for Questions {
+    fn drop(self) {
+        let Questions {
+            warm_start: _,
+            batch_size: _,
+        } = self;
+    }
 }
 
 impl Questions {
@@ -109,6 +127,26 @@ impl Questions {
             Err(Stop::Memory) => Err(AllocError),
         }
     }
+
+    /// What `ask_briefly` answers of the table with a further row of the marked columns; also `None`
+    /// if they are fewer than two.
+    fn ask_for_marked(
+        &mut self,
+        alloc: Global,
+        choice: Choice,
+        budget: Budget,
+        table: &Table,
+        marks: &[bool],
+    ) -> Result<Option<Option<Vec<usize>>>, AllocError>
+        ensures { IfOk result (λ r. IfSome r (λ o. Answers choice (with_rows table.now
+            (table.now.rows ++ filter (marked marks.now) table.now.live ∷ [])) budget.columns
+            budget.cost (option_map (λ v. v.items) o))) }
+    {
+        match table.with_marked_row(alloc, marks)? {
+            None => Ok(None),
+            Some(extended) => self.ask_briefly(alloc, choice, budget, &extended),
+        }
+    }
 }
 
 /// Whether each of the columns has this cost.
@@ -140,7 +178,7 @@ impl Partial {
     /// Drops a batch of columns if no cover within the budget has one of them; else there is a new
     /// witness.
     fn ask_for_many(
-        self,
+        mut self,
         alloc: Global,
         choice: Choice,
         budget: Budget,
@@ -160,17 +198,14 @@ impl Partial {
             questions.batch_size,
             self.table.columns(),
         )?;
-        let Some(extended) = self.table.with_marked_row(alloc, &marks)? else {
-            return Ok(self);
-        };
-        let Some(answer) = questions.ask_briefly(alloc, choice, budget, &extended)? else {
+        let Some(answer) = questions.ask_for_marked(alloc, choice, budget, &self.table, &marks)? else {
             return Ok(self);
         };
         match answer {
-            Some(witness) => Ok(Partial {
-                table: self.table,
-                witness,
-            }),
+            Some(witness) => {
+                self.witness = witness;
+                Ok(self)
+            }
             None => {
                 let keep = others(alloc, &marks, self.table.columns())?;
                 Ok(self.keep_columns_marked(&keep))
@@ -180,7 +215,7 @@ impl Partial {
 
     /// Takes the first live column if some cover within the budget has it, and else drops it.
     fn ask_for_one(
-        self,
+        mut self,
         alloc: Global,
         choice: Choice,
         budget: Budget,
@@ -197,10 +232,8 @@ impl Partial {
     {
         let with = self.table.take(alloc, column)?;
         if contains(&self.witness, column) {
-            return Ok(Partial {
-                table: with,
-                witness: self.witness,
-            });
+            self.table = with;
+            return Ok(self);
         }
         match questions.ask(alloc, choice, budget, &with, UNLIMITED)? {
             Some(witness) => Ok(Partial {
@@ -530,15 +563,16 @@ impl Table {
             return least_cover_plain(self, choice);
         }
         let deciding = self.deciding_choice(choice);
-        let mut warm_start = WarmStart::new(alloc, *effort);
-        let shortest = self.shortest_cover(alloc, deciding, &mut warm_start)?;
+        let mut questions = Questions {
+            warm_start: WarmStart::new(alloc, *effort),
+            batch_size: FIRST_BATCH,
+        };
+        let shortest = self.shortest_cover(alloc, deciding, &mut questions.warm_start)?;
         let best = match deciding {
             Choice::First => shortest,
-            Choice::Literals => self.fewest_literals(alloc, shortest, &mut warm_start)?,
-        };
-        let mut questions = Questions {
-            warm_start,
-            batch_size: FIRST_BATCH,
+            Choice::Literals => {
+                self.fewest_literals(alloc, shortest, &mut questions.warm_start)?
+            }
         };
         let first = self.first_of(alloc, deciding, best, &mut questions)?;
         *effort = questions.warm_start.effort();
