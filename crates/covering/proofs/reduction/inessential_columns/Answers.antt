@@ -1,9 +1,10 @@
-use Rattle.std.proofs.Common.{◌≡◌, ◌∙◌, ◌∷◌, ◌++◌, [], ℕ, Bool, true, false, not, ◌&&◌, ◌||◌, take, refl, sym, ap}
+use Rattle.std.proofs.Common.{◌≡◌, ◌∙◌, ◌∷◌, ◌++◌, [], ℕ, Bool, true, false, not, ◌&&◌, ◌||◌, take, refl, sym, ap, subst}
 use Rattle.std.specs.List.{list_any}
+use Rattle.std.proofs.lemmas.List.{take_all}
 use Rattle.std.proofs.lemmas.List.Folds.{list_any-append}
 use Rattle.covering.specs.Table.{items_of}
 use Rattle.covering.specs.Search.{marked}
-use Rattle.covering.specs.Reduce.{is_essential_column}
+use Rattle.covering.specs.Reduce.{MarksInessentialColumns, is_essential_column}
 use Rattle.covering.proofs.Rows.{take_items}
 use Rattle.covering.proofs.reduction.inessential_columns.Goals as goal
 
@@ -24,3 +25,6 @@ loop-row-preserved c =
           ∙ ap not (sym (ap (list_any (is_essential_column n)) more ∙ list_any-append (is_essential_column n) rows (row ∷ [])));
       as_long = c.unmark_essential_column.ensures.as_long ∙ c.loop-row.invariant.as_long;
     }
+
+pub returns : goal.returns
+returns c = subst (λ rs. MarksInessentialColumns c.args.columns (items_of rs) c.loop-row.keep.items) (take_all c.loop-row.row-index c.args.rows.now c.loop-row-test.false) c.loop-row.invariant
