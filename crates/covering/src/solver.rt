@@ -97,9 +97,12 @@ impl Questions {
         ensures { IfOk result (λ o. Answers choice table.now budget.columns budget.cost
             (option_map (λ v. v.items) o)) }
     {
-        let mut warm_start = self.warm_start.copy(alloc)?;
-        let answer = table.find_or_refute(alloc, choice, budget, &mut warm_start, most_tables);
-        self.warm_start.learn(&warm_start);
+        let answer = {
+            let mut warm_start = self.warm_start.copy(alloc)?;
+            let answer = table.find_or_refute(alloc, choice, budget, &mut warm_start, most_tables);
+            self.warm_start.learn(&warm_start);
+            answer
+        };
         let witness = answer?;
         self.adapt(alloc, &witness)?;
         Ok(witness)
