@@ -201,7 +201,8 @@ impl Partial {
             questions.batch_size,
             self.table.columns(),
         )?;
-        let Some(answer) = questions.ask_for_marked(alloc, choice, budget, &self.table, &marks)? else {
+        let Some(answer) = questions.ask_for_marked(alloc, choice, budget, &self.table, &marks)?
+        else {
             return Ok(self);
         };
         match answer {
