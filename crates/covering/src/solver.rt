@@ -335,11 +335,9 @@ impl Table {
         requires within { IsWithin row.items self.now.live }
         ensures { IfOk result (λ t. t ≡ with_rows self.now (self.now.rows ++ row.items ∷ [])) }
     {
-        let mut rows = copy_rows(alloc, self.row_lists())?;
-        rows.push(row)?;
-        let taken = copy_of(alloc, self.taken_columns())?;
-        let live = copy_of(alloc, self.live_columns())?;
-        self.with(alloc, taken, live, rows)
+        let mut table = self.copy(alloc)?;
+        table.rows.push(row)?;
+        Ok(table)
     }
 
     /// The table with a further row of the marked columns; `None` if they are fewer than two.
