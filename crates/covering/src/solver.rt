@@ -21,7 +21,7 @@ use crate::columns::{contains, copy_of, union_of};
 use crate::exhaustive::least_cover_plain;
 use crate::marks::{all_but, marked_columns, others};
 use crate::search::{Stop, UNLIMITED};
-use crate::table::{Table, copy_rows};
+use crate::table::Table;
 use heuristics::{Effort, Goal, WarmStart, batch, is_worth_a_bound};
 use std::alloc::{AllocError, Global};
 

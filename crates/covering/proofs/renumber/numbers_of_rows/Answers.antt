@@ -1,4 +1,4 @@
-use Rattle.std.proofs.Common.{◌≡◌, ◌∙◌, ◌∷◌, ◌++◌, [], ℕ, List, map, take, sym, ap}
+use Rattle.std.proofs.Common.{◌≡◌, ◌∙◌, ◌∷◌, ◌++◌, [], map, take, sym, ap}
 use Rattle.std.proofs.lemmas.List.{map-append, take_all}
 use Rattle.covering.specs.Table.{items_of}
 use Rattle.covering.specs.Parts.{pick}

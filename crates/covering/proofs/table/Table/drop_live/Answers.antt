@@ -1,4 +1,4 @@
-use Rattle.std.proofs.Common.{◌≡◌, ◌∙◌, true, ap, subst, map}
+use Rattle.std.proofs.Common.{◌≡◌, ◌∙◌, true, subst, map}
 use Rattle.std.specs.Prelude.{MatchOption, filter}
 use Rattle.std.specs.List.{list_any}
 use Rattle.covering.specs.Table.{Table}
