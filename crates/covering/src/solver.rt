@@ -40,7 +40,8 @@ struct Partial {
     witness: Vec<usize>,
 }
 
-// Written out, so that where a partial solution ends a proof has one call, and not one for each list.
+// Written out, so that where a partial solution ends a proof has one call, and no case for each of
+// its lists.
 impl Drop for Partial {
     fn drop(self) {
         let Partial {
@@ -131,7 +132,7 @@ impl Questions {
         }
     }
 
-    /// What `ask_briefly` answers of the table with a further row of the marked columns; also `None`
+    /// What `ask_briefly` answers of the table with a further row of the marked columns; `None` too
     /// if they are fewer than two.
     fn ask_for_marked(
         &mut self,
