@@ -134,8 +134,12 @@ index_of : (n : ℕ) (xs : List ℕ) → has n xs ≡ true → (i : ℕ) × (i <
 index_of n [] h = absurd (true≢false (sym h))
 index_of n (x ∷ xs) h = elim (has_cases n x xs h) [ inl e ↦ (0, omega arith, sym e) | inr e ↦ (let k = index_of n xs e in (suc k.0, omega (arith, k.1), k.2)) ]
 
+pub found_at : (xs : List ℕ) (x : ℕ) (r : Result ℕ ℕ) → RisesFrom 0 xs → IsBinarySearchResult (λ y. nat_cmp y x) xs r
+    → MatchResult r (λ i. (i < length xs) × (slice_index_or xs i 0 ≡ x)) (λ i. (i ≤ length xs) × ((k : ℕ) → k < i → slice_index_or xs k 0 < x) × ((k : ℕ) → i ≤ k → k < length xs → x < slice_index_or xs k 0))
+found_at xs x r rises h = searched xs x r h (λ i j a b. rises_index 0 xs i j rises a b)
+
 pub found_has : (xs : List ℕ) (x : ℕ) (r : Result ℕ ℕ) → RisesFrom 0 xs → IsBinarySearchResult (λ y. nat_cmp y x) xs r → is_ok r ≡ has x xs
-found_has xs x r rises h = go r (searched xs x r h (λ i j a b. rises_index 0 xs i j rises a b))
+found_has xs x r rises h = go r (found_at xs x r rises h)
   where
     go : (r : Result ℕ ℕ) → MatchResult r (λ i. (i < length xs) × (slice_index_or xs i 0 ≡ x)) (λ i. (i ≤ length xs) × ((k : ℕ) → k < i → slice_index_or xs k 0 < x) × ((k : ℕ) → i ≤ k → k < length xs → x < slice_index_or xs k 0)) → is_ok r ≡ has x xs
     go (Ok i) m = sym (subst (λ n. has n xs ≡ true) m.1 (has_index xs i m.0))

@@ -3,7 +3,6 @@ pub mod Order
 pub mod Covers
 pub mod Keeps
 pub mod Subsets
-pub mod Putting
 pub mod BestChoice
 pub mod Sides
 pub mod Renumbered
@@ -15,10 +14,12 @@ pub mod Lagrange
 pub mod Charges
 pub mod Branches
 pub mod Rows
+pub mod Pushes
 pub mod Made
 pub mod Budgets
 pub mod TransposeSteps
 pub mod Dominance
+pub mod Putting
 pub mod Reduced
 pub mod WeakDominance
 pub mod Chosen

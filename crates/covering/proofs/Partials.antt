@@ -1,17 +1,19 @@
 -- Columns decided one by one, with a cover within the budget.
-use Rattle.std.proofs.Common.{◌≡◌, ℕ, ◌+◌, ◌<◌, ◌≤◌, ◌⊎◌, inl, inr, Bool, true, false, List, [], ◌∷◌, ◌++◌, length, map, not, eqb, refl, sym, ap, subst, ◌∙◌, arith}
-use Rattle.std.specs.Prelude.{filter}
+use Rattle.std.proofs.Common.{◌≡◌, ◌≢◌, ℕ, ◌+◌, ◌<◌, ◌≤◌, ◌⊎◌, inl, inr, Bool, true, false, List, [], ◌∷◌, ◌++◌, length, map, not, eqb, refl, sym, ap, subst, ◌∙◌, arith}
+use Rattle.std.specs.Prelude.{filter, Option, Some, None, MatchOption}
 use Rattle.std.specs.List.{AllByRecursion, list_any, range_with_len}
 use Rattle.std.proofs.lemmas.Bool.{cases_Bool, cases_eq, cases_lt, both_ways, true≢false, eqb-true, eq-eqb}
 use Rattle.covering.specs.declared.choice.Choice.{Choice}
 use Rattle.covering.specs.Table.{Table, has, RisesFrom, IsWithin, IsTable}
 use Rattle.covering.specs.Cover.{meets, counted, sum_over, IsLeast}
-use Rattle.covering.specs.Steps.{take_column, with_rows}
-use Rattle.covering.specs.Search.{NoneWithin, NoneBelow, IsAnswer, IsOutside, IsPartial, Continues, keep_columns, is_blank, marked}
+use Rattle.covering.specs.Steps.{without, take_column, drop_column, with_rows}
+use Rattle.covering.specs.Search.{NoneWithin, NoneBelow, IsAnswer, IsForced, IsOutside, IsPartial, Continues, keep_columns, is_blank, marked}
 use Rattle.covering.proofs.Sets.{has_here, without_only, filter_parts, meets_from}
 use Rattle.covering.proofs.Covers.{take_cover, take_back}
-use Rattle.covering.proofs.Branches.{later, taken_least, kept_back, kept_cover, split, none_blank, leaf, no_live}
+use Rattle.covering.proofs.Branches.{blank_forced, later, taken_least, kept_back, kept_cover, split, none_blank, leaf, no_live}
 use Rattle.covering.proofs.Lagrange.{marks_at}
+use Rattle.covering.proofs.Made.{table_same}
+use Rattle.covering.proofs.Reduced.{filter_at, eqb_swap}
 
 -- within the budget and beyond it
 not_both : (choice : Choice) (t : Table) (k w : ℕ) (s : List ℕ) → IsAnswer choice t k w s → ((k < length s) ⊎ (w < sum_over (counted choice t.weights) s)) → ⊥
@@ -153,6 +155,22 @@ lacks_marked live left keep c e f = elim (cases_Bool (has c left)) [
 -- the marks of all columns but one
 pub marked_but : (t : Table) (keep : List Bool) (n a d : ℕ) → IsTable t → n ≡ t.columns → keep ≡ map (λ c. not (eqb c a)) (range_with_len 0 n) → has d t.live ≡ true → marked keep d ≡ not (eqb d a)
 marked_but t keep n a d w e k l = let below = w.within d l in ap (λ ks. marked ks d) k ∙ marks_at (λ c. not (eqb c a)) n d (omega arith)
+
+-- to keep the marked ones is to drop the column
+module _ (t : Table) (keep : List Bool) (n a : ℕ) (w : IsTable t) (e : n ≡ t.columns) (k : keep ≡ map (λ c. not (eqb c a)) (range_with_len 0 n)) where
+  other : (d : ℕ) → has d t.live ≡ true → marked keep d ≡ not (eqb a d)
+  other d l = marked_but t keep n a d w e k l ∙ ap not (eqb_swap d a)
+
+  rows_but : (rows : List (List ℕ)) → AllByRecursion (λ row. (row ≢ []) × RisesFrom 0 row × IsWithin row t.live) rows → map (filter (marked keep)) rows ≡ map (without a) rows
+  rows_but [] h = refl
+  rows_but (row ∷ rows) h = ap (λ r. r ∷ map (filter (marked keep)) rows) (filter_at (marked keep) (λ d. not (eqb a d)) row (λ d l. other d (h.0.2 d l))) ∙ ap (λ rs. without a row ∷ rs) (rows_but rows h.1)
+
+  dropped : keep_columns (marked keep) t ≡ drop_column a t
+  dropped = table_same t.columns t.taken t.taken _ _ _ _ t.weights t.weights refl (filter_at (marked keep) (λ d. not (eqb a d)) t.live other) (rows_but t.rows w.rows) refl
+
+  pub drops_column : (o : Option Table) → MatchOption o (list_any is_blank (map (filter (marked keep)) t.rows) ≡ true) (λ u. u ≡ keep_columns (marked keep) t) → MatchOption o (IsForced t a) (λ u. u ≡ drop_column a t)
+  drops_column None m = blank_forced t a (ap (list_any is_blank) (sym (rows_but t.rows w.rows)) ∙ m)
+  drops_column (Some u) m = m ∙ dropped
 
 pub gone_next : (choice : Choice) (t u : Table) (c : ℕ) → Continues choice t u → has c t.live ≡ false → has c u.live ≡ false
 gone_next choice t u c h e = elim (cases_Bool (has c u.live)) [ inl f ↦ absurd (both_ways _ e (h.live c f)) | inr f ↦ f ]

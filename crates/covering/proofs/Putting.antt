@@ -1,23 +1,37 @@
--- A column put into a rising list, in parts.
-use Rattle.std.proofs.Common.{◌≡◌, ℕ, suc, ◌<◌, ◌≤◌, ◌⊎◌, inl, inr, true, false, ltb, List, [], ◌∷◌, ◌++◌, refl, ap, arith}
-use Rattle.std.specs.Prelude.{filter}
-use Rattle.std.proofs.lemmas.Bool.{cases_order, lt-ltb, le-ltb, eq-eqb, ne_eqb}
-use Rattle.covering.specs.Table.{RisesFrom}
+-- A column put into a rising list, where a binary search says.
+use Rattle.std.proofs.Common.{◌≡◌, ℕ, zero, suc, ◌<◌, ◌≤◌, inl, inr, true, List, [], ◌∷◌, ◌++◌, length, take, drop, slice_index_or, refl, sym, ap, subst, arith}
+use Rattle.std.specs.Prelude.{Result, Ok, Err, MatchResult}
+use Rattle.std.specs.List.Sorted.{IsBinarySearchResult}
+use Rattle.std.specs.Ordering.{nat_cmp}
+use Rattle.std.proofs.lemmas.Bool.{true≢false, lt-ltb, le-ltb, eq-eqb, ne_eqb}
+use Rattle.covering.specs.Table.{has, RisesFrom}
 use Rattle.covering.specs.Steps.{put}
+use Rattle.covering.proofs.Sets.{has_cases, rises_above}
+use Rattle.covering.proofs.Dominance.{has_index, found_at}
 
-none_less : (b l : ℕ) (xs : List ℕ) → RisesFrom l xs → b ≤ l → filter (λ x. ltb x b) xs ≡ []
-none_less b l [] r h = refl
-none_less b l (x ∷ xs) r h = let e : ltb x b ≡ false = le-ltb x b (omega arith) in rw e (none_less b (suc x) xs r.1 (omega arith))
+put_there : (b l : ℕ) (xs : List ℕ) → RisesFrom l xs → has b xs ≡ true → xs ≡ put b xs
+put_there b l [] r h = absurd (true≢false (sym h))
+put_there b l (x ∷ xs) r h = elim (has_cases b x xs h) [
+  | inl e ↦ rw (le-ltb b x (omega arith), eq-eqb b x e) refl
+  | inr e ↦ (let above = rises_above b (suc x) xs r.1 e in rw (le-ltb b x (omega arith), ne_eqb b x (λ k. absurd (omega arith))) (ap (λ ys. x ∷ ys) (put_there b (suc x) xs r.1 e)))
+]
 
-all_greater : (b l : ℕ) (xs : List ℕ) → RisesFrom l xs → b < l → filter (λ x. ltb b x) xs ≡ xs
-all_greater b l [] r h = refl
-all_greater b l (x ∷ xs) r h = let e : ltb b x ≡ true = lt-ltb b x (omega arith) in rw e (ap (λ ys. x ∷ ys) (all_greater b (suc x) xs r.1 (omega arith)))
+put_between : (b : ℕ) (xs : List ℕ) (i : ℕ) → i ≤ length xs → ((k : ℕ) → k < i → slice_index_or xs k 0 < b) → ((k : ℕ) → i ≤ k → k < length xs → b < slice_index_or xs k 0)
+    → take i xs ++ b ∷ drop i xs ≡ put b xs
+put_between b [] zero h less more = refl
+put_between b [] (suc i) h less more = absurd (omega arith)
+put_between b (x ∷ xs) zero h less more = rw (lt-ltb b x (more 0 (omega arith) (omega arith))) refl
+put_between b (x ∷ xs) (suc i) h less more =
+    let first = less 0 (omega arith) in
+    rw (le-ltb b x (omega arith), ne_eqb b x (λ k. absurd (omega arith)))
+    (ap (λ ys. x ∷ ys) (put_between b xs i (omega arith) (λ k m. less (suc k) (omega arith)) (λ k m n. more (suc k) (omega arith) (omega arith))))
 
-pub put_parts : (b l : ℕ) (xs : List ℕ) → RisesFrom l xs → filter (λ x. ltb x b) xs ++ b ∷ filter (λ x. ltb b x) xs ≡ put b xs
-put_parts b l [] r = refl
-put_parts b l (x ∷ xs) r = go (put_parts b (suc x) xs r.1) (cases_order b x)
+-- what is put in, by the search's answer
+pub put_found : (xs : List ℕ) (b : ℕ) (r : Result ℕ ℕ) → RisesFrom 0 xs → IsBinarySearchResult (λ y. nat_cmp y b) xs r
+    → MatchResult r (λ i. xs ≡ put b xs) (λ i. take i xs ++ b ∷ drop i xs ≡ put b xs)
+put_found xs b r rises h = go r (found_at xs b r rises h)
   where
-    go : filter (λ y. ltb y b) xs ++ b ∷ filter (λ y. ltb b y) xs ≡ put b xs → (b ≡ x) ⊎ ((b < x) ⊎ (x < b)) → filter (λ y. ltb y b) (x ∷ xs) ++ b ∷ filter (λ y. ltb b y) (x ∷ xs) ≡ put b (x ∷ xs)
-    go more (inl e) = rw (le-ltb x b (omega arith), le-ltb b x (omega arith), eq-eqb b x e, none_less b (suc x) xs r.1 (omega arith), all_greater b (suc x) xs r.1 (omega arith)) (ap (λ n. n ∷ xs) e)
-    go more (inr (inl lt)) = rw (lt-ltb b x lt, le-ltb x b (omega arith), none_less b (suc x) xs r.1 (omega arith), all_greater b (suc x) xs r.1 (omega arith)) refl
-    go more (inr (inr gt)) = rw (lt-ltb x b gt, le-ltb b x (omega arith), ne_eqb b x (λ e. absurd (omega arith))) (ap (λ ys. x ∷ ys) more)
+    go : (r : Result ℕ ℕ) → MatchResult r (λ i. (i < length xs) × (slice_index_or xs i 0 ≡ b)) (λ i. (i ≤ length xs) × ((k : ℕ) → k < i → slice_index_or xs k 0 < b) × ((k : ℕ) → i ≤ k → k < length xs → b < slice_index_or xs k 0))
+        → MatchResult r (λ i. xs ≡ put b xs) (λ i. take i xs ++ b ∷ drop i xs ≡ put b xs)
+    go (Ok i) m = put_there b 0 xs rises (subst (λ n. has n xs ≡ true) m.1 (has_index xs i m.0))
+    go (Err i) m = put_between b xs i m.0 m.1 m.2

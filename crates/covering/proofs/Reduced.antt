@@ -80,7 +80,7 @@ list_all_from_full p (x ∷ xs) h = ap (λ b. b && list_all p xs) (h x (has_here
 pub filter_not_full : (p : ℕ → Bool) (xs : List ℕ) → list_all p xs ≡ false → length (filter p xs) ≢ length xs
 filter_not_full p xs h e = both_ways _ h (list_all_from_full p xs (λ n k. filter_full p xs n e k))
 
-eqb_swap : (a b : ℕ) → eqb a b ≡ eqb b a
+pub eqb_swap : (a b : ℕ) → eqb a b ≡ eqb b a
 eqb_swap a b = elim (cases_eq a b) [ inl e ↦ eq-eqb a b e ∙ sym (eq-eqb b a (sym e)) | inr e ↦ ne_eqb a b e ∙ sym (ne_eqb b a (λ f. e (sym f))) ]
 
 -- the list without some numbers

@@ -45,9 +45,11 @@ pub(crate) fn scaled_costs(
     ensures { IfOk result (λ v. v.items ≡ map (λ c. one + each * counted choice literals.now c)
         (range_with_len 0 (length literals.now))) }
 {
-    (0..literals.len())
-        .map(|column| scaled_cost(choice, literals, one, each, column))
-        .collect(alloc)
+    let mut costs = vec![in alloc; 0; literals.len()]?;
+    for column in 0..literals.len() {
+        costs[column] = scaled_cost(choice, literals, one, each, column);
+    }
+    Ok(costs)
 }
 
 /// The scaled cost of so many columns with that cost, and the overloads; `None` if the sum is too
@@ -75,9 +77,11 @@ pub(crate) fn columns_within_gap(
     ensures { IfOk result (λ v. v.items ≡ map (λ c. nat_le (at scaled_costs.now c - at loads.now c)
         gap) (range_with_len 0 (length scaled_costs.now))) }
 {
-    (0..scaled_costs.len())
-        .map(|column| is_within_gap(scaled_costs, loads, gap, column))
-        .collect(alloc)
+    let mut keep = vec![in alloc; false; scaled_costs.len()]?;
+    for column in 0..scaled_costs.len() {
+        keep[column] = is_within_gap(scaled_costs, loads, gap, column);
+    }
+    Ok(keep)
 }
 
 /// Whether the column's slack is no more than the gap.

@@ -74,7 +74,12 @@ fn any_dominates(
     ensures { result ≡ list_any (dominates (is_preferred preference (counted choice literals.now))
         (items_of transpose.now) keep.now a) among.now }
 {
-    among.iter().any(|b| is_dominated_by(preference, choice, literals, transpose, keep, a, *b))
+    for b in among {
+        if is_dominated_by(preference, choice, literals, transpose, keep, a, *b) {
+            return true;
+        }
+    }
+    false
 }
 
 /// The shortest of these rows; `None` for none.

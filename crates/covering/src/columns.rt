@@ -14,19 +14,34 @@ use std::alloc::{AllocError, Global};
 pub(crate) fn contains(row: &[usize], column: usize) -> bool
     ensures { result ≡ has column row.now }
 {
-    row.iter().any(|x| column == *x)
+    for x in row {
+        if column == *x {
+            return true;
+        }
+    }
+    false
 }
 
 pub(crate) fn meets(columns: &[usize], row: &[usize]) -> bool
     ensures { result ≡ meets columns.now row.now }
 {
-    row.iter().any(|c| contains(columns, *c))
+    for column in row {
+        if contains(columns, *column) {
+            return true;
+        }
+    }
+    false
 }
 
 pub(crate) fn all_met(columns: &[usize], rows: &[Vec<usize>]) -> bool
     ensures { result ≡ list_all (λ row. meets columns.now row.items) rows.now }
 {
-    rows.iter().all(|row| meets(columns, row))
+    for row in rows {
+        if !meets(columns, row) {
+            return false;
+        }
+    }
+    true
 }
 
 /// A copy of the list.
@@ -44,14 +59,14 @@ pub(crate) fn with_column(
     requires { RisesFrom 0 xs.now }
     ensures { IfOk result (λ v. v.items ≡ put column xs.now) }
 {
-    let mut columns: Vec<usize> = xs.iter().copied().filter(|x| *x < column).collect(alloc)?;
-    columns.push(column)?;
-    for x in xs {
-        if column < *x {
-            columns.push(*x)?;
+    match xs.binary_search(&column) {
+        Ok(_) => copy_of(alloc, xs),
+        Err(place) => {
+            let mut columns = copy_of(alloc, xs)?;
+            columns.insert(place, column)?;
+            Ok(columns)
         }
     }
-    Ok(columns)
 }
 
 /// The rising list of both.
@@ -83,7 +98,12 @@ fn rising_meets(columns: &[usize], row: &[usize]) -> bool
     requires { RisesFrom 0 columns.now }
     ensures { result ≡ meets columns.now row.now }
 {
-    row.iter().any(|c| rising_contains(columns, *c))
+    for column in row {
+        if rising_contains(columns, *column) {
+            return true;
+        }
+    }
+    false
 }
 
 /// Whether each row has a column of the list, which rises.
@@ -91,7 +111,12 @@ pub(crate) fn rising_meets_all(columns: &[usize], rows: &[Vec<usize>]) -> bool
     requires { RisesFrom 0 columns.now }
     ensures { result ≡ list_all (λ row. meets columns.now row.items) rows.now }
 {
-    rows.iter().all(|row| rising_meets(columns, row))
+    for row in rows {
+        if !rising_meets(columns, row) {
+            return false;
+        }
+    }
+    true
 }
 
 /// Whether the second list, which rises, has each number of the first.
@@ -99,7 +124,12 @@ pub fn is_within(row: &[usize], other: &[usize]) -> bool
     requires { RisesFrom 0 other.now }
     ensures { result ≡ holds_all other.now row.now }
 {
-    row.iter().all(|number| rising_contains(other, *number))
+    for number in row {
+        if !rising_contains(other, *number) {
+            return false;
+        }
+    }
+    true
 }
 
 /// Whether the second list has each number of the first. Both rise, so a longer list is within no

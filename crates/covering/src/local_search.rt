@@ -16,6 +16,15 @@ use crate::table::Table;
 use heuristics::{Goal, local_search, marks_of};
 use std::alloc::{AllocError, Global};
 
+/// Whether the column is taken, or live and marked.
+fn is_chosen(taken: &[usize], live: &[usize], marks: &[bool], column: usize) -> bool
+    requires taken { RisesFrom 0 taken.now }
+    requires live { RisesFrom 0 live.now }
+    ensures { result ≡ (has column taken.now || (marked marks.now column && has column live.now)) }
+{
+    rising_contains(taken, column) || (is_marked(marks, column) && rising_contains(live, column))
+}
+
 /// The marked numbers of the second list and all of the first, below the end.
 fn taken_and_marked(
     alloc: Global,
@@ -29,10 +38,13 @@ fn taken_and_marked(
     ensures { IfOk result (λ v. v.items ≡ filter
         (λ n. has n taken.now || (marked marks.now n && has n live.now)) (range_with_len 0 end)) }
 {
-    (0..end)
-        .filter(|n| rising_contains(taken, *n)
-            || (is_marked(marks, *n) && rising_contains(live, *n)))
-        .collect(alloc)
+    let mut columns = Vec::new(alloc);
+    for n in 0..end {
+        if is_chosen(taken, live, marks, n) {
+            columns.push(n)?;
+        }
+    }
+    Ok(columns)
 }
 
 impl Table {

@@ -7,6 +7,7 @@ ghost use Rattle.covering.specs.Search.{marked};
 ghost use Rattle.covering.specs.Reduce.{Unmarks, rows_from};
 
 use crate::columns::copy_of;
+use crate::table::copy_rows;
 use std::alloc::{AllocError, Global};
 
 /// The complement of the marks.
@@ -14,14 +15,20 @@ pub(crate) fn others(alloc: Global, marks: &[bool], end: usize) -> Result<Vec<bo
     ensures { IfOk result (λ v. v.items ≡ map (λ c. not (marked marks.now c))
         (range_with_len 0 end)) }
 {
-    (0..end).map(|c| !is_marked(marks, c)).collect(alloc)
+    let mut others = vec![in alloc; false; end]?;
+    for c in 0..end {
+        others[c] = !is_marked(marks, c);
+    }
+    Ok(others)
 }
 
 /// Marks all but one.
 pub(crate) fn all_but(alloc: Global, column: usize, end: usize) -> Result<Vec<bool>, AllocError>
     ensures { IfOk result (λ v. v.items ≡ map (λ c. not (c == column)) (range_with_len 0 end)) }
 {
-    (0..end).map(|c| !(c == column)).collect(alloc)
+    let mut others = all_marked(alloc, end)?;
+    unmark(&mut others, column);
+    Ok(others)
 }
 
 /// Takes the mark from the place.
@@ -36,7 +43,12 @@ pub fn unmark(marks: &mut Vec<bool>, place: usize)
 pub(crate) fn all_kept(row: &[usize], keep: &[bool]) -> bool
     ensures { result ≡ list_all (marked keep.now) row.now }
 {
-    row.iter().all(|column| is_marked(keep, *column))
+    for column in row {
+        if !is_marked(keep, *column) {
+            return false;
+        }
+    }
+    true
 }
 
 /// The rows whose columns are all marked.
@@ -48,12 +60,8 @@ pub(crate) fn untouched_rows(
     ensures { IfOk result (λ v. items_of v.items
         ≡ filter (list_all (marked keep.now)) (items_of rows.now)) }
 {
-    let mut kept = Vec::new(alloc);
-    for row in rows {
-        if all_kept(row, keep) {
-            kept.push(copy_of(alloc, row)?)?;
-        }
-    }
+    let mut kept = copy_rows(alloc, rows)?;
+    retain_untouched_rows(&mut kept, keep);
     Ok(kept)
 }
 
@@ -95,7 +103,12 @@ pub fn is_marked(marks: &[bool], place: usize) -> bool
 pub(crate) fn is_full(marks: &[bool]) -> bool
     ensures { result ≡ list_all (λ mark. mark) marks.now }
 {
-    marks.iter().all(|mark| *mark)
+    for mark in marks {
+        if !*mark {
+            return false;
+        }
+    }
+    true
 }
 
 /// A mark at each place below the end.
@@ -112,10 +125,9 @@ pub(crate) fn marked_columns(
 ) -> Result<Vec<usize>, AllocError>
     ensures { IfOk result (λ v. v.items ≡ filter (marked keep.now) xs.now) }
 {
-    xs.iter()
-        .copied()
-        .filter(|x| is_marked(keep, *x))
-        .collect(alloc)
+    let mut columns = copy_of(alloc, xs)?;
+    retain_marked(&mut columns, keep);
+    Ok(columns)
 }
 
 /// Keeps the marked columns.

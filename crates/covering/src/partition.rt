@@ -39,7 +39,12 @@ fn is_on_one_side(row: &[usize], marks: &[bool], others: &[bool]) -> bool
 fn are_apart(rows: &[Vec<usize>], marks: &[bool], others: &[bool]) -> bool
     ensures { result ≡ list_all (λ row. is_on_one_side marks.now others.now row.items) rows.now }
 {
-    rows.iter().all(|row| is_on_one_side(row, marks, others))
+    for row in rows {
+        if !is_on_one_side(row, marks, others) {
+            return false;
+        }
+    }
+    true
 }
 
 impl Table {

@@ -58,9 +58,13 @@ fn with_unmarked(
     for column in taken {
         unmark(&mut rest, *column);
     }
-    (0..columns)
-        .filter(|n| !is_marked(&rest, *n))
-        .collect(alloc)
+    let mut unmarked = Vec::new(alloc);
+    for n in 0..columns {
+        if !is_marked(&rest, n) {
+            unmarked.push(n)?;
+        }
+    }
+    Ok(unmarked)
 }
 
 impl Table {

@@ -78,19 +78,22 @@ fn numbers_of_rows(
 fn columns_of(alloc: Global, live: &[usize], numbers: &[usize]) -> Result<Vec<usize>, AllocError>
     ensures { IfOk result (λ v. v.items ≡ map (pick live.now) numbers.now) }
 {
-    numbers
-        .iter()
-        .map(|number| column_at(live, *number))
-        .collect(alloc)
+    let mut columns = vec![in alloc; 0; numbers.len()]?;
+    for i in 0..numbers.len() {
+        columns[i] = column_at(live, numbers[i]);
+    }
+    Ok(columns)
 }
 
 /// The literals of the columns.
 fn literals_of(alloc: Global, literals: &[u32], live: &[usize]) -> Result<Vec<u32>, AllocError>
     ensures { IfOk result (λ v. v.items ≡ map (λ c. slice_index_or literals.now c 0) live.now) }
 {
-    live.iter()
-        .map(|column| cost(Choice::Literals, literals, *column))
-        .collect(alloc)
+    let mut kept = vec![in alloc; 0; live.len()]?;
+    for i in 0..live.len() {
+        kept[i] = cost(Choice::Literals, literals, live[i]);
+    }
+    Ok(kept)
 }
 
 impl Table {

@@ -21,7 +21,7 @@ use crate::columns::{contains, copy_of, union_of};
 use crate::exhaustive::least_cover_plain;
 use crate::marks::{all_but, marked_columns, others};
 use crate::search::{Stop, UNLIMITED};
-use crate::table::{Table, copy_rows};
+use crate::table::Table;
 use heuristics::{Effort, Goal, WarmStart, batch, is_worth_a_bound};
 use std::alloc::{AllocError, Global};
 
@@ -35,19 +35,38 @@ const BATCH_TABLES: u64 = 600;
 const FIRST_BATCH: usize = 4;
 
 /// A partial solution: the table of what is undecided, and a cover of it within the budget.
-#[derive(Drop)]
 struct Partial {
     table: Table,
     witness: Vec<usize>,
 }
 
+// Written out, so that where a partial solution ends a proof has one call, and no case for each of
+// its lists.
+impl Drop for Partial {
+    fn drop(self) {
+        let Partial {
+            table: _,
+            witness: _,
+        } = self;
+    }
+}
+
 /// How questions are asked: from which row weights, and for how many columns at once.
-#[derive(Drop)]
 struct Questions {
     /// Row weights and the last cover, from which the next question starts.
     warm_start: WarmStart,
     /// How many columns the next batch has at most.
     batch_size: usize,
+}
+
+// Written out for the same reason.
+impl Drop for Questions {
+    fn drop(self) {
+        let Questions {
+            warm_start: _,
+            batch_size: _,
+        } = self;
+    }
 }
 
 impl Questions {
@@ -79,9 +98,12 @@ impl Questions {
         ensures { IfOk result (λ o. Answers choice table.now budget.columns budget.cost
             (option_map (λ v. v.items) o)) }
     {
-        let mut warm_start = self.warm_start.copy(alloc)?;
-        let answer = table.find_or_refute(alloc, choice, budget, &mut warm_start, most_tables);
-        self.warm_start.learn(&warm_start);
+        let answer = {
+            let mut warm_start = self.warm_start.copy(alloc)?;
+            let answer = table.find_or_refute(alloc, choice, budget, &mut warm_start, most_tables);
+            self.warm_start.learn(&warm_start);
+            answer
+        };
         let witness = answer?;
         self.adapt(alloc, &witness)?;
         Ok(witness)
@@ -109,15 +131,38 @@ impl Questions {
             Err(Stop::Memory) => Err(AllocError),
         }
     }
+
+    /// What `ask_briefly` answers of the table with a further row of the marked columns; `None` too
+    /// if they are fewer than two.
+    fn ask_for_marked(
+        &mut self,
+        alloc: Global,
+        choice: Choice,
+        budget: Budget,
+        table: &Table,
+        marks: &[bool],
+    ) -> Result<Option<Option<Vec<usize>>>, AllocError>
+        ensures { IfOk result (λ r. IfSome r (λ o. Answers choice (with_rows table.now
+            (table.now.rows ++ filter (marked marks.now) table.now.live ∷ [])) budget.columns
+            budget.cost (option_map (λ v. v.items) o))) }
+    {
+        match table.with_marked_row(alloc, marks)? {
+            None => Ok(None),
+            Some(extended) => self.ask_briefly(alloc, choice, budget, &extended),
+        }
+    }
 }
 
 /// Whether each of the columns has this cost.
 fn all_cost(choice: Choice, literals: &[u32], columns: &[usize], same: u32) -> bool
     ensures { result ≡ list_all (λ c. counted choice literals.now c == same) columns.now }
 {
-    columns
-        .iter()
-        .all(|column| cost(choice, literals, *column) == same)
+    for column in columns {
+        if cost(choice, literals, *column) != same {
+            return false;
+        }
+    }
+    true
 }
 
 impl Partial {
@@ -137,7 +182,7 @@ impl Partial {
     /// Drops a batch of columns if no cover within the budget has one of them; else there is a new
     /// witness.
     fn ask_for_many(
-        self,
+        mut self,
         alloc: Global,
         choice: Choice,
         budget: Budget,
@@ -157,17 +202,15 @@ impl Partial {
             questions.batch_size,
             self.table.columns(),
         )?;
-        let Some(extended) = self.table.with_marked_row(alloc, &marks)? else {
-            return Ok(self);
-        };
-        let Some(answer) = questions.ask_briefly(alloc, choice, budget, &extended)? else {
+        let Some(answer) = questions.ask_for_marked(alloc, choice, budget, &self.table, &marks)?
+        else {
             return Ok(self);
         };
         match answer {
-            Some(witness) => Ok(Partial {
-                table: self.table,
-                witness,
-            }),
+            Some(witness) => {
+                self.witness = witness;
+                Ok(self)
+            }
             None => {
                 let keep = others(alloc, &marks, self.table.columns())?;
                 Ok(self.keep_columns_marked(&keep))
@@ -177,7 +220,7 @@ impl Partial {
 
     /// Takes the first live column if some cover within the budget has it, and else drops it.
     fn ask_for_one(
-        self,
+        mut self,
         alloc: Global,
         choice: Choice,
         budget: Budget,
@@ -194,10 +237,8 @@ impl Partial {
     {
         let with = self.table.take(alloc, column)?;
         if contains(&self.witness, column) {
-            return Ok(Partial {
-                table: with,
-                witness: self.witness,
-            });
+            self.table = with;
+            return Ok(self);
         }
         match questions.ask(alloc, choice, budget, &with, UNLIMITED)? {
             Some(witness) => Ok(Partial {
@@ -295,11 +336,9 @@ impl Table {
         requires within { IsWithin row.items self.now.live }
         ensures { IfOk result (λ t. t ≡ with_rows self.now (self.now.rows ++ row.items ∷ [])) }
     {
-        let mut rows = copy_rows(alloc, self.row_lists())?;
-        rows.push(row)?;
-        let taken = copy_of(alloc, self.taken_columns())?;
-        let live = copy_of(alloc, self.live_columns())?;
-        self.with(alloc, taken, live, rows)
+        let mut table = self.copy(alloc)?;
+        table.rows.push(row)?;
+        Ok(table)
     }
 
     /// The table with a further row of the marked columns; `None` if they are fewer than two.
@@ -527,15 +566,16 @@ impl Table {
             return least_cover_plain(self, choice);
         }
         let deciding = self.deciding_choice(choice);
-        let mut warm_start = WarmStart::new(alloc, *effort);
-        let shortest = self.shortest_cover(alloc, deciding, &mut warm_start)?;
+        let mut questions = Questions {
+            warm_start: WarmStart::new(alloc, *effort),
+            batch_size: FIRST_BATCH,
+        };
+        let shortest = self.shortest_cover(alloc, deciding, &mut questions.warm_start)?;
         let best = match deciding {
             Choice::First => shortest,
-            Choice::Literals => self.fewest_literals(alloc, shortest, &mut warm_start)?,
-        };
-        let mut questions = Questions {
-            warm_start,
-            batch_size: FIRST_BATCH,
+            Choice::Literals => {
+                self.fewest_literals(alloc, shortest, &mut questions.warm_start)?
+            }
         };
         let first = self.first_of(alloc, deciding, best, &mut questions)?;
         *effort = questions.warm_start.effort();

@@ -10,31 +10,20 @@ ghost use Rattle.covering.specs.Steps.{without, take_column, drop_column};
 ghost use Rattle.covering.specs.Search.{IsForced, keep_columns, marked, is_blank};
 
 use crate::columns::{contains, copy_of, is_blank, with_column};
-use crate::marks::{retain_marked, retain_marked_in_rows};
+use crate::marks::{all_but, retain_marked, retain_marked_in_rows};
 use crate::table::Table;
 use std::alloc::{AllocError, Global};
 
 fn without_column(alloc: Global, xs: &[usize], column: usize) -> Result<Vec<usize>, AllocError>
     ensures { IfOk result (λ v. v.items ≡ without column xs.now) }
 {
-    xs.iter()
-        .copied()
-        .filter(|x| !(column == *x))
-        .collect(alloc)
-}
-
-fn rows_without(
-    alloc: Global,
-    rows: &[Vec<usize>],
-    column: usize,
-) -> Result<Vec<Vec<usize>>, AllocError>
-    ensures { IfOk result (λ v. items_of v.items ≡ map (without column) (items_of rows.now)) }
-{
-    let mut kept = Vec::new(alloc);
-    for row in rows {
-        kept.push(without_column(alloc, row, column)?)?;
+    let mut others = Vec::new(alloc);
+    for x in xs {
+        if column != *x {
+            others.push(*x)?;
+        }
     }
-    Ok(kept)
+    Ok(others)
 }
 
 fn rows_lacking(
@@ -57,7 +46,12 @@ fn rows_lacking(
 fn any_blank(rows: &[Vec<usize>]) -> bool
     ensures { result ≡ list_any (λ row. is_blank row.items) rows.now }
 {
-    rows.iter().any(|row| is_blank(row))
+    for row in rows {
+        if is_blank(row) {
+            return true;
+        }
+    }
+    false
 }
 
 impl Table {
@@ -88,13 +82,9 @@ impl Table {
         ensures { IfOk result (λ o. MatchOption o (IsForced self.now column)
             (λ t. t ≡ drop_column column self.now)) }
     {
-        let rows = rows_without(alloc, self.row_lists(), column)?;
-        if any_blank(&rows) {
-            return Ok(None);
-        }
-        let taken = copy_of(alloc, self.taken_columns())?;
-        let live = without_column(alloc, self.live_columns(), column)?;
-        Ok(Some(self.with(alloc, taken, live, rows)?))
+        let keep = all_but(alloc, column, self.columns())?;
+        let copy = self.copy(alloc)?;
+        Ok(copy.keep_marked(&keep))
     }
 
     /// The table with no columns but the marked ones, where each row keeps one.

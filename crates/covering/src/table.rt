@@ -18,7 +18,12 @@ fn is_row(row: &[usize], columns: usize) -> bool
 fn are_rows(rows: &[Vec<usize>], columns: usize) -> bool
     ensures { result ≡ list_all (λ row. is_row columns row.items) rows.now }
 {
-    rows.iter().all(|row| is_row(row, columns))
+    for row in rows {
+        if !is_row(row, columns) {
+            return false;
+        }
+    }
+    true
 }
 
 pub(crate) fn copy_rows(alloc: Global, rows: &[Vec<usize>]) -> Result<Vec<Vec<usize>>, AllocError>
@@ -168,7 +173,7 @@ impl Table {
         ensures { IfOk result (λ t. t ≡ table_of self.now.columns taken.items live.items
             (items_of rows.items) self.now.weights) }
     {
-        let literals: Vec<u32> = self.literals.iter().copied().collect(alloc)?;
+        let literals = self.literals.to_vec(alloc)?;
         Ok(Table {
             columns: self.columns,
             taken,

@@ -1,8 +1,9 @@
-use Rattle.std.proofs.Common.{◌≡◌, ◌∙◌, ℕ, not, map, true, false, Option, Vec, Global, sym, ap, subst, arith}
+use Rattle.std.proofs.Common.{◌≡◌, ◌∙◌, ◌∷◌, ◌++◌, [], ℕ, not, map, true, false, Option, Vec, Global, sym, ap, subst, arith}
 use Rattle.std.specs.Prelude.{filter, option_map}
 use Rattle.std.specs.List.{range_with_len}
 use Rattle.covering.specs.Table.{has}
-use Rattle.covering.specs.Search.{Answers, IsAnswer, IsOutside, NoneWithin, marked}
+use Rattle.covering.specs.Steps.{with_rows}
+use Rattle.covering.specs.Search.{Answers, IsOutside, marked}
 use Rattle.covering.proofs.Sets.{filter_keeps}
 use Rattle.covering.proofs.Lagrange.{marks_at}
 use Rattle.covering.proofs.Partials.{answer_extended, outside_extended, not_false, some_left, partial_left, next_left}
@@ -18,29 +19,29 @@ out c d l e =
     let wide = c.columns-in-None.ensures.count in
     let is : marked c.in_ok-keep-in-None.keep.items d ≡ not (marked marks d) = ap (λ ks. marked ks d) c.in_ok-keep-in-None.ensures ∙ ap (λ ks. marked ks d) (ap (λ ks. map (λ n. not (marked ks n)) (range_with_len 0 c.columns-in-None.result)) c.deref-in-None.ensures.value) ∙ marks_at (λ n. not (marked marks n)) c.columns-in-None.result d (omega arith) in
     let lacks : marked marks d ≡ true = not_false (marked marks d) (sym is ∙ e) in
-    let extended = rw c.in-Some.is at c.in_ok-extended.ensures in
     let there : has d (filter (marked c.deref-2.result.now) t.live) ≡ true = filter_keeps (marked c.deref-2.result.now) d t.live l (ap (λ ks. marked ks d) c.deref-2.ensures.value ∙ lacks) in
-    let none = subst (λ (o : Option (Vec ℕ Global)). Answers c.args.choice c.in-Some.extended c.args.budget.columns c.args.budget.cost (option_map (λ v. v.items) o)) c.in-None.is (rw c.in-Some-2.is at c.in_ok-answer.ensures) in
-    outside_extended c.args.choice t (filter (marked c.deref-2.result.now) t.live) c.args.budget.columns c.args.budget.cost d there (subst (λ g. NoneWithin c.args.choice g c.args.budget.columns c.args.budget.cost) extended none)
+    let row = filter (marked c.deref-2.result.now) t.live in
+    let none = subst (λ (o : Option (Vec ℕ Global)). Answers c.args.choice (with_rows t (t.rows ++ row ∷ [])) c.args.budget.columns c.args.budget.cost (option_map (λ v. v.items) o)) c.in-None.is (rw c.in-Some.is at c.in_ok-answer.ensures) in
+    outside_extended c.args.choice t row c.args.budget.columns c.args.budget.cost d there none
 
 pub keep_columns_marked-requires : goal.keep_columns_marked-requires
 keep_columns_marked-requires c =
     rw c.deref-in-None-2.ensures.value
     (some_left c.args.choice (marked c.in_ok-keep-in-None.keep.items) c.args.self.table c.args.budget.columns c.args.budget.cost c.args.self.witness.items c.columns-in-None.ensures.table c.requires (out (goal.at.keep_columns_marked-requires c).In_ok-keep-in-None))
 
-pub returns-in_ok-keep-in-None-clause-partial : goal.returns-in_ok-keep-in-None-clause-partial
-returns-in_ok-keep-in-None-clause-partial c =
+pub returns-clause-partial : goal.returns-clause-partial
+returns-clause-partial c =
     let left = rw c.deref-in-None-2.ensures.value at c.keep_columns_marked.ensures in
-    rw left.witness (partial_left c.args.choice (marked c.in_ok-keep-in-None.keep.items) c.args.self.table c.args.budget.columns c.args.budget.cost c.args.self.witness.items c.columns-in-None.ensures.table c.requires (out (goal.at.returns-in_ok-keep-in-None-clause-partial c).In_ok-keep-in-None) c.keep_columns_marked.result.table left.table)
+    rw left.witness (partial_left c.args.choice (marked c.in_ok-keep-in-None.keep.items) c.args.self.table c.args.budget.columns c.args.budget.cost c.args.self.witness.items c.columns-in-None.ensures.table c.requires (out (goal.at.returns-clause-partial c).In_ok-keep-in-None) c.keep_columns_marked.result.table left.table)
 
-pub returns-in_ok-keep-in-None-clause-next : goal.returns-in_ok-keep-in-None-clause-next
-returns-in_ok-keep-in-None-clause-next c =
+pub returns-clause-next : goal.returns-clause-next
+returns-clause-next c =
     let left = rw c.deref-in-None-2.ensures.value at c.keep_columns_marked.ensures in
-    next_left c.args.choice (marked c.in_ok-keep-in-None.keep.items) c.args.self.table c.args.budget.columns c.args.budget.cost c.args.self.witness.items c.columns-in-None.ensures.table c.requires (out (goal.at.returns-in_ok-keep-in-None-clause-next c).In_ok-keep-in-None) c.keep_columns_marked.result.table left.table
+    next_left c.args.choice (marked c.in_ok-keep-in-None.keep.items) c.args.self.table c.args.budget.columns c.args.budget.cost c.args.self.witness.items c.columns-in-None.ensures.table c.requires (out (goal.at.returns-clause-next c).In_ok-keep-in-None) c.keep_columns_marked.result.table left.table
 
 pub returns-in-Some-answer-clause-partial : goal.returns-in-Some-answer-clause-partial
 returns-in-Some-answer-clause-partial c =
     let t = c.args.self.table in
-    let extended = rw c.in-Some.is at c.in_ok-extended.ensures in
-    let found = subst (λ (o : Option (Vec ℕ Global)). Answers c.args.choice c.in-Some.extended c.args.budget.columns c.args.budget.cost (option_map (λ v. v.items) o)) c.in-Some-answer.is (rw c.in-Some-2.is at c.in_ok-answer.ensures) in
-    record { none = c.requires.none; witness = answer_extended c.args.choice t (filter (marked c.deref-2.result.now) t.live) c.args.budget.columns c.args.budget.cost c.in-Some-answer.witness.items (subst (λ g. IsAnswer c.args.choice g c.args.budget.columns c.args.budget.cost c.in-Some-answer.witness.items) extended found) }
+    let row = filter (marked c.deref-2.result.now) t.live in
+    let found = subst (λ (o : Option (Vec ℕ Global)). Answers c.args.choice (with_rows t (t.rows ++ row ∷ [])) c.args.budget.columns c.args.budget.cost (option_map (λ v. v.items) o)) c.in-Some-answer.is (rw c.in-Some.is at c.in_ok-answer.ensures) in
+    record { none = c.requires.none; witness = answer_extended c.args.choice t row c.args.budget.columns c.args.budget.cost c.in-Some-answer.witness.items found }

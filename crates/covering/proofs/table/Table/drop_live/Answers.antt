@@ -1,24 +1,13 @@
-use Rattle.std.proofs.Common.{◌≡◌, ◌∙◌, false, refl, sym, ap, subst, map}
+use Rattle.std.proofs.Common.{◌≡◌, ◌∙◌, true, subst, map}
+use Rattle.std.specs.Prelude.{MatchOption, filter}
 use Rattle.std.specs.List.{list_any}
-use Rattle.covering.specs.Table.{items_of, IsTable}
-use Rattle.covering.specs.Steps.{without}
-use Rattle.covering.specs.Search.{is_blank}
-use Rattle.covering.proofs.Branches.{blank_forced, unforced_table}
-use Rattle.covering.proofs.Rows.{any_items}
-use Rattle.covering.proofs.Made.{table_same}
+use Rattle.covering.specs.Table.{Table}
+use Rattle.covering.specs.Search.{is_blank, keep_columns, marked}
+use Rattle.covering.proofs.Partials.{drops_column}
 use Rattle.covering.proofs.table.Table.drop_live.Goals as goal
 
-pub returns-then-any_blank : goal.returns-then-any_blank
-returns-then-any_blank c =
-    let rows = c.in_ok-rows.ensures ∙ ap (map (without c.args.column)) c.row_lists.ensures.value in
-    blank_forced c.args.self.now c.args.column (sym (c.any_blank.ensures ∙ any_items is_blank c.deref.result.now ∙ ap (λ rs. list_any is_blank (items_of rs)) c.deref.ensures.value ∙ ap (list_any is_blank) rows) ∙ c.if-any_blank.true)
-
-pub with-requires : goal.with-requires
-with-requires c =
-    let rows = c.in_ok-rows.ensures ∙ ap (map (without c.args.column)) c.row_lists.ensures.value in
-    let some : list_any is_blank (map (without c.args.column) c.args.self.now.rows) ≡ false = sym (c.any_blank.ensures ∙ any_items is_blank c.deref.result.now ∙ ap (λ rs. list_any is_blank (items_of rs)) c.deref.ensures.value ∙ ap (list_any is_blank) rows) ∙ c.if-any_blank.false in
-    subst IsTable (sym (table_same c.args.self.now.columns _ _ _ _ _ _ _ _
-    (c.in_ok-taken.ensures ∙ c.taken_columns.ensures.value)
-    (c.in_ok-live.ensures ∙ ap (without c.args.column) c.live_columns.ensures.value)
-    rows refl))
-    (unforced_table c.args.self.now c.args.column c.taken_columns.ensures.table some)
+pub returns : goal.returns
+returns c =
+    let keep = c.deref.result.now in
+    let left = subst (λ (t : Table). MatchOption c.keep_marked.result (list_any is_blank (map (filter (marked keep)) t.rows) ≡ true) (λ u. u ≡ keep_columns (marked keep) t)) c.in_ok-copy.ensures.copy c.keep_marked.ensures in
+    drops_column c.args.self.now keep c.columns.result c.args.column c.in_ok-copy.ensures.table c.columns.ensures.count (c.deref.ensures.value ∙ c.in_ok-keep.ensures) c.keep_marked.result left

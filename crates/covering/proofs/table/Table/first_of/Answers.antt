@@ -1,5 +1,6 @@
-use Rattle.std.proofs.Common.{◌∙◌, refl, arith}
+use Rattle.std.proofs.Common.{◌∙◌, refl, subst, arith}
 use Rattle.std.proofs.lemmas.Result.{IfOk-weaker}
+use Rattle.covering.specs.Search.{Continues}
 use Rattle.covering.proofs.Partials.{next_join, partial_done, all_decided, first_next}
 use Rattle.covering.proofs.table.Table.first_of.Goals as goal
 
@@ -23,3 +24,16 @@ returns c =
     IfOk-weaker c.copy_of-2.result _ _
     (λ v h. partial_done c.args.choice c.args.self.now c.loop-column.partial.table v.items c.taken_columns-2.ensures.table c.loop-column.invariant.next done (h ∙ c.taken_columns-2.ensures.value))
     c.copy_of-2.ensures
+
+pub loop-column-init : goal.loop-column-init
+loop-column-init c = record {
+  partial = c.in_ok-partial.ensures.partial;
+  next = subst (λ t. Continues c.args.choice t c.in_ok-partial.partial.table) c.in_ok-copy.ensures.copy c.in_ok-partial.ensures.next;
+  first = λ d h. omega arith;
+}
+
+pub decide_column-requires-clause-partial : goal.decide_column-requires-clause-partial
+decide_column-requires-clause-partial c = c.loop-column.invariant.partial
+
+pub decide_column-requires-clause-first : goal.decide_column-requires-clause-first
+decide_column-requires-clause-first c = c.loop-column.invariant.first
