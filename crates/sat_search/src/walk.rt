@@ -343,7 +343,7 @@ impl Search {
     // By variable whether it is false where the walk starts: as it is set or assumed, else as it
     // was set last.
     fn starting_signs(&self, assumptions: &[u32]) -> Result<Vec<bool>, AllocError> {
-        let mut negated = self.phases.to_vec(self.alloc)?;
+        let mut negated = self.assignment.phases.to_vec(self.alloc)?;
         put_signs(&mut negated, &self.assignment.trail);
         put_signs(&mut negated, assumptions);
         Ok(negated)
@@ -351,7 +351,7 @@ impl Search {
 
     // By variable whether it is set or assumed.
     fn fixed_variables(&self, assumptions: &[u32]) -> Result<Vec<bool>, AllocError> {
-        let mut fixed = vec![in self.alloc; false; self.phases.len()]?;
+        let mut fixed = vec![in self.alloc; false; self.assignment.variables()]?;
         mark_variables(&mut fixed, &self.assignment.trail);
         mark_variables(&mut fixed, assumptions);
         Ok(fixed)

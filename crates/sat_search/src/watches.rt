@@ -35,28 +35,18 @@ impl Watches {
         Ok(())
     }
 
-    /// Lets the clause at this offset watch its first two literals.
+    /// Lets a clause watch its first two literals.
     pub(crate) fn watch_first_two(
         &mut self,
-        offset: u32,
-        literals: &[u32],
+        clauses: &Clauses,
+        clause: u32,
     ) -> Result<(), AllocError> {
+        let literals = clauses.literals_of(clause);
         if literals.len() > 1 {
             let (one, other) = (literals[0], literals[1]);
-            self.push(
-                one,
-                Watch {
-                    offset,
-                    blocker: other,
-                },
-            )?;
-            self.push(
-                other,
-                Watch {
-                    offset,
-                    blocker: one,
-                },
-            )?;
+            let offset = clauses.offset_of(clause);
+            self.push(one, Watch { offset, blocker: other })?;
+            self.push(other, Watch { offset, blocker: one })?;
         }
         Ok(())
     }
