@@ -3,7 +3,7 @@
 
 use crate::assignment::Assignment;
 use crate::clauses::Clauses;
-use crate::numbers::{NONE, at, put, saturating_u32};
+use crate::numbers::{NONE, add, at, put, saturating_u32};
 use crate::search::Search;
 use std::alloc::{AllocError, Global};
 
@@ -42,13 +42,14 @@ pub(crate) struct Analysis {
 
 impl Analysis {
     pub(crate) fn new(alloc: Global, variables: usize) -> Result<Analysis, AllocError> {
+        let room = variables.saturating_add(1);
         Ok(Analysis {
             marks: vec![in alloc; Mark::Unseen; variables]?,
             level_stamps: vec![in alloc; 0; variables.saturating_mul(2).saturating_add(1)]?,
-            learned: Vec::new(alloc),
-            hints: Vec::new(alloc),
-            marked: Vec::new(alloc),
-            stack: Vec::new(alloc),
+            learned: Vec::with_capacity(alloc, room)?,
+            hints: Vec::with_capacity(alloc, room)?,
+            marked: Vec::with_capacity(alloc, room)?,
+            stack: Vec::with_capacity(alloc, room)?,
             stamp: 0,
         })
     }
@@ -73,12 +74,11 @@ impl Analysis {
     }
 
     /// Marks a variable, if it has no mark yet.
-    pub(crate) fn put_mark(&mut self, variable: u32, mark: Mark) -> Result<(), AllocError> {
+    pub(crate) fn put_mark(&mut self, variable: u32, mark: Mark) {
         if self.mark_of(variable) == Mark::Unseen {
-            self.marked.push(variable)?;
+            add(&mut self.marked, variable);
             self.change_mark(variable, mark);
         }
-        Ok(())
     }
 
     /// Sets the mark of a variable that has one already.
@@ -87,6 +87,11 @@ impl Analysis {
         if index < self.marks.len() {
             self.marks[index] = mark;
         }
+    }
+
+    /// Puts two numbers on the stack.
+    pub(crate) fn push_on_stack(&mut self, one: u32, other: u32) {
+        let _refused = self.stack.push((one, other));
     }
 
     /// Forgets all marks.
@@ -106,11 +111,11 @@ impl Analysis {
         assignment: &mut Assignment,
         conflict: u32,
         conflicts: u32,
-    ) -> Result<u32, AllocError> {
-        self.resolve_to_first_uip(clauses, assignment, conflict, conflicts)?;
-        self.minimise(clauses, assignment)?;
-        self.collect_hints(assignment, conflict)?;
-        Ok(self.put_backjump_literal_second(assignment))
+    ) -> u32 {
+        self.resolve_to_first_uip(clauses, assignment, conflict, conflicts);
+        self.minimise(clauses, assignment);
+        self.collect_hints(assignment, conflict);
+        self.put_backjump_literal_second(assignment)
     }
 
     // Resolves a clause that is false with reasons of its literals, the last one first, until it
@@ -121,15 +126,15 @@ impl Analysis {
         assignment: &mut Assignment,
         conflict: u32,
         conflicts: u32,
-    ) -> Result<(), AllocError> {
+    ) {
         self.learned.clear();
-        self.learned.push(NONE)?;
+        add(&mut self.learned, NONE);
         let mut unresolved: u32 = 0;
         let mut clause = conflict;
         let mut position = saturating_u32(assignment.trail.len());
         for _ in 0..=position {
             self.note_use(clauses, assignment, clause, conflicts);
-            let more = self.resolve_with(clauses.literals_of(clause), assignment)?;
+            let more = self.resolve_with(clauses.literals_of(clause), assignment);
             unresolved = unresolved.saturating_add(more).saturating_sub(1);
             position = self.last_resolved_before(&assignment.trail, position);
             let literal = at(&assignment.trail, position);
@@ -140,48 +145,39 @@ impl Analysis {
             }
             clause = assignment.reason_of(literal / 2);
         }
-        Ok(())
     }
 
     // Adds the literals of a clause to the resolvent, and answers how many new ones were set at the
     // current level.
-    fn resolve_with(
-        &mut self,
-        literals: &[u32],
-        assignment: &mut Assignment,
-    ) -> Result<u32, AllocError> {
+    fn resolve_with(&mut self, literals: &[u32], assignment: &mut Assignment) -> u32 {
         let mut count: u32 = 0;
         for literal in literals {
             if self.mark_of(*literal / 2) == Mark::Unseen
-                && self.add_to_resolvent(*literal, assignment)?
+                && self.add_to_resolvent(*literal, assignment)
             {
                 count = count.saturating_add(1);
             }
         }
-        Ok(count)
+        count
     }
 
     // Adds a literal without a mark to the resolvent. Whether it was set at the current level, and
     // so will be resolved on, unless it is the last.
-    fn add_to_resolvent(
-        &mut self,
-        literal: u32,
-        assignment: &mut Assignment,
-    ) -> Result<bool, AllocError> {
+    fn add_to_resolvent(&mut self, literal: u32, assignment: &mut Assignment) -> bool {
         let variable = literal / 2;
         let level = assignment.level_of(variable);
         if level == 0 {
-            self.put_mark(variable, Mark::Resolved)?;
-            return Ok(false);
+            self.put_mark(variable, Mark::Resolved);
+            return false;
         }
         assignment.order.bump(variable);
         if level == saturating_u32(assignment.current_level()) {
-            self.put_mark(variable, Mark::Resolved)?;
-            return Ok(true);
+            self.put_mark(variable, Mark::Resolved);
+            return true;
         }
-        self.put_mark(variable, Mark::Kept)?;
-        self.learned.push(literal)?;
-        Ok(false)
+        self.put_mark(variable, Mark::Kept);
+        add(&mut self.learned, literal);
+        false
     }
 
     // The position of the last literal of the trail before this position that is to be resolved on.
@@ -258,17 +254,16 @@ impl Search {
             &mut self.assignment,
             conflict,
             self.pace.conflict_count(),
-        )?;
+        );
         let clause = self.add_learned()?;
         self.analysis
             .note_distance(&mut self.clauses, &self.assignment, clause, NONE);
-        self.assignment.backjump(level as usize)?;
+        self.assignment.backjump(level as usize);
         if self.analysis.learned.len() > 1 {
             self.watches.watch_first_two(&self.clauses, clause)?;
             self.clauses.allow_dropping(clause)?;
         }
-        self.assignment
-            .set(at(&self.analysis.learned, 0), clause)?;
+        self.assignment.set(at(&self.analysis.learned, 0), clause);
         self.assignment.order.decay();
         Ok(())
     }

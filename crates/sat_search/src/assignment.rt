@@ -1,6 +1,6 @@
 //! The trail: literals that are set, in the order in which they were set, with levels and reasons.
 
-use crate::numbers::{NONE, saturating_u32};
+use crate::numbers::{NONE, add, saturating_u32};
 use crate::order::Order;
 use std::alloc::{AllocError, Global};
 
@@ -67,8 +67,8 @@ impl Assignment {
             settings: vec![in alloc; NO_SETTING; variables]?,
             phases: vec![in alloc; false; variables]?,
             trail: Vec::with_capacity(alloc, variables)?,
+            level_begins: Vec::with_capacity(alloc, variables.saturating_mul(2).saturating_add(1))?,
             order: Order::new(alloc, variables)?,
-            level_begins: Vec::new(alloc),
             propagated: 0,
         })
     }
@@ -131,7 +131,7 @@ impl Assignment {
 
     /// Makes a literal true at the current level, for a clause, or by a decision if the reason is
     /// [`NONE`].
-    pub(crate) fn set(&mut self, literal: u32, reason: u32) -> Result<(), AllocError> {
+    pub(crate) fn set(&mut self, literal: u32, reason: u32) {
         self.put_values(literal, Value::True, Value::False);
         let index = (literal / 2) as usize;
         if index < self.settings.len() {
@@ -142,8 +142,7 @@ impl Assignment {
                 unit: NONE,
             };
         }
-        self.trail.push(literal)?;
-        Ok(())
+        add(&mut self.trail, literal);
     }
 
     // Gives a literal a value, and its negation another.
@@ -158,25 +157,24 @@ impl Assignment {
     }
 
     /// Begins the next decision level.
-    pub(crate) fn begin_level(&mut self) -> Result<(), AllocError> {
-        self.level_begins.push(saturating_u32(self.trail.len()))?;
-        Ok(())
+    pub(crate) fn begin_level(&mut self) {
+        let begin = saturating_u32(self.trail.len());
+        add(&mut self.level_begins, begin);
     }
 
     /// Goes back to a level: unsets the literals of later ones.
-    pub(crate) fn backjump(&mut self, level: usize) -> Result<(), AllocError> {
+    pub(crate) fn backjump(&mut self, level: usize) {
         if level >= self.level_begins.len() {
-            return Ok(());
+            return;
         }
         for _ in self.level_begins[level] as usize..self.trail.len() {
             if let Some(literal) = self.trail.pop() {
                 self.put_values(literal, Value::Unset, Value::Unset);
                 self.put_phase(literal / 2, literal % 2 == 1);
-                self.order.insert(literal / 2)?;
+                self.order.insert(literal / 2);
             }
         }
         self.level_begins.truncate(level);
         self.propagated = self.trail.len();
-        Ok(())
     }
 }

@@ -133,27 +133,26 @@ impl Clauses {
         at(&self.arena, offset)
     }
 
-    // Adds a clause, and answers its number.
-    fn push(&mut self, literals: &[u32], last_use: u32, name: u32) -> Result<u32, AllocError> {
+    /// Adds a clause that counts as used after this many conflicts, and answers its number.
+    pub(crate) fn push(
+        &mut self,
+        literals: &[u32],
+        last_use: u32,
+        name: u32,
+    ) -> Result<u32, AllocError> {
         let clause = self.len();
-        self.arena.push(clause)?;
-        self.arena.push(saturating_u32(literals.len()))?;
+        self.arena
+            .extend_from_slice(&[clause, saturating_u32(literals.len())])?;
         let begin = saturating_u32(self.arena.len());
         self.arena.extend_from_slice(literals)?;
+        let end = saturating_u32(self.arena.len());
         self.records.push(Record {
             begin,
-            end: saturating_u32(self.arena.len()),
+            end,
             distance: 1,
             last_use,
             name,
         })?;
-        Ok(clause)
-    }
-
-    /// Adds a clause that is given under a name, before any is learned, and answers its number.
-    pub(crate) fn push_given(&mut self, literals: &[u32], name: u32) -> Result<u32, AllocError> {
-        let clause = self.push(literals, 0, name)?;
-        self.given = self.len();
         Ok(clause)
     }
 
@@ -165,15 +164,13 @@ impl Clauses {
         hints: &[u32],
         conflicts: u32,
     ) -> Result<u32, AllocError> {
-        let clause = self.push(literals, conflicts, NONE)?;
         self.hints.push_list(hints)?;
-        Ok(clause)
+        self.push(literals, conflicts, NONE)
     }
 
     /// Lets a learned clause, which is watched now, be dropped.
     pub(crate) fn allow_dropping(&mut self, clause: u32) -> Result<(), AllocError> {
-        self.watched.push(clause)?;
-        Ok(())
+        self.watched.extend_from_slice(&[clause])
     }
 
     /// How many learned clauses are watched.
@@ -228,7 +225,7 @@ impl Clauses {
                 order.push((record.distance, u32::MAX - record.last_use, *clause))?;
             }
         }
-        order.sort()?;
+        order.sort_unstable();
         self.drop_second_half(&order);
         self.forget_dropped();
         Ok(())

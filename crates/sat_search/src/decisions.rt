@@ -4,8 +4,7 @@
 use crate::analysis::{Analysis, Mark};
 use crate::assignment::{Assignment, Value};
 use crate::clauses::Clauses;
-use crate::numbers::{NONE, at, saturating_u32};
-use std::alloc::AllocError;
+use crate::numbers::{NONE, add, at, saturating_u32};
 
 /// What comes of a decision.
 #[derive(Clone, Copy)]
@@ -20,32 +19,34 @@ pub(crate) enum Decision {
 
 impl Assignment {
     /// Decides the next literal: an assumption that is unset, else one of its own choice.
-    pub(crate) fn decide(&mut self, assumptions: &[u32]) -> Result<Decision, AllocError> {
+    pub(crate) fn decide(&mut self, assumptions: &[u32]) -> Decision {
         for k in self.current_level()..assumptions.len() {
             let literal = assumptions[k];
             match self.value(literal) {
-                Value::False => return Ok(Decision::Failed(literal ^ 1)),
-                Value::True => self.begin_level()?,
+                Value::False => return Decision::Failed(literal ^ 1),
+                Value::True => self.begin_level(),
                 Value::Unset => return self.set_decision(literal),
             }
         }
         match self.branching_literal() {
-            None => Ok(Decision::Full),
+            None => Decision::Full,
             Some(literal) => self.set_decision(literal),
         }
     }
 
     // Begins a level with a literal.
-    fn set_decision(&mut self, literal: u32) -> Result<Decision, AllocError> {
-        self.begin_level()?;
-        self.set(literal, NONE)?;
-        Ok(Decision::Made)
+    fn set_decision(&mut self, literal: u32) -> Decision {
+        self.begin_level();
+        self.set(literal, NONE);
+        Decision::Made
     }
 
     // The literal to branch on: of the most active unset variable, with the sign that it had last.
     fn branching_literal(&mut self) -> Option<u32> {
         for _ in 0..=self.variables() {
-            let variable = self.order.pop()?;
+            let Some(variable) = self.order.pop() else {
+                break;
+            };
             let literal = variable.saturating_mul(2);
             if self.value(literal) == Value::Unset {
                 return Some(literal.saturating_add(self.phase_of(variable) as u32));
@@ -71,17 +72,17 @@ impl Analysis {
         clauses: &Clauses,
         assignment: &Assignment,
         failed: u32,
-    ) -> Result<(), AllocError> {
+    ) {
         self.learned.clear();
-        self.learned.push(failed)?;
-        self.put_mark(failed / 2, Mark::Resolved)?;
+        add(&mut self.learned, failed);
+        self.put_mark(failed / 2, Mark::Resolved);
         for position in (0..saturating_u32(assignment.trail.len())).rev() {
             let literal = at(&assignment.trail, position);
             if self.mark_of(literal / 2) == Mark::Resolved {
-                self.trace_literal(clauses, assignment, failed, literal)?;
+                self.trace_literal(clauses, assignment, failed, literal);
             }
         }
-        self.collect_hints(assignment, NONE)
+        self.collect_hints(assignment, NONE);
     }
 
     // Goes on to where a literal comes from: level 0, a decision, or the literals of its reason.
@@ -91,26 +92,25 @@ impl Analysis {
         assignment: &Assignment,
         failed: u32,
         literal: u32,
-    ) -> Result<(), AllocError> {
+    ) {
         let setting = assignment.setting_of(literal / 2);
         if setting.level == 0 {
-            return Ok(());
+            return;
         }
         if setting.reason != NONE {
-            return self.mark_resolved(clauses.literals_of(setting.reason));
+            self.mark_resolved(clauses.literals_of(setting.reason));
+            return;
         }
         self.change_mark(literal / 2, Mark::Kept);
         if literal ^ 1 != failed {
-            self.learned.push(literal ^ 1)?;
+            add(&mut self.learned, literal ^ 1);
         }
-        Ok(())
     }
 
     // Marks the variables of a reason to be traced.
-    fn mark_resolved(&mut self, literals: &[u32]) -> Result<(), AllocError> {
+    fn mark_resolved(&mut self, literals: &[u32]) {
         for literal in literals {
-            self.put_mark(*literal / 2, Mark::Resolved)?;
+            self.put_mark(*literal / 2, Mark::Resolved);
         }
-        Ok(())
     }
 }

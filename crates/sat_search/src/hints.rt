@@ -8,8 +8,7 @@
 
 use crate::analysis::{Analysis, Mark};
 use crate::assignment::Assignment;
-use crate::numbers::{NONE, at, saturating_u32};
-use std::alloc::AllocError;
+use crate::numbers::{NONE, add, at, saturating_u32};
 
 impl Analysis {
     /// Collects the hints of the learned clause: units, then the reasons in the order of the trail,
@@ -18,7 +17,7 @@ impl Analysis {
         &mut self,
         assignment: &Assignment,
         conflict: u32,
-    ) -> Result<(), AllocError> {
+    ) {
         self.hints.clear();
         self.stack.clear();
         for k in 0..saturating_u32(self.marked.len()) {
@@ -26,27 +25,25 @@ impl Analysis {
             if self.mark_of(variable) == Mark::Resolved {
                 let setting = assignment.setting_of(variable);
                 if setting.level == 0 {
-                    self.hints.push(setting.unit)?;
+                    add(&mut self.hints, setting.unit);
                 } else {
-                    self.stack.push((setting.position, setting.reason))?;
+                    self.push_on_stack(setting.position, setting.reason);
                 }
             }
         }
         self.clear_marks();
-        self.stack.sort()?;
-        self.push_reasons()?;
+        self.stack.sort_unstable();
+        self.push_reasons();
         if conflict != NONE {
-            self.hints.push(conflict)?;
+            add(&mut self.hints, conflict);
         }
-        Ok(())
     }
 
     // Adds the reasons, each beside its position in the trail, as hints.
-    fn push_reasons(&mut self) -> Result<(), AllocError> {
+    fn push_reasons(&mut self) {
         for (_, reason) in &self.stack {
-            self.hints.push(*reason)?;
+            add(&mut self.hints, *reason);
         }
-        Ok(())
     }
 
     /// Collects the hints of what is left of a clause of these literals, whose other literals are
@@ -57,14 +54,13 @@ impl Analysis {
         assignment: &Assignment,
         literal: u32,
         clause: u32,
-    ) -> Result<(), AllocError> {
+    ) {
         self.hints.clear();
         for other in literals {
             if *other != literal {
-                self.hints.push(assignment.setting_of(*other / 2).unit)?;
+                add(&mut self.hints, assignment.setting_of(*other / 2).unit);
             }
         }
-        self.hints.push(clause)?;
-        Ok(())
+        add(&mut self.hints, clause);
     }
 }

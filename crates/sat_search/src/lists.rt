@@ -27,15 +27,13 @@ impl Lists {
 
     /// Ends the list; the next number begins another one.
     pub(crate) fn end(&mut self) -> Result<(), AllocError> {
-        self.ends.push(saturating_u32(self.numbers.len()))?;
-        Ok(())
+        let end = saturating_u32(self.numbers.len());
+        self.ends.extend_from_slice(&[end])
     }
 
     /// Adds a list.
     pub(crate) fn push_list(&mut self, numbers: &[u32]) -> Result<(), AllocError> {
-        for number in numbers {
-            self.numbers.push(*number)?;
-        }
+        self.numbers.extend_from_slice(numbers)?;
         self.end()
     }
 

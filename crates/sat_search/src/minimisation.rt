@@ -5,7 +5,6 @@ use crate::analysis::{Analysis, Mark};
 use crate::assignment::Assignment;
 use crate::clauses::Clauses;
 use crate::numbers::{NONE, at, put, saturating_u32};
-use std::alloc::AllocError;
 
 impl Analysis {
     /// Leaves out the literals of the learned clause that follow from others of it.
@@ -13,11 +12,11 @@ impl Analysis {
         &mut self,
         clauses: &Clauses,
         assignment: &Assignment,
-    ) -> Result<(), AllocError> {
+    ) {
         let mut kept: u32 = 1;
         for k in 1..saturating_u32(self.learned.len()) {
             let literal = at(&self.learned, k);
-            if self.is_redundant(clauses, assignment, literal / 2)? {
+            if self.is_redundant(clauses, assignment, literal / 2) {
                 self.change_mark(literal / 2, Mark::Resolved);
             } else {
                 put(&mut self.learned, kept, literal);
@@ -25,7 +24,6 @@ impl Analysis {
             }
         }
         self.learned.truncate(kept as usize);
-        Ok(())
     }
 
     // Whether the literal of a variable follows from others that are kept: the reasons are followed
@@ -35,25 +33,25 @@ impl Analysis {
         clauses: &Clauses,
         assignment: &Assignment,
         first: u32,
-    ) -> Result<bool, AllocError> {
+    ) -> bool {
         let reason = assignment.reason_of(first);
         if reason == NONE {
-            return Ok(false);
+            return false;
         }
         self.stack.clear();
-        self.stack.push((first, clauses.literals_begin(reason)))?;
+        self.push_on_stack(first, clauses.literals_begin(reason));
         for _ in 0..u32::MAX {
             let Some((variable, offset)) = self.stack.pop() else {
-                return Ok(true);
+                return true;
             };
             if offset >= clauses.literals_end(assignment.reason_of(variable)) {
-                self.put_mark(variable, Mark::Resolved)?;
-            } else if !self.check_reason_literal(clauses, assignment, variable, offset)? {
-                self.mark_stack_needed()?;
-                return Ok(false);
+                self.put_mark(variable, Mark::Resolved);
+            } else if !self.check_reason_literal(clauses, assignment, variable, offset) {
+                self.mark_stack_needed();
+                return false;
             }
         }
-        Ok(false)
+        false
     }
 
     // Looks at the literal at an offset in a variable's reason. Whether the variable may still
@@ -65,36 +63,34 @@ impl Analysis {
         assignment: &Assignment,
         variable: u32,
         offset: u32,
-    ) -> Result<bool, AllocError> {
-        self.stack.push((variable, offset.saturating_add(1)))?;
+    ) -> bool {
+        self.push_on_stack(variable, offset.saturating_add(1));
         let other = clauses.literal_at(offset) / 2;
         if other == variable {
-            return Ok(true);
+            return true;
         }
         match self.mark_of(other) {
-            Mark::Kept | Mark::Resolved => return Ok(true),
-            Mark::Needed => return Ok(false),
+            Mark::Kept | Mark::Resolved => return true,
+            Mark::Needed => return false,
             Mark::Unseen => (),
         }
         let setting = assignment.setting_of(other);
         if setting.level == 0 {
-            self.put_mark(other, Mark::Resolved)?;
+            self.put_mark(other, Mark::Resolved);
         } else if setting.reason == NONE {
-            return Ok(false);
+            return false;
         } else {
-            self.stack
-                .push((other, clauses.literals_begin(setting.reason)))?;
+            self.push_on_stack(other, clauses.literals_begin(setting.reason));
         }
-        Ok(true)
+        true
     }
 
     // Marks the variables on the stack as such that do not follow.
-    fn mark_stack_needed(&mut self) -> Result<(), AllocError> {
+    fn mark_stack_needed(&mut self) {
         for _ in 0..self.stack.len() {
             if let Some((variable, _)) = self.stack.pop() {
-                self.put_mark(variable, Mark::Needed)?;
+                self.put_mark(variable, Mark::Needed);
             }
         }
-        Ok(())
     }
 }

@@ -62,13 +62,13 @@ fn set_or_conflict(
     assignment: &mut Assignment,
     literal: u32,
     offset: u32,
-) -> Result<u32, AllocError> {
+) -> u32 {
     let clause = clauses.clause_at(offset);
     if assignment.value(literal) == Value::False {
-        return Ok(clause);
+        return clause;
     }
-    assignment.set(literal, clause)?;
-    Ok(NONE)
+    assignment.set(literal, clause);
+    NONE
 }
 
 impl Watches {
@@ -98,7 +98,7 @@ impl Watches {
                     }
                     Finding::Last(first) => {
                         watch.blocker = first;
-                        conflict = set_or_conflict(clauses, assignment, first, watch.offset)?;
+                        conflict = set_or_conflict(clauses, assignment, first, watch.offset);
                     }
                 }
             }

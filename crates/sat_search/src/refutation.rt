@@ -101,7 +101,7 @@ impl Clauses {
             }
             self.push_unnamed_hints(clause, &mut found)?;
         }
-        found.sort()?;
+        found.sort_unstable();
         Ok(found)
     }
 

@@ -97,15 +97,16 @@ impl Search {
     pub fn add_nogood(&mut self, literals: &[u32], name: u32) -> Result<(), AllocError> {
         self.assignment.order.count_occurrences(literals);
         self.analysis.put_negated(literals)?;
-        let clause = self.clauses.push_given(&self.analysis.learned, name)?;
+        let clause = self.clauses.push(&self.analysis.learned, 0, name)?;
         self.watches.watch_first_two(&self.clauses, clause)
     }
 
     /// Prepares the first question, once all nogoods are there.
     pub fn begin(&mut self) -> Result<(), AllocError> {
+        self.clauses.given = self.clauses.len();
         self.pace.schedule_drop(self.clauses.given, 0);
         for variable in 0..saturating_u32(self.assignment.variables()) {
-            self.assignment.order.insert(variable)?;
+            self.assignment.order.insert(variable);
             self.choose_first_phase(variable);
         }
         for clause in 0..self.clauses.given {
@@ -140,7 +141,7 @@ impl Search {
                 }
             }
             Value::Unset => {
-                self.assignment.set(literal, clause)?;
+                self.assignment.set(literal, clause);
                 self.learn_units()?;
             }
         }
@@ -161,7 +162,7 @@ impl Search {
         limits: Limits,
         name: u32,
     ) -> Result<Answer, AllocError> {
-        self.assignment.backjump(0)?;
+        self.assignment.backjump(0);
         let last = self.steps.saturating_add(limits.steps);
         for _ in 0..u64::MAX {
             if self.contradiction != NONE {
@@ -196,7 +197,7 @@ impl Search {
         if let Some(point) = self.walk(assumptions)? {
             return Ok(Some(Answer::Point(point)));
         }
-        match self.assignment.decide(assumptions)? {
+        match self.assignment.decide(assumptions) {
             Decision::Made => Ok(None),
             Decision::Full => {
                 let point = self.assignment.trail.to_vec(self.alloc)?;
@@ -213,7 +214,7 @@ impl Search {
     // Learns where an assumption is false; answers the learned clause.
     fn learn_from_failed_assumption(&mut self, failed: u32) -> Result<u32, AllocError> {
         self.analysis
-            .analyse_failed_assumption(&self.clauses, &self.assignment, failed)?;
+            .analyse_failed_assumption(&self.clauses, &self.assignment, failed);
         self.add_learned()
     }
 

@@ -2,7 +2,7 @@
 //!
 //! With a clause of one literal for each literal of level 0, no other clause repeats what shows it.
 
-use crate::numbers::{NONE, at, saturating_u32};
+use crate::numbers::{NONE, add, at, saturating_u32};
 use crate::search::Search;
 use std::alloc::AllocError;
 
@@ -27,7 +27,7 @@ impl Search {
             return Ok(reason);
         }
         self.analysis.learned.clear();
-        self.analysis.learned.push(literal)?;
+        add(&mut self.analysis.learned, literal);
         self.learn_at_level_0(literal, reason)
     }
 
@@ -35,7 +35,7 @@ impl Search {
     fn learn_at_level_0(&mut self, literal: u32, clause: u32) -> Result<u32, AllocError> {
         let literals = self.clauses.literals_of(clause);
         self.analysis
-            .collect_unit_hints(literals, &self.assignment, literal, clause)?;
+            .collect_unit_hints(literals, &self.assignment, literal, clause);
         self.add_learned()
     }
 
