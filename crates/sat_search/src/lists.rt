@@ -21,8 +21,7 @@ impl Lists {
 
     /// Adds a number to the list that is not ended yet.
     pub(crate) fn push(&mut self, number: u32) -> Result<(), AllocError> {
-        self.numbers.push(number)?;
-        Ok(())
+        self.numbers.extend_from_slice(&[number])
     }
 
     /// Ends the list; the next number begins another one.

@@ -15,30 +15,31 @@ const PENDING: u32 = u32::MAX - 1;
 /// open, which is false then, and the last hint has none.
 #[derive(Drop)]
 pub struct Refutation {
-    nogoods: Lists,
-    hints: Lists,
+    // For each nogood, its literals and then its hints.
+    lists: Lists,
     last: u32,
 }
 
 impl Refutation {
     /// How many nogoods there are.
     pub fn len(&self) -> usize {
-        self.nogoods.len()
+        self.lists.len() / 2
     }
 
     /// Whether there is none.
     pub fn is_empty(&self) -> bool {
-        self.nogoods.len() == 0
+        self.lists.len() == 0
     }
 
     /// The literals of a nogood.
     pub fn nogood(&self, index: usize) -> &[u32] {
-        self.nogoods.list(saturating_u32(index))
+        self.lists.list(saturating_u32(index.saturating_mul(2)))
     }
 
     /// The names of the nogoods that show this one, in their order.
     pub fn hints(&self, index: usize) -> &[u32] {
-        self.hints.list(saturating_u32(index))
+        self.lists
+            .list(saturating_u32(index.saturating_mul(2).saturating_add(1)))
     }
 
     /// The name of the nogood whose literals are all assumptions.
@@ -49,17 +50,17 @@ impl Refutation {
     // Adds the nogood of a clause.
     fn push_nogood(&mut self, clause: &[u32]) -> Result<(), AllocError> {
         for literal in clause {
-            self.nogoods.push(*literal ^ 1)?;
+            self.lists.push(*literal ^ 1)?;
         }
-        self.nogoods.end()
+        self.lists.end()
     }
 
     // Adds the hints of a clause by their names.
     fn push_hints(&mut self, hints: &[u32], clauses: &Clauses) -> Result<(), AllocError> {
         for hint in hints {
-            self.hints.push(clauses.record_of(*hint).name)?;
+            self.lists.push(clauses.record_of(*hint).name)?;
         }
-        self.hints.end()
+        self.lists.end()
     }
 }
 
@@ -74,8 +75,7 @@ impl Clauses {
     ) -> Result<Answer, AllocError> {
         let found = self.unnamed_clauses_for(alloc, goal)?;
         let mut refutation = Refutation {
-            nogoods: Lists::new(alloc),
-            hints: Lists::new(alloc),
+            lists: Lists::new(alloc),
             last: NONE,
         };
         let mut next = name;

@@ -169,15 +169,9 @@ impl Search {
                 let goal = self.contradiction;
                 return self.clauses.refutation_of(self.alloc, goal, name);
             }
-            let conflict = self.propagate()?;
-            if conflict != NONE {
-                self.handle_conflict(conflict)?;
+            if !self.propagate_and_learn()? {
                 continue;
             }
-            if self.assignment.current_level() == 0 {
-                self.learn_units()?;
-            }
-            self.restart_if_due()?;
             if self.steps > last || self.clauses.size() > limits.size {
                 break;
             }
@@ -218,15 +212,25 @@ impl Search {
         self.add_learned()
     }
 
-    // Learns from a clause that is false; at level 0, that no point is left.
-    fn handle_conflict(&mut self, conflict: u32) -> Result<(), AllocError> {
-        self.pace.count_conflict();
-        if self.assignment.current_level() == 0 {
-            self.learn_units()?;
-            self.learn_contradiction(conflict)
-        } else {
-            self.learn_from_conflict(conflict)
+    // Propagates, and learns from the clause that is false then; at level 0, that no point is left.
+    // Whether there was none. If so, restarts where that is due.
+    fn propagate_and_learn(&mut self) -> Result<bool, AllocError> {
+        let conflict = self.propagate()?;
+        if conflict != NONE {
+            self.pace.count_conflict();
         }
+        let is_first_level = self.assignment.current_level() == 0;
+        if is_first_level {
+            self.learn_units()?;
+        }
+        if conflict == NONE {
+            self.restart_if_due()?;
+        } else if is_first_level {
+            self.learn_contradiction(conflict)?;
+        } else {
+            self.learn_from_conflict(conflict)?;
+        }
+        Ok(conflict == NONE)
     }
 
     // Adds the learned clause with its hints, and answers its number.
