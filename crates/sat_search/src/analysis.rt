@@ -41,17 +41,27 @@ pub(crate) struct Analysis {
 }
 
 impl Analysis {
-    pub(crate) fn new(alloc: Global, variables: usize) -> Result<Analysis, AllocError> {
-        let room = variables.saturating_add(1);
-        Ok(Analysis {
-            marks: vec![in alloc; Mark::Unseen; variables]?,
-            level_stamps: vec![in alloc; 0; variables.saturating_mul(2).saturating_add(1)]?,
-            learned: Vec::with_capacity(alloc, room)?,
-            hints: Vec::with_capacity(alloc, room)?,
-            marked: Vec::with_capacity(alloc, room)?,
-            stack: Vec::with_capacity(alloc, room)?,
+    pub(crate) fn new(alloc: Global) -> Analysis {
+        Analysis {
+            learned: Vec::new(alloc),
+            hints: Vec::new(alloc),
+            marks: Vec::new(alloc),
+            marked: Vec::new(alloc),
+            stack: Vec::new(alloc),
+            level_stamps: Vec::new(alloc),
             stamp: 0,
-        })
+        }
+    }
+
+    /// Makes room for this many variables.
+    pub(crate) fn make_room(&mut self, variables: usize) -> Result<(), AllocError> {
+        let room = variables.saturating_add(1);
+        self.learned.reserve(room)?;
+        self.hints.reserve(room)?;
+        self.marks.resize(variables, Mark::Unseen)?;
+        self.marked.reserve(room)?;
+        self.stack.reserve(room)?;
+        self.level_stamps.resize(room.saturating_mul(2), 0)
     }
 
     /// Takes the negations of these literals for the learned clause.

@@ -61,16 +61,27 @@ pub(crate) struct Assignment {
 }
 
 impl Assignment {
-    pub(crate) fn new(alloc: Global, variables: usize) -> Result<Assignment, AllocError> {
-        Ok(Assignment {
-            values: vec![in alloc; Value::Unset; variables.saturating_mul(2)]?,
-            settings: vec![in alloc; NO_SETTING; variables]?,
-            phases: vec![in alloc; false; variables]?,
-            trail: Vec::with_capacity(alloc, variables)?,
-            level_begins: Vec::with_capacity(alloc, variables.saturating_mul(2).saturating_add(1))?,
-            order: Order::new(alloc, variables)?,
+    pub(crate) fn new(alloc: Global) -> Assignment {
+        Assignment {
+            values: Vec::new(alloc),
+            settings: Vec::new(alloc),
+            phases: Vec::new(alloc),
+            trail: Vec::new(alloc),
+            level_begins: Vec::new(alloc),
             propagated: 0,
-        })
+            order: Order::new(alloc),
+        }
+    }
+
+    /// Makes room for this many variables.
+    pub(crate) fn make_room(&mut self, variables: usize) -> Result<(), AllocError> {
+        let literals = variables.saturating_mul(2);
+        self.values.resize(literals, Value::Unset)?;
+        self.settings.resize(variables, NO_SETTING)?;
+        self.phases.resize(variables, false)?;
+        self.trail.reserve(variables)?;
+        self.level_begins.reserve(literals.saturating_add(1))?;
+        self.order.make_room(variables)
     }
 
     /// How many variables there are.

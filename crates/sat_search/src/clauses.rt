@@ -43,12 +43,12 @@ pub(crate) struct Clauses {
     // Of each clause, one after the other, its number, how many literals it has, and the literals.
     // An offset is an index here: of a clause, that of its number.
     arena: Vec<u32>,
-    // What else is kept of each clause.
-    records: Vec<Record>,
+    /// What else is kept of each clause.
+    pub(crate) records: Vec<Record>,
     /// How many of them were given.
     pub(crate) given: u32,
-    // The hints of each learned clause.
-    hints: Lists,
+    /// The hints of each learned clause.
+    pub(crate) hints: Lists,
     // The learned clauses that are watched: they may be dropped.
     watched: Vec<u32>,
 }
@@ -218,11 +218,12 @@ impl Clauses {
     /// Drops the half of the watched clauses with the largest distances, and among equal ones those
     /// that had no part in a conflict for long. Clauses of distance two or less are kept.
     pub(crate) fn drop_half(&mut self, alloc: Global) -> Result<(), AllocError> {
-        let mut order: Vec<(u32, u32, u32)> = Vec::new(alloc);
+        let mut order: Vec<(u32, u32, u32)> = Vec::with_capacity(alloc, self.watched.len())?;
         for clause in &self.watched {
             let record = self.record_of(*clause);
             if record.distance > 2 && record.distance != NONE {
-                order.push((record.distance, u32::MAX - record.last_use, *clause))?;
+                let unused = u32::MAX - record.last_use;
+                let _refused = order.push((record.distance, unused, *clause));
             }
         }
         order.sort_unstable();

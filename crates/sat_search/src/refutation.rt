@@ -1,6 +1,6 @@
 //! What shows that no point is left: the learned clauses that have a part in that, and no others.
 
-use crate::clauses::Clauses;
+use crate::clauses::{Clauses, Record};
 use crate::lists::Lists;
 use crate::numbers::{NONE, at, saturating_u32};
 use crate::search::Answer;
@@ -93,33 +93,33 @@ impl Clauses {
     // were learned.
     fn unnamed_clauses_for(&mut self, alloc: Global, goal: u32) -> Result<Vec<u32>, AllocError> {
         let mut found: Vec<u32> = Vec::new(alloc);
-        self.push_unnamed(goal, &mut found)?;
+        push_unnamed(&mut self.records, &[goal], &mut found)?;
         for k in 0..self.len() {
             let clause = at(&found, k);
             if clause == NONE {
                 break;
             }
-            self.push_unnamed_hints(clause, &mut found)?;
+            if let Some(index) = clause.checked_sub(self.given) {
+                push_unnamed(&mut self.records, self.hints.list(index), &mut found)?;
+            }
         }
         found.sort_unstable();
         Ok(found)
     }
+}
 
-    // Adds the hints of a clause that have no name yet.
-    fn push_unnamed_hints(&mut self, clause: u32, found: &mut Vec<u32>) -> Result<(), AllocError> {
-        for k in 0..self.hints_of(clause).len() {
-            let hint = at(self.hints_of(clause), saturating_u32(k));
-            self.push_unnamed(hint, found)?;
+// Adds those of the clauses that have no name yet.
+fn push_unnamed(
+    records: &mut Vec<Record>,
+    clauses: &[u32],
+    found: &mut Vec<u32>,
+) -> Result<(), AllocError> {
+    for clause in clauses {
+        let index = *clause as usize;
+        if index < records.len() && records[index].name == NONE {
+            records[index].name = PENDING;
+            found.push(*clause)?;
         }
-        Ok(())
     }
-
-    // Adds a clause, if it has no name yet.
-    fn push_unnamed(&mut self, clause: u32, found: &mut Vec<u32>) -> Result<(), AllocError> {
-        if clause < self.len() && self.record_of(clause).name == NONE {
-            self.put_name(clause, PENDING);
-            found.push(clause)?;
-        }
-        Ok(())
-    }
+    Ok(())
 }

@@ -78,18 +78,22 @@ impl Drop for Search {
 impl Search {
     /// A search over this many variables, without nogoods.
     pub fn new(alloc: Global, variables: usize) -> Result<Search, AllocError> {
-        Ok(Search {
+        let mut search = Search {
             alloc,
-            watches: Watches::new(alloc, variables)?,
-            analysis: Analysis::new(alloc, variables)?,
-            assignment: Assignment::new(alloc, variables)?,
+            watches: Watches::new(alloc),
+            assignment: Assignment::new(alloc),
             clauses: Clauses::new(alloc),
             unit_count: 0,
+            analysis: Analysis::new(alloc),
             contradiction: NONE,
             pace: Pace::new(),
             walks: Walks::new(),
             steps: 0,
-        })
+        };
+        search.watches.make_room(alloc, variables)?;
+        search.assignment.make_room(variables)?;
+        search.analysis.make_room(variables)?;
+        Ok(search)
     }
 
     /// Adds a nogood under a name, before the first question. Its variables are below the number of
@@ -169,9 +173,15 @@ impl Search {
                 let goal = self.contradiction;
                 return self.clauses.refutation_of(self.alloc, goal, name);
             }
-            if !self.propagate_and_learn()? {
+            let conflict = self.propagate()?;
+            if conflict != NONE {
+                self.handle_conflict(conflict)?;
                 continue;
             }
+            if self.assignment.current_level() == 0 {
+                self.learn_units()?;
+            }
+            self.restart_if_due()?;
             if self.steps > last || self.clauses.size() > limits.size {
                 break;
             }
@@ -198,39 +208,24 @@ impl Search {
                 Ok(Some(Answer::Point(point)))
             }
             Decision::Failed(literal) => {
-                let clause = self.learn_from_failed_assumption(literal)?;
+                self.analysis
+                    .analyse_failed_assumption(&self.clauses, &self.assignment, literal);
+                let clause = self.add_learned()?;
                 let answer = self.clauses.refutation_of(self.alloc, clause, name)?;
                 Ok(Some(answer))
             }
         }
     }
 
-    // Learns where an assumption is false; answers the learned clause.
-    fn learn_from_failed_assumption(&mut self, failed: u32) -> Result<u32, AllocError> {
-        self.analysis
-            .analyse_failed_assumption(&self.clauses, &self.assignment, failed);
-        self.add_learned()
-    }
-
-    // Propagates, and learns from the clause that is false then; at level 0, that no point is left.
-    // Whether there was none. If so, restarts where that is due.
-    fn propagate_and_learn(&mut self) -> Result<bool, AllocError> {
-        let conflict = self.propagate()?;
-        if conflict != NONE {
-            self.pace.count_conflict();
-        }
-        let is_first_level = self.assignment.current_level() == 0;
-        if is_first_level {
+    // Learns from a clause that is false; at level 0, that no point is left.
+    fn handle_conflict(&mut self, conflict: u32) -> Result<(), AllocError> {
+        self.pace.count_conflict();
+        if self.assignment.current_level() == 0 {
             self.learn_units()?;
-        }
-        if conflict == NONE {
-            self.restart_if_due()?;
-        } else if is_first_level {
-            self.learn_contradiction(conflict)?;
+            self.learn_contradiction(conflict)
         } else {
-            self.learn_from_conflict(conflict)?;
+            self.learn_from_conflict(conflict)
         }
-        Ok(conflict == NONE)
     }
 
     // Adds the learned clause with its hints, and answers its number.
