@@ -13,11 +13,7 @@ use crate::numbers::{NONE, add, at, saturating_u32};
 impl Analysis {
     /// Collects the hints of the learned clause: units, then the reasons in the order of the trail,
     /// and then the clause that was false, if there was one. Forgets the marks.
-    pub(crate) fn collect_hints(
-        &mut self,
-        assignment: &Assignment,
-        conflict: u32,
-    ) {
+    pub(crate) fn collect_hints(&mut self, assignment: &Assignment, conflict: u32) {
         self.hints.clear();
         self.stack.clear();
         for k in 0..saturating_u32(self.marked.len()) {

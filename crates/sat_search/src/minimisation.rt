@@ -8,11 +8,7 @@ use crate::numbers::{NONE, at, put, saturating_u32};
 
 impl Analysis {
     /// Leaves out the literals of the learned clause that follow from others of it.
-    pub(crate) fn minimise(
-        &mut self,
-        clauses: &Clauses,
-        assignment: &Assignment,
-    ) {
+    pub(crate) fn minimise(&mut self, clauses: &Clauses, assignment: &Assignment) {
         let mut kept: u32 = 1;
         for k in 1..saturating_u32(self.learned.len()) {
             let literal = at(&self.learned, k);
@@ -28,12 +24,7 @@ impl Analysis {
 
     // Whether the literal of a variable follows from others that are kept: the reasons are followed
     // down to the kept literals, by a stack.
-    fn is_redundant(
-        &mut self,
-        clauses: &Clauses,
-        assignment: &Assignment,
-        first: u32,
-    ) -> bool {
+    fn is_redundant(&mut self, clauses: &Clauses, assignment: &Assignment, first: u32) -> bool {
         let reason = assignment.reason_of(first);
         if reason == NONE {
             return false;

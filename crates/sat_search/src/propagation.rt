@@ -122,9 +122,9 @@ impl Search {
             self.assignment.propagated = self.assignment.propagated.wrapping_add(1);
             let mut list = self.watches.take_list(self.alloc, failed);
             self.steps = self.steps.saturating_add(list.len() as u64);
-            let conflict =
-                self.watches
-                    .visit(&mut self.clauses, &mut self.assignment, failed, &mut list)?;
+            let conflict = self
+                .watches
+                .visit(&mut self.clauses, &mut self.assignment, failed, &mut list)?;
             self.watches.put_list(failed, list);
             if conflict != NONE {
                 return Ok(conflict);

@@ -51,8 +51,20 @@ impl Watches {
         if literals.len() > 1 {
             let (one, other) = (literals[0], literals[1]);
             let offset = clauses.offset_of(clause);
-            self.push(one, Watch { offset, blocker: other })?;
-            self.push(other, Watch { offset, blocker: one })?;
+            self.push(
+                one,
+                Watch {
+                    offset,
+                    blocker: other,
+                },
+            )?;
+            self.push(
+                other,
+                Watch {
+                    offset,
+                    blocker: one,
+                },
+            )?;
         }
         Ok(())
     }
