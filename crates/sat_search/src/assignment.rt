@@ -1,6 +1,7 @@
 //! The trail: literals that are set, in the order in which they were set, with levels and reasons.
 
-use crate::numbers::{NONE, at, put, saturating_u32};
+use crate::numbers::{NONE, add, saturating_u32};
+use crate::order::Order;
 use std::alloc::{AllocError, Global};
 
 /// The value of a literal.
@@ -11,35 +12,81 @@ pub(crate) enum Value {
     False,
 }
 
-/// The literals that are set.
+/// How a variable was set.
+#[derive(Clone, Copy)]
+pub(crate) struct Setting {
+    /// The level at which it was set.
+    pub(crate) level: u32,
+    /// The clause that set it, or [`NONE`].
+    pub(crate) reason: u32,
+    /// The index of its literal in the trail.
+    pub(crate) position: u32,
+    /// At level 0, the clause of one literal that sets it, once there is one.
+    pub(crate) unit: u32,
+}
+
+// How a variable was set that never was.
+const NO_SETTING: Setting = Setting {
+    level: 0,
+    reason: NONE,
+    position: 0,
+    unit: NONE,
+};
+
+// How a variable was set that is not there.
+const NO_VARIABLE: Setting = Setting {
+    level: NONE,
+    reason: NONE,
+    position: NONE,
+    unit: NONE,
+};
+
+/// The literals that are set, and the order in which others are.
 #[derive(Drop)]
 pub(crate) struct Assignment {
     // By literal.
     values: Vec<Value>,
-    // By variable: the level at which it was set, the clause that set it, and its index in the
-    // trail.
-    levels: Vec<u32>,
-    reasons: Vec<u32>,
-    positions: Vec<u32>,
+    // By variable: how it was set last.
+    settings: Vec<Setting>,
+    /// By variable: whether it was false when it was set last.
+    pub(crate) phases: Vec<bool>,
     /// The literals in their order.
     pub(crate) trail: Vec<u32>,
     // By decision level, from level 1 on: the index in the trail at which it begins.
     level_begins: Vec<u32>,
     /// How many literals of the trail were propagated; the next to propagate has this index.
     pub(crate) propagated: usize,
+    /// The variables that are unset, the most active first.
+    pub(crate) order: Order,
 }
 
 impl Assignment {
-    pub(crate) fn new(alloc: Global, variables: usize) -> Result<Assignment, AllocError> {
-        Ok(Assignment {
-            values: vec![in alloc; Value::Unset; variables.saturating_mul(2)]?,
-            levels: vec![in alloc; 0; variables]?,
-            reasons: vec![in alloc; NONE; variables]?,
-            positions: vec![in alloc; 0; variables]?,
-            trail: Vec::with_capacity(alloc, variables)?,
+    pub(crate) fn new(alloc: Global) -> Assignment {
+        Assignment {
+            values: Vec::new(alloc),
+            settings: Vec::new(alloc),
+            phases: Vec::new(alloc),
+            trail: Vec::new(alloc),
             level_begins: Vec::new(alloc),
             propagated: 0,
-        })
+            order: Order::new(alloc),
+        }
+    }
+
+    /// Makes room for this many variables.
+    pub(crate) fn make_room(&mut self, variables: usize) -> Result<(), AllocError> {
+        let literals = variables.saturating_mul(2);
+        self.values.resize(literals, Value::Unset)?;
+        self.settings.resize(variables, NO_SETTING)?;
+        self.phases.resize(variables, false)?;
+        self.trail.reserve(variables)?;
+        self.level_begins.reserve(literals.saturating_add(1))?;
+        self.order.make_room(variables)
+    }
+
+    /// How many variables there are.
+    pub(crate) fn variables(&self) -> usize {
+        self.phases.len()
     }
 
     /// The value of a literal; a literal that is not there is unset.
@@ -52,19 +99,40 @@ impl Assignment {
         }
     }
 
+    /// How a variable was set; [`NONE`] is each number of one that is not there.
+    pub(crate) fn setting_of(&self, variable: u32) -> Setting {
+        let index = variable as usize;
+        if index < self.settings.len() {
+            self.settings[index]
+        } else {
+            NO_VARIABLE
+        }
+    }
+
     /// The level at which a variable was set.
     pub(crate) fn level_of(&self, variable: u32) -> u32 {
-        at(&self.levels, variable)
+        self.setting_of(variable).level
     }
 
     /// The clause that set a variable, or [`NONE`].
     pub(crate) fn reason_of(&self, variable: u32) -> u32 {
-        at(&self.reasons, variable)
+        self.setting_of(variable).reason
     }
 
-    /// The index of a variable's literal in the trail.
-    pub(crate) fn position_of(&self, variable: u32) -> u32 {
-        at(&self.positions, variable)
+    /// Notes the clause of one literal that sets a variable.
+    pub(crate) fn put_unit(&mut self, variable: u32, unit: u32) {
+        let index = variable as usize;
+        if index < self.settings.len() {
+            self.settings[index].unit = unit;
+        }
+    }
+
+    /// Notes whether a variable was false when it was set last.
+    pub(crate) fn put_phase(&mut self, variable: u32, negated: bool) {
+        let index = variable as usize;
+        if index < self.phases.len() {
+            self.phases[index] = negated;
+        }
     }
 
     /// The current decision level; 0 before the first decision.
@@ -74,55 +142,50 @@ impl Assignment {
 
     /// Makes a literal true at the current level, for a clause, or by a decision if the reason is
     /// [`NONE`].
-    pub(crate) fn set(&mut self, literal: u32, reason: u32) -> Result<(), AllocError> {
-        self.put_value(literal, Value::True);
-        self.put_value(literal ^ 1, Value::False);
-        put(
-            &mut self.levels,
-            literal / 2,
-            saturating_u32(self.level_begins.len()),
-        );
-        put(&mut self.reasons, literal / 2, reason);
-        put(
-            &mut self.positions,
-            literal / 2,
-            saturating_u32(self.trail.len()),
-        );
-        self.trail.push(literal)?;
-        Ok(())
+    pub(crate) fn set(&mut self, literal: u32, reason: u32) {
+        self.put_values(literal, Value::True, Value::False);
+        let index = (literal / 2) as usize;
+        if index < self.settings.len() {
+            self.settings[index] = Setting {
+                level: saturating_u32(self.level_begins.len()),
+                reason,
+                position: saturating_u32(self.trail.len()),
+                unit: NONE,
+            };
+        }
+        add(&mut self.trail, literal);
     }
 
-    fn put_value(&mut self, literal: u32, value: Value) {
-        let index = literal as usize;
+    // Gives a literal a value, and its negation another.
+    fn put_values(&mut self, literal: u32, value: Value, negated: Value) {
+        let (index, other) = (literal as usize, (literal ^ 1) as usize);
         if index < self.values.len() {
             self.values[index] = value;
+        }
+        if other < self.values.len() {
+            self.values[other] = negated;
         }
     }
 
     /// Begins the next decision level.
-    pub(crate) fn begin_level(&mut self) -> Result<(), AllocError> {
-        self.level_begins.push(saturating_u32(self.trail.len()))?;
-        Ok(())
+    pub(crate) fn begin_level(&mut self) {
+        let begin = saturating_u32(self.trail.len());
+        add(&mut self.level_begins, begin);
     }
 
-    /// Unsets the last literal of the trail, if it was set above the level, and answers it.
-    pub(crate) fn unset_last_above(&mut self, level: usize) -> Option<u32> {
-        if level >= self.level_begins.len()
-            || self.trail.len() <= self.level_begins[level] as usize
-        {
-            return None;
+    /// Goes back to a level: unsets the literals of later ones.
+    pub(crate) fn backjump(&mut self, level: usize) {
+        if level >= self.level_begins.len() {
+            return;
         }
-        let literal = self.trail.pop()?;
-        self.put_value(literal, Value::Unset);
-        self.put_value(literal ^ 1, Value::Unset);
-        Some(literal)
-    }
-
-    /// Ends the levels above this one, whose literals were unset before.
-    pub(crate) fn end_levels_above(&mut self, level: usize) {
-        if level < self.level_begins.len() {
-            self.level_begins.truncate(level);
-            self.propagated = self.trail.len();
+        for _ in self.level_begins[level] as usize..self.trail.len() {
+            if let Some(literal) = self.trail.pop() {
+                self.put_values(literal, Value::Unset, Value::Unset);
+                self.put_phase(literal / 2, literal % 2 == 1);
+                self.order.insert(literal / 2);
+            }
         }
+        self.level_begins.truncate(level);
+        self.propagated = self.trail.len();
     }
 }

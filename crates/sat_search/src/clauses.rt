@@ -9,10 +9,33 @@ use crate::lists::Lists;
 use crate::numbers::{NONE, at, put, saturating_u32};
 use std::alloc::{AllocError, Global};
 
+// The record of a clause that is not there.
+const NO_RECORD: Record = Record {
+    begin: NONE,
+    end: NONE,
+    distance: NONE,
+    last_use: NONE,
+    name: NONE,
+};
+
 // The numbers that are kept of a clause beside its number, its literals and its hints: where the
 // literals begin and end and where the hints end, its distance, its last use, its entry among those
 // that may be dropped, its name, and two watches of two numbers.
 const BY_CLAUSE: usize = 11;
+
+/// What is kept of a clause beside its literals and its hints.
+#[derive(Clone, Copy)]
+pub(crate) struct Record {
+    // Where its literals begin, and where they end.
+    begin: u32,
+    end: u32,
+    /// Its literal block distance, and 0 once it is dropped.
+    pub(crate) distance: u32,
+    // After how many conflicts it last had a part in one.
+    last_use: u32,
+    /// The name by which the caller knows it, or [`NONE`].
+    pub(crate) name: u32,
+}
 
 /// The clauses. The search watches the first two literals of each.
 #[derive(Drop)]
@@ -20,17 +43,12 @@ pub(crate) struct Clauses {
     // Of each clause, one after the other, its number, how many literals it has, and the literals.
     // An offset is an index here: of a clause, that of its number.
     arena: Vec<u32>,
-    // By clause: where its literals begin, and where they end.
-    begins: Vec<u32>,
-    ends: Vec<u32>,
+    /// What else is kept of each clause.
+    pub(crate) records: Vec<Record>,
     /// How many of them were given.
     pub(crate) given: u32,
-    // The hints of each learned clause.
-    hints: Lists,
-    /// By clause: its literal block distance, and 0 once it is dropped.
-    pub(crate) distances: Vec<u32>,
-    // By clause: after how many conflicts it last had a part in one.
-    last_uses: Vec<u32>,
+    /// The hints of each learned clause.
+    pub(crate) hints: Lists,
     // The learned clauses that are watched: they may be dropped.
     watched: Vec<u32>,
 }
@@ -39,31 +57,38 @@ impl Clauses {
     pub(crate) fn new(alloc: Global) -> Clauses {
         Clauses {
             arena: Vec::new(alloc),
-            begins: Vec::new(alloc),
-            ends: Vec::new(alloc),
+            records: Vec::new(alloc),
             given: 0,
             hints: Lists::new(alloc),
-            distances: Vec::new(alloc),
-            last_uses: Vec::new(alloc),
             watched: Vec::new(alloc),
         }
     }
 
     /// How many clauses there are, dropped ones too.
     pub(crate) fn len(&self) -> u32 {
-        saturating_u32(self.begins.len())
+        saturating_u32(self.records.len())
     }
 
     /// How many numbers the search keeps of all clauses, in all its lists.
     pub(crate) fn size(&self) -> usize {
         let numbers = self.arena.len().saturating_add(self.hints.size());
-        numbers.saturating_add(self.begins.len().saturating_mul(BY_CLAUSE))
+        numbers.saturating_add(self.records.len().saturating_mul(BY_CLAUSE))
+    }
+
+    /// What is kept of a clause; [`NONE`] is each number of one that is not there.
+    pub(crate) fn record_of(&self, clause: u32) -> Record {
+        let index = clause as usize;
+        if index < self.records.len() {
+            self.records[index]
+        } else {
+            NO_RECORD
+        }
     }
 
     /// The literals of a clause.
     pub(crate) fn literals_of(&self, clause: u32) -> &[u32] {
-        let begin = self.literals_begin(clause) as usize;
-        let end = self.literals_end(clause) as usize;
+        let record = self.record_of(clause);
+        let (begin, end) = (record.begin as usize, record.end as usize);
         if begin <= end && end <= self.arena.len() {
             &self.arena[begin..end]
         } else {
@@ -95,12 +120,12 @@ impl Clauses {
 
     /// The offset at which the literals of a clause begin.
     pub(crate) fn literals_begin(&self, clause: u32) -> u32 {
-        at(&self.begins, clause)
+        self.record_of(clause).begin
     }
 
     /// The offset at which the literals of a clause end.
     pub(crate) fn literals_end(&self, clause: u32) -> u32 {
-        at(&self.ends, clause)
+        self.record_of(clause).end
     }
 
     /// The literal at an offset.
@@ -108,25 +133,26 @@ impl Clauses {
         at(&self.arena, offset)
     }
 
-    // Adds a clause, and answers its number.
-    fn push(&mut self, literals: &[u32], conflicts: u32) -> Result<u32, AllocError> {
+    /// Adds a clause that counts as used after this many conflicts, and answers its number.
+    pub(crate) fn push(
+        &mut self,
+        literals: &[u32],
+        last_use: u32,
+        name: u32,
+    ) -> Result<u32, AllocError> {
         let clause = self.len();
-        self.arena.push(clause)?;
-        self.arena.push(saturating_u32(literals.len()))?;
-        self.begins.push(saturating_u32(self.arena.len()))?;
-        for literal in literals {
-            self.arena.push(*literal)?;
-        }
-        self.ends.push(saturating_u32(self.arena.len()))?;
-        self.distances.push(1)?;
-        self.last_uses.push(conflicts)?;
-        Ok(clause)
-    }
-
-    /// Adds a clause that is given, before any is learned.
-    pub(crate) fn push_given(&mut self, literals: &[u32]) -> Result<u32, AllocError> {
-        let clause = self.push(literals, 0)?;
-        self.given = self.len();
+        self.arena
+            .extend_from_slice(&[clause, saturating_u32(literals.len())])?;
+        let begin = saturating_u32(self.arena.len());
+        self.arena.extend_from_slice(literals)?;
+        let end = saturating_u32(self.arena.len());
+        self.records.push(Record {
+            begin,
+            end,
+            distance: 1,
+            last_use,
+            name,
+        })?;
         Ok(clause)
     }
 
@@ -138,15 +164,13 @@ impl Clauses {
         hints: &[u32],
         conflicts: u32,
     ) -> Result<u32, AllocError> {
-        let clause = self.push(literals, conflicts)?;
         self.hints.push_list(hints)?;
-        Ok(clause)
+        self.push(literals, conflicts, NONE)
     }
 
     /// Lets a learned clause, which is watched now, be dropped.
     pub(crate) fn allow_dropping(&mut self, clause: u32) -> Result<(), AllocError> {
-        self.watched.push(clause)?;
-        Ok(())
+        self.watched.extend_from_slice(&[clause])
     }
 
     /// How many learned clauses are watched.
@@ -164,39 +188,68 @@ impl Clauses {
 
     /// Whether the clause at an offset was dropped.
     pub(crate) fn is_dropped_at(&self, offset: u32) -> bool {
-        at(&self.distances, self.clause_at(offset)) == 0
+        self.record_of(self.clause_at(offset)).distance == 0
+    }
+
+    /// Notes the literal block distance of a clause.
+    pub(crate) fn put_distance(&mut self, clause: u32, distance: u32) {
+        let index = clause as usize;
+        if index < self.records.len() {
+            self.records[index].distance = distance;
+        }
     }
 
     /// Notes that a clause had a part in a conflict, after this many of them.
-    pub(crate) fn set_last_use(&mut self, clause: u32, conflicts: u32) {
-        put(&mut self.last_uses, clause, conflicts);
+    pub(crate) fn put_last_use(&mut self, clause: u32, conflicts: u32) {
+        let index = clause as usize;
+        if index < self.records.len() {
+            self.records[index].last_use = conflicts;
+        }
+    }
+
+    /// Notes that a clause has this name.
+    pub(crate) fn put_name(&mut self, clause: u32, name: u32) {
+        let index = clause as usize;
+        if index < self.records.len() {
+            self.records[index].name = name;
+        }
     }
 
     /// Drops the half of the watched clauses with the largest distances, and among equal ones those
     /// that had no part in a conflict for long. Clauses of distance two or less are kept.
     pub(crate) fn drop_half(&mut self, alloc: Global) -> Result<(), AllocError> {
-        let mut order: Vec<(u32, u32, u32)> = Vec::new(alloc);
+        let mut order: Vec<(u32, u32, u32)> = Vec::with_capacity(alloc, self.watched.len())?;
         for clause in &self.watched {
-            let distance = at(&self.distances, *clause);
-            if distance > 2 && distance != NONE {
-                let rest = u32::MAX - at(&self.last_uses, *clause);
-                order.push((distance, rest, *clause))?;
+            let record = self.record_of(*clause);
+            if record.distance > 2 && record.distance != NONE {
+                let unused = u32::MAX - record.last_use;
+                let _refused = order.push((record.distance, unused, *clause));
             }
         }
-        order.sort()?;
+        order.sort_unstable();
         self.drop_second_half(&order);
-        let distances = &self.distances;
-        self.watched.retain(|clause| at(distances, *clause) != 0);
+        self.forget_dropped();
         Ok(())
     }
 
     // Drops the second half of the clauses in this order.
     fn drop_second_half(&mut self, order: &[(u32, u32, u32)]) {
-        let half = order.len() / 2;
-        for (k, (_, _, clause)) in order.iter().enumerate() {
-            if k >= half {
-                put(&mut self.distances, *clause, 0);
+        for k in order.len() / 2..order.len() {
+            let (_, _, clause) = order[k];
+            self.put_distance(clause, 0);
+        }
+    }
+
+    // Takes the dropped clauses out of those that are watched.
+    fn forget_dropped(&mut self) {
+        let mut kept: u32 = 0;
+        for k in 0..saturating_u32(self.watched.len()) {
+            let clause = at(&self.watched, k);
+            if self.record_of(clause).distance != 0 {
+                put(&mut self.watched, kept, clause);
+                kept = kept.saturating_add(1);
             }
         }
+        self.watched.truncate(kept as usize);
     }
 }

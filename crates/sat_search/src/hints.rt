@@ -3,49 +3,60 @@
 //! et al. 2017).
 //!
 //! The hints are the reasons of all variables that were resolved on or left out, in the order of
-//! the trail. Literals of level 0 have clauses of one literal (`units`), so that no clause repeats
+//! the trail. Literals of level 0 have clauses of one literal (units), so that no clause repeats
 //! the hints of these.
 
-use crate::analysis::Mark;
-use crate::numbers::{NONE, at};
-use crate::search::Search;
-use std::alloc::AllocError;
+use crate::analysis::{Analysis, Mark};
+use crate::assignment::Assignment;
+use crate::numbers::{NONE, add, at, saturating_u32};
 
-impl Search {
+impl Analysis {
     /// Collects the hints of the learned clause: units, then the reasons in the order of the trail,
-    /// and then the clause that was false, if there was one.
-    pub(crate) fn collect_hints(&mut self, conflict: u32) -> Result<(), AllocError> {
-        self.analysis.hints.clear();
-        let mut reasons: Vec<(u32, u32)> = Vec::new(self.alloc);
-        for k in 0..self.analysis.marked.len() {
-            let Some(found) = self.analysis.marked.get(k) else {
-                break;
-            };
-            let variable = *found;
-            match self.analysis.mark_of(variable) {
-                Mark::Unit => self.analysis.hints.push(at(&self.units, variable))?,
-                Mark::Resolved | Mark::Redundant => {
-                    reasons.push((
-                        self.assignment.position_of(variable),
-                        self.assignment.reason_of(variable),
-                    ))?;
+    /// and then the clause that was false, if there was one. Forgets the marks.
+    pub(crate) fn collect_hints(&mut self, assignment: &Assignment, conflict: u32) {
+        self.hints.clear();
+        self.stack.clear();
+        for k in 0..saturating_u32(self.marked.len()) {
+            let variable = at(&self.marked, k);
+            if self.mark_of(variable) == Mark::Resolved {
+                let setting = assignment.setting_of(variable);
+                if setting.level == 0 {
+                    add(&mut self.hints, setting.unit);
+                } else {
+                    self.push_on_stack(setting.position, setting.reason);
                 }
-                Mark::Unseen | Mark::Kept | Mark::Needed => (),
             }
         }
-        reasons.sort()?;
-        self.push_reasons(&reasons)?;
+        self.clear_marks();
+        self.stack.sort_unstable();
+        self.push_reasons();
         if conflict != NONE {
-            self.analysis.hints.push(conflict)?;
+            add(&mut self.hints, conflict);
         }
-        Ok(())
     }
 
     // Adds the reasons, each beside its position in the trail, as hints.
-    fn push_reasons(&mut self, reasons: &[(u32, u32)]) -> Result<(), AllocError> {
-        for (_, reason) in reasons {
-            self.analysis.hints.push(*reason)?;
+    fn push_reasons(&mut self) {
+        for (_, reason) in &self.stack {
+            add(&mut self.hints, *reason);
         }
-        Ok(())
+    }
+
+    /// Collects the hints of what is left of a clause of these literals, whose other literals are
+    /// false at level 0: the units of their negations, and it.
+    pub(crate) fn collect_unit_hints(
+        &mut self,
+        literals: &[u32],
+        assignment: &Assignment,
+        literal: u32,
+        clause: u32,
+    ) {
+        self.hints.clear();
+        for other in literals {
+            if *other != literal {
+                add(&mut self.hints, assignment.setting_of(*other / 2).unit);
+            }
+        }
+        add(&mut self.hints, clause);
     }
 }

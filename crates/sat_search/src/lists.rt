@@ -21,21 +21,18 @@ impl Lists {
 
     /// Adds a number to the list that is not ended yet.
     pub(crate) fn push(&mut self, number: u32) -> Result<(), AllocError> {
-        self.numbers.push(number)?;
-        Ok(())
+        self.numbers.extend_from_slice(&[number])
     }
 
     /// Ends the list; the next number begins another one.
     pub(crate) fn end(&mut self) -> Result<(), AllocError> {
-        self.ends.push(saturating_u32(self.numbers.len()))?;
-        Ok(())
+        let end = saturating_u32(self.numbers.len());
+        self.ends.extend_from_slice(&[end])
     }
 
     /// Adds a list.
     pub(crate) fn push_list(&mut self, numbers: &[u32]) -> Result<(), AllocError> {
-        for number in numbers {
-            self.numbers.push(*number)?;
-        }
+        self.numbers.extend_from_slice(numbers)?;
         self.end()
     }
 

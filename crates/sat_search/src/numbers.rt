@@ -18,6 +18,12 @@ pub(crate) fn at(numbers: &[u32], index: u32) -> u32 {
     }
 }
 
+/// Adds a number to a list that has room for it. A list without room grows; where memory is refused
+/// then, the number is left out.
+pub(crate) fn add(numbers: &mut Vec<u32>, number: u32) {
+    let _refused = numbers.push(number);
+}
+
 /// Sets the number at the index; does nothing past the end.
 pub(crate) fn put(numbers: &mut Vec<u32>, index: u32, number: u32) {
     let index = index as usize;

@@ -1,13 +1,14 @@
-//! Propagation by watched literals (Moskewicz et al. 2001), and going back to a level.
+//! Propagation by watched literals (Moskewicz et al. 2001).
 //!
 //! The first two literals of a clause are watched. While neither is false, or one is true, it sets
 //! nothing; so it is looked at only when a watched literal becomes false, and then watches another
 //! one if it can. Nothing has to be mended when literals are taken back.
 
 use crate::assignment::{Assignment, Value};
+use crate::clauses::Clauses;
 use crate::numbers::NONE;
 use crate::search::Search;
-use crate::watches::Watch;
+use crate::watches::{Watch, Watches};
 use std::alloc::AllocError;
 
 // What a look at a clause finds. Each has the literal that is watched and not the one that is false
@@ -54,21 +55,32 @@ fn put_watch(watches: &mut Vec<Watch>, index: usize, watch: Watch) {
     }
 }
 
-impl Search {
-    // Sets a literal, as all others of the clause at this offset are false; answers the clause if
-    // the literal is false too, and [`NONE`] else.
-    fn set_or_conflict(&mut self, literal: u32, offset: u32) -> Result<u32, AllocError> {
-        let clause = self.clauses.clause_at(offset);
-        if self.assignment.value(literal) == Value::False {
-            return Ok(clause);
-        }
-        self.assignment.set(literal, clause)?;
-        Ok(NONE)
+// Sets a literal, as all others of the clause at this offset are false; answers the clause if the
+// literal is false too, and [`NONE`] else.
+fn set_or_conflict(
+    clauses: &Clauses,
+    assignment: &mut Assignment,
+    literal: u32,
+    offset: u32,
+) -> u32 {
+    let clause = clauses.clause_at(offset);
+    if assignment.value(literal) == Value::False {
+        return clause;
     }
+    assignment.set(literal, clause);
+    NONE
+}
 
+impl Watches {
     // Looks at the clauses that watch a literal that is false now, sets what follows, and answers a
     // clause that is false, or [`NONE`]. Of the watches those stay that were not moved.
-    fn visit_watches(&mut self, failed: u32, watches: &mut Vec<Watch>) -> Result<u32, AllocError> {
+    fn visit(
+        &mut self,
+        clauses: &mut Clauses,
+        assignment: &mut Assignment,
+        failed: u32,
+        watches: &mut Vec<Watch>,
+    ) -> Result<u32, AllocError> {
         let mut conflict = NONE;
         let mut kept: usize = 0;
         for k in 0..watches.len() {
@@ -76,18 +88,17 @@ impl Search {
                 break;
             };
             let mut watch = *found;
-            if conflict == NONE && self.assignment.value(watch.blocker) != Value::True {
-                let literals = self.clauses.literals_at(watch.offset);
-                match find_watch(&self.assignment, literals, failed) {
+            if conflict == NONE && assignment.value(watch.blocker) != Value::True {
+                match find_watch(assignment, clauses.literals_at(watch.offset), failed) {
                     Finding::True(first) => watch.blocker = first,
                     Finding::Moved(first, second) => {
                         watch.blocker = first;
-                        self.watches.push(second, watch)?;
+                        self.push(second, watch)?;
                         continue;
                     }
                     Finding::Last(first) => {
                         watch.blocker = first;
-                        conflict = self.set_or_conflict(first, watch.offset)?;
+                        conflict = set_or_conflict(clauses, assignment, first, watch.offset);
                     }
                 }
             }
@@ -97,39 +108,28 @@ impl Search {
         watches.truncate(kept);
         Ok(conflict)
     }
+}
 
+impl Search {
     /// Sets all literals that follow from those set by unit clauses, and answers a clause that is
     /// false, or [`NONE`].
     pub(crate) fn propagate(&mut self) -> Result<u32, AllocError> {
-        for _ in 0..=self.phases.len() {
+        for _ in 0..=self.assignment.variables() {
             let Some(found) = self.assignment.trail.get(self.assignment.propagated) else {
                 return Ok(NONE);
             };
             let failed = *found ^ 1;
             self.assignment.propagated = self.assignment.propagated.wrapping_add(1);
-            let mut watches = self.watches.take_list(self.alloc, failed);
-            self.steps = self.steps.saturating_add(watches.len() as u64);
-            let conflict = self.visit_watches(failed, &mut watches)?;
-            self.watches.put_list(failed, watches);
+            let mut list = self.watches.take_list(self.alloc, failed);
+            self.steps = self.steps.saturating_add(list.len() as u64);
+            let conflict = self
+                .watches
+                .visit(&mut self.clauses, &mut self.assignment, failed, &mut list)?;
+            self.watches.put_list(failed, list);
             if conflict != NONE {
                 return Ok(conflict);
             }
         }
         Ok(NONE)
-    }
-
-    /// Goes back to a level: unsets the literals of later ones.
-    pub(crate) fn backjump(&mut self, level: usize) -> Result<(), AllocError> {
-        for _ in 0..=self.phases.len() {
-            match self.assignment.unset_last_above(level) {
-                Some(literal) => {
-                    self.put_phase(literal / 2, literal % 2 == 1);
-                    self.order.insert(literal / 2)?;
-                }
-                None => break,
-            }
-        }
-        self.assignment.end_levels_above(level);
-        Ok(())
     }
 }

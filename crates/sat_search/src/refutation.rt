@@ -1,9 +1,10 @@
 //! What shows that no point is left: the learned clauses that have a part in that, and no others.
 
+use crate::clauses::{Clauses, Record};
 use crate::lists::Lists;
 use crate::numbers::{NONE, at, saturating_u32};
-use crate::search::{Answer, Search};
-use std::alloc::AllocError;
+use crate::search::Answer;
+use std::alloc::{AllocError, Global};
 
 // The name of a clause until it gets one in the refutation.
 const PENDING: u32 = u32::MAX - 1;
@@ -14,30 +15,31 @@ const PENDING: u32 = u32::MAX - 1;
 /// open, which is false then, and the last hint has none.
 #[derive(Drop)]
 pub struct Refutation {
-    nogoods: Lists,
-    hints: Lists,
+    // For each nogood, its literals and then its hints.
+    lists: Lists,
     last: u32,
 }
 
 impl Refutation {
     /// How many nogoods there are.
     pub fn len(&self) -> usize {
-        self.nogoods.len()
+        self.lists.len() / 2
     }
 
     /// Whether there is none.
     pub fn is_empty(&self) -> bool {
-        self.nogoods.len() == 0
+        self.lists.len() == 0
     }
 
     /// The literals of a nogood.
     pub fn nogood(&self, index: usize) -> &[u32] {
-        self.nogoods.list(saturating_u32(index))
+        self.lists.list(saturating_u32(index.saturating_mul(2)))
     }
 
     /// The names of the nogoods that show this one, in their order.
     pub fn hints(&self, index: usize) -> &[u32] {
-        self.hints.list(saturating_u32(index))
+        self.lists
+            .list(saturating_u32(index.saturating_mul(2).saturating_add(1)))
     }
 
     /// The name of the nogood whose literals are all assumptions.
@@ -48,74 +50,76 @@ impl Refutation {
     // Adds the nogood of a clause.
     fn push_nogood(&mut self, clause: &[u32]) -> Result<(), AllocError> {
         for literal in clause {
-            self.nogoods.push(*literal ^ 1)?;
+            self.lists.push(*literal ^ 1)?;
         }
-        self.nogoods.end()
+        self.lists.end()
     }
 
     // Adds the hints of a clause by their names.
-    fn push_hints(&mut self, hints: &[u32], names: &[u32]) -> Result<(), AllocError> {
+    fn push_hints(&mut self, hints: &[u32], clauses: &Clauses) -> Result<(), AllocError> {
         for hint in hints {
-            self.hints.push(at(names, *hint))?;
+            self.lists.push(clauses.record_of(*hint).name)?;
         }
-        self.hints.end()
+        self.lists.end()
     }
 }
 
-impl Search {
+impl Clauses {
     /// The refutation that ends with this clause: it, and all that show it and have no name yet.
     /// They get names from this one on.
-    pub(crate) fn refutation_of(&mut self, goal: u32, name: u32) -> Result<Answer, AllocError> {
+    pub(crate) fn refutation_of(
+        &mut self,
+        alloc: Global,
+        goal: u32,
+        name: u32,
+    ) -> Result<Answer, AllocError> {
+        let found = self.unnamed_clauses_for(alloc, goal)?;
         let mut refutation = Refutation {
-            nogoods: Lists::new(self.alloc),
-            hints: Lists::new(self.alloc),
+            lists: Lists::new(alloc),
             last: NONE,
         };
         let mut next = name;
-        for clause in &self.unnamed_clauses_for(goal)? {
-            refutation.push_nogood(self.clauses.literals_of(*clause))?;
-            refutation.push_hints(self.clauses.hints_of(*clause), &self.names)?;
+        for clause in &found {
+            refutation.push_nogood(self.literals_of(*clause))?;
+            refutation.push_hints(self.hints_of(*clause), self)?;
             self.put_name(*clause, next);
             next = next.saturating_add(1);
         }
-        refutation.last = at(&self.names, goal);
+        refutation.last = self.record_of(goal).name;
         Ok(Answer::Refutation(refutation))
     }
 
     // The clauses without a name by which a clause is shown, itself too, in the order in which they
     // were learned.
-    fn unnamed_clauses_for(&mut self, goal: u32) -> Result<Vec<u32>, AllocError> {
-        let mut found: Vec<u32> = Vec::new(self.alloc);
-        self.push_unnamed(goal, &mut found)?;
-        for k in 0..self.names.len() {
-            let Some(clause) = found.get(k) else {
+    fn unnamed_clauses_for(&mut self, alloc: Global, goal: u32) -> Result<Vec<u32>, AllocError> {
+        let mut found: Vec<u32> = Vec::new(alloc);
+        push_unnamed(&mut self.records, &[goal], &mut found)?;
+        for k in 0..self.len() {
+            let clause = at(&found, k);
+            if clause == NONE {
                 break;
-            };
-            let clause = *clause;
-            self.push_unnamed_hints(clause, &mut found)?;
+            }
+            if let Some(index) = clause.checked_sub(self.given) {
+                push_unnamed(&mut self.records, self.hints.list(index), &mut found)?;
+            }
         }
-        found.sort()?;
+        found.sort_unstable();
         Ok(found)
     }
+}
 
-    // Adds the hints of a clause that have no name yet.
-    fn push_unnamed_hints(&mut self, clause: u32, found: &mut Vec<u32>) -> Result<(), AllocError> {
-        for k in 0..self.clauses.hints_of(clause).len() {
-            let hint = match self.clauses.hints_of(clause).get(k) {
-                Some(hint) => *hint,
-                None => NONE,
-            };
-            self.push_unnamed(hint, found)?;
+// Adds those of the clauses that have no name yet.
+fn push_unnamed(
+    records: &mut Vec<Record>,
+    clauses: &[u32],
+    found: &mut Vec<u32>,
+) -> Result<(), AllocError> {
+    for clause in clauses {
+        let index = *clause as usize;
+        if index < records.len() && records[index].name == NONE {
+            records[index].name = PENDING;
+            found.push(*clause)?;
         }
-        Ok(())
     }
-
-    // Adds a clause, if it has no name yet.
-    fn push_unnamed(&mut self, clause: u32, found: &mut Vec<u32>) -> Result<(), AllocError> {
-        if at(&self.names, clause) == NONE && (clause as usize) < self.names.len() {
-            self.put_name(clause, PENDING);
-            found.push(clause)?;
-        }
-        Ok(())
-    }
+    Ok(())
 }

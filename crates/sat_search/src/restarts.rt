@@ -81,7 +81,7 @@ impl Search {
     pub(crate) fn restart_if_due(&mut self) -> Result<(), AllocError> {
         if self.pace.conflicts >= self.pace.next_restart {
             self.pace.schedule_restart();
-            self.backjump(0)?;
+            self.assignment.backjump(0);
             if self.pace.conflicts >= self.pace.next_drop {
                 self.drop_clauses()?;
             }

@@ -4,8 +4,8 @@
 use crate::analysis::Analysis;
 use crate::assignment::{Assignment, Value};
 use crate::clauses::Clauses;
-use crate::numbers::{NONE, at, put, saturating_u32};
-use crate::order::Order;
+use crate::decisions::Decision;
+use crate::numbers::{NONE, at, saturating_u32};
 use crate::refutation::Refutation;
 use crate::restarts::Pace;
 use crate::walk::Walks;
@@ -32,17 +32,6 @@ pub struct Limits {
     pub size: usize,
 }
 
-// What comes of a decision.
-#[derive(Clone, Copy)]
-pub(crate) enum Decision {
-    // A literal was set.
-    Made,
-    // This literal is true, and an assumption says that it is false.
-    Failed(u32),
-    // All literals are set.
-    Full,
-}
-
 /// Nogoods, what was learned of them, and what is set.
 ///
 /// It keeps what it learned as long as it lives, since that is what shows what it learns later. A
@@ -56,15 +45,8 @@ pub struct Search {
     pub(crate) clauses: Clauses,
     pub(crate) watches: Watches,
     pub(crate) assignment: Assignment,
-    pub(crate) order: Order,
-    // By variable: whether it was false when it was set last.
-    pub(crate) phases: Vec<bool>,
-    // By variable: the clause of one literal that sets it.
-    pub(crate) units: Vec<u32>,
-    // How many literals of the trail have such a clause: the first ones.
-    pub(crate) unit_count: usize,
-    // By clause: the name by which the caller knows it, or [`NONE`].
-    pub(crate) names: Vec<u32>,
+    // How many literals of the trail have a clause of one literal: the first ones.
+    pub(crate) unit_count: u32,
     pub(crate) analysis: Analysis,
     // The clause without a literal, once there is one.
     pub(crate) contradiction: u32,
@@ -83,11 +65,7 @@ impl Drop for Search {
             clauses: _,
             watches: _,
             assignment: _,
-            order: _,
-            phases: _,
-            units: _,
             unit_count: _,
-            names: _,
             analysis: _,
             contradiction: _,
             pace: _,
@@ -100,45 +78,39 @@ impl Drop for Search {
 impl Search {
     /// A search over this many variables, without nogoods.
     pub fn new(alloc: Global, variables: usize) -> Result<Search, AllocError> {
-        Ok(Search {
+        let mut search = Search {
             alloc,
+            watches: Watches::new(alloc),
+            assignment: Assignment::new(alloc),
             clauses: Clauses::new(alloc),
-            watches: Watches::new(alloc, variables)?,
-            assignment: Assignment::new(alloc, variables)?,
-            order: Order::new(alloc, variables)?,
-            phases: vec![in alloc; false; variables]?,
-            units: vec![in alloc; NONE; variables]?,
             unit_count: 0,
-            names: Vec::new(alloc),
-            analysis: Analysis::new(alloc, variables)?,
+            analysis: Analysis::new(alloc),
             contradiction: NONE,
             pace: Pace::new(),
             walks: Walks::new(),
             steps: 0,
-        })
+        };
+        search.watches.make_room(alloc, variables)?;
+        search.assignment.make_room(variables)?;
+        search.analysis.make_room(variables)?;
+        Ok(search)
     }
 
     /// Adds a nogood under a name, before the first question. Its variables are below the number of
     /// variables, and no two of them are equal.
     pub fn add_nogood(&mut self, literals: &[u32], name: u32) -> Result<(), AllocError> {
-        self.analysis.learned.clear();
-        for literal in literals {
-            self.order.count_occurrence(*literal / 2);
-            self.analysis.learned.push(*literal ^ 1)?;
-        }
-        let clause = self.clauses.push_given(&self.analysis.learned)?;
-        let offset = self.clauses.offset_of(clause);
-        self.watches
-            .watch_first_two(offset, &self.analysis.learned)?;
-        self.names.push(name)?;
-        Ok(())
+        self.assignment.order.count_occurrences(literals);
+        self.analysis.put_negated(literals)?;
+        let clause = self.clauses.push(&self.analysis.learned, 0, name)?;
+        self.watches.watch_first_two(&self.clauses, clause)
     }
 
     /// Prepares the first question, once all nogoods are there.
     pub fn begin(&mut self) -> Result<(), AllocError> {
+        self.clauses.given = self.clauses.len();
         self.pace.schedule_drop(self.clauses.given, 0);
-        for variable in 0..saturating_u32(self.phases.len()) {
-            self.order.insert(variable)?;
+        for variable in 0..saturating_u32(self.assignment.variables()) {
+            self.assignment.order.insert(variable);
             self.choose_first_phase(variable);
         }
         for clause in 0..self.clauses.given {
@@ -159,15 +131,7 @@ impl Search {
     fn choose_first_phase(&mut self, variable: u32) {
         let literal = variable.saturating_mul(2);
         let negated = self.watches.count_of(literal) < self.watches.count_of(literal ^ 1);
-        self.put_phase(variable, negated);
-    }
-
-    // Notes whether a variable was false when it was set last.
-    pub(crate) fn put_phase(&mut self, variable: u32, negated: bool) {
-        let index = variable as usize;
-        if index < self.phases.len() {
-            self.phases[index] = negated;
-        }
+        self.assignment.put_phase(variable, negated);
     }
 
     // Sets the literal of a given clause that has no other.
@@ -181,7 +145,7 @@ impl Search {
                 }
             }
             Value::Unset => {
-                self.assignment.set(literal, clause)?;
+                self.assignment.set(literal, clause);
                 self.learn_units()?;
             }
         }
@@ -202,11 +166,12 @@ impl Search {
         limits: Limits,
         name: u32,
     ) -> Result<Answer, AllocError> {
-        self.backjump(0)?;
+        self.assignment.backjump(0);
         let last = self.steps.saturating_add(limits.steps);
         for _ in 0..u64::MAX {
             if self.contradiction != NONE {
-                return self.refutation_of(self.contradiction, name);
+                let goal = self.contradiction;
+                return self.clauses.refutation_of(self.alloc, goal, name);
             }
             let conflict = self.propagate()?;
             if conflict != NONE {
@@ -220,21 +185,36 @@ impl Search {
             if self.steps > last || self.clauses.size() > limits.size {
                 break;
             }
-            if let Some(point) = self.walk(assumptions)? {
-                return Ok(Answer::Point(point));
-            }
-            match self.decide(assumptions)? {
-                Decision::Made => (),
-                Decision::Full => return Ok(Answer::Point(
-                    self.assignment.trail.to_vec(self.alloc)?,
-                )),
-                Decision::Failed(literal) => {
-                    let clause = self.learn_from_failed_assumption(literal)?;
-                    return self.refutation_of(clause, name);
-                }
+            if let Some(answer) = self.walk_or_decide(assumptions, name)? {
+                return Ok(answer);
             }
         }
         Ok(Answer::Unknown)
+    }
+
+    // Walks if that is due, and else decides a literal; answers what ends the question.
+    fn walk_or_decide(
+        &mut self,
+        assumptions: &[u32],
+        name: u32,
+    ) -> Result<Option<Answer>, AllocError> {
+        if let Some(point) = self.walk(assumptions)? {
+            return Ok(Some(Answer::Point(point)));
+        }
+        match self.assignment.decide(assumptions) {
+            Decision::Made => Ok(None),
+            Decision::Full => {
+                let point = self.assignment.trail.to_vec(self.alloc)?;
+                Ok(Some(Answer::Point(point)))
+            }
+            Decision::Failed(literal) => {
+                self.analysis
+                    .analyse_failed_assumption(&self.clauses, &self.assignment, literal);
+                let clause = self.add_learned()?;
+                let answer = self.clauses.refutation_of(self.alloc, clause, name)?;
+                Ok(Some(answer))
+            }
+        }
     }
 
     // Learns from a clause that is false; at level 0, that no point is left.
@@ -250,14 +230,8 @@ impl Search {
 
     // Adds the learned clause with its hints, and answers its number.
     pub(crate) fn add_learned(&mut self) -> Result<u32, AllocError> {
-        self.names.push(NONE)?;
         let conflicts = self.pace.conflict_count();
         self.clauses
             .push_learned(&self.analysis.learned, &self.analysis.hints, conflicts)
-    }
-
-    // Notes that a clause has this name.
-    pub(crate) fn put_name(&mut self, clause: u32, name: u32) {
-        put(&mut self.names, clause, name);
     }
 }

@@ -8,7 +8,7 @@
 
 use crate::clauses::Clauses;
 use crate::lists::Lists;
-use crate::numbers::{NONE, at, put, saturating_u32};
+use crate::numbers::{NONE, add, put, saturating_u32};
 use crate::search::Search;
 use std::alloc::{AllocError, Global};
 
@@ -48,24 +48,43 @@ fn next_random(seed: u64) -> u64 {
     b ^ (b << 17)
 }
 
+// A variable at the point of a walk.
+#[derive(Clone, Copy)]
+struct Variable {
+    // Whether it is false.
+    negated: bool,
+    // Whether it keeps its value.
+    fixed: bool,
+    // In how many clauses its literal alone is true.
+    breaks: u32,
+}
+
+// A given clause at the point of a walk.
+#[derive(Clone, Copy)]
+struct State {
+    // How many of its literals are true.
+    true_count: u32,
+    // The exclusive or of its true literals, the literal itself if there is one.
+    xor: u32,
+    // Its index among the clauses that are false, or [`NONE`].
+    position: u32,
+}
+
+// A clause that is not there.
+const NO_STATE: State = State {
+    true_count: NONE,
+    xor: NONE,
+    position: NONE,
+};
+
 /// A point, and what the given clauses are there.
 struct Walk {
     // By literal: the clauses that have it.
     by_literal: Lists,
-    // By variable: whether it is false.
-    negated: Vec<bool>,
-    // By variable: whether it keeps its value.
-    fixed: Vec<bool>,
-    // By clause: how many of its literals are true.
-    true_counts: Vec<u32>,
-    // By clause: the exclusive or of its true literals, the literal itself if there is one.
-    xors: Vec<u32>,
-    // By variable: in how many clauses its literal alone is true.
-    breaks: Vec<u32>,
+    variables: Vec<Variable>,
+    states: Vec<State>,
     // The clauses that are false.
     false_clauses: Vec<u32>,
-    // By clause: its index among the false ones, or [`NONE`].
-    positions: Vec<u32>,
     seed: u64,
     // How many clauses were looked at.
     steps: u64,
@@ -76,23 +95,13 @@ impl Drop for Walk {
     fn drop(self) {
         let Walk {
             by_literal: _,
-            negated: _,
-            fixed: _,
-            true_counts: _,
-            xors: _,
-            breaks: _,
+            variables: _,
+            states: _,
             false_clauses: _,
-            positions: _,
             seed: _,
             steps: _,
         } = self;
     }
-}
-
-// Adds to the number at an index, where there is one; the largest number takes one away.
-fn add_at(numbers: &mut Vec<u32>, index: u32, more: u32) {
-    let sum = at(numbers, index).wrapping_add(more);
-    put(numbers, index, sum);
 }
 
 // By literal, the clauses that have it.
@@ -100,7 +109,7 @@ fn clauses_by_literal(
     alloc: Global,
     clauses: &Clauses,
     literals: usize,
-) -> Result<Vec<Vec<u32>>, AllocError> {
+) -> Result<Lists, AllocError> {
     let mut lists: Vec<Vec<u32>> = Vec::new(alloc);
     for _ in 0..literals {
         lists.push(Vec::new(alloc))?;
@@ -108,7 +117,7 @@ fn clauses_by_literal(
     for clause in 0..clauses.given {
         add_clause(&mut lists, clauses.literals_of(clause), clause)?;
     }
-    Ok(lists)
+    flatten(alloc, &lists)
 }
 
 // Adds a clause to the lists of its literals.
@@ -131,85 +140,102 @@ fn flatten(alloc: Global, lists: &[Vec<u32>]) -> Result<Lists, AllocError> {
 }
 
 impl Walk {
-    // A walk from the point of these signs, which leaves the fixed variables as they are.
+    // A walk from this point.
     fn new(
         alloc: Global,
         clauses: &Clauses,
-        negated: Vec<bool>,
-        fixed: Vec<bool>,
+        variables: Vec<Variable>,
         seed: u64,
     ) -> Result<Walk, AllocError> {
-        let variables = negated.len();
-        let lists = clauses_by_literal(alloc, clauses, variables.saturating_mul(2))?;
         let given = clauses.given as usize;
         let mut walk = Walk {
-            by_literal: flatten(alloc, &lists)?,
-            negated,
-            fixed,
-            true_counts: vec![in alloc; 0; given]?,
-            xors: vec![in alloc; 0; given]?,
-            breaks: vec![in alloc; 0; variables]?,
-            false_clauses: Vec::new(alloc),
-            positions: vec![in alloc; NONE; given]?,
+            by_literal: clauses_by_literal(alloc, clauses, variables.len().saturating_mul(2))?,
+            states: vec![in alloc; NO_STATE; given]?,
+            false_clauses: Vec::with_capacity(alloc, given)?,
+            variables,
             seed,
             steps: 0,
         };
         for clause in 0..clauses.given {
-            walk.count_true(clauses.literals_of(clause), clause)?;
+            walk.count_true(clauses.literals_of(clause), clause);
         }
         Ok(walk)
     }
 
     // Whether a literal is true.
     fn is_true(&self, literal: u32) -> bool {
-        match self.negated.get((literal / 2) as usize) {
-            Some(negated) => *negated == (literal % 2 == 1),
-            None => false,
+        let index = (literal / 2) as usize;
+        index < self.variables.len() && self.variables[index].negated == (literal % 2 == 1)
+    }
+
+    // What a clause is.
+    fn state_of(&self, clause: u32) -> State {
+        let index = clause as usize;
+        if index < self.states.len() {
+            self.states[index]
+        } else {
+            NO_STATE
+        }
+    }
+
+    fn put_state(&mut self, clause: u32, state: State) {
+        let index = clause as usize;
+        if index < self.states.len() {
+            self.states[index] = state;
+        }
+    }
+
+    // Counts more clauses in which a variable's literal alone is true; the largest number takes one
+    // away.
+    fn add_breaks(&mut self, variable: u32, more: u32) {
+        let index = variable as usize;
+        if index < self.variables.len() {
+            self.variables[index].breaks = self.variables[index].breaks.wrapping_add(more);
         }
     }
 
     // Counts the true literals of a clause, before the first flip.
-    fn count_true(&mut self, literals: &[u32], clause: u32) -> Result<(), AllocError> {
+    fn count_true(&mut self, literals: &[u32], clause: u32) {
         let mut xor = 0;
-        let mut count: u32 = 0;
+        let mut true_count: u32 = 0;
         for literal in literals {
             if self.is_true(*literal) {
                 xor ^= *literal;
-                count = count.saturating_add(1);
+                true_count = true_count.saturating_add(1);
             }
         }
-        put(&mut self.true_counts, clause, count);
-        put(&mut self.xors, clause, xor);
-        if count == 0 {
-            self.add_false_clause(clause)?;
+        let mut position = NONE;
+        if true_count == 0 {
+            position = self.add_false_clause(clause);
         }
-        if count == 1 {
-            add_at(&mut self.breaks, xor / 2, 1);
+        if true_count == 1 {
+            self.add_breaks(xor / 2, 1);
         }
-        Ok(())
+        let state = State {
+            true_count,
+            xor,
+            position,
+        };
+        self.put_state(clause, state);
     }
 
-    // Adds a clause to those that are false.
-    fn add_false_clause(&mut self, clause: u32) -> Result<(), AllocError> {
-        put(
-            &mut self.positions,
-            clause,
-            saturating_u32(self.false_clauses.len()),
-        );
-        self.false_clauses.push(clause)?;
-        Ok(())
+    // Adds a clause to those that are false, and answers its index there.
+    fn add_false_clause(&mut self, clause: u32) -> u32 {
+        let position = saturating_u32(self.false_clauses.len());
+        add(&mut self.false_clauses, clause);
+        position
     }
 
-    // Takes a clause out of those that are false.
-    fn remove_false_clause(&mut self, clause: u32) {
-        let position = at(&self.positions, clause);
+    // Takes a clause out of those that are false, where it has this index.
+    fn remove_false_clause(&mut self, clause: u32, position: u32) {
         if let Some(last) = self.false_clauses.pop() {
             if last != clause {
                 put(&mut self.false_clauses, position, last);
-                put(&mut self.positions, last, position);
+                let mut state = self.state_of(last);
+                state.position = position;
+                self.put_state(last, state);
             }
         }
-        put(&mut self.positions, clause, NONE);
     }
 
     // Counts a literal as true in its clauses.
@@ -217,61 +243,61 @@ impl Walk {
         let (begin, end) = self.by_literal.bounds(literal);
         for index in begin..end {
             let clause = self.by_literal.number(index);
-            let xor = at(&self.xors, clause);
-            match at(&self.true_counts, clause) {
+            let mut state = self.state_of(clause);
+            match state.true_count {
                 0 => {
-                    self.remove_false_clause(clause);
-                    add_at(&mut self.breaks, literal / 2, 1);
+                    self.remove_false_clause(clause, state.position);
+                    self.add_breaks(literal / 2, 1);
                 }
-                1 => add_at(&mut self.breaks, xor / 2, u32::MAX),
+                1 => self.add_breaks(state.xor / 2, u32::MAX),
                 _ => (),
             }
-            add_at(&mut self.true_counts, clause, 1);
-            put(&mut self.xors, clause, xor ^ literal);
+            state.true_count = state.true_count.wrapping_add(1);
+            state.xor ^= literal;
+            state.position = NONE;
+            self.put_state(clause, state);
         }
         self.steps = self.steps.saturating_add(end.saturating_sub(begin) as u64);
     }
 
     // Counts a literal as false in its clauses.
-    fn make_false(&mut self, literal: u32) -> Result<(), AllocError> {
+    fn make_false(&mut self, literal: u32) {
         let (begin, end) = self.by_literal.bounds(literal);
         for index in begin..end {
             let clause = self.by_literal.number(index);
-            let xor = at(&self.xors, clause) ^ literal;
-            match at(&self.true_counts, clause) {
+            let mut state = self.state_of(clause);
+            state.xor ^= literal;
+            match state.true_count {
                 1 => {
-                    self.add_false_clause(clause)?;
-                    add_at(&mut self.breaks, literal / 2, u32::MAX);
+                    state.position = self.add_false_clause(clause);
+                    self.add_breaks(literal / 2, u32::MAX);
                 }
-                2 => add_at(&mut self.breaks, xor / 2, 1),
+                2 => self.add_breaks(state.xor / 2, 1),
                 _ => (),
             }
-            add_at(&mut self.true_counts, clause, u32::MAX);
-            put(&mut self.xors, clause, xor);
+            state.true_count = state.true_count.wrapping_sub(1);
+            self.put_state(clause, state);
         }
         self.steps = self.steps.saturating_add(end.saturating_sub(begin) as u64);
-        Ok(())
     }
 
     // Makes a literal true that is false.
-    fn flip(&mut self, literal: u32) -> Result<(), AllocError> {
+    fn flip(&mut self, literal: u32) {
         let index = (literal / 2) as usize;
-        if index < self.negated.len() {
-            self.negated[index] = literal % 2 == 1;
+        if index < self.variables.len() {
+            self.variables[index].negated = literal % 2 == 1;
         }
         self.make_true(literal);
-        self.make_false(literal ^ 1)
+        self.make_false(literal ^ 1);
     }
 
     // How likely the literal is made true; 0 if its variable is fixed.
     fn flip_weight(&self, literal: u32) -> u64 {
-        match self.fixed.get((literal / 2) as usize) {
-            Some(fixed) if !*fixed => {
-                let breaks = at(&self.breaks, literal / 2) as usize;
-                WEIGHTS[breaks.min(11)]
-            }
-            _ => 0,
+        let index = (literal / 2) as usize;
+        if index >= self.variables.len() || self.variables[index].fixed {
+            return 0;
         }
+        WEIGHTS[(self.variables[index].breaks as usize).min(11)]
     }
 
     // A literal of the clause to make true, at random by its weight; none if all are fixed.
@@ -315,21 +341,43 @@ impl Walk {
 
     // Flips variables until no clause is false, or this many clauses were looked at. Whether such a
     // point is found.
-    fn run(&mut self, clauses: &Clauses, steps: u64) -> Result<bool, AllocError> {
+    fn run(&mut self, clauses: &Clauses, steps: u64) -> bool {
         for _ in 0..steps {
             if self.false_clauses.is_empty() {
-                return Ok(true);
+                return true;
             }
             if self.steps > steps {
                 break;
             }
             let clause = self.random_false_clause();
             match self.choose_literal(clauses.literals_of(clause)) {
-                Some(literal) => self.flip(literal)?,
+                Some(literal) => self.flip(literal),
                 None => break,
             }
         }
-        Ok(false)
+        false
+    }
+
+    // The literals of all variables at the point.
+    fn literals(&self, alloc: Global) -> Result<Vec<u32>, AllocError> {
+        let mut literals = Vec::with_capacity(alloc, self.variables.len())?;
+        for k in 0..self.variables.len() {
+            let literal = saturating_u32(k).saturating_mul(2);
+            let negated = self.variables[k].negated as u32;
+            add(&mut literals, literal.saturating_add(negated));
+        }
+        Ok(literals)
+    }
+}
+
+// Fixes the variables of these literals, where these are true.
+fn fix(variables: &mut Vec<Variable>, literals: &[u32]) {
+    for literal in literals {
+        let index = (*literal / 2) as usize;
+        if index < variables.len() {
+            variables[index].negated = *literal % 2 == 1;
+            variables[index].fixed = true;
+        }
     }
 }
 
@@ -340,21 +388,21 @@ impl Search {
         self.steps > self.walks.next.max(first)
     }
 
-    // By variable whether it is false where the walk starts: as it is set or assumed, else as it
-    // was set last.
-    fn starting_signs(&self, assumptions: &[u32]) -> Result<Vec<bool>, AllocError> {
-        let mut negated = self.phases.to_vec(self.alloc)?;
-        put_signs(&mut negated, &self.assignment.trail);
-        put_signs(&mut negated, assumptions);
-        Ok(negated)
-    }
-
-    // By variable whether it is set or assumed.
-    fn fixed_variables(&self, assumptions: &[u32]) -> Result<Vec<bool>, AllocError> {
-        let mut fixed = vec![in self.alloc; false; self.phases.len()]?;
-        mark_variables(&mut fixed, &self.assignment.trail);
-        mark_variables(&mut fixed, assumptions);
-        Ok(fixed)
+    // The point where the walk starts: each variable as it is set or assumed, and so it stays, else
+    // as it was set last.
+    fn starting_point(&self, assumptions: &[u32]) -> Result<Vec<Variable>, AllocError> {
+        let phases: &[bool] = &self.assignment.phases;
+        let mut variables = Vec::with_capacity(self.alloc, phases.len())?;
+        for negated in phases {
+            variables.push(Variable {
+                negated: *negated,
+                fixed: false,
+                breaks: 0,
+            })?;
+        }
+        fix(&mut variables, &self.assignment.trail);
+        fix(&mut variables, assumptions);
+        Ok(variables)
     }
 
     /// Walks, if that is due and no literal is decided. The literals of all variables at a point
@@ -364,45 +412,14 @@ impl Search {
             return Ok(None);
         }
         self.walks.next = self.steps.saturating_mul(2);
-        let negated = self.starting_signs(assumptions)?;
-        let fixed = self.fixed_variables(assumptions)?;
-        let mut walk = Walk::new(self.alloc, &self.clauses, negated, fixed, self.walks.seed)?;
-        let found = walk.run(&self.clauses, self.steps / WALK_PART)?;
+        let start = self.starting_point(assumptions)?;
+        let mut walk = Walk::new(self.alloc, &self.clauses, start, self.walks.seed)?;
+        let found = walk.run(&self.clauses, self.steps / WALK_PART);
         self.walks.seed = walk.seed;
         self.steps = self.steps.saturating_add(walk.steps);
         if !found {
             return Ok(None);
         }
-        Ok(Some(literals_with_signs(self.alloc, &walk.negated)?))
+        Ok(Some(walk.literals(self.alloc)?))
     }
-}
-
-// Gives the variables of the literals their signs.
-fn put_signs(negated: &mut Vec<bool>, literals: &[u32]) {
-    for literal in literals {
-        let index = (*literal / 2) as usize;
-        if index < negated.len() {
-            negated[index] = *literal % 2 == 1;
-        }
-    }
-}
-
-// Marks the variables of the literals.
-fn mark_variables(marks: &mut Vec<bool>, literals: &[u32]) {
-    for literal in literals {
-        let index = (*literal / 2) as usize;
-        if index < marks.len() {
-            marks[index] = true;
-        }
-    }
-}
-
-// The literals with these signs.
-fn literals_with_signs(alloc: Global, negated: &[bool]) -> Result<Vec<u32>, AllocError> {
-    let mut literals = Vec::new(alloc);
-    for (variable, negated) in negated.iter().enumerate() {
-        let literal = saturating_u32(variable).saturating_mul(2);
-        literals.push(literal.saturating_add(*negated as u32))?;
-    }
-    Ok(literals)
 }

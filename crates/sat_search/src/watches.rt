@@ -19,12 +19,18 @@ pub(crate) struct Watches {
 }
 
 impl Watches {
-    pub(crate) fn new(alloc: Global, variables: usize) -> Result<Watches, AllocError> {
-        let mut by_literal = Vec::new(alloc);
-        for _ in 0..variables.saturating_mul(2) {
-            by_literal.push(Vec::new(alloc))?;
+    pub(crate) fn new(alloc: Global) -> Watches {
+        Watches {
+            by_literal: Vec::new(alloc),
         }
-        Ok(Watches { by_literal })
+    }
+
+    /// Makes room for the watches of this many variables.
+    pub(crate) fn make_room(&mut self, alloc: Global, variables: usize) -> Result<(), AllocError> {
+        for _ in 0..variables.saturating_mul(2) {
+            self.by_literal.push(Vec::new(alloc))?;
+        }
+        Ok(())
     }
 
     /// Adds a watch of a literal.
@@ -35,14 +41,16 @@ impl Watches {
         Ok(())
     }
 
-    /// Lets the clause at this offset watch its first two literals.
+    /// Lets a clause watch its first two literals.
     pub(crate) fn watch_first_two(
         &mut self,
-        offset: u32,
-        literals: &[u32],
+        clauses: &Clauses,
+        clause: u32,
     ) -> Result<(), AllocError> {
+        let literals = clauses.literals_of(clause);
         if literals.len() > 1 {
             let (one, other) = (literals[0], literals[1]);
+            let offset = clauses.offset_of(clause);
             self.push(
                 one,
                 Watch {
