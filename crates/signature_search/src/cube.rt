@@ -11,10 +11,16 @@ fn hash_step(number: u64, word: u64) -> u64 {
 }
 
 /// A cube by itself.
-#[derive(Drop)]
 pub(crate) struct Cube {
     pub(crate) literals: Vec<Literals>,
     pub(crate) outputs: Vec<u64>,
+}
+
+// Written out, so that where a cube ends a proof has one call, and not one for each of its lists.
+impl Drop for Cube {
+    fn drop(self) {
+        let Cube { literals: _, outputs: _ } = self;
+    }
 }
 
 impl Cube {

@@ -10,13 +10,14 @@
 //! on the inputs where the cube has no literal; so the tests of all rows together are one question.
 
 use crate::bits::{
-    Literals, all_bits, has_bit, keep_inputs, literals_at, meets, narrow_at, push_cofactor, word_at,
+    Literals, drop_bit, has_bit, join_literals, literals_at, meets, narrow_at, push_cofactor,
+    word_at,
 };
 use crate::blocking_matrix::{BlockingMatrix, BlockingRows};
 use crate::cube::Cube;
 use crate::function::Function;
 use crate::lists::push_cofactors;
-use crate::prime_list::{meet_of_primes, push_primes};
+use crate::prime_list::push_primes;
 use crate::question::Question;
 use crate::rows::{Place, Rows};
 use std::alloc::{AllocError, Global};
@@ -26,13 +27,53 @@ use std::collections::BTreeSet;
 const REGION_BUDGET: u64 = 300;
 
 /// A signature cube with a place of its own.
-#[derive(Drop)]
 pub(crate) struct Signature {
     pub(crate) cube: Cube,
-    /// A place of its own.
+    /// A place of its own, once it is found.
     pub(crate) place: Place,
-    /// The minimal rows of the cube's blocking matrix.
+    /// The minimal rows of the blocking matrix.
     pub(crate) rows: BlockingRows,
+}
+
+// Written out, so that where one ends a proof has one call, and not one for each of its lists.
+impl Drop for Signature {
+    fn drop(self) {
+        let Signature {
+            cube: _,
+            place: _,
+            rows: _,
+        } = self;
+    }
+}
+
+impl Signature {
+    /// The meet of no primes, without rows.
+    fn new(alloc: Global, function: &Function) -> Result<Signature, AllocError> {
+        Ok(Signature {
+            cube: Cube::whole(alloc, function.width, function.outputs)?,
+            place: Place::none(alloc),
+            rows: BlockingRows::new(alloc, function.width),
+        })
+    }
+
+    /// Narrows the cube to that of another cube's minimal rows. `false` if that one meets OFF.
+    fn meet_rows(
+        &mut self,
+        matrix: &mut BlockingMatrix,
+        function: &Function,
+        cube: &Cube,
+    ) -> Result<bool, AllocError> {
+        if !matrix.add_rows(&mut self.rows, function, cube)? {
+            return Ok(false);
+        }
+        for row in 0..self.rows.len() {
+            join_literals(&mut self.cube.literals, &cube.literals, self.rows.inputs(row));
+            if let Some(output) = self.rows.output(row) {
+                drop_bit(&mut self.cube.outputs, output);
+            }
+        }
+        Ok(true)
+    }
 }
 
 /// Finds signature cubes.
@@ -75,62 +116,20 @@ fn meets_with_row_exchanged(compared: &[Literals], row: &[u64]) -> bool {
 }
 
 /// Notes where the cubes have opposite literals, as zeros, and where the same, as ones.
-fn compare(compared: &mut Vec<Literals>, a: &[Literals], b: &[Literals]) {
+fn compare(compared: &mut [Literals], a: &[Literals], b: &[Literals]) {
     for k in 0..a.len().min(b.len()) {
-        let (one, other) = (literals_at(a, k), literals_at(b, k));
-        if let Some(word) = compared.get_mut(k) {
-            word.zeros = one.opposites(other);
-            word.ones = one.agreements(other);
+        if k < compared.len() {
+            compared[k].zeros = a[k].opposites(b[k]);
+            compared[k].ones = a[k].agreements(b[k]);
         }
     }
-}
-
-/// The literals of the cube at inputs that some row has.
-fn literals_of_rows(
-    alloc: Global,
-    cube: &Cube,
-    rows: &BlockingRows,
-) -> Result<Vec<Literals>, AllocError> {
-    let inputs = rows.occurring_inputs(alloc)?;
-    let mut literals = cube.literals.to_vec(alloc)?;
-    keep_inputs(&mut literals, &inputs);
-    Ok(literals)
-}
-
-/// The outputs that no row has, of this many.
-fn outputs_without_row(
-    alloc: Global,
-    rows: &BlockingRows,
-    count: usize,
-) -> Result<Vec<u64>, AllocError> {
-    let mut outputs = all_bits(alloc, count)?;
-    for row in 0..rows.len() {
-        if let Some(output) = rows.output(row)
-            && let Some(word) = outputs.get_mut(output / 64)
-        {
-            *word &= !(1 << (output % 64));
-        }
-    }
-    Ok(outputs)
-}
-
-/// The signature cube of a cube with these minimal rows.
-fn cube_of_rows(
-    alloc: Global,
-    cube: &Cube,
-    rows: &BlockingRows,
-    outputs: usize,
-) -> Result<Cube, AllocError> {
-    let literals = literals_of_rows(alloc, cube, rows)?;
-    let outputs = outputs_without_row(alloc, rows, outputs)?;
-    Ok(Cube { literals, outputs })
 }
 
 /// Adds the cofactors of a list's cubes that meet the cube with a row exchanged. `false` if one of
 /// them contains the cube then.
 fn push_exchanged(
     avoided: &mut Vec<Literals>,
-    compared: &mut Vec<Literals>,
+    compared: &mut [Literals],
     list: &[Literals],
     cube: &[Literals],
     rows: &[u64],
@@ -168,57 +167,48 @@ impl<'a> Finder<'a> {
         })
     }
 
-    /// The signature cube of a cube, and its minimal rows. `None` if the cube meets OFF.
-    pub(crate) fn signature_cube(
-        &mut self,
-        cube: &Cube,
-    ) -> Result<Option<(Cube, BlockingRows)>, AllocError> {
-        if let Some(primes) = self.primes {
-            return meet_of_primes(self.alloc, self.function, primes, cube);
-        }
-        let Some(rows) = self.matrix.minimal_rows(self.function, cube)? else {
-            return Ok(None);
+    /// The signature cube of a cube, without a place. `None` if the cube meets OFF.
+    pub(crate) fn signature_cube(&mut self, cube: &Cube) -> Result<Option<Signature>, AllocError> {
+        let function = self.function;
+        let mut signature = Signature::new(self.alloc, function)?;
+        let is_implicant = match self.primes {
+            Some(primes) => signature.meet_primes(primes, cube, function.outputs)?,
+            None => signature.meet_rows(&mut self.matrix, function, cube)?,
         };
-        let signature = cube_of_rows(self.alloc, cube, &rows, self.function.outputs)?;
-        Ok(Some((signature, rows)))
+        if is_implicant {
+            Ok(Some(signature))
+        } else {
+            Ok(None)
+        }
     }
 
     /// The signature cube of a cube, if it has a place of its own.
     pub(crate) fn signature_of(&mut self, cube: &Cube) -> Result<Option<Signature>, AllocError> {
-        match self.signature_cube(cube)? {
-            Some((signature, rows)) => self.signature_with_own_place(signature, rows),
-            None => Ok(None),
-        }
-    }
-
-    /// The signature cube with these minimal rows, if it has a place of its own.
-    pub(crate) fn signature_with_own_place(
-        &mut self,
-        cube: Cube,
-        rows: BlockingRows,
-    ) -> Result<Option<Signature>, AllocError> {
-        let Some(output) = self.new_output_of_own_place(&cube, &rows)? else {
+        let Some(mut signature) = self.signature_cube(cube)? else {
             return Ok(None);
         };
-        let place = Place::of(self.alloc, self.question.answer(), output)?;
-        Ok(Some(Signature { cube, place, rows }))
+        if self.finds_own_place(&mut signature)? {
+            Ok(Some(signature))
+        } else {
+            Ok(None)
+        }
     }
 
-    // The output of the cube's own place; not looked for where there was none before.
-    fn new_output_of_own_place(
+    /// Whether a signature cube has a place of its own; not looked for where there was none before.
+    pub(crate) fn finds_own_place(
         &mut self,
-        cube: &Cube,
-        rows: &BlockingRows,
-    ) -> Result<Option<usize>, AllocError> {
-        let hash = cube.hash();
+        signature: &mut Signature,
+    ) -> Result<bool, AllocError> {
+        let hash = signature.cube.hash();
         if self.without_own_place.contains(&hash) {
-            return Ok(None);
+            return Ok(false);
         }
-        let output = self.output_of_own_place(cube, rows)?;
-        if output.is_none() {
+        let Some(output) = self.output_of_own_place(&signature.cube, &signature.rows)? else {
             self.without_own_place.insert(hash)?;
-        }
-        Ok(output)
+            return Ok(false);
+        };
+        signature.place = Place::of(self.alloc, self.question.answer(), output)?;
+        Ok(true)
     }
 
     // An output of the cube under which it has a place of its own, which is then the answer of the
@@ -310,12 +300,6 @@ impl<'a> Finder<'a> {
         )
     }
 
-    // Gathers the DC cubes of an output that meet the cube. `false` if one contains it.
-    fn avoid_dc(&mut self, cube: &Cube, output: usize) -> Result<bool, AllocError> {
-        let dc = self.function.dc(output);
-        push_cofactors(&mut self.avoided, dc, &cube.literals, self.function.width)
-    }
-
     // Gathers the cubes to be avoided under this output. `false` if these are all places.
     fn avoid_all(
         &mut self,
@@ -328,7 +312,11 @@ impl<'a> Finder<'a> {
             Some(primes) => push_primes(&mut self.avoided, primes, cube, output)?,
             None => self.avoid_exchanged(cube, rows.input_words_of_rows(0, first), output)?,
         };
-        Ok(is_left && self.avoid_dc(cube, output)?)
+        if !is_left {
+            return Ok(false);
+        }
+        let dc = self.function.dc(output);
+        push_cofactors(&mut self.avoided, dc, &cube.literals, self.function.width)
     }
 
     // Whether the cube has a wanted place under this output outside all that was gathered.
