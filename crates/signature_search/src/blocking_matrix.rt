@@ -177,7 +177,6 @@ fn join_opposites(set: &mut [u64], cube: &[Literals], other: &[Literals]) {
 /// The blocking matrix of a cube, and memory that is kept from one to the next.
 #[derive(Drop)]
 pub(crate) struct BlockingMatrix {
-    alloc: Global,
     width: usize,
     // The inputs whose literals are rows by themselves for the outputs of the cube.
     common: Vec<u64>,
@@ -190,15 +189,14 @@ pub(crate) struct BlockingMatrix {
 }
 
 impl BlockingMatrix {
-    pub(crate) fn new(alloc: Global, width: usize) -> Result<BlockingMatrix, AllocError> {
-        Ok(BlockingMatrix {
-            alloc,
+    pub(crate) fn new(alloc: Global, width: usize) -> BlockingMatrix {
+        BlockingMatrix {
             width,
-            common: vec![in alloc; 0; width]?,
-            singles: vec![in alloc; 0; width]?,
+            common: Vec::new(alloc),
+            singles: Vec::new(alloc),
             rows: Vec::new(alloc),
             order: Vec::new(alloc),
-        })
+        }
     }
 
     /// Adds the minimal rows of a cube: first those without an output, then those of each output
@@ -226,9 +224,11 @@ impl BlockingMatrix {
         function: &Function,
         cube: &Cube,
     ) -> Result<bool, AllocError> {
-        self.common.fill(0);
-        self.singles.fill(0);
         self.rows.clear();
+        self.common.clear();
+        self.common.resize(self.width, 0)?;
+        self.singles.clear();
+        self.singles.resize(self.width, 0)?;
         for output in 0..function.outputs {
             if has_bit(&cube.outputs, output)
                 && !self.gather_rows(&cube.literals, function.off(output))?

@@ -72,11 +72,21 @@ fn cofactor(
 }
 
 /// The halves of a list, and where it is split.
-#[derive(Drop)]
 struct Halves {
     split: Split,
     zeros: Vec<Literals>,
     ones: Vec<Literals>,
+}
+
+// Written out, so that where halves end a proof has one call, and not one for each list.
+impl Drop for Halves {
+    fn drop(self) {
+        let Halves {
+            split: _,
+            zeros: _,
+            ones: _,
+        } = self;
+    }
 }
 
 impl Halves {
@@ -220,13 +230,15 @@ fn complement_to_depth(
     let Some(below) = depth.checked_sub(1) else {
         return Ok(None);
     };
-    let halves = Halves::of(alloc, rows, width)?;
+    let mut halves = Halves::of(alloc, rows, width)?;
     let Some(low) = complement_to_depth(alloc, &halves.zeros, width, budget, below)? else {
         return Ok(None);
     };
+    halves.zeros = low;
     let Some(high) = complement_to_depth(alloc, &halves.ones, width, budget, below)? else {
         return Ok(None);
     };
-    let joined = join_halves(alloc, &low, &high, width, halves.split)?;
+    halves.ones = high;
+    let joined = join_halves(alloc, &halves.zeros, &halves.ones, width, halves.split)?;
     Ok(within_budget(joined, budget))
 }

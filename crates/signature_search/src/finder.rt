@@ -84,7 +84,7 @@ pub(crate) struct Finder<'a> {
     pub(crate) question: Question,
     matrix: BlockingMatrix,
     // All primes, where they are known.
-    primes: Option<&'a Rows>,
+    pub(crate) primes: Option<&'a Rows>,
     // The cubes that a place must avoid, without the literals at inputs of the signature cube.
     pub(crate) avoided: Vec<Literals>,
     // The hashes of signature cubes that have no place of their own.
@@ -117,33 +117,10 @@ fn meets_with_row_exchanged(compared: &[Literals], row: &[u64]) -> bool {
 
 /// Notes where the cubes have opposite literals, as zeros, and where the same, as ones.
 fn compare(compared: &mut [Literals], a: &[Literals], b: &[Literals]) {
-    for k in 0..a.len().min(b.len()) {
-        if k < compared.len() {
-            compared[k].zeros = a[k].opposites(b[k]);
-            compared[k].ones = a[k].agreements(b[k]);
-        }
+    for k in 0..compared.len().min(a.len()).min(b.len()) {
+        compared[k].zeros = a[k].opposites(b[k]);
+        compared[k].ones = a[k].agreements(b[k]);
     }
-}
-
-/// Adds the cofactors of a list's cubes that meet the cube with a row exchanged. `false` if one of
-/// them contains the cube then.
-fn push_exchanged(
-    avoided: &mut Vec<Literals>,
-    compared: &mut [Literals],
-    list: &[Literals],
-    cube: &[Literals],
-    rows: &[u64],
-) -> Result<bool, AllocError> {
-    let width = cube.len();
-    for other in list.chunks_exact(width.max(1)) {
-        compare(compared, other, cube);
-        if meets_with_any_row_exchanged(compared, rows, width)
-            && !push_cofactor(avoided, other, cube)?
-        {
-            return Ok(false);
-        }
-    }
-    Ok(true)
 }
 
 impl<'a> Finder<'a> {
@@ -153,13 +130,12 @@ impl<'a> Finder<'a> {
         primes: Option<&'a Rows>,
     ) -> Result<Finder<'a>, AllocError> {
         let compared: Vec<Literals> = vec![in alloc; Literals::NONE; function.width]?;
-        let matrix = BlockingMatrix::new(alloc, function.width)?;
         let question = Question::new(alloc, function.width)?;
         Ok(Finder {
             alloc,
             function,
             question,
-            matrix,
+            matrix: BlockingMatrix::new(alloc, function.width),
             primes,
             avoided: Vec::new(alloc),
             without_own_place: BTreeSet::new(alloc),
@@ -244,21 +220,13 @@ impl<'a> Finder<'a> {
         if self.function.on(output).is_empty() {
             return Ok(false);
         }
-        Ok(
-            self.guess_own_place(cube, output)?
-                || self.avoid_all(cube, rows, first, output)?
-                    && self.has_wanted_place_outside_avoided(cube, output)?,
-        )
-    }
-
-    // Whether former answers give a place of the cube's own, if all primes are known to check it.
-    fn guess_own_place(&mut self, cube: &Cube, output: usize) -> Result<bool, AllocError> {
-        match self.primes {
-            Some(primes) if !self.function.samples => self.guess_own_place_by_primes(
-                primes, cube, output,
-            ),
-            _ => Ok(false),
+        if self.guess_own_place(cube, output)? {
+            return Ok(true);
         }
+        if !self.avoid_all(cube, rows, first, output)? {
+            return Ok(false);
+        }
+        self.has_wanted_place_outside_avoided(cube, output)
     }
 
     // Gathers the cubes to be avoided for the rows with an output. `false` if these are all places.
@@ -290,14 +258,17 @@ impl<'a> Finder<'a> {
         rows: &[u64],
         output: usize,
     ) -> Result<bool, AllocError> {
-        let list = self.function.on_and_dc(output);
-        push_exchanged(
-            &mut self.avoided,
-            &mut self.compared,
-            list,
-            &cube.literals,
-            rows,
-        )
+        let (cube, width) = (cube.literals.as_slice(), self.function.width);
+        let compared: &mut [Literals] = &mut self.compared;
+        for other in self.function.on_and_dc(output).chunks_exact(width.max(1)) {
+            compare(compared, other, cube);
+            if meets_with_any_row_exchanged(compared, rows, width)
+                && !push_cofactor(&mut self.avoided, other, cube)?
+            {
+                return Ok(false);
+            }
+        }
+        Ok(true)
     }
 
     // Gathers the cubes to be avoided under this output. `false` if these are all places.

@@ -90,13 +90,18 @@ impl Signature {
 
 impl Finder<'_> {
     /// Whether former answers give a place of the cube that lies in no other prime and in no DC
-    /// cube under this output. It is then the answer of the question.
-    pub(crate) fn guess_own_place_by_primes(
+    /// cube under this output, if all primes are known. It is then the answer of the question.
+    pub(crate) fn guess_own_place(
         &mut self,
-        primes: &Rows,
         cube: &Cube,
         output: usize,
     ) -> Result<bool, AllocError> {
+        let Some(primes) = self.primes else {
+            return Ok(false);
+        };
+        if self.function.samples {
+            return Ok(false);
+        }
         self.question.guess(&cube.literals)?;
         let guess = self.question.answer();
         Ok(

@@ -62,35 +62,32 @@ pub(crate) struct Question {
 }
 
 /// Notes the literals of a cube. Whether it has none, one, or more (0, 1 or more).
-fn note_literals(row: &[Literals], occurring: &mut Vec<Literals>) -> u32 {
+fn note_literals(row: &[Literals], occurring: &mut [Literals]) -> u32 {
     let mut few: u32 = 0;
-    for (k, word) in row.iter().enumerate() {
-        few = few.wrapping_add(few_in_word(word.inputs()));
-        if let Some(seen) = occurring.get_mut(k) {
-            *seen = seen.meet(*word);
+    for k in 0..row.len() {
+        few = few.wrapping_add(few_in_word(row[k].inputs()));
+        if k < occurring.len() {
+            occurring[k] = occurring[k].meet(row[k]);
         }
     }
     few
 }
 
 /// Adds the opposites of a cube's literals to the forced ones.
-fn force_opposites(row: &[Literals], forced: &mut Vec<Literals>) {
-    for (k, word) in row.iter().enumerate() {
-        if let Some(force) = forced.get_mut(k) {
-            force.zeros |= word.ones;
-            force.ones |= word.zeros;
-        }
+fn force_opposites(row: &[Literals], forced: &mut [Literals]) {
+    for k in 0..row.len().min(forced.len()) {
+        forced[k].zeros |= row[k].ones;
+        forced[k].ones |= row[k].zeros;
     }
 }
 
 /// Forces, at inputs where one literal alone occurs, the other one: the cubes with it then do not
 /// hold the place.
-fn force_pure_literals(occurring: &[Literals], forced: &mut Vec<Literals>) {
-    for (k, seen) in occurring.iter().enumerate() {
-        if let Some(force) = forced.get_mut(k) {
-            force.zeros = seen.ones & !seen.zeros;
-            force.ones = seen.zeros & !seen.ones;
-        }
+fn force_pure_literals(occurring: &[Literals], forced: &mut [Literals]) {
+    for k in 0..occurring.len().min(forced.len()) {
+        let seen = occurring[k];
+        forced[k].zeros = seen.ones & !seen.zeros;
+        forced[k].ones = seen.zeros & !seen.ones;
     }
 }
 
@@ -134,12 +131,10 @@ fn has_both_literals(row: &[Literals]) -> bool {
 }
 
 /// Takes over the literals of an answer at inputs where the cube asked for has none.
-fn remember(remembered: &mut Vec<Literals>, answer: &[Literals], inside: &[Literals]) {
-    for (k, asked) in inside.iter().enumerate() {
-        if let Some(kept) = remembered.get_mut(k) {
-            let found = literals_at(answer, k).at(!asked.inputs());
-            *kept = found.meet(kept.at(!found.inputs()));
-        }
+fn remember(remembered: &mut [Literals], answer: &[Literals], inside: &[Literals]) {
+    for k in 0..inside.len().min(remembered.len()) {
+        let found = literals_at(answer, k).at(!inside[k].inputs());
+        remembered[k] = found.meet(remembered[k].at(!found.inputs()));
     }
 }
 
@@ -149,9 +144,9 @@ fn push_guess(
     inside: &[Literals],
     remembered: &[Literals],
 ) -> Result<(), AllocError> {
-    for (k, word) in inside.iter().enumerate() {
-        let kept = literals_at(remembered, k);
-        rows.push(word.meet(kept.at(!word.inputs())))?;
+    for k in 0..inside.len() {
+        let kept = literals_at(remembered, k).at(!inside[k].inputs());
+        rows.push(inside[k].meet(kept))?;
     }
     Ok(())
 }
@@ -161,7 +156,7 @@ fn count_literals(
     rows: &[Literals],
     width: usize,
     counts: &mut Counts,
-    occurring: &mut Vec<Literals>,
+    occurring: &mut [Literals],
 ) {
     counts.clear();
     let mut shortest = u32::MAX;
@@ -185,35 +180,20 @@ fn push_narrowed(
     begin: usize,
     literals: &[Literals],
 ) -> Result<(), AllocError> {
-    for (k, more) in literals.iter().enumerate() {
-        rows.push(literals_at(rows, begin.wrapping_add(k)).meet(*more))?;
+    for k in 0..literals.len() {
+        rows.push(literals_at(rows, begin.wrapping_add(k)).meet(literals[k]))?;
     }
     Ok(())
 }
 
 /// Writes the row that begins at `from` to `to`, without its literals at the inputs of `taken`.
-fn move_row_without(rows: &mut Vec<Literals>, from: usize, to: usize, taken: &[Literals]) {
-    for (k, word) in taken.iter().enumerate() {
-        let rest = literals_at(rows, from.wrapping_add(k)).at(!word.inputs());
-        if let Some(new) = rows.get_mut(to.wrapping_add(k)) {
-            *new = rest;
+fn move_row_without(rows: &mut [Literals], from: usize, to: usize, taken: &[Literals]) {
+    for k in 0..taken.len() {
+        let at = to.wrapping_add(k);
+        if at < rows.len() {
+            rows[at] = literals_at(rows, from.wrapping_add(k)).at(!taken[k].inputs());
         }
     }
-}
-
-/// Opens a half of the last region, which begins at an index; the other half is left to that one.
-fn open_half(
-    regions: &mut Vec<Region>,
-    begin: usize,
-    input: usize,
-    one: bool,
-) -> Result<(), AllocError> {
-    if let Some(region) = regions.last_mut() {
-        region.input = input;
-        region.one = !one;
-    }
-    regions.push(Region { begin, input, one })?;
-    Ok(())
 }
 
 /// Copies the cubes from `begin` to `end` that meet the forced literals to the end, without the
@@ -281,7 +261,10 @@ impl Question {
                     return Ok(true);
                 }
                 State::Held => self.backtrack(),
-                State::Undecided => self.split()?,
+                State::Undecided => {
+                    self.split()?;
+                    true
+                }
             };
             if !goes_on {
                 return Ok(false);
@@ -323,7 +306,6 @@ impl Question {
     // them contains it.
     fn load_rows(&mut self, inside: &[Literals], list: &[Literals]) -> Result<bool, AllocError> {
         self.rows.clear();
-        self.regions.clear();
         self.regions.push(Region {
             begin: 0,
             input: 0,
@@ -399,16 +381,23 @@ impl Question {
         self.end_notes();
     }
 
-    // Splits the last region, and goes on with the half that has fewer cubes.
-    fn split(&mut self) -> Result<bool, AllocError> {
-        let begin = self.begin_of_last_region();
-        let input = self.splitting_input(begin);
+    // Splits the last region, and goes on with the half that has fewer cubes; the other half is left
+    // to that region.
+    fn split(&mut self) -> Result<(), AllocError> {
+        let (from, end) = (self.begin_of_last_region(), self.rows.len());
+        let input = self.splitting_input(from);
         let one = self.counts.ones(input) < self.counts.zeros(input);
-        let end = self.rows.len();
-        open_half(&mut self.regions, end, input, one)?;
+        if let Some(region) = self.regions.last_mut() {
+            region.input = input;
+            region.one = !one;
+        }
+        self.regions.push(Region {
+            begin: end,
+            input,
+            one,
+        })?;
         self.force_literal(input, one);
-        self.copy_region(begin, end)?;
-        Ok(true)
+        self.copy_region(from, end)
     }
 
     // Forces one literal alone.
