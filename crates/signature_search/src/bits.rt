@@ -1,7 +1,7 @@
 //! Sets of bits as words, and the input parts of cubes as words of literals.
 ghost use Rattle.std.specs.Prelude.{◌<◌};
 
-use std::alloc::{AllocError, Global};
+use std::alloc::AllocError;
 
 /// The literals of a cube at 64 inputs: a bit for each that has `0`, and a bit for each with `1`.
 #[derive(Clone, Copy)]
@@ -230,15 +230,6 @@ pub(crate) fn drop_bit(words: &mut [u64], index: usize) {
     if k < words.len() {
         words[k] &= !(1 << (index % 64));
     }
-}
-
-/// This many bits, all of them set.
-pub(crate) fn all_bits(alloc: Global, count: usize) -> Result<Vec<u64>, AllocError> {
-    let mut words: Vec<u64> = vec![in alloc; 0; words_for(count)]?;
-    for index in 0..count {
-        put_bit(&mut words, index);
-    }
-    Ok(words)
 }
 
 /// Whether each bit of the first set is in the second.

@@ -14,7 +14,7 @@ use crate::bits::{
     row_count, share_bit, word_at,
 };
 use crate::cube::Cube;
-use crate::function::Function;
+use crate::function::{Function, list_at};
 use std::alloc::{AllocError, Global};
 
 /// Rows of a blocking matrix: the inputs of their literals, and an output for some.
@@ -231,7 +231,7 @@ impl BlockingMatrix {
         self.singles.resize(self.width, 0)?;
         for output in 0..function.outputs {
             if has_bit(&cube.outputs, output)
-                && !self.gather_rows(&cube.literals, function.off(output))?
+                && !self.gather_rows(&cube.literals, list_at(&function.off, output))?
             {
                 return Ok(false);
             }
@@ -249,7 +249,7 @@ impl BlockingMatrix {
     ) -> Result<(), AllocError> {
         for output in 0..function.outputs {
             if !has_bit(&cube.outputs, output) {
-                let off = function.off(output);
+                let off = list_at(&function.off, output);
                 self.add_rows_of_output(found, longer, &cube.literals, off, output)?;
             }
         }
@@ -280,16 +280,17 @@ impl BlockingMatrix {
     // Gathers the rows of OFF cubes: those of one literal as a set, and of the others those that
     // have no literal of the set so far. `false` if one of the cubes meets this one.
     fn gather_rows(&mut self, cube: &[Literals], off: &[Literals]) -> Result<bool, AllocError> {
+        let (rows, singles) = (&mut self.rows, self.singles.as_mut_slice());
         for other in off.chunks_exact(self.width.max(1)) {
-            let (few, is_known) = opposite_inputs(cube, other, &self.singles);
+            let (few, is_known) = opposite_inputs(cube, other, singles);
             if few == 0 {
                 return Ok(false);
             }
             if !is_known {
                 if few == 1 {
-                    join_opposites(&mut self.singles, cube, other);
+                    join_opposites(singles, cube, other);
                 } else {
-                    push_opposites(&mut self.rows, cube, other)?;
+                    push_opposites(rows, cube, other)?;
                 }
             }
         }

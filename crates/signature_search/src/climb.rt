@@ -49,16 +49,14 @@ fn is_new(cube: &Cube, step: usize) -> bool {
     }
 }
 
-/// The cube after a step.
-fn cube_after(alloc: Global, from: &Cube, step: usize) -> Result<Cube, AllocError> {
-    let mut cube = Cube::of(alloc, &from.literals, &from.outputs)?;
+/// Takes a step.
+fn take_step(cube: &mut Cube, step: usize) {
     let outputs = first_output_step(cube.literals.len());
     if step < outputs {
         free_input(&mut cube.literals, step);
     } else {
         put_bit(&mut cube.outputs, step - outputs);
     }
-    Ok(cube)
 }
 
 impl Finder<'_> {
@@ -67,7 +65,8 @@ impl Finder<'_> {
         if !is_new(&at.cube, step) {
             return Ok(false);
         }
-        let cube = cube_after(self.alloc, &at.cube, step)?;
+        let mut cube = Cube::of(self.alloc, &at.cube.literals, &at.cube.outputs)?;
+        take_step(&mut cube, step);
         match self.signature_of(&cube)? {
             Some(signature) => {
                 *at = signature;

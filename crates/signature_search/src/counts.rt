@@ -60,13 +60,8 @@ impl Counts {
         self.zeros.len()
     }
 
-    /// How often an input is 0.
-    pub(crate) fn zeros(&self, input: usize) -> u32 {
-        count_at(&self.zeros, input)
-    }
-
-    /// How often an input is 1.
-    pub(crate) fn ones(&self, input: usize) -> u32 {
-        count_at(&self.ones, input)
+    /// How often an input is 0, and how often 1.
+    pub(crate) fn of(&self, input: usize) -> (u32, u32) {
+        (count_at(&self.zeros, input), count_at(&self.ones, input))
     }
 }

@@ -1,7 +1,7 @@
 //! A cube by itself: its literals and its outputs. The search makes such cubes; those that it is
 //! given are rows of a list.
 
-use crate::bits::{Literals, all_bits, literal_at, put_bit};
+use crate::bits::{Literals, put_bit, words_for};
 use std::alloc::{AllocError, Global};
 
 /// One step of a hash over words (Knuth, The art of computer programming, volume 3).
@@ -38,9 +38,14 @@ impl Cube {
 
     /// All points under all outputs.
     pub(crate) fn whole(alloc: Global, width: usize, outputs: usize) -> Result<Cube, AllocError> {
-        let outputs = all_bits(alloc, outputs)?;
-        let literals: Vec<Literals> = vec![in alloc; Literals::NONE; width]?;
-        Ok(Cube { literals, outputs })
+        let mut all: Vec<u64> = vec![in alloc; 0; words_for(outputs)]?;
+        for output in 0..outputs {
+            put_bit(&mut all, output);
+        }
+        Ok(Cube {
+            literals: vec![in alloc; Literals::NONE; width]?,
+            outputs: all,
+        })
     }
 
     /// These literals with one output.
@@ -68,10 +73,5 @@ impl Cube {
             number = hash_step(number, *word);
         }
         number
-    }
-
-    /// Which literal an input has.
-    pub(crate) fn literal(&self, input: usize) -> Option<bool> {
-        literal_at(&self.literals, input)
     }
 }

@@ -5,7 +5,7 @@
 //! point has one always. So the literals that part the two cubes are put in an order, those of
 //! short rows first, and the least number of them that will do is found by binary search.
 
-use crate::bits::{Literals, has_bit, has_literal_at, put_literal, row_at};
+use crate::bits::{Literals, has_bit, has_literal_at, literal_at, put_literal, row_at};
 use crate::blocking_matrix::BlockingRows;
 use crate::cube::Cube;
 use crate::finder::{Finder, Signature};
@@ -35,7 +35,7 @@ fn missing_literals(
 ) -> Result<Vec<(u64, usize, bool)>, AllocError> {
     let mut missing: Vec<(u64, usize, bool)> = Vec::new(alloc);
     for input in 0..wide.len().saturating_mul(64) {
-        if let Some(one) = signature.cube.literal(input)
+        if let Some(one) = literal_at(&signature.cube.literals, input)
             && !has_literal_at(wide, input)
         {
             missing.push((u64::MAX - input_weight(&signature.rows, input), input, one))?;

@@ -15,7 +15,7 @@ use crate::bits::{
 };
 use crate::blocking_matrix::{BlockingMatrix, BlockingRows};
 use crate::cube::Cube;
-use crate::function::Function;
+use crate::function::{Function, list_at};
 use crate::lists::push_cofactors;
 use crate::prime_list::push_primes;
 use crate::question::Question;
@@ -47,15 +47,6 @@ impl Drop for Signature {
 }
 
 impl Signature {
-    /// The meet of no primes, without rows.
-    fn new(alloc: Global, function: &Function) -> Result<Signature, AllocError> {
-        Ok(Signature {
-            cube: Cube::whole(alloc, function.width, function.outputs)?,
-            place: Place::none(alloc),
-            rows: BlockingRows::new(alloc, function.width),
-        })
-    }
-
     /// Narrows the cube to that of another cube's minimal rows. `false` if that one meets OFF.
     fn meet_rows(
         &mut self,
@@ -145,8 +136,12 @@ impl<'a> Finder<'a> {
 
     /// The signature cube of a cube, without a place. `None` if the cube meets OFF.
     pub(crate) fn signature_cube(&mut self, cube: &Cube) -> Result<Option<Signature>, AllocError> {
-        let function = self.function;
-        let mut signature = Signature::new(self.alloc, function)?;
+        let (alloc, function) = (self.alloc, self.function);
+        let mut signature = Signature {
+            cube: Cube::whole(alloc, function.width, function.outputs)?,
+            place: Place::none(alloc),
+            rows: BlockingRows::new(alloc, function.width),
+        };
         let is_implicant = match self.primes {
             Some(primes) => signature.meet_primes(primes, cube, function.outputs)?,
             None => signature.meet_rows(&mut self.matrix, function, cube)?,
@@ -179,7 +174,7 @@ impl<'a> Finder<'a> {
         if self.without_own_place.contains(&hash) {
             return Ok(false);
         }
-        let Some(output) = self.output_of_own_place(&signature.cube, &signature.rows)? else {
+        let Some(output) = self.output_of_own_place(signature)? else {
             self.without_own_place.insert(hash)?;
             return Ok(false);
         };
@@ -191,18 +186,19 @@ impl<'a> Finder<'a> {
     // question.
     fn output_of_own_place(
         &mut self,
-        cube: &Cube,
-        rows: &BlockingRows,
+        signature: &Signature,
     ) -> Result<Option<usize>, AllocError> {
         self.avoided.clear();
-        let first = rows.end_without_output();
-        if self.primes.is_none() && !self.avoid_rows_with_outputs(cube, rows, first)? {
+        let first = signature.rows.end_without_output();
+        if self.primes.is_none() && !self.avoid_rows_with_outputs(signature, first)? {
             return Ok(None);
         }
         let common = self.avoided.len();
         for output in 0..self.function.outputs {
             self.avoided.truncate(common);
-            if has_bit(&cube.outputs, output) && self.has_own_place(cube, rows, first, output)? {
+            if has_bit(&signature.cube.outputs, output)
+                && self.has_own_place(signature, first, output)?
+            {
                 return Ok(Some(output));
             }
         }
@@ -212,37 +208,41 @@ impl<'a> Finder<'a> {
     // Whether the cube has a place of its own under this output.
     fn has_own_place(
         &mut self,
-        cube: &Cube,
-        rows: &BlockingRows,
+        signature: &Signature,
         first: usize,
         output: usize,
     ) -> Result<bool, AllocError> {
-        if self.function.on(output).is_empty() {
+        if list_at(&self.function.on, output).is_empty() {
             return Ok(false);
         }
-        if self.guess_own_place(cube, output)? {
+        if self.guess_own_place(&signature.cube, output)? {
             return Ok(true);
         }
-        if !self.avoid_all(cube, rows, first, output)? {
+        if !self.avoid_all(signature, first, output)? {
             return Ok(false);
         }
-        self.has_wanted_place_outside_avoided(cube, output)
+        if self.function.samples {
+            return self.has_on_place_outside_avoided(&signature.cube.literals, output);
+        }
+        let mut budget = REGION_BUDGET;
+        self.question.ask(&signature.cube.literals, &self.avoided, &mut budget)
     }
 
     // Gathers the cubes to be avoided for the rows with an output. `false` if these are all places.
     fn avoid_rows_with_outputs(
         &mut self,
-        cube: &Cube,
-        rows: &BlockingRows,
+        signature: &Signature,
         first: usize,
     ) -> Result<bool, AllocError> {
+        let rows = &signature.rows;
         let mut begin = first;
         for _ in first..rows.len() {
             let Some(output) = rows.output(begin) else {
                 break;
             };
             let end = rows.end_of_output(begin);
-            if !self.avoid_exchanged(cube, rows.input_words_of_rows(begin, end), output)? {
+            let exchanged = rows.input_words_of_rows(begin, end);
+            if !self.avoid_exchanged(&signature.cube, exchanged, output)? {
                 return Ok(false);
             }
             begin = end;
@@ -259,11 +259,11 @@ impl<'a> Finder<'a> {
         output: usize,
     ) -> Result<bool, AllocError> {
         let (cube, width) = (cube.literals.as_slice(), self.function.width);
-        let compared: &mut [Literals] = &mut self.compared;
-        for other in self.function.on_and_dc(output).chunks_exact(width.max(1)) {
+        let (avoided, compared) = (&mut self.avoided, self.compared.as_mut_slice());
+        for other in list_at(&self.function.on_and_dc, output).chunks_exact(width.max(1)) {
             compare(compared, other, cube);
             if meets_with_any_row_exchanged(compared, rows, width)
-                && !push_cofactor(&mut self.avoided, other, cube)?
+                && !push_cofactor(avoided, other, cube)?
             {
                 return Ok(false);
             }
@@ -274,34 +274,23 @@ impl<'a> Finder<'a> {
     // Gathers the cubes to be avoided under this output. `false` if these are all places.
     fn avoid_all(
         &mut self,
-        cube: &Cube,
-        rows: &BlockingRows,
+        signature: &Signature,
         first: usize,
         output: usize,
     ) -> Result<bool, AllocError> {
+        let cube = &signature.cube;
         let is_left = match self.primes {
             Some(primes) => push_primes(&mut self.avoided, primes, cube, output)?,
-            None => self.avoid_exchanged(cube, rows.input_words_of_rows(0, first), output)?,
+            None => {
+                let exchanged = signature.rows.input_words_of_rows(0, first);
+                self.avoid_exchanged(cube, exchanged, output)?
+            }
         };
         if !is_left {
             return Ok(false);
         }
-        let dc = self.function.dc(output);
+        let dc = list_at(&self.function.dc, output);
         push_cofactors(&mut self.avoided, dc, &cube.literals, self.function.width)
-    }
-
-    // Whether the cube has a wanted place under this output outside all that was gathered.
-    fn has_wanted_place_outside_avoided(
-        &mut self,
-        cube: &Cube,
-        output: usize,
-    ) -> Result<bool, AllocError> {
-        if self.function.samples {
-            return self.has_on_place_outside_avoided(&cube.literals, output);
-        }
-        let mut budget = REGION_BUDGET;
-        self.question
-            .ask(&cube.literals, &self.avoided, &mut budget)
     }
 
     // Whether the cube has a place of an ON cube outside all that was gathered.
@@ -312,7 +301,7 @@ impl<'a> Finder<'a> {
     ) -> Result<bool, AllocError> {
         let width = self.function.width;
         let mut budget = REGION_BUDGET;
-        for wanted in self.function.on(output).chunks_exact(width.max(1)) {
+        for wanted in list_at(&self.function.on, output).chunks_exact(width.max(1)) {
             if meets(wanted, cube) && self.ask_for_meet(cube, wanted, &mut budget)? {
                 return Ok(true);
             }

@@ -18,11 +18,12 @@ pub(crate) struct Function {
     pub(crate) samples: bool,
     /// Whether a cube's own place can be looked for: by ON with DC, or by a list of all primes.
     pub(crate) finds_own_places: bool,
-    on: Vec<Vec<Literals>>,
-    dc: Vec<Vec<Literals>>,
-    off: Vec<Vec<Literals>>,
-    // ON with DC.
-    on_and_dc: Vec<Vec<Literals>>,
+    /// The cubes of each output.
+    pub(crate) on: Vec<Vec<Literals>>,
+    pub(crate) dc: Vec<Vec<Literals>>,
+    pub(crate) off: Vec<Vec<Literals>>,
+    /// Cubes that hold the points of ON and DC.
+    pub(crate) on_and_dc: Vec<Vec<Literals>>,
 }
 
 impl Drop for Function {
@@ -70,20 +71,8 @@ fn rows_of_output(alloc: Global, rows: &Rows, output: usize) -> Result<Vec<Liter
     Ok(list)
 }
 
-/// The cubes of two lists, without absorbed ones.
-fn union(
-    alloc: Global,
-    list: &[Literals],
-    other: &[Literals],
-    width: usize,
-) -> Result<Vec<Literals>, AllocError> {
-    let mut both = list.to_vec(alloc)?;
-    both.extend_from_slice(other)?;
-    absorb_list(alloc, &both, width)
-}
-
 /// The list at an index, empty past the end.
-fn list_at(lists: &[Vec<Literals>], index: usize) -> &[Literals] {
+pub(crate) fn list_at(lists: &[Vec<Literals>], index: usize) -> &[Literals] {
     match lists.get(index) {
         Some(list) => list,
         None => &[],
@@ -112,7 +101,8 @@ impl Function {
     // Takes ON with DC as the complements of OFF. `false` if that is past the budget.
     fn join_complements(&mut self, alloc: Global) -> Result<bool, AllocError> {
         let mut budget = COMPLEMENT_BUDGET;
-        for list in &self.off {
+        for output in 0..self.outputs {
+            let list = list_at(&self.off, output);
             let Some(outside) = complement(alloc, list, self.width, &mut budget)? else {
                 return Ok(false);
             };
@@ -124,8 +114,9 @@ impl Function {
     // Takes the cubes of ON and DC together, without absorbed ones.
     fn join_on_and_dc(&mut self, alloc: Global) -> Result<(), AllocError> {
         for output in 0..self.outputs {
-            let list = union(alloc, self.on(output), self.dc(output), self.width)?;
-            self.on_and_dc.push(list)?;
+            let mut both = list_at(&self.on, output).to_vec(alloc)?;
+            both.extend_from_slice(list_at(&self.dc, output))?;
+            self.on_and_dc.push(absorb_list(alloc, &both, self.width)?)?;
         }
         Ok(())
     }
@@ -150,25 +141,5 @@ impl Function {
             off: Vec::new(alloc),
             on_and_dc: Vec::new(alloc),
         })
-    }
-
-    /// The ON cubes of an output.
-    pub(crate) fn on(&self, output: usize) -> &[Literals] {
-        list_at(&self.on, output)
-    }
-
-    /// The DC cubes of an output.
-    pub(crate) fn dc(&self, output: usize) -> &[Literals] {
-        list_at(&self.dc, output)
-    }
-
-    /// The OFF cubes of an output.
-    pub(crate) fn off(&self, output: usize) -> &[Literals] {
-        list_at(&self.off, output)
-    }
-
-    /// Cubes that hold the points of ON and DC under an output.
-    pub(crate) fn on_and_dc(&self, output: usize) -> &[Literals] {
-        list_at(&self.on_and_dc, output)
     }
 }

@@ -8,6 +8,7 @@ use crate::bits::{
 };
 use crate::cube::Cube;
 use crate::finder::{Finder, Signature};
+use crate::function::list_at;
 use crate::lists::any_meets;
 use crate::rows::Rows;
 use std::alloc::AllocError;
@@ -106,7 +107,7 @@ impl Finder<'_> {
         let guess = self.question.answer();
         Ok(
             !other_prime_meets(primes, cube, guess, output)
-                && !any_meets(self.function.dc(output), guess, self.function.width),
+                && !any_meets(list_at(&self.function.dc, output), guess, self.function.width),
         )
     }
 }

@@ -130,27 +130,6 @@ fn has_both_literals(row: &[Literals]) -> bool {
     false
 }
 
-/// Takes over the literals of an answer at inputs where the cube asked for has none.
-fn remember(remembered: &mut [Literals], answer: &[Literals], inside: &[Literals]) {
-    for k in 0..inside.len().min(remembered.len()) {
-        let found = literals_at(answer, k).at(!inside[k].inputs());
-        remembered[k] = found.meet(remembered[k].at(!found.inputs()));
-    }
-}
-
-/// Adds the cube, with the remembered literals at inputs where it has none.
-fn push_guess(
-    rows: &mut Vec<Literals>,
-    inside: &[Literals],
-    remembered: &[Literals],
-) -> Result<(), AllocError> {
-    for k in 0..inside.len() {
-        let kept = literals_at(remembered, k).at(!inside[k].inputs());
-        rows.push(inside[k].meet(kept))?;
-    }
-    Ok(())
-}
-
 /// Counts the literals of cubes by input, and notes those that occur in the shortest cubes.
 fn count_literals(
     rows: &[Literals],
@@ -194,29 +173,6 @@ fn move_row_without(rows: &mut [Literals], from: usize, to: usize, taken: &[Lite
             rows[at] = literals_at(rows, from.wrapping_add(k)).at(!taken[k].inputs());
         }
     }
-}
-
-/// Copies the cubes from `begin` to `end` that meet the forced literals to the end, without the
-/// literals at forced inputs.
-fn copy_meeting(
-    rows: &mut Vec<Literals>,
-    begin: usize,
-    end: usize,
-    forced: &[Literals],
-    notes: &mut Notes,
-) -> Result<(), AllocError> {
-    let width = forced.len();
-    let mut from = begin;
-    for _ in 0..end.saturating_sub(begin) / width.max(1) {
-        if meets(row_at(rows, from, width), forced) {
-            let to = rows.len();
-            rows.extend_from_slice(forced)?;
-            move_row_without(rows, from, to, forced);
-            notes.add(row_at(rows, to, width));
-        }
-        from = from.saturating_add(width);
-    }
-    Ok(())
 }
 
 impl Question {
@@ -279,14 +235,23 @@ impl Question {
     pub(crate) fn guess(&mut self, inside: &[Literals]) -> Result<(), AllocError> {
         self.rows.clear();
         self.regions.clear();
-        push_guess(&mut self.rows, inside, &self.remembered)
+        let (rows, remembered) = (&mut self.rows, self.remembered.as_slice());
+        for k in 0..inside.len() {
+            let kept = literals_at(remembered, k).at(!inside[k].inputs());
+            rows.push(inside[k].meet(kept))?;
+        }
+        Ok(())
     }
 
     // Remembers the literals of the answer at inputs where the cube asked for has none.
     fn remember_answer(&mut self, inside: &[Literals]) {
         let begin = self.begin_of_last_region();
         let answer = row_at(&self.rows, begin, self.width);
-        remember(&mut self.remembered, answer, inside);
+        let remembered: &mut [Literals] = &mut self.remembered;
+        for k in 0..inside.len().min(remembered.len()) {
+            let found = literals_at(answer, k).at(!inside[k].inputs());
+            remembered[k] = found.meet(remembered[k].at(!found.inputs()));
+        }
     }
 
     /// The cube that was found last, which is outside the list.
@@ -386,7 +351,8 @@ impl Question {
     fn split(&mut self) -> Result<(), AllocError> {
         let (from, end) = (self.begin_of_last_region(), self.rows.len());
         let input = self.splitting_input(from);
-        let one = self.counts.ones(input) < self.counts.zeros(input);
+        let (zeros, ones) = self.counts.of(input);
+        let one = ones < zeros;
         if let Some(region) = self.regions.last_mut() {
             region.input = input;
             region.one = !one;
@@ -411,8 +377,16 @@ impl Question {
         let width = self.width;
         push_narrowed(&mut self.rows, begin, &self.forced)?;
         self.notes.begin();
-        let from = begin.saturating_add(width);
-        copy_meeting(&mut self.rows, from, end, &self.forced, &mut self.notes)?;
+        let mut from = begin.saturating_add(width);
+        for _ in 0..end.saturating_sub(from) / width.max(1) {
+            if meets(row_at(&self.rows, from, width), &self.forced) {
+                let to = self.rows.len();
+                self.rows.extend_from_slice(&self.forced)?;
+                move_row_without(&mut self.rows, from, to, &self.forced);
+                self.notes.add(row_at(&self.rows, to, width));
+            }
+            from = from.saturating_add(width);
+        }
         self.end_notes();
         Ok(())
     }
@@ -443,7 +417,7 @@ impl Question {
         let mut best = 0;
         let mut most = (0, 0);
         for input in 0..counts.inputs() {
-            let (zeros, ones) = (counts.zeros(input), counts.ones(input));
+            let (zeros, ones) = counts.of(input);
             let here = (zeros.wrapping_add(ones), zeros.min(ones));
             if has_literal_at(occurring, input) && here >= most {
                 most = here;

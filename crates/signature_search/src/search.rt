@@ -5,7 +5,7 @@ use crate::bits::{Literals, bit_count, contains, has_bit, is_within, literal_cou
 use crate::blocking_matrix::BlockingRows;
 use crate::cube::Cube;
 use crate::finder::{Finder, Signature};
-use crate::function::Function;
+use crate::function::{Function, list_at};
 use crate::rows::{Place, Rows};
 use std::alloc::{AllocError, Global};
 use std::mem::replace;
@@ -116,10 +116,10 @@ impl<'a> Search<'a> {
             return Ok(());
         }
         self.tried.push(hash)?;
-        if self.finder.finds_own_place(&mut signature)? {
-            self.add_signature(signature)?;
+        if !self.finder.finds_own_place(&mut signature)? {
+            return Ok(());
         }
-        Ok(())
+        self.add_signature(signature)
     }
 
     /// Adds a signature cube for each ON cube and output of which the cover, and the signature
@@ -130,21 +130,11 @@ impl<'a> Search<'a> {
         cover: &Rows,
     ) -> Result<(), AllocError> {
         for row in 0..on.len() {
-            self.add_signatures_left_out_of_row(on.literals_of(row), on.outputs_of(row), cover)?;
-        }
-        Ok(())
-    }
-
-    // The same for one ON cube.
-    fn add_signatures_left_out_of_row(
-        &mut self,
-        wide: &[Literals],
-        outputs: &[u64],
-        cover: &Rows,
-    ) -> Result<(), AllocError> {
-        for output in 0..cover.outputs() {
-            if has_bit(outputs, output) && self.signatures.len() < MOST_SIGNATURES {
-                self.add_signature_left_out(wide, cover, output)?;
+            let (wide, outputs) = (on.literals_of(row), on.outputs_of(row));
+            for output in 0..cover.outputs() {
+                if has_bit(outputs, output) && self.signatures.len() < MOST_SIGNATURES {
+                    self.add_signature_left_out(wide, cover, output)?;
+                }
             }
         }
         Ok(())
@@ -173,7 +163,7 @@ impl<'a> Search<'a> {
         cover: &Rows,
         output: usize,
     ) -> Result<bool, AllocError> {
-        let mut held = self.finder.function.dc(output).to_vec(self.finder.alloc)?;
+        let mut held = list_at(&self.finder.function.dc, output).to_vec(self.finder.alloc)?;
         push_signatures_meeting(&mut held, &self.signatures, wide, output)?;
         push_rows_meeting(&mut held, cover, wide, output)?;
         let mut budget = REGION_BUDGET;
