@@ -26,7 +26,11 @@ pub(crate) struct BlockingRows {
 
 impl Drop for BlockingRows {
     fn drop(self) {
-        let BlockingRows { width: _, inputs: _, outputs: _ } = self;
+        let BlockingRows {
+            width: _,
+            inputs: _,
+            outputs: _,
+        } = self;
     }
 }
 

@@ -32,7 +32,10 @@ fn forbidden_steps(
         if rows.size(row) == 1 {
             join_bits(&mut steps, rows.inputs(row));
             if let Some(output) = rows.output(row) {
-                put_bit(&mut steps, first_output_step(function.width).saturating_add(output));
+                put_bit(
+                    &mut steps,
+                    first_output_step(function.width).saturating_add(output),
+                );
             }
         }
     }

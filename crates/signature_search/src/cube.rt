@@ -19,7 +19,10 @@ pub(crate) struct Cube {
 // Written out, so that where a cube ends a proof has one call, and not one for each of its lists.
 impl Drop for Cube {
     fn drop(self) {
-        let Cube { literals: _, outputs: _ } = self;
+        let Cube {
+            literals: _,
+            outputs: _,
+        } = self;
     }
 }
 
@@ -66,11 +69,12 @@ impl Cube {
     /// A hash of the cube.
     pub(crate) fn hash(&self) -> u64 {
         let mut number: u64 = 0;
-        for word in &self.literals {
+        for k in 0..self.literals.len() {
+            let word = self.literals[k];
             number = hash_step(hash_step(number, word.zeros), word.ones);
         }
-        for word in &self.outputs {
-            number = hash_step(number, *word);
+        for k in 0..self.outputs.len() {
+            number = hash_step(number, self.outputs[k]);
         }
         number
     }

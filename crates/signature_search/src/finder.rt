@@ -11,7 +11,7 @@
 
 use crate::bits::{
     Literals, drop_bit, has_bit, join_literals, literals_at, meets, narrow_at, push_cofactor,
-    word_at,
+    row_at, row_count, word_at,
 };
 use crate::blocking_matrix::{BlockingMatrix, BlockingRows};
 use crate::cube::Cube;
@@ -58,7 +58,11 @@ impl Signature {
             return Ok(false);
         }
         for row in 0..self.rows.len() {
-            join_literals(&mut self.cube.literals, &cube.literals, self.rows.inputs(row));
+            join_literals(
+                &mut self.cube.literals,
+                &cube.literals,
+                self.rows.inputs(row),
+            );
             if let Some(output) = self.rows.output(row) {
                 drop_bit(&mut self.cube.outputs, output);
             }
@@ -184,10 +188,7 @@ impl<'a> Finder<'a> {
 
     // An output of the cube under which it has a place of its own, which is then the answer of the
     // question.
-    fn output_of_own_place(
-        &mut self,
-        signature: &Signature,
-    ) -> Result<Option<usize>, AllocError> {
+    fn output_of_own_place(&mut self, signature: &Signature) -> Result<Option<usize>, AllocError> {
         self.avoided.clear();
         let first = signature.rows.end_without_output();
         if self.primes.is_none() && !self.avoid_rows_with_outputs(signature, first)? {
@@ -225,7 +226,8 @@ impl<'a> Finder<'a> {
             return self.has_on_place_outside_avoided(&signature.cube.literals, output);
         }
         let mut budget = REGION_BUDGET;
-        self.question.ask(&signature.cube.literals, &self.avoided, &mut budget)
+        self.question
+            .ask(&signature.cube.literals, &self.avoided, &mut budget)
     }
 
     // Gathers the cubes to be avoided for the rows with an output. `false` if these are all places.
@@ -301,7 +303,9 @@ impl<'a> Finder<'a> {
     ) -> Result<bool, AllocError> {
         let width = self.function.width;
         let mut budget = REGION_BUDGET;
-        for wanted in list_at(&self.function.on, output).chunks_exact(width.max(1)) {
+        let list = list_at(&self.function.on, output);
+        for index in 0..row_count(list, width) {
+            let wanted = row_at(list, index.wrapping_mul(width), width);
             if meets(wanted, cube) && self.ask_for_meet(cube, wanted, &mut budget)? {
                 return Ok(true);
             }

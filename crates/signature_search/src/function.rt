@@ -106,7 +106,8 @@ impl Function {
             let Some(outside) = complement(alloc, list, self.width, &mut budget)? else {
                 return Ok(false);
             };
-            self.on_and_dc.push(absorb_list(alloc, &outside, self.width)?)?;
+            self.on_and_dc
+                .push(absorb_list(alloc, &outside, self.width)?)?;
         }
         Ok(true)
     }

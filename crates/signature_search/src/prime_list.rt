@@ -107,7 +107,11 @@ impl Finder<'_> {
         let guess = self.question.answer();
         Ok(
             !other_prime_meets(primes, cube, guess, output)
-                && !any_meets(list_at(&self.function.dc, output), guess, self.function.width),
+                && !any_meets(
+                    list_at(&self.function.dc, output),
+                    guess,
+                    self.function.width,
+                ),
         )
     }
 }

@@ -15,7 +15,11 @@ pub struct Proposer {
 
 impl Drop for Proposer {
     fn drop(self) {
-        let Proposer { alloc: _, function: _, primes: _ } = self;
+        let Proposer {
+            alloc: _,
+            function: _,
+            primes: _,
+        } = self;
     }
 }
 

@@ -37,7 +37,10 @@ impl Rows {
     pub fn begin_row(&mut self) -> Result<(), AllocError> {
         let literals = self.literals.len().saturating_add(words_for(self.inputs));
         self.literals.resize(literals, Literals::NONE)?;
-        let outputs = self.outputs_by_row.len().saturating_add(words_for(self.outputs));
+        let outputs = self
+            .outputs_by_row
+            .len()
+            .saturating_add(words_for(self.outputs));
         self.outputs_by_row.resize(outputs, 0)
     }
 
@@ -45,15 +48,25 @@ impl Rows {
     pub fn put_literal(&mut self, input: usize, one: bool) {
         let begin = self.literals.len().saturating_sub(words_for(self.inputs));
         if input < self.inputs {
-            put_literal(&mut self.literals, begin.saturating_mul(64).saturating_add(input), one);
+            put_literal(
+                &mut self.literals,
+                begin.saturating_mul(64).saturating_add(input),
+                one,
+            );
         }
     }
 
     /// Gives the last row an output. An output that is not there is ignored.
     pub fn put_output(&mut self, output: usize) {
-        let begin = self.outputs_by_row.len().saturating_sub(words_for(self.outputs));
+        let begin = self
+            .outputs_by_row
+            .len()
+            .saturating_sub(words_for(self.outputs));
         if output < self.outputs {
-            put_bit(&mut self.outputs_by_row, begin.saturating_mul(64).saturating_add(output));
+            put_bit(
+                &mut self.outputs_by_row,
+                begin.saturating_mul(64).saturating_add(output),
+            );
         }
     }
 

@@ -181,7 +181,8 @@ impl<'a> Search<'a> {
     /// The places of the signature cubes that lie in no other one.
     pub(crate) fn maximal_places(&mut self) -> Result<Vec<Place>, AllocError> {
         let alloc = self.finder.alloc;
-        self.signatures.sort_by_key(|signature| size(&signature.cube))?;
+        self.signatures
+            .sort_by_key(|signature| size(&signature.cube))?;
         let mut kept: Vec<Signature> = Vec::new(alloc);
         let mut places: Vec<Place> = Vec::new(alloc);
         for _ in 0..self.signatures.len() {
