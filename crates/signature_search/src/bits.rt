@@ -1,7 +1,7 @@
 //! Sets of bits as words, and the input parts of cubes as words of literals.
 ghost use Rattle.std.specs.Prelude.{◌<◌};
 
-use std::alloc::{AllocError, Global};
+use std::alloc::AllocError;
 
 /// The literals of a cube at 64 inputs: a bit for each that has `0`, and a bit for each with `1`.
 #[derive(Clone, Copy)]
@@ -102,20 +102,19 @@ pub(crate) fn literal_count(row: &[Literals]) -> u32 {
 }
 
 /// Narrows the cube that begins at an index to its meet with the other one, by adding its literals.
-pub(crate) fn narrow_at(rows: &mut Vec<Literals>, begin: usize, other: &[Literals]) {
-    for (k, more) in other.iter().enumerate() {
-        if let Some(word) = rows.get_mut(begin.wrapping_add(k)) {
-            *word = word.meet(*more);
+pub(crate) fn narrow_at(rows: &mut [Literals], begin: usize, other: &[Literals]) {
+    for k in 0..other.len() {
+        let at = begin.wrapping_add(k);
+        if at < rows.len() {
+            rows[at] = rows[at].meet(other[k]);
         }
     }
 }
 
-/// Leaves the literals at these inputs.
-pub(crate) fn keep_inputs(row: &mut Vec<Literals>, inputs: &[u64]) {
-    for (k, kept) in inputs.iter().enumerate() {
-        if let Some(word) = row.get_mut(k) {
-            *word = word.at(*kept);
-        }
+/// Adds the literals of another cube at these inputs.
+pub(crate) fn join_literals(row: &mut [Literals], other: &[Literals], inputs: &[u64]) {
+    for k in 0..row.len().min(inputs.len()) {
+        row[k] = row[k].meet(literals_at(other, k).at(inputs[k]));
     }
 }
 
@@ -127,8 +126,8 @@ pub(crate) fn push_cofactor(
     other: &[Literals],
 ) -> Result<bool, AllocError> {
     let mut left: u64 = 0;
-    for (k, word) in row.iter().enumerate() {
-        let rest = word.at(!literals_at(other, k).inputs());
+    for k in 0..row.len() {
+        let rest = row[k].at(!literals_at(other, k).inputs());
         left |= rest.inputs();
         rows.push(rest)?;
     }
@@ -181,23 +180,24 @@ pub(crate) fn literal_at(row: &[Literals], input: usize) -> Option<bool> {
 }
 
 /// Gives an input a literal, in place of any other.
-pub(crate) fn put_literal(row: &mut Vec<Literals>, input: usize, one: bool) {
-    let bit = 1 << (input % 64);
-    if let Some(word) = row.get_mut(input / 64) {
-        let mut rest = word.at(!bit);
+pub(crate) fn put_literal(row: &mut [Literals], input: usize, one: bool) {
+    let (k, bit) = (input / 64, 1 << (input % 64));
+    if k < row.len() {
+        let mut word = row[k].at(!bit);
         if one {
-            rest.ones |= bit;
+            word.ones |= bit;
         } else {
-            rest.zeros |= bit;
+            word.zeros |= bit;
         }
-        *word = rest;
+        row[k] = word;
     }
 }
 
 /// Takes away the literal of an input.
-pub(crate) fn free_input(row: &mut Vec<Literals>, input: usize) {
-    if let Some(word) = row.get_mut(input / 64) {
-        *word = word.at(!(1 << (input % 64)));
+pub(crate) fn free_input(row: &mut [Literals], input: usize) {
+    let k = input / 64;
+    if k < row.len() {
+        row[k] = row[k].at(!(1 << (input % 64)));
     }
 }
 
@@ -217,19 +217,19 @@ pub(crate) fn has_bit(words: &[u64], index: usize) -> bool {
 }
 
 /// Sets the bit at an index.
-pub(crate) fn put_bit(words: &mut Vec<u64>, index: usize) {
-    if let Some(word) = words.get_mut(index / 64) {
-        *word |= 1 << (index % 64);
+pub(crate) fn put_bit(words: &mut [u64], index: usize) {
+    let k = index / 64;
+    if k < words.len() {
+        words[k] |= 1 << (index % 64);
     }
 }
 
-/// This many bits, all of them set.
-pub(crate) fn all_bits(alloc: Global, count: usize) -> Result<Vec<u64>, AllocError> {
-    let mut words: Vec<u64> = vec![in alloc; 0; words_for(count)]?;
-    for index in 0..count {
-        put_bit(&mut words, index);
+/// Takes away the bit at an index.
+pub(crate) fn drop_bit(words: &mut [u64], index: usize) {
+    let k = index / 64;
+    if k < words.len() {
+        words[k] &= !(1 << (index % 64));
     }
-    Ok(words)
 }
 
 /// Whether each bit of the first set is in the second.
@@ -262,20 +262,18 @@ pub(crate) fn bit_count(words: &[u64]) -> u32 {
 }
 
 /// Adds the bits of another set.
-pub(crate) fn join_bits(words: &mut Vec<u64>, others: &[u64]) {
-    for (k, more) in others.iter().enumerate() {
-        if let Some(word) = words.get_mut(k) {
-            *word |= *more;
+pub(crate) fn join_bits(words: &mut [u64], others: &[u64]) {
+    for k in 0..others.len() {
+        if k < words.len() {
+            words[k] |= others[k];
         }
     }
 }
 
 /// Leaves the bits that are in both.
-pub(crate) fn meet_bits(words: &mut Vec<u64>, others: &[u64]) {
-    for (k, other) in others.iter().enumerate() {
-        if let Some(word) = words.get_mut(k) {
-            *word &= *other;
-        }
+pub(crate) fn meet_bits(words: &mut [u64], others: &[u64]) {
+    for k in 0..words.len().min(others.len()) {
+        words[k] &= others[k];
     }
 }
 

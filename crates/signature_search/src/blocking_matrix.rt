@@ -14,15 +14,24 @@ use crate::bits::{
     row_count, share_bit, word_at,
 };
 use crate::cube::Cube;
-use crate::function::Function;
+use crate::function::{Function, list_at};
 use std::alloc::{AllocError, Global};
 
 /// Rows of a blocking matrix: the inputs of their literals, and an output for some.
-#[derive(Drop)]
 pub(crate) struct BlockingRows {
     width: usize,
     inputs: Vec<u64>,
     outputs: Vec<Option<usize>>,
+}
+
+impl Drop for BlockingRows {
+    fn drop(self) {
+        let BlockingRows {
+            width: _,
+            inputs: _,
+            outputs: _,
+        } = self;
+    }
 }
 
 impl BlockingRows {
@@ -74,10 +83,22 @@ impl BlockingRows {
         self.len()
     }
 
-    /// Adds a row.
-    pub(crate) fn push(&mut self, inputs: &[u64], output: Option<usize>) -> Result<(), AllocError> {
-        self.inputs.extend_from_slice(inputs)?;
+    // Adds a row.
+    fn push(&mut self, inputs: &[u64], output: Option<usize>) -> Result<(), AllocError> {
         self.outputs.push(output)?;
+        self.inputs.extend_from_slice(inputs)
+    }
+
+    /// Adds a row of the inputs of literals.
+    pub(crate) fn push_inputs_of(
+        &mut self,
+        literals: &[Literals],
+        output: Option<usize>,
+    ) -> Result<(), AllocError> {
+        self.outputs.push(output)?;
+        for word in literals {
+            self.inputs.push(word.inputs())?;
+        }
         Ok(())
     }
 
@@ -91,17 +112,25 @@ impl BlockingRows {
 
     // Adds a row without literals.
     fn push_empty(&mut self, output: Option<usize>) -> Result<(), AllocError> {
-        let end = self.inputs.len().saturating_add(self.width);
-        self.inputs.resize(end, 0)?;
         self.outputs.push(output)?;
-        Ok(())
+        let end = self.inputs.len().saturating_add(self.width);
+        self.inputs.resize(end, 0)
     }
 
-    // Adds a row of the literal of one input.
-    fn push_single(&mut self, input: usize, output: Option<usize>) -> Result<(), AllocError> {
-        let begin = self.inputs.len().saturating_mul(64);
-        self.push_empty(output)?;
-        put_bit(&mut self.inputs, begin.saturating_add(input));
+    // Adds a row of one literal for each of these inputs that is not common to all outputs.
+    fn push_singles(
+        &mut self,
+        singles: &[u64],
+        common: &[u64],
+        output: Option<usize>,
+    ) -> Result<(), AllocError> {
+        for input in 0..self.width.saturating_mul(64) {
+            if has_bit(singles, input) && !has_bit(common, input) {
+                let begin = self.inputs.len().saturating_mul(64);
+                self.push_empty(output)?;
+                put_bit(&mut self.inputs, begin.saturating_add(input));
+            }
+        }
         Ok(())
     }
 
@@ -115,15 +144,6 @@ impl BlockingRows {
         }
         false
     }
-
-    /// The inputs that occur in rows.
-    pub(crate) fn occurring_inputs(&self, alloc: Global) -> Result<Vec<u64>, AllocError> {
-        let mut all: Vec<u64> = vec![in alloc; 0; self.width]?;
-        for row in 0..self.len() {
-            join_bits(&mut all, self.inputs(row));
-        }
-        Ok(all)
-    }
 }
 
 /// At how many inputs two cubes have opposite literals (0, 1 or more), and whether one of these
@@ -131,8 +151,8 @@ impl BlockingRows {
 fn opposite_inputs(cube: &[Literals], other: &[Literals], set: &[u64]) -> (u32, bool) {
     let mut few: u32 = 0;
     let mut shared: u64 = 0;
-    for (k, mine) in cube.iter().enumerate() {
-        let word = mine.opposites(literals_at(other, k));
+    for k in 0..cube.len() {
+        let word = cube[k].opposites(literals_at(other, k));
         few = few.wrapping_add(few_in_word(word));
         shared |= word & word_at(set, k);
     }
@@ -145,69 +165,22 @@ fn push_opposites(
     cube: &[Literals],
     other: &[Literals],
 ) -> Result<(), AllocError> {
-    for (k, mine) in cube.iter().enumerate() {
-        rows.push(mine.opposites(literals_at(other, k)))?;
+    for k in 0..cube.len() {
+        rows.push(cube[k].opposites(literals_at(other, k)))?;
     }
     Ok(())
 }
 
 /// Adds the inputs at which two cubes are parted to a set.
-fn join_opposites(set: &mut Vec<u64>, cube: &[Literals], other: &[Literals]) {
-    for (k, mine) in cube.iter().enumerate() {
-        if let Some(word) = set.get_mut(k) {
-            *word |= mine.opposites(literals_at(other, k));
-        }
+fn join_opposites(set: &mut [u64], cube: &[Literals], other: &[Literals]) {
+    for k in 0..set.len().min(cube.len()) {
+        set[k] |= cube[k].opposites(literals_at(other, k));
     }
-}
-
-/// Gathers the rows of OFF cubes: those of one literal as a set, and of the others those that have
-/// no literal of the set so far. `false` if one of the cubes meets this one.
-fn gather_rows(
-    rows: &mut Vec<u64>,
-    singles: &mut Vec<u64>,
-    cube: &[Literals],
-    off: &[Literals],
-    width: usize,
-) -> Result<bool, AllocError> {
-    for other in off.chunks_exact(width.max(1)) {
-        let (few, is_known) = opposite_inputs(cube, other, singles);
-        if few == 0 {
-            return Ok(false);
-        }
-        if !is_known {
-            if few == 1 {
-                join_opposites(singles, cube, other);
-            } else {
-                push_opposites(rows, cube, other)?;
-            }
-        }
-    }
-    Ok(true)
-}
-
-/// Adds the lengths and indices of the rows that have none of the singles and contain none of the
-/// first `longer` rows found.
-fn push_rows_to_order(
-    order: &mut Vec<(u32, usize)>,
-    rows: &[u64],
-    singles: &[u64],
-    found: &BlockingRows,
-    longer: usize,
-) -> Result<(), AllocError> {
-    let width = found.width;
-    for index in 0..row_count(rows, width) {
-        let row = row_at(rows, index.wrapping_mul(width), width);
-        if !share_bit(row, singles) && !found.has_row_within(row, 0, longer) {
-            order.push((bit_count(row), index))?;
-        }
-    }
-    Ok(())
 }
 
 /// The blocking matrix of a cube, and memory that is kept from one to the next.
 #[derive(Drop)]
 pub(crate) struct BlockingMatrix {
-    alloc: Global,
     width: usize,
     // The inputs whose literals are rows by themselves for the outputs of the cube.
     common: Vec<u64>,
@@ -220,34 +193,33 @@ pub(crate) struct BlockingMatrix {
 }
 
 impl BlockingMatrix {
-    pub(crate) fn new(alloc: Global, width: usize) -> Result<BlockingMatrix, AllocError> {
-        Ok(BlockingMatrix {
-            alloc,
+    pub(crate) fn new(alloc: Global, width: usize) -> BlockingMatrix {
+        BlockingMatrix {
             width,
-            common: vec![in alloc; 0; width]?,
-            singles: vec![in alloc; 0; width]?,
+            common: Vec::new(alloc),
+            singles: Vec::new(alloc),
             rows: Vec::new(alloc),
             order: Vec::new(alloc),
-        })
+        }
     }
 
-    /// The minimal rows of a cube: first those without an output, then those of each output that
-    /// the cube lacks. `None` if it meets an OFF cube.
-    pub(crate) fn minimal_rows(
+    /// Adds the minimal rows of a cube: first those without an output, then those of each output
+    /// that the cube lacks. `false` if it meets an OFF cube.
+    pub(crate) fn add_rows(
         &mut self,
+        found: &mut BlockingRows,
         function: &Function,
         cube: &Cube,
-    ) -> Result<Option<BlockingRows>, AllocError> {
+    ) -> Result<bool, AllocError> {
         if !self.gather_rows_of_cube(function, cube)? {
-            return Ok(None);
+            return Ok(false);
         }
-        let mut found = BlockingRows::new(self.alloc, self.width);
-        self.push_minimal_rows(&mut found, 0, None)?;
+        self.push_minimal_rows(found, 0, None)?;
         let longer = found.len();
-        self.push_singles(&mut found, None)?;
+        found.push_singles(&self.singles, &self.common, None)?;
         join_bits(&mut self.common, &self.singles);
-        self.add_rows_of_other_outputs(&mut found, longer, function, cube)?;
-        Ok(Some(found))
+        self.add_rows_of_other_outputs(found, longer, function, cube)?;
+        Ok(true)
     }
 
     // Gathers the rows of the outputs that the cube has. `false` if it meets an OFF cube.
@@ -256,12 +228,14 @@ impl BlockingMatrix {
         function: &Function,
         cube: &Cube,
     ) -> Result<bool, AllocError> {
-        self.common.fill(0);
-        self.singles.fill(0);
         self.rows.clear();
+        self.common.clear();
+        self.common.resize(self.width, 0)?;
+        self.singles.clear();
+        self.singles.resize(self.width, 0)?;
         for output in 0..function.outputs {
             if has_bit(&cube.outputs, output)
-                && !self.gather_rows(&cube.literals, function.off(output))?
+                && !self.gather_rows(&cube.literals, list_at(&function.off, output))?
             {
                 return Ok(false);
             }
@@ -279,13 +253,8 @@ impl BlockingMatrix {
     ) -> Result<(), AllocError> {
         for output in 0..function.outputs {
             if !has_bit(&cube.outputs, output) {
-                self.add_rows_of_output(
-                    found,
-                    longer,
-                    &cube.literals,
-                    function.off(output),
-                    output,
-                )?;
+                let off = list_at(&function.off, output);
+                self.add_rows_of_output(found, longer, &cube.literals, off, output)?;
             }
         }
         Ok(())
@@ -306,22 +275,42 @@ impl BlockingMatrix {
         join_bits(&mut self.singles, &self.common);
         if self.gather_rows(cube, off)? {
             self.push_minimal_rows(found, longer, Some(output))?;
-            self.push_singles(found, Some(output))
+            found.push_singles(&self.singles, &self.common, Some(output))
         } else {
             found.push_empty(Some(output))
         }
     }
 
-    // Gathers the rows of OFF cubes. `false` if one of them meets the cube.
+    // Gathers the rows of OFF cubes: those of one literal as a set, and of the others those that
+    // have no literal of the set so far. `false` if one of the cubes meets this one.
     fn gather_rows(&mut self, cube: &[Literals], off: &[Literals]) -> Result<bool, AllocError> {
-        gather_rows(&mut self.rows, &mut self.singles, cube, off, self.width)
+        let (rows, singles) = (&mut self.rows, self.singles.as_mut_slice());
+        for other in off.chunks_exact(self.width.max(1)) {
+            let (few, is_known) = opposite_inputs(cube, other, singles);
+            if few == 0 {
+                return Ok(false);
+            }
+            if !is_known {
+                if few == 1 {
+                    join_opposites(singles, cube, other);
+                } else {
+                    push_opposites(rows, cube, other)?;
+                }
+            }
+        }
+        Ok(true)
     }
 
     // Orders the rows of several literals that contain no single one and none of the first `longer`
     // rows found.
     fn order_rows(&mut self, found: &BlockingRows, longer: usize) -> Result<(), AllocError> {
         self.order.clear();
-        push_rows_to_order(&mut self.order, &self.rows, &self.singles, found, longer)?;
+        for index in 0..row_count(&self.rows, self.width) {
+            let row = row_at(&self.rows, index.wrapping_mul(self.width), self.width);
+            if !share_bit(row, &self.singles) && !found.has_row_within(row, 0, longer) {
+                self.order.push((bit_count(row), index))?;
+            }
+        }
         self.order.sort_unstable();
         Ok(())
     }
@@ -336,24 +325,11 @@ impl BlockingMatrix {
     ) -> Result<(), AllocError> {
         self.order_rows(found, longer)?;
         let begin = found.len();
-        for (_, index) in &self.order {
+        for at in 0..self.order.len() {
+            let (_, index) = self.order[at];
             let row = row_at(&self.rows, index.saturating_mul(self.width), self.width);
             if !found.has_row_within(row, begin, found.len()) {
                 found.push(row, output)?;
-            }
-        }
-        Ok(())
-    }
-
-    // Adds the rows of one literal that are not common to all outputs.
-    fn push_singles(
-        &self,
-        found: &mut BlockingRows,
-        output: Option<usize>,
-    ) -> Result<(), AllocError> {
-        for input in 0..self.width.saturating_mul(64) {
-            if has_bit(&self.singles, input) && !has_bit(&self.common, input) {
-                found.push_single(input, output)?;
             }
         }
         Ok(())

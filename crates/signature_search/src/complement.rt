@@ -9,21 +9,14 @@ use crate::bits::{Literals, free_input, has_literal, literal_at, put_literal, ro
 use crate::counts::Counts;
 use crate::lists::{absorb_list, any_contains};
 use std::alloc::{AllocError, Global};
-
-/// The input at which a list is split, and whether its cubes have it as 0 and as 1.
-#[derive(Clone, Copy)]
-struct Split {
-    input: usize,
-    has_zeros: bool,
-    has_ones: bool,
-}
+use std::mem::swap;
 
 /// An input in both senses with most literals, else one with most literals.
 fn splitting_input(counts: &Counts) -> usize {
     let mut best = 0;
     let mut most = (false, 0, 0);
     for input in 0..counts.inputs() {
-        let (zeros, ones) = (counts.zeros(input), counts.ones(input));
+        let (zeros, ones) = counts.of(input);
         let rarer = zeros.min(ones);
         let here = (rarer > 0, zeros.wrapping_add(ones), rarer);
         if here > most {
@@ -32,22 +25,6 @@ fn splitting_input(counts: &Counts) -> usize {
         }
     }
     best
-}
-
-impl Split {
-    /// The split of a list.
-    fn of(alloc: Global, list: &[Literals], width: usize) -> Result<Split, AllocError> {
-        let mut counts = Counts::new(alloc, width)?;
-        for index in 0..row_count(list, width) {
-            counts.add(row_at(list, index.wrapping_mul(width), width));
-        }
-        let input = splitting_input(&counts);
-        Ok(Split {
-            input,
-            has_zeros: counts.zeros(input) != 0,
-            has_ones: counts.ones(input) != 0,
-        })
-    }
 }
 
 /// The cubes of the list that have points where the input is 1, or 0, without the input and without
@@ -69,24 +46,6 @@ fn cofactor(
         }
     }
     absorb_list(alloc, &half, width)
-}
-
-/// The halves of a list, and where it is split.
-#[derive(Drop)]
-struct Halves {
-    split: Split,
-    zeros: Vec<Literals>,
-    ones: Vec<Literals>,
-}
-
-impl Halves {
-    /// The halves of a list.
-    fn of(alloc: Global, list: &[Literals], width: usize) -> Result<Halves, AllocError> {
-        let split = Split::of(alloc, list, width)?;
-        let zeros = cofactor(alloc, list, width, split.input, false)?;
-        let ones = cofactor(alloc, list, width, split.input, true)?;
-        Ok(Halves { split, zeros, ones })
-    }
 }
 
 /// Adds a cube with one literal more.
@@ -114,61 +73,85 @@ fn complement_of_cube(alloc: Global, row: &[Literals]) -> Result<Vec<Literals>, 
     Ok(list)
 }
 
-/// A list that is joined of the complements of two halves.
-#[derive(Drop)]
-struct Joined {
+/// The halves of a list, where it is split, and what is joined of their complements.
+struct Halves {
     width: usize,
+    /// The input at which the list is split, and whether its cubes have it as 0 and as 1.
     input: usize,
-    /// The cubes of both halves, without a literal of the input.
+    has_zeros: bool,
+    has_ones: bool,
+    zeros: Vec<Literals>,
+    ones: Vec<Literals>,
+    /// The cubes of both complements, without a literal of the input.
     both: Vec<Literals>,
     /// The other cubes.
     parted: Vec<Literals>,
 }
 
-impl Joined {
-    /// Adds the cubes of one half: without a literal those that lie in a cube of the other half, or
-    /// all of them.
-    fn add_half(
-        &mut self,
-        half: &[Literals],
-        other: &[Literals],
-        one: bool,
-        all: bool,
-    ) -> Result<(), AllocError> {
-        let (width, input) = (self.width, self.input);
-        let (both, parted) = (&mut self.both, &mut self.parted);
-        for index in 0..row_count(half, width) {
-            let row = row_at(half, index.wrapping_mul(width), width);
-            if all || any_contains(other, row, width) {
-                both.extend_from_slice(row)?;
+// Written out, so that where halves end a proof has one call, and not one for each list.
+impl Drop for Halves {
+    fn drop(self) {
+        let Halves {
+            width: _,
+            input: _,
+            has_zeros: _,
+            has_ones: _,
+            zeros: _,
+            ones: _,
+            both: _,
+            parted: _,
+        } = self;
+    }
+}
+
+impl Halves {
+    /// The halves of a list.
+    fn of(alloc: Global, list: &[Literals], width: usize) -> Result<Halves, AllocError> {
+        let mut counts = Counts::new(alloc, width)?;
+        for index in 0..row_count(list, width) {
+            counts.add(row_at(list, index.wrapping_mul(width), width));
+        }
+        let input = splitting_input(&counts);
+        let (zeros, ones) = counts.of(input);
+        let mut halves = Halves {
+            width,
+            input,
+            has_zeros: zeros != 0,
+            has_ones: ones != 0,
+            zeros: Vec::new(alloc),
+            ones: Vec::new(alloc),
+            both: Vec::new(alloc),
+            parted: Vec::new(alloc),
+        };
+        halves.zeros = cofactor(alloc, list, width, input, false)?;
+        halves.ones = cofactor(alloc, list, width, input, true)?;
+        Ok(halves)
+    }
+
+    /// Parts the cubes of `zeros`, the half where the input is `one`: those that lie in a cube of
+    /// the other half, or all of them, are in both.
+    fn part(&mut self, one: bool, all: bool) -> Result<(), AllocError> {
+        for index in 0..row_count(&self.zeros, self.width) {
+            let row = row_at(&self.zeros, index.wrapping_mul(self.width), self.width);
+            if all || any_contains(&self.ones, row, self.width) {
+                self.both.extend_from_slice(row)?;
             } else {
-                push_with_literal(parted, row, input, one)?;
+                push_with_literal(&mut self.parted, row, self.input, one)?;
             }
         }
         Ok(())
     }
-}
 
-/// The complements of the halves as one list. Where the input occurs in one sense alone, all that
-/// is outside the half with its literal is outside the other half too.
-fn join_halves(
-    alloc: Global,
-    low: &[Literals],
-    high: &[Literals],
-    width: usize,
-    split: Split,
-) -> Result<Vec<Literals>, AllocError> {
-    let mut joined = Joined {
-        width,
-        input: split.input,
-        both: Vec::new(alloc),
-        parted: Vec::new(alloc),
-    };
-    joined.add_half(low, high, false, !split.has_ones)?;
-    joined.add_half(high, low, true, !split.has_zeros)?;
-    let mut list = absorb_list(alloc, &joined.both, width)?;
-    list.extend_from_slice(&joined.parted)?;
-    Ok(list)
+    /// The complements that the halves now are as one list. Where the input occurs in one sense
+    /// alone, all that is outside the half with its literal is outside the other half too.
+    fn join(&mut self, alloc: Global) -> Result<Vec<Literals>, AllocError> {
+        self.part(false, !self.has_ones)?;
+        swap(&mut self.zeros, &mut self.ones);
+        self.part(true, !self.has_zeros)?;
+        let mut list = absorb_list(alloc, &self.both, self.width)?;
+        list.extend_from_slice(&self.parted)?;
+        Ok(list)
+    }
 }
 
 /// Cubes with the points outside the list, or `None` if more words of cubes are made on the way
@@ -220,13 +203,14 @@ fn complement_to_depth(
     let Some(below) = depth.checked_sub(1) else {
         return Ok(None);
     };
-    let halves = Halves::of(alloc, rows, width)?;
+    let mut halves = Halves::of(alloc, rows, width)?;
     let Some(low) = complement_to_depth(alloc, &halves.zeros, width, budget, below)? else {
         return Ok(None);
     };
+    halves.zeros = low;
     let Some(high) = complement_to_depth(alloc, &halves.ones, width, budget, below)? else {
         return Ok(None);
     };
-    let joined = join_halves(alloc, &low, &high, width, halves.split)?;
-    Ok(within_budget(joined, budget))
+    halves.ones = high;
+    Ok(within_budget(halves.join(alloc)?, budget))
 }

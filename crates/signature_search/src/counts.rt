@@ -19,12 +19,12 @@ fn count_at(counts: &[u32], index: usize) -> u32 {
 }
 
 /// Adds one to the count of each input of a word, the first bit of which is the input `first`.
-fn count_inputs(word: u64, first: usize, counts: &mut Vec<u32>) {
+fn count_inputs(word: u64, first: usize, counts: &mut [u32]) {
     let mut rest = word;
     for _ in 0..word.count_ones() {
         let input = first.wrapping_add(rest.trailing_zeros() as usize);
-        if let Some(count) = counts.get_mut(input) {
-            *count = count.wrapping_add(1);
+        if input < counts.len() {
+            counts[input] = counts[input].wrapping_add(1);
         }
         rest &= rest.wrapping_sub(1);
     }
@@ -48,10 +48,10 @@ impl Counts {
     /// Counts the literals of a cube.
     pub(crate) fn add(&mut self, row: &[Literals]) {
         let (zeros, ones) = (&mut self.zeros, &mut self.ones);
-        for (k, word) in row.iter().enumerate() {
+        for k in 0..row.len() {
             let first = k.wrapping_mul(64);
-            count_inputs(word.zeros, first, zeros);
-            count_inputs(word.ones, first, ones);
+            count_inputs(row[k].zeros, first, zeros);
+            count_inputs(row[k].ones, first, ones);
         }
     }
 
@@ -60,13 +60,8 @@ impl Counts {
         self.zeros.len()
     }
 
-    /// How often an input is 0.
-    pub(crate) fn zeros(&self, input: usize) -> u32 {
-        count_at(&self.zeros, input)
-    }
-
-    /// How often an input is 1.
-    pub(crate) fn ones(&self, input: usize) -> u32 {
-        count_at(&self.ones, input)
+    /// How often an input is 0, and how often 1.
+    pub(crate) fn of(&self, input: usize) -> (u32, u32) {
+        (count_at(&self.zeros, input), count_at(&self.ones, input))
     }
 }

@@ -1,7 +1,7 @@
 //! A cube by itself: its literals and its outputs. The search makes such cubes; those that it is
 //! given are rows of a list.
 
-use crate::bits::{Literals, all_bits, literal_at, put_bit};
+use crate::bits::{Literals, put_bit, words_for};
 use std::alloc::{AllocError, Global};
 
 /// One step of a hash over words (Knuth, The art of computer programming, volume 3).
@@ -11,10 +11,19 @@ fn hash_step(number: u64, word: u64) -> u64 {
 }
 
 /// A cube by itself.
-#[derive(Drop)]
 pub(crate) struct Cube {
     pub(crate) literals: Vec<Literals>,
     pub(crate) outputs: Vec<u64>,
+}
+
+// Written out, so that where a cube ends a proof has one call, and not one for each of its lists.
+impl Drop for Cube {
+    fn drop(self) {
+        let Cube {
+            literals: _,
+            outputs: _,
+        } = self;
+    }
 }
 
 impl Cube {
@@ -32,9 +41,14 @@ impl Cube {
 
     /// All points under all outputs.
     pub(crate) fn whole(alloc: Global, width: usize, outputs: usize) -> Result<Cube, AllocError> {
-        let outputs = all_bits(alloc, outputs)?;
-        let literals: Vec<Literals> = vec![in alloc; Literals::NONE; width]?;
-        Ok(Cube { literals, outputs })
+        let mut all: Vec<u64> = vec![in alloc; 0; words_for(outputs)]?;
+        for output in 0..outputs {
+            put_bit(&mut all, output);
+        }
+        Ok(Cube {
+            literals: vec![in alloc; Literals::NONE; width]?,
+            outputs: all,
+        })
     }
 
     /// These literals with one output.
@@ -55,17 +69,13 @@ impl Cube {
     /// A hash of the cube.
     pub(crate) fn hash(&self) -> u64 {
         let mut number: u64 = 0;
-        for word in &self.literals {
+        for k in 0..self.literals.len() {
+            let word = self.literals[k];
             number = hash_step(hash_step(number, word.zeros), word.ones);
         }
-        for word in &self.outputs {
-            number = hash_step(number, *word);
+        for k in 0..self.outputs.len() {
+            number = hash_step(number, self.outputs[k]);
         }
         number
-    }
-
-    /// Which literal an input has.
-    pub(crate) fn literal(&self, input: usize) -> Option<bool> {
-        literal_at(&self.literals, input)
     }
 }

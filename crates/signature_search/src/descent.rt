@@ -5,7 +5,7 @@
 //! point has one always. So the literals that part the two cubes are put in an order, those of
 //! short rows first, and the least number of them that will do is found by binary search.
 
-use crate::bits::{Literals, has_bit, has_literal_at, put_literal, row_at};
+use crate::bits::{Literals, has_bit, has_literal_at, literal_at, put_literal, row_at};
 use crate::blocking_matrix::BlockingRows;
 use crate::cube::Cube;
 use crate::finder::{Finder, Signature};
@@ -26,52 +26,27 @@ fn input_weight(rows: &BlockingRows, input: usize) -> u64 {
     weight
 }
 
-/// The inputs of literals that the wide cube lacks, by decreasing weight, which stands first.
-fn weighed_missing_inputs(
+/// The literals that the wide cube lacks, by decreasing weight: each as a number that decreases with
+/// the weight, its input, and its sense.
+fn missing_literals(
     alloc: Global,
     signature: &Signature,
     wide: &[Literals],
-) -> Result<Vec<(u64, usize)>, AllocError> {
-    let mut weighed: Vec<(u64, usize)> = Vec::new(alloc);
+) -> Result<Vec<(u64, usize, bool)>, AllocError> {
+    let mut missing: Vec<(u64, usize, bool)> = Vec::new(alloc);
     for input in 0..wide.len().saturating_mul(64) {
-        if signature.cube.literal(input).is_some() && !has_literal_at(wide, input) {
-            weighed.push((u64::MAX - input_weight(&signature.rows, input), input))?;
+        if let Some(one) = literal_at(&signature.cube.literals, input)
+            && !has_literal_at(wide, input)
+        {
+            missing.push((u64::MAX - input_weight(&signature.rows, input), input, one))?;
         }
     }
-    weighed.sort_unstable();
-    Ok(weighed)
-}
-
-/// The literals that the wide cube lacks, as inputs and senses, by decreasing weight.
-fn missing_literals_by_weight(
-    alloc: Global,
-    signature: &Signature,
-    wide: &[Literals],
-) -> Result<Vec<(usize, bool)>, AllocError> {
-    let mut missing: Vec<(usize, bool)> = Vec::new(alloc);
-    for (_, input) in &weighed_missing_inputs(alloc, signature, wide)? {
-        if let Some(one) = signature.cube.literal(*input) {
-            missing.push((*input, one))?;
-        }
-    }
+    missing.sort_unstable();
     Ok(missing)
 }
 
-/// The cube with these literals too.
-fn with_literals(
-    alloc: Global,
-    wide: &Cube,
-    literals: &[(usize, bool)],
-) -> Result<Cube, AllocError> {
-    let mut cube = Cube::of(alloc, &wide.literals, &wide.outputs)?;
-    for (input, one) in literals {
-        put_literal(&mut cube.literals, *input, *one);
-    }
-    Ok(cube)
-}
-
 /// Gives each input that has no literal a 0.
-fn put_missing_zeros(literals: &mut Vec<Literals>, inputs: usize) {
+fn put_missing_zeros(literals: &mut [Literals], inputs: usize) {
     for input in 0..inputs {
         if !has_literal_at(literals, input) {
             put_literal(literals, input, false);
@@ -80,49 +55,44 @@ fn put_missing_zeros(literals: &mut Vec<Literals>, inputs: usize) {
 }
 
 impl Finder<'_> {
-    /// The signature cube of a point of the cube near, with the point as its own place.
+    // The signature cube of a point of the cube, with the point as its own place. Inputs where the
+    // cube has no literal are 0.
     fn signature_at_point(
         &mut self,
-        near: &[Literals],
+        cube: &mut Cube,
         output: usize,
     ) -> Result<Option<Signature>, AllocError> {
-        let words = self.function.output_words;
-        let mut cube = Cube::of_output(self.alloc, near, output, words)?;
         put_missing_zeros(&mut cube.literals, self.function.inputs);
-        match self.signature_cube(&cube)? {
-            Some((signature, rows)) => {
-                let place = Place::of(self.alloc, &cube.literals, output)?;
-                Ok(Some(Signature {
-                    cube: signature,
-                    place,
-                    rows,
-                }))
-            }
-            None => Ok(None),
-        }
+        let Some(mut signature) = self.signature_cube(cube)? else {
+            return Ok(None);
+        };
+        signature.place = Place::of(self.alloc, &cube.literals, output)?;
+        Ok(Some(signature))
     }
 
-    // The signature cube of the cube near or, if it has no place of its own, of a point of it.
-    fn first_signature(
-        &mut self,
-        near: &[Literals],
-        output: usize,
-    ) -> Result<Option<Signature>, AllocError> {
+    // The signature cube of the question's answer or, if no place of its own is found, of a point
+    // of it.
+    fn first_signature(&mut self, output: usize) -> Result<Option<Signature>, AllocError> {
         let words = self.function.output_words;
-        let cube = Cube::of_output(self.alloc, near, output, words)?;
-        match self.signature_of(&cube)? {
-            Some(signature) => Ok(Some(signature)),
-            None => self.signature_at_point(near, output),
+        let mut cube = Cube::of_output(self.alloc, self.question.answer(), output, words)?;
+        if self.function.finds_own_places
+            && let Some(signature) = self.signature_of(&cube)?
+        {
+            return Ok(Some(signature));
         }
+        self.signature_at_point(&mut cube, output)
     }
 
     // The signature cube of the wide cube with these literals, if it has a place of its own.
     fn signature_with_literals(
         &mut self,
         wide: &Cube,
-        literals: &[(usize, bool)],
+        literals: &[(u64, usize, bool)],
     ) -> Result<Option<Signature>, AllocError> {
-        let cube = with_literals(self.alloc, wide, literals)?;
+        let mut cube = Cube::of(self.alloc, &wide.literals, &wide.outputs)?;
+        for (_, input, one) in literals {
+            put_literal(&mut cube.literals, *input, *one);
+        }
         self.signature_of(&cube)
     }
 
@@ -132,7 +102,7 @@ impl Finder<'_> {
         &mut self,
         best: &mut Signature,
         wide: &Cube,
-        literals: &[(usize, bool)],
+        literals: &[(u64, usize, bool)],
     ) -> Result<(), AllocError> {
         let mut least: usize = 0;
         let mut most = literals.len();
@@ -160,39 +130,24 @@ impl Finder<'_> {
         output: usize,
     ) -> Result<(), AllocError> {
         let wide = Cube::of_output(self.alloc, wide, output, self.function.output_words)?;
-        let literals = missing_literals_by_weight(self.alloc, best, &wide.literals)?;
+        let literals = missing_literals(self.alloc, best, &wide.literals)?;
         self.leave_out_literals(best, &wide, &literals)
     }
 
-    // A large signature cube with a place of its own, found from cubes between a point of the cube
-    // near and the wide cube, which contains it. `None` if the cube near meets OFF.
-    fn descend(
+    /// A signature cube of a place of the question's answer, which lies in the wide cube: a maximal
+    /// one, if own places can be found. `None` if the answer meets OFF.
+    pub(crate) fn signature_of_answer(
         &mut self,
         wide: &[Literals],
-        near: &[Literals],
         output: usize,
     ) -> Result<Option<Signature>, AllocError> {
-        let Some(mut best) = self.first_signature(near, output)? else {
+        let Some(mut best) = self.first_signature(output)? else {
             return Ok(None);
         };
-        self.widen(&mut best, wide, output)?;
+        if self.function.finds_own_places {
+            self.widen(&mut best, wide, output)?;
+            self.climb(&mut best)?;
+        }
         Ok(Some(best))
-    }
-
-    /// A signature cube of a place of the cube near, which lies in the wide cube: a maximal one, if
-    /// own places can be found. `None` if the cube near meets OFF.
-    pub(crate) fn signature_near(
-        &mut self,
-        wide: &[Literals],
-        near: &[Literals],
-        output: usize,
-    ) -> Result<Option<Signature>, AllocError> {
-        if !self.function.finds_own_places {
-            return self.signature_at_point(near, output);
-        }
-        match self.descend(wide, near, output)? {
-            Some(found) => Ok(Some(self.climb(found)?)),
-            None => Ok(None),
-        }
     }
 }

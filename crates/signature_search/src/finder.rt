@@ -10,13 +10,14 @@
 //! on the inputs where the cube has no literal; so the tests of all rows together are one question.
 
 use crate::bits::{
-    Literals, all_bits, has_bit, keep_inputs, literals_at, meets, narrow_at, push_cofactor, word_at,
+    Literals, drop_bit, has_bit, join_literals, literals_at, meets, narrow_at, push_cofactor,
+    row_at, row_count, word_at,
 };
 use crate::blocking_matrix::{BlockingMatrix, BlockingRows};
 use crate::cube::Cube;
-use crate::function::Function;
+use crate::function::{Function, list_at};
 use crate::lists::push_cofactors;
-use crate::prime_list::{meet_of_primes, push_primes};
+use crate::prime_list::push_primes;
 use crate::question::Question;
 use crate::rows::{Place, Rows};
 use std::alloc::{AllocError, Global};
@@ -26,13 +27,48 @@ use std::collections::BTreeSet;
 const REGION_BUDGET: u64 = 300;
 
 /// A signature cube with a place of its own.
-#[derive(Drop)]
 pub(crate) struct Signature {
     pub(crate) cube: Cube,
-    /// A place of its own.
+    /// A place of its own, once it is found.
     pub(crate) place: Place,
-    /// The minimal rows of the cube's blocking matrix.
+    /// The minimal rows of the blocking matrix.
     pub(crate) rows: BlockingRows,
+}
+
+// Written out, so that where one ends a proof has one call, and not one for each of its lists.
+impl Drop for Signature {
+    fn drop(self) {
+        let Signature {
+            cube: _,
+            place: _,
+            rows: _,
+        } = self;
+    }
+}
+
+impl Signature {
+    /// Narrows the cube to that of another cube's minimal rows. `false` if that one meets OFF.
+    fn meet_rows(
+        &mut self,
+        matrix: &mut BlockingMatrix,
+        function: &Function,
+        cube: &Cube,
+    ) -> Result<bool, AllocError> {
+        if !matrix.add_rows(&mut self.rows, function, cube)? {
+            return Ok(false);
+        }
+        for row in 0..self.rows.len() {
+            join_literals(
+                &mut self.cube.literals,
+                &cube.literals,
+                self.rows.inputs(row),
+            );
+            if let Some(output) = self.rows.output(row) {
+                drop_bit(&mut self.cube.outputs, output);
+            }
+        }
+        Ok(true)
+    }
 }
 
 /// Finds signature cubes.
@@ -43,7 +79,7 @@ pub(crate) struct Finder<'a> {
     pub(crate) question: Question,
     matrix: BlockingMatrix,
     // All primes, where they are known.
-    primes: Option<&'a Rows>,
+    pub(crate) primes: Option<&'a Rows>,
     // The cubes that a place must avoid, without the literals at inputs of the signature cube.
     pub(crate) avoided: Vec<Literals>,
     // The hashes of signature cubes that have no place of their own.
@@ -75,76 +111,11 @@ fn meets_with_row_exchanged(compared: &[Literals], row: &[u64]) -> bool {
 }
 
 /// Notes where the cubes have opposite literals, as zeros, and where the same, as ones.
-fn compare(compared: &mut Vec<Literals>, a: &[Literals], b: &[Literals]) {
-    for k in 0..a.len().min(b.len()) {
-        let (one, other) = (literals_at(a, k), literals_at(b, k));
-        if let Some(word) = compared.get_mut(k) {
-            word.zeros = one.opposites(other);
-            word.ones = one.agreements(other);
-        }
+fn compare(compared: &mut [Literals], a: &[Literals], b: &[Literals]) {
+    for k in 0..compared.len().min(a.len()).min(b.len()) {
+        compared[k].zeros = a[k].opposites(b[k]);
+        compared[k].ones = a[k].agreements(b[k]);
     }
-}
-
-/// The literals of the cube at inputs that some row has.
-fn literals_of_rows(
-    alloc: Global,
-    cube: &Cube,
-    rows: &BlockingRows,
-) -> Result<Vec<Literals>, AllocError> {
-    let inputs = rows.occurring_inputs(alloc)?;
-    let mut literals = cube.literals.to_vec(alloc)?;
-    keep_inputs(&mut literals, &inputs);
-    Ok(literals)
-}
-
-/// The outputs that no row has, of this many.
-fn outputs_without_row(
-    alloc: Global,
-    rows: &BlockingRows,
-    count: usize,
-) -> Result<Vec<u64>, AllocError> {
-    let mut outputs = all_bits(alloc, count)?;
-    for row in 0..rows.len() {
-        if let Some(output) = rows.output(row)
-            && let Some(word) = outputs.get_mut(output / 64)
-        {
-            *word &= !(1 << (output % 64));
-        }
-    }
-    Ok(outputs)
-}
-
-/// The signature cube of a cube with these minimal rows.
-fn cube_of_rows(
-    alloc: Global,
-    cube: &Cube,
-    rows: &BlockingRows,
-    outputs: usize,
-) -> Result<Cube, AllocError> {
-    let literals = literals_of_rows(alloc, cube, rows)?;
-    let outputs = outputs_without_row(alloc, rows, outputs)?;
-    Ok(Cube { literals, outputs })
-}
-
-/// Adds the cofactors of a list's cubes that meet the cube with a row exchanged. `false` if one of
-/// them contains the cube then.
-fn push_exchanged(
-    avoided: &mut Vec<Literals>,
-    compared: &mut Vec<Literals>,
-    list: &[Literals],
-    cube: &[Literals],
-    rows: &[u64],
-) -> Result<bool, AllocError> {
-    let width = cube.len();
-    for other in list.chunks_exact(width.max(1)) {
-        compare(compared, other, cube);
-        if meets_with_any_row_exchanged(compared, rows, width)
-            && !push_cofactor(avoided, other, cube)?
-        {
-            return Ok(false);
-        }
-    }
-    Ok(true)
 }
 
 impl<'a> Finder<'a> {
@@ -154,13 +125,12 @@ impl<'a> Finder<'a> {
         primes: Option<&'a Rows>,
     ) -> Result<Finder<'a>, AllocError> {
         let compared: Vec<Literals> = vec![in alloc; Literals::NONE; function.width]?;
-        let matrix = BlockingMatrix::new(alloc, function.width)?;
         let question = Question::new(alloc, function.width)?;
         Ok(Finder {
             alloc,
             function,
             question,
-            matrix,
+            matrix: BlockingMatrix::new(alloc, function.width),
             primes,
             avoided: Vec::new(alloc),
             without_own_place: BTreeSet::new(alloc),
@@ -168,75 +138,68 @@ impl<'a> Finder<'a> {
         })
     }
 
-    /// The signature cube of a cube, and its minimal rows. `None` if the cube meets OFF.
-    pub(crate) fn signature_cube(
-        &mut self,
-        cube: &Cube,
-    ) -> Result<Option<(Cube, BlockingRows)>, AllocError> {
-        if let Some(primes) = self.primes {
-            return meet_of_primes(self.alloc, self.function, primes, cube);
-        }
-        let Some(rows) = self.matrix.minimal_rows(self.function, cube)? else {
-            return Ok(None);
+    /// The signature cube of a cube, without a place. `None` if the cube meets OFF.
+    pub(crate) fn signature_cube(&mut self, cube: &Cube) -> Result<Option<Signature>, AllocError> {
+        let (alloc, function) = (self.alloc, self.function);
+        let mut signature = Signature {
+            cube: Cube::whole(alloc, function.width, function.outputs)?,
+            place: Place::none(alloc),
+            rows: BlockingRows::new(alloc, function.width),
         };
-        let signature = cube_of_rows(self.alloc, cube, &rows, self.function.outputs)?;
-        Ok(Some((signature, rows)))
+        let is_implicant = match self.primes {
+            Some(primes) => signature.meet_primes(primes, cube, function.outputs)?,
+            None => signature.meet_rows(&mut self.matrix, function, cube)?,
+        };
+        if is_implicant {
+            Ok(Some(signature))
+        } else {
+            Ok(None)
+        }
     }
 
     /// The signature cube of a cube, if it has a place of its own.
     pub(crate) fn signature_of(&mut self, cube: &Cube) -> Result<Option<Signature>, AllocError> {
-        match self.signature_cube(cube)? {
-            Some((signature, rows)) => self.signature_with_own_place(signature, rows),
-            None => Ok(None),
-        }
-    }
-
-    /// The signature cube with these minimal rows, if it has a place of its own.
-    pub(crate) fn signature_with_own_place(
-        &mut self,
-        cube: Cube,
-        rows: BlockingRows,
-    ) -> Result<Option<Signature>, AllocError> {
-        let Some(output) = self.new_output_of_own_place(&cube, &rows)? else {
+        let Some(mut signature) = self.signature_cube(cube)? else {
             return Ok(None);
         };
-        let place = Place::of(self.alloc, self.question.answer(), output)?;
-        Ok(Some(Signature { cube, place, rows }))
+        if self.finds_own_place(&mut signature)? {
+            Ok(Some(signature))
+        } else {
+            Ok(None)
+        }
     }
 
-    // The output of the cube's own place; not looked for where there was none before.
-    fn new_output_of_own_place(
+    /// Whether a signature cube has a place of its own; not looked for where there was none before.
+    pub(crate) fn finds_own_place(
         &mut self,
-        cube: &Cube,
-        rows: &BlockingRows,
-    ) -> Result<Option<usize>, AllocError> {
-        let hash = cube.hash();
+        signature: &mut Signature,
+    ) -> Result<bool, AllocError> {
+        let hash = signature.cube.hash();
         if self.without_own_place.contains(&hash) {
-            return Ok(None);
+            return Ok(false);
         }
-        let output = self.output_of_own_place(cube, rows)?;
-        if output.is_none() {
+        let Some(output) = self.output_of_own_place(signature)? else {
             self.without_own_place.insert(hash)?;
-        }
-        Ok(output)
+            return Ok(false);
+        };
+        signature.place = Place::of(self.alloc, self.question.answer(), output)?;
+        Ok(true)
     }
 
     // An output of the cube under which it has a place of its own, which is then the answer of the
     // question.
-    fn output_of_own_place(
-        &mut self,
-        cube: &Cube,
-        rows: &BlockingRows,
-    ) -> Result<Option<usize>, AllocError> {
+    fn output_of_own_place(&mut self, signature: &Signature) -> Result<Option<usize>, AllocError> {
         self.avoided.clear();
-        let first = rows.end_without_output();
-        if self.primes.is_none() && !self.avoid_rows_with_outputs(cube, rows, first)? {
+        let first = signature.rows.end_without_output();
+        if self.primes.is_none() && !self.avoid_rows_with_outputs(signature, first)? {
             return Ok(None);
         }
         let common = self.avoided.len();
         for output in 0..self.function.outputs {
             self.avoided.truncate(common);
-            if has_bit(&cube.outputs, output) && self.has_own_place(cube, rows, first, output)? {
+            if has_bit(&signature.cube.outputs, output)
+                && self.has_own_place(signature, first, output)?
+            {
                 return Ok(Some(output));
             }
         }
@@ -246,45 +209,42 @@ impl<'a> Finder<'a> {
     // Whether the cube has a place of its own under this output.
     fn has_own_place(
         &mut self,
-        cube: &Cube,
-        rows: &BlockingRows,
+        signature: &Signature,
         first: usize,
         output: usize,
     ) -> Result<bool, AllocError> {
-        if self.function.on(output).is_empty() {
+        if list_at(&self.function.on, output).is_empty() {
             return Ok(false);
         }
-        Ok(
-            self.guess_own_place(cube, output)?
-                || self.avoid_all(cube, rows, first, output)?
-                    && self.has_wanted_place_outside_avoided(cube, output)?,
-        )
-    }
-
-    // Whether former answers give a place of the cube's own, if all primes are known to check it.
-    fn guess_own_place(&mut self, cube: &Cube, output: usize) -> Result<bool, AllocError> {
-        match self.primes {
-            Some(primes) if !self.function.samples => self.guess_own_place_by_primes(
-                primes, cube, output,
-            ),
-            _ => Ok(false),
+        if self.guess_own_place(&signature.cube, output)? {
+            return Ok(true);
         }
+        if !self.avoid_all(signature, first, output)? {
+            return Ok(false);
+        }
+        if self.function.samples {
+            return self.has_on_place_outside_avoided(&signature.cube.literals, output);
+        }
+        let mut budget = REGION_BUDGET;
+        self.question
+            .ask(&signature.cube.literals, &self.avoided, &mut budget)
     }
 
     // Gathers the cubes to be avoided for the rows with an output. `false` if these are all places.
     fn avoid_rows_with_outputs(
         &mut self,
-        cube: &Cube,
-        rows: &BlockingRows,
+        signature: &Signature,
         first: usize,
     ) -> Result<bool, AllocError> {
+        let rows = &signature.rows;
         let mut begin = first;
         for _ in first..rows.len() {
             let Some(output) = rows.output(begin) else {
                 break;
             };
             let end = rows.end_of_output(begin);
-            if !self.avoid_exchanged(cube, rows.input_words_of_rows(begin, end), output)? {
+            let exchanged = rows.input_words_of_rows(begin, end);
+            if !self.avoid_exchanged(&signature.cube, exchanged, output)? {
                 return Ok(false);
             }
             begin = end;
@@ -300,49 +260,39 @@ impl<'a> Finder<'a> {
         rows: &[u64],
         output: usize,
     ) -> Result<bool, AllocError> {
-        let list = self.function.on_and_dc(output);
-        push_exchanged(
-            &mut self.avoided,
-            &mut self.compared,
-            list,
-            &cube.literals,
-            rows,
-        )
-    }
-
-    // Gathers the DC cubes of an output that meet the cube. `false` if one contains it.
-    fn avoid_dc(&mut self, cube: &Cube, output: usize) -> Result<bool, AllocError> {
-        let dc = self.function.dc(output);
-        push_cofactors(&mut self.avoided, dc, &cube.literals, self.function.width)
+        let (cube, width) = (cube.literals.as_slice(), self.function.width);
+        let (avoided, compared) = (&mut self.avoided, self.compared.as_mut_slice());
+        for other in list_at(&self.function.on_and_dc, output).chunks_exact(width.max(1)) {
+            compare(compared, other, cube);
+            if meets_with_any_row_exchanged(compared, rows, width)
+                && !push_cofactor(avoided, other, cube)?
+            {
+                return Ok(false);
+            }
+        }
+        Ok(true)
     }
 
     // Gathers the cubes to be avoided under this output. `false` if these are all places.
     fn avoid_all(
         &mut self,
-        cube: &Cube,
-        rows: &BlockingRows,
+        signature: &Signature,
         first: usize,
         output: usize,
     ) -> Result<bool, AllocError> {
+        let cube = &signature.cube;
         let is_left = match self.primes {
             Some(primes) => push_primes(&mut self.avoided, primes, cube, output)?,
-            None => self.avoid_exchanged(cube, rows.input_words_of_rows(0, first), output)?,
+            None => {
+                let exchanged = signature.rows.input_words_of_rows(0, first);
+                self.avoid_exchanged(cube, exchanged, output)?
+            }
         };
-        Ok(is_left && self.avoid_dc(cube, output)?)
-    }
-
-    // Whether the cube has a wanted place under this output outside all that was gathered.
-    fn has_wanted_place_outside_avoided(
-        &mut self,
-        cube: &Cube,
-        output: usize,
-    ) -> Result<bool, AllocError> {
-        if self.function.samples {
-            return self.has_on_place_outside_avoided(&cube.literals, output);
+        if !is_left {
+            return Ok(false);
         }
-        let mut budget = REGION_BUDGET;
-        self.question
-            .ask(&cube.literals, &self.avoided, &mut budget)
+        let dc = list_at(&self.function.dc, output);
+        push_cofactors(&mut self.avoided, dc, &cube.literals, self.function.width)
     }
 
     // Whether the cube has a place of an ON cube outside all that was gathered.
@@ -353,7 +303,9 @@ impl<'a> Finder<'a> {
     ) -> Result<bool, AllocError> {
         let width = self.function.width;
         let mut budget = REGION_BUDGET;
-        for wanted in self.function.on(output).chunks_exact(width.max(1)) {
+        let list = list_at(&self.function.on, output);
+        for index in 0..row_count(list, width) {
+            let wanted = row_at(list, index.wrapping_mul(width), width);
             if meets(wanted, cube) && self.ask_for_meet(cube, wanted, &mut budget)? {
                 return Ok(true);
             }

@@ -7,7 +7,6 @@ use crate::rows::Rows;
 use std::alloc::{AllocError, Global};
 
 /// A function by output.
-#[derive(Drop)]
 pub(crate) struct Function {
     pub(crate) inputs: usize,
     pub(crate) outputs: usize,
@@ -19,11 +18,29 @@ pub(crate) struct Function {
     pub(crate) samples: bool,
     /// Whether a cube's own place can be looked for: by ON with DC, or by a list of all primes.
     pub(crate) finds_own_places: bool,
-    on: Vec<Vec<Literals>>,
-    dc: Vec<Vec<Literals>>,
-    off: Vec<Vec<Literals>>,
-    // ON with DC.
-    on_and_dc: Vec<Vec<Literals>>,
+    /// The cubes of each output.
+    pub(crate) on: Vec<Vec<Literals>>,
+    pub(crate) dc: Vec<Vec<Literals>>,
+    pub(crate) off: Vec<Vec<Literals>>,
+    /// Cubes that hold the points of ON and DC.
+    pub(crate) on_and_dc: Vec<Vec<Literals>>,
+}
+
+impl Drop for Function {
+    fn drop(self) {
+        let Function {
+            inputs: _,
+            outputs: _,
+            width: _,
+            output_words: _,
+            samples: _,
+            finds_own_places: _,
+            on: _,
+            dc: _,
+            off: _,
+            on_and_dc: _,
+        } = self;
+    }
 }
 
 // At most about this many words of cubes are made, for all outputs, where ON with DC is the
@@ -54,51 +71,8 @@ fn rows_of_output(alloc: Global, rows: &Rows, output: usize) -> Result<Vec<Liter
     Ok(list)
 }
 
-/// The cubes of two lists, without absorbed ones.
-fn union(
-    alloc: Global,
-    list: &[Literals],
-    other: &[Literals],
-    width: usize,
-) -> Result<Vec<Literals>, AllocError> {
-    let mut both = list.to_vec(alloc)?;
-    both.extend_from_slice(other)?;
-    absorb_list(alloc, &both, width)
-}
-
-/// For each output its list of ON and its list of DC together, without absorbed cubes.
-fn unions_by_output(
-    alloc: Global,
-    on: &[Vec<Literals>],
-    dc: &[Vec<Literals>],
-    width: usize,
-) -> Result<Vec<Vec<Literals>>, AllocError> {
-    let mut lists: Vec<Vec<Literals>> = Vec::new(alloc);
-    for (output, wanted) in on.iter().enumerate() {
-        lists.push(union(alloc, wanted, list_at(dc, output), width)?)?;
-    }
-    Ok(lists)
-}
-
-/// The complement of each list, or `None` where that is past the budget.
-fn complements_by_output(
-    alloc: Global,
-    lists: &[Vec<Literals>],
-    width: usize,
-) -> Result<Option<Vec<Vec<Literals>>>, AllocError> {
-    let mut budget = COMPLEMENT_BUDGET;
-    let mut outsides: Vec<Vec<Literals>> = Vec::new(alloc);
-    for list in lists {
-        match complement(alloc, list, width, &mut budget)? {
-            Some(outside) => outsides.push(absorb_list(alloc, &outside, width)?)?,
-            None => return Ok(None),
-        }
-    }
-    Ok(Some(outsides))
-}
-
 /// The list at an index, empty past the end.
-fn list_at(lists: &[Vec<Literals>], index: usize) -> &[Literals] {
+pub(crate) fn list_at(lists: &[Vec<Literals>], index: usize) -> &[Literals] {
     match lists.get(index) {
         Some(list) => list,
         None => &[],
@@ -114,28 +88,38 @@ impl Function {
         off: &Rows,
         samples: bool,
     ) -> Result<Function, AllocError> {
-        let (inputs, outputs) = (on.inputs(), on.outputs());
-        let width = words_for(inputs);
-        let wanted = rows_by_output(alloc, on, outputs)?;
-        let free = rows_by_output(alloc, dc, outputs)?;
-        let outside = rows_by_output(alloc, off, outputs)?;
-        let union = if samples {
-            complements_by_output(alloc, &outside, width)?
+        let mut function = Function::without_off(alloc, on, dc, samples)?;
+        function.off = rows_by_output(alloc, off, function.outputs)?;
+        if samples {
+            function.finds_own_places = function.join_complements(alloc)?;
         } else {
-            Some(unions_by_output(alloc, &wanted, &free, width)?)
-        };
-        Ok(Function {
-            inputs,
-            outputs,
-            width,
-            output_words: words_for(outputs),
-            samples,
-            finds_own_places: union.is_some(),
-            on: wanted,
-            dc: free,
-            off: outside,
-            on_and_dc: union.unwrap_or(Vec::new(alloc)),
-        })
+            function.join_on_and_dc(alloc)?;
+        }
+        Ok(function)
+    }
+
+    // Takes ON with DC as the complements of OFF. `false` if that is past the budget.
+    fn join_complements(&mut self, alloc: Global) -> Result<bool, AllocError> {
+        let mut budget = COMPLEMENT_BUDGET;
+        for output in 0..self.outputs {
+            let list = list_at(&self.off, output);
+            let Some(outside) = complement(alloc, list, self.width, &mut budget)? else {
+                return Ok(false);
+            };
+            self.on_and_dc
+                .push(absorb_list(alloc, &outside, self.width)?)?;
+        }
+        Ok(true)
+    }
+
+    // Takes the cubes of ON and DC together, without absorbed ones.
+    fn join_on_and_dc(&mut self, alloc: Global) -> Result<(), AllocError> {
+        for output in 0..self.outputs {
+            let mut both = list_at(&self.on, output).to_vec(alloc)?;
+            both.extend_from_slice(list_at(&self.dc, output))?;
+            self.on_and_dc.push(absorb_list(alloc, &both, self.width)?)?;
+        }
+        Ok(())
     }
 
     /// The function of these rows, without OFF.
@@ -158,25 +142,5 @@ impl Function {
             off: Vec::new(alloc),
             on_and_dc: Vec::new(alloc),
         })
-    }
-
-    /// The ON cubes of an output.
-    pub(crate) fn on(&self, output: usize) -> &[Literals] {
-        list_at(&self.on, output)
-    }
-
-    /// The DC cubes of an output.
-    pub(crate) fn dc(&self, output: usize) -> &[Literals] {
-        list_at(&self.dc, output)
-    }
-
-    /// The OFF cubes of an output.
-    pub(crate) fn off(&self, output: usize) -> &[Literals] {
-        list_at(&self.off, output)
-    }
-
-    /// Cubes that hold the points of ON and DC under an output.
-    pub(crate) fn on_and_dc(&self, output: usize) -> &[Literals] {
-        list_at(&self.on_and_dc, output)
     }
 }

@@ -6,13 +6,12 @@
 use crate::bits::{
     Literals, contains, has_bit, is_within, meet_bits, meets, narrow_at, push_cofactor,
 };
-use crate::blocking_matrix::BlockingRows;
 use crate::cube::Cube;
-use crate::finder::Finder;
-use crate::function::Function;
+use crate::finder::{Finder, Signature};
+use crate::function::list_at;
 use crate::lists::any_meets;
 use crate::rows::Rows;
-use std::alloc::{AllocError, Global};
+use std::alloc::AllocError;
 
 /// Whether a prime contains the cube.
 fn prime_contains(primes: &Rows, prime: usize, cube: &Cube) -> bool {
@@ -31,60 +30,6 @@ fn narrow_to_primes(meet: &mut Cube, primes: &Rows, cube: &Cube) -> bool {
         }
     }
     found
-}
-
-/// The inputs of literals.
-fn inputs_of(alloc: Global, literals: &[Literals]) -> Result<Vec<u64>, AllocError> {
-    let mut inputs: Vec<u64> = Vec::new(alloc);
-    for word in literals {
-        inputs.push(word.inputs())?;
-    }
-    Ok(inputs)
-}
-
-/// The meet of the primes that contain the cube, and rows by which each of its literals may be left
-/// out. `None` if no prime contains the cube.
-pub(crate) fn meet_of_primes(
-    alloc: Global,
-    function: &Function,
-    primes: &Rows,
-    cube: &Cube,
-) -> Result<Option<(Cube, BlockingRows)>, AllocError> {
-    let mut meet = Cube::whole(alloc, function.width, function.outputs)?;
-    if !narrow_to_primes(&mut meet, primes, cube) {
-        return Ok(None);
-    }
-    let rows = rows_of_all_literals(alloc, function, &meet)?;
-    Ok(Some((meet, rows)))
-}
-
-/// All literals as a row, without an output and with each output that is absent: no literal is a row
-/// by itself, so each may be left out.
-fn rows_of_all_literals(
-    alloc: Global,
-    function: &Function,
-    cube: &Cube,
-) -> Result<BlockingRows, AllocError> {
-    let inputs = inputs_of(alloc, &cube.literals)?;
-    let mut rows = BlockingRows::new(alloc, function.width);
-    rows.push(&inputs, None)?;
-    push_for_absent_outputs(&mut rows, &inputs, &cube.outputs, function.outputs)?;
-    Ok(rows)
-}
-
-/// Adds a row with each output that is absent, of this many.
-fn push_for_absent_outputs(
-    rows: &mut BlockingRows,
-    inputs: &[u64],
-    outputs: &[u64],
-    count: usize,
-) -> Result<(), AllocError> {
-    for output in 0..count {
-        if !has_bit(outputs, output) {
-            rows.push(inputs, Some(output))?;
-        }
-    }
-    Ok(())
 }
 
 /// Whether a prime with the output that does not contain the cube meets the place.
@@ -121,20 +66,52 @@ pub(crate) fn push_primes(
     Ok(true)
 }
 
-impl Finder<'_> {
-    /// Whether former answers give a place of the cube that lies in no other prime and in no DC
-    /// cube under this output. It is then the answer of the question.
-    pub(crate) fn guess_own_place_by_primes(
+impl Signature {
+    /// Narrows the cube to the meet of the primes that contain the other one. Whether there is one.
+    /// All literals are a row, without an output and with each output that is absent, of this many:
+    /// no literal is a row by itself, so each may be left out.
+    pub(crate) fn meet_primes(
         &mut self,
         primes: &Rows,
         cube: &Cube,
+        outputs: usize,
+    ) -> Result<bool, AllocError> {
+        if !narrow_to_primes(&mut self.cube, primes, cube) {
+            return Ok(false);
+        }
+        self.rows.push_inputs_of(&self.cube.literals, None)?;
+        for output in 0..outputs {
+            if !has_bit(&self.cube.outputs, output) {
+                self.rows.push_inputs_of(&self.cube.literals, Some(output))?;
+            }
+        }
+        Ok(true)
+    }
+}
+
+impl Finder<'_> {
+    /// Whether former answers give a place of the cube that lies in no other prime and in no DC
+    /// cube under this output, if all primes are known. It is then the answer of the question.
+    pub(crate) fn guess_own_place(
+        &mut self,
+        cube: &Cube,
         output: usize,
     ) -> Result<bool, AllocError> {
+        let Some(primes) = self.primes else {
+            return Ok(false);
+        };
+        if self.function.samples {
+            return Ok(false);
+        }
         self.question.guess(&cube.literals)?;
         let guess = self.question.answer();
         Ok(
             !other_prime_meets(primes, cube, guess, output)
-                && !any_meets(self.function.dc(output), guess, self.function.width),
+                && !any_meets(
+                    list_at(&self.function.dc, output),
+                    guess,
+                    self.function.width,
+                ),
         )
     }
 }

@@ -6,12 +6,21 @@ use crate::search::Search;
 use std::alloc::{AllocError, Global};
 
 /// A function, of which places are proposed.
-#[derive(Drop)]
 pub struct Proposer {
     alloc: Global,
     function: Function,
     // All primes, where they are known.
     primes: Option<Rows>,
+}
+
+impl Drop for Proposer {
+    fn drop(self) {
+        let Proposer {
+            alloc: _,
+            function: _,
+            primes: _,
+        } = self;
+    }
 }
 
 impl Proposer {

@@ -62,35 +62,32 @@ pub(crate) struct Question {
 }
 
 /// Notes the literals of a cube. Whether it has none, one, or more (0, 1 or more).
-fn note_literals(row: &[Literals], occurring: &mut Vec<Literals>) -> u32 {
+fn note_literals(row: &[Literals], occurring: &mut [Literals]) -> u32 {
     let mut few: u32 = 0;
-    for (k, word) in row.iter().enumerate() {
-        few = few.wrapping_add(few_in_word(word.inputs()));
-        if let Some(seen) = occurring.get_mut(k) {
-            *seen = seen.meet(*word);
+    for k in 0..row.len() {
+        few = few.wrapping_add(few_in_word(row[k].inputs()));
+        if k < occurring.len() {
+            occurring[k] = occurring[k].meet(row[k]);
         }
     }
     few
 }
 
 /// Adds the opposites of a cube's literals to the forced ones.
-fn force_opposites(row: &[Literals], forced: &mut Vec<Literals>) {
-    for (k, word) in row.iter().enumerate() {
-        if let Some(force) = forced.get_mut(k) {
-            force.zeros |= word.ones;
-            force.ones |= word.zeros;
-        }
+fn force_opposites(row: &[Literals], forced: &mut [Literals]) {
+    for k in 0..row.len().min(forced.len()) {
+        forced[k].zeros |= row[k].ones;
+        forced[k].ones |= row[k].zeros;
     }
 }
 
 /// Forces, at inputs where one literal alone occurs, the other one: the cubes with it then do not
 /// hold the place.
-fn force_pure_literals(occurring: &[Literals], forced: &mut Vec<Literals>) {
-    for (k, seen) in occurring.iter().enumerate() {
-        if let Some(force) = forced.get_mut(k) {
-            force.zeros = seen.ones & !seen.zeros;
-            force.ones = seen.zeros & !seen.ones;
-        }
+fn force_pure_literals(occurring: &[Literals], forced: &mut [Literals]) {
+    for k in 0..occurring.len().min(forced.len()) {
+        let seen = occurring[k];
+        forced[k].zeros = seen.ones & !seen.zeros;
+        forced[k].ones = seen.zeros & !seen.ones;
     }
 }
 
@@ -133,35 +130,12 @@ fn has_both_literals(row: &[Literals]) -> bool {
     false
 }
 
-/// Takes over the literals of an answer at inputs where the cube asked for has none.
-fn remember(remembered: &mut Vec<Literals>, answer: &[Literals], inside: &[Literals]) {
-    for (k, asked) in inside.iter().enumerate() {
-        if let Some(kept) = remembered.get_mut(k) {
-            let found = literals_at(answer, k).at(!asked.inputs());
-            *kept = found.meet(kept.at(!found.inputs()));
-        }
-    }
-}
-
-/// Adds the cube, with the remembered literals at inputs where it has none.
-fn push_guess(
-    rows: &mut Vec<Literals>,
-    inside: &[Literals],
-    remembered: &[Literals],
-) -> Result<(), AllocError> {
-    for (k, word) in inside.iter().enumerate() {
-        let kept = literals_at(remembered, k);
-        rows.push(word.meet(kept.at(!word.inputs())))?;
-    }
-    Ok(())
-}
-
 /// Counts the literals of cubes by input, and notes those that occur in the shortest cubes.
 fn count_literals(
     rows: &[Literals],
     width: usize,
     counts: &mut Counts,
-    occurring: &mut Vec<Literals>,
+    occurring: &mut [Literals],
 ) {
     counts.clear();
     let mut shortest = u32::MAX;
@@ -185,58 +159,20 @@ fn push_narrowed(
     begin: usize,
     literals: &[Literals],
 ) -> Result<(), AllocError> {
-    for (k, more) in literals.iter().enumerate() {
-        rows.push(literals_at(rows, begin.wrapping_add(k)).meet(*more))?;
+    for k in 0..literals.len() {
+        rows.push(literals_at(rows, begin.wrapping_add(k)).meet(literals[k]))?;
     }
     Ok(())
 }
 
 /// Writes the row that begins at `from` to `to`, without its literals at the inputs of `taken`.
-fn move_row_without(rows: &mut Vec<Literals>, from: usize, to: usize, taken: &[Literals]) {
-    for (k, word) in taken.iter().enumerate() {
-        let rest = literals_at(rows, from.wrapping_add(k)).at(!word.inputs());
-        if let Some(new) = rows.get_mut(to.wrapping_add(k)) {
-            *new = rest;
+fn move_row_without(rows: &mut [Literals], from: usize, to: usize, taken: &[Literals]) {
+    for k in 0..taken.len() {
+        let at = to.wrapping_add(k);
+        if at < rows.len() {
+            rows[at] = literals_at(rows, from.wrapping_add(k)).at(!taken[k].inputs());
         }
     }
-}
-
-/// Opens a half of the last region, which begins at an index; the other half is left to that one.
-fn open_half(
-    regions: &mut Vec<Region>,
-    begin: usize,
-    input: usize,
-    one: bool,
-) -> Result<(), AllocError> {
-    if let Some(region) = regions.last_mut() {
-        region.input = input;
-        region.one = !one;
-    }
-    regions.push(Region { begin, input, one })?;
-    Ok(())
-}
-
-/// Copies the cubes from `begin` to `end` that meet the forced literals to the end, without the
-/// literals at forced inputs.
-fn copy_meeting(
-    rows: &mut Vec<Literals>,
-    begin: usize,
-    end: usize,
-    forced: &[Literals],
-    notes: &mut Notes,
-) -> Result<(), AllocError> {
-    let width = forced.len();
-    let mut from = begin;
-    for _ in 0..end.saturating_sub(begin) / width.max(1) {
-        if meets(row_at(rows, from, width), forced) {
-            let to = rows.len();
-            rows.extend_from_slice(forced)?;
-            move_row_without(rows, from, to, forced);
-            notes.add(row_at(rows, to, width));
-        }
-        from = from.saturating_add(width);
-    }
-    Ok(())
 }
 
 impl Question {
@@ -281,7 +217,10 @@ impl Question {
                     return Ok(true);
                 }
                 State::Held => self.backtrack(),
-                State::Undecided => self.split()?,
+                State::Undecided => {
+                    self.split()?;
+                    true
+                }
             };
             if !goes_on {
                 return Ok(false);
@@ -296,14 +235,23 @@ impl Question {
     pub(crate) fn guess(&mut self, inside: &[Literals]) -> Result<(), AllocError> {
         self.rows.clear();
         self.regions.clear();
-        push_guess(&mut self.rows, inside, &self.remembered)
+        let (rows, remembered) = (&mut self.rows, self.remembered.as_slice());
+        for k in 0..inside.len() {
+            let kept = literals_at(remembered, k).at(!inside[k].inputs());
+            rows.push(inside[k].meet(kept))?;
+        }
+        Ok(())
     }
 
     // Remembers the literals of the answer at inputs where the cube asked for has none.
     fn remember_answer(&mut self, inside: &[Literals]) {
         let begin = self.begin_of_last_region();
         let answer = row_at(&self.rows, begin, self.width);
-        remember(&mut self.remembered, answer, inside);
+        let remembered: &mut [Literals] = &mut self.remembered;
+        for k in 0..inside.len().min(remembered.len()) {
+            let found = literals_at(answer, k).at(!inside[k].inputs());
+            remembered[k] = found.meet(remembered[k].at(!found.inputs()));
+        }
     }
 
     /// The cube that was found last, which is outside the list.
@@ -323,7 +271,6 @@ impl Question {
     // them contains it.
     fn load_rows(&mut self, inside: &[Literals], list: &[Literals]) -> Result<bool, AllocError> {
         self.rows.clear();
-        self.regions.clear();
         self.regions.push(Region {
             begin: 0,
             input: 0,
@@ -399,16 +346,24 @@ impl Question {
         self.end_notes();
     }
 
-    // Splits the last region, and goes on with the half that has fewer cubes.
-    fn split(&mut self) -> Result<bool, AllocError> {
-        let begin = self.begin_of_last_region();
-        let input = self.splitting_input(begin);
-        let one = self.counts.ones(input) < self.counts.zeros(input);
-        let end = self.rows.len();
-        open_half(&mut self.regions, end, input, one)?;
+    // Splits the last region, and goes on with the half that has fewer cubes; the other half is left
+    // to that region.
+    fn split(&mut self) -> Result<(), AllocError> {
+        let (from, end) = (self.begin_of_last_region(), self.rows.len());
+        let input = self.splitting_input(from);
+        let (zeros, ones) = self.counts.of(input);
+        let one = ones < zeros;
+        if let Some(region) = self.regions.last_mut() {
+            region.input = input;
+            region.one = !one;
+        }
+        self.regions.push(Region {
+            begin: end,
+            input,
+            one,
+        })?;
         self.force_literal(input, one);
-        self.copy_region(begin, end)?;
-        Ok(true)
+        self.copy_region(from, end)
     }
 
     // Forces one literal alone.
@@ -422,8 +377,16 @@ impl Question {
         let width = self.width;
         push_narrowed(&mut self.rows, begin, &self.forced)?;
         self.notes.begin();
-        let from = begin.saturating_add(width);
-        copy_meeting(&mut self.rows, from, end, &self.forced, &mut self.notes)?;
+        let mut from = begin.saturating_add(width);
+        for _ in 0..end.saturating_sub(from) / width.max(1) {
+            if meets(row_at(&self.rows, from, width), &self.forced) {
+                let to = self.rows.len();
+                self.rows.extend_from_slice(&self.forced)?;
+                move_row_without(&mut self.rows, from, to, &self.forced);
+                self.notes.add(row_at(&self.rows, to, width));
+            }
+            from = from.saturating_add(width);
+        }
         self.end_notes();
         Ok(())
     }
@@ -454,7 +417,7 @@ impl Question {
         let mut best = 0;
         let mut most = (0, 0);
         for input in 0..counts.inputs() {
-            let (zeros, ones) = (counts.zeros(input), counts.ones(input));
+            let (zeros, ones) = counts.of(input);
             let here = (zeros.wrapping_add(ones), zeros.min(ones));
             if has_literal_at(occurring, input) && here >= most {
                 most = here;

@@ -1,15 +1,25 @@
 //! The rows that a search is given, and the places that it answers.
 
-use crate::bits::{Literals, has_bit, row_at, words_for};
+use crate::bits::{Literals, has_bit, put_bit, put_literal, row_at, words_for};
 use std::alloc::{AllocError, Global};
 
 /// A list of cubes, each with its literals and its outputs.
-#[derive(Drop)]
 pub struct Rows {
     inputs: usize,
     outputs: usize,
     literals: Vec<Literals>,
     outputs_by_row: Vec<u64>,
+}
+
+impl Drop for Rows {
+    fn drop(self) {
+        let Rows {
+            inputs: _,
+            outputs: _,
+            literals: _,
+            outputs_by_row: _,
+        } = self;
+    }
 }
 
 impl Rows {
@@ -25,30 +35,24 @@ impl Rows {
 
     /// Begins a row, which has no literals and outputs yet.
     pub fn begin_row(&mut self) -> Result<(), AllocError> {
-        for _ in 0..words_for(self.inputs) {
-            self.literals.push(Literals::NONE)?;
-        }
-        for _ in 0..words_for(self.outputs) {
-            self.outputs_by_row.push(0)?;
-        }
-        Ok(())
+        let literals = self.literals.len().saturating_add(words_for(self.inputs));
+        self.literals.resize(literals, Literals::NONE)?;
+        let outputs = self
+            .outputs_by_row
+            .len()
+            .saturating_add(words_for(self.outputs));
+        self.outputs_by_row.resize(outputs, 0)
     }
 
     /// Gives the last row a literal. An input that is not there is ignored.
     pub fn put_literal(&mut self, input: usize, one: bool) {
         let begin = self.literals.len().saturating_sub(words_for(self.inputs));
-        if input >= self.inputs {
-            return;
-        }
-        if let Some(word) = self.literals.get_mut(begin.saturating_add(input / 64)) {
-            let bit = 1 << (input % 64);
-            let mut rest = word.at(!bit);
-            if one {
-                rest.ones |= bit;
-            } else {
-                rest.zeros |= bit;
-            }
-            *word = rest;
+        if input < self.inputs {
+            put_literal(
+                &mut self.literals,
+                begin.saturating_mul(64).saturating_add(input),
+                one,
+            );
         }
     }
 
@@ -58,14 +62,11 @@ impl Rows {
             .outputs_by_row
             .len()
             .saturating_sub(words_for(self.outputs));
-        if output >= self.outputs {
-            return;
-        }
-        if let Some(word) = self
-            .outputs_by_row
-            .get_mut(begin.saturating_add(output / 64))
-        {
-            *word |= 1 << (output % 64);
+        if output < self.outputs {
+            put_bit(
+                &mut self.outputs_by_row,
+                begin.saturating_mul(64).saturating_add(output),
+            );
         }
     }
 
@@ -110,6 +111,14 @@ pub struct Place {
 }
 
 impl Place {
+    /// Not yet a place.
+    pub(crate) fn none(alloc: Global) -> Place {
+        Place {
+            ones: Vec::new(alloc),
+            output: 0,
+        }
+    }
+
     /// A place of a cube: inputs where it has no literal are 0.
     pub(crate) fn of(
         alloc: Global,

@@ -2,11 +2,13 @@
 //! those that lie in others are dropped (`maximal_places`).
 
 use crate::bits::{Literals, bit_count, contains, has_bit, is_within, literal_count, meets};
+use crate::blocking_matrix::BlockingRows;
 use crate::cube::Cube;
 use crate::finder::{Finder, Signature};
-use crate::function::Function;
+use crate::function::{Function, list_at};
 use crate::rows::{Place, Rows};
 use std::alloc::{AllocError, Global};
+use std::mem::replace;
 
 // At most this many regions are looked at for a place of an ON cube that a cover leaves out.
 const REGION_BUDGET: u64 = 1 << 16;
@@ -14,59 +16,20 @@ const REGION_BUDGET: u64 = 1 << 16;
 // At most this many signature cubes are looked for at a time.
 const MOST_SIGNATURES: usize = 20000;
 
-/// A signature cube and a place of its own.
-#[derive(Drop)]
-struct SignatureCube {
-    cube: Cube,
-    place: Place,
-}
-
-impl SignatureCube {
-    /// A number by which a cube comes after all cubes within it: its outputs less its literals.
-    fn size(&self) -> i64 {
-        i64::from(bit_count(&self.cube.outputs)).wrapping_sub(i64::from(literal_count(
-            &self.cube.literals,
-        )))
-    }
+/// A number by which a cube comes after all cubes within it: its outputs less its literals.
+fn size(cube: &Cube) -> i64 {
+    i64::from(bit_count(&cube.outputs)).wrapping_sub(i64::from(literal_count(&cube.literals)))
 }
 
 /// Whether the cube lies in one of the list.
-fn lies_in_any(cube: &Cube, list: &[Cube]) -> bool {
-    for other in list {
+fn lies_in_any(cube: &Cube, list: &[Signature]) -> bool {
+    for signature in list {
+        let other = &signature.cube;
         if contains(&other.literals, &cube.literals) && is_within(&cube.outputs, &other.outputs) {
             return true;
         }
     }
     false
-}
-
-/// Adds a signature cube and its place, if the cube lies in none of the list.
-fn push_maximal(
-    kept: &mut Vec<Cube>,
-    places: &mut Vec<Place>,
-    signature: SignatureCube,
-) -> Result<(), AllocError> {
-    if !lies_in_any(&signature.cube, kept) {
-        kept.push(signature.cube)?;
-        places.push(signature.place)?;
-    }
-    Ok(())
-}
-
-/// The places of the signature cubes that lie in no other one.
-fn maximal_places(
-    alloc: Global,
-    signatures: &mut Vec<SignatureCube>,
-) -> Result<Vec<Place>, AllocError> {
-    signatures.sort_by_key(|signature| signature.size())?;
-    let mut kept: Vec<Cube> = Vec::new(alloc);
-    let mut places: Vec<Place> = Vec::new(alloc);
-    for _ in 0..signatures.len() {
-        if let Some(signature) = signatures.pop() {
-            push_maximal(&mut kept, &mut places, signature)?;
-        }
-    }
-    Ok(places)
 }
 
 /// Adds the rows of a list that have the output and meet the cube.
@@ -87,7 +50,7 @@ fn push_rows_meeting(
 /// Adds the signature cubes that have the output and meet the cube.
 fn push_signatures_meeting(
     held: &mut Vec<Literals>,
-    signatures: &[SignatureCube],
+    signatures: &[Signature],
     cube: &[Literals],
     output: usize,
 ) -> Result<(), AllocError> {
@@ -100,10 +63,21 @@ fn push_signatures_meeting(
 }
 
 /// The signature cubes found so far.
-#[derive(Drop)]
 pub(crate) struct Search<'a> {
     finder: Finder<'a>,
-    signatures: Vec<SignatureCube>,
+    signatures: Vec<Signature>,
+    // The hashes of the signature cubes of ON cubes.
+    tried: Vec<u64>,
+}
+
+impl<'a> Drop for Search<'a> {
+    fn drop(self) {
+        let Search {
+            finder: _,
+            signatures: _,
+            tried: _,
+        } = self;
+    }
 }
 
 impl<'a> Search<'a> {
@@ -115,41 +89,37 @@ impl<'a> Search<'a> {
         Ok(Search {
             finder: Finder::new(alloc, function, primes)?,
             signatures: Vec::new(alloc),
+            tried: Vec::new(alloc),
         })
     }
 
     /// Adds the signature cubes of the ON cubes as they stand.
     pub(crate) fn add_signatures_of_rows(&mut self, on: &Rows) -> Result<(), AllocError> {
         let alloc = self.finder.alloc;
-        let mut tried: Vec<u64> = Vec::new(alloc);
         if !self.finder.function.finds_own_places {
             return Ok(());
         }
         for row in 0..on.len() {
             let cube = Cube::of(alloc, on.literals_of(row), on.outputs_of(row))?;
-            self.add_signature_of_cube(&cube, &mut tried)?;
+            self.add_signature_of_cube(&cube)?;
         }
         Ok(())
     }
 
     // Adds the signature cube of a cube, if it was not tried before and has a place of its own.
-    fn add_signature_of_cube(
-        &mut self,
-        cube: &Cube,
-        tried: &mut Vec<u64>,
-    ) -> Result<(), AllocError> {
-        let Some((signature, rows)) = self.finder.signature_cube(cube)? else {
+    fn add_signature_of_cube(&mut self, cube: &Cube) -> Result<(), AllocError> {
+        let Some(mut signature) = self.finder.signature_cube(cube)? else {
             return Ok(());
         };
-        let hash = signature.hash();
-        if tried.contains(&hash) {
+        let hash = signature.cube.hash();
+        if self.tried.contains(&hash) {
             return Ok(());
         }
-        tried.push(hash)?;
-        match self.finder.signature_with_own_place(signature, rows)? {
-            Some(found) => self.add_signature(found),
-            None => Ok(()),
+        self.tried.push(hash)?;
+        if !self.finder.finds_own_place(&mut signature)? {
+            return Ok(());
         }
+        self.add_signature(signature)
     }
 
     /// Adds a signature cube for each ON cube and output of which the cover, and the signature
@@ -160,21 +130,11 @@ impl<'a> Search<'a> {
         cover: &Rows,
     ) -> Result<(), AllocError> {
         for row in 0..on.len() {
-            self.add_signatures_left_out_of_row(on.literals_of(row), on.outputs_of(row), cover)?;
-        }
-        Ok(())
-    }
-
-    // The same for one ON cube.
-    fn add_signatures_left_out_of_row(
-        &mut self,
-        wide: &[Literals],
-        outputs: &[u64],
-        cover: &Rows,
-    ) -> Result<(), AllocError> {
-        for output in 0..cover.outputs() {
-            if has_bit(outputs, output) && self.signatures.len() < MOST_SIGNATURES {
-                self.add_signature_left_out(wide, cover, output)?;
+            let (wide, outputs) = (on.literals_of(row), on.outputs_of(row));
+            for output in 0..cover.outputs() {
+                if has_bit(outputs, output) && self.signatures.len() < MOST_SIGNATURES {
+                    self.add_signature_left_out(wide, cover, output)?;
+                }
             }
         }
         Ok(())
@@ -190,8 +150,7 @@ impl<'a> Search<'a> {
         if !self.finds_place_left_out(wide, cover, output)? {
             return Ok(());
         }
-        let near = self.finder.question.answer().to_vec(self.finder.alloc)?;
-        match self.finder.signature_near(wide, &near, output)? {
+        match self.finder.signature_of_answer(wide, output)? {
             Some(found) => self.add_signature(found),
             None => Ok(()),
         }
@@ -204,32 +163,36 @@ impl<'a> Search<'a> {
         cover: &Rows,
         output: usize,
     ) -> Result<bool, AllocError> {
-        let mut held = self.dc_and_signatures_meeting(wide, output)?;
+        let mut held = list_at(&self.finder.function.dc, output).to_vec(self.finder.alloc)?;
+        push_signatures_meeting(&mut held, &self.signatures, wide, output)?;
         push_rows_meeting(&mut held, cover, wide, output)?;
         let mut budget = REGION_BUDGET;
         self.finder.question.ask(wide, &held, &mut budget)
     }
 
-    // The DC cubes of the output, and the signature cubes with it that meet the ON cube.
-    fn dc_and_signatures_meeting(
-        &self,
-        wide: &[Literals],
-        output: usize,
-    ) -> Result<Vec<Literals>, AllocError> {
-        let mut held = self.finder.function.dc(output).to_vec(self.finder.alloc)?;
-        push_signatures_meeting(&mut held, &self.signatures, wide, output)?;
-        Ok(held)
-    }
-
-    // Adds a signature cube, with a place of its own.
+    // Adds a signature cube with a place of its own, without its rows.
     fn add_signature(&mut self, found: Signature) -> Result<(), AllocError> {
-        let (cube, place) = (found.cube, found.place);
-        self.signatures.push(SignatureCube { cube, place })?;
+        let mut signature = found;
+        signature.rows = BlockingRows::new(self.finder.alloc, 0);
+        self.signatures.push(signature)?;
         Ok(())
     }
 
     /// The places of the signature cubes that lie in no other one.
     pub(crate) fn maximal_places(&mut self) -> Result<Vec<Place>, AllocError> {
-        maximal_places(self.finder.alloc, &mut self.signatures)
+        let alloc = self.finder.alloc;
+        self.signatures
+            .sort_by_key(|signature| size(&signature.cube))?;
+        let mut kept: Vec<Signature> = Vec::new(alloc);
+        let mut places: Vec<Place> = Vec::new(alloc);
+        for _ in 0..self.signatures.len() {
+            if let Some(mut signature) = self.signatures.pop()
+                && !lies_in_any(&signature.cube, &kept)
+            {
+                places.push(replace(&mut signature.place, Place::none(alloc)))?;
+                kept.push(signature)?;
+            }
+        }
+        Ok(places)
     }
 }
