@@ -48,3 +48,11 @@ puts_failed taken pending done new left (Err x) a b e h = λ old front w. subst 
 -- a text behind one that changed nothing
 pub puts_after : {T E : Type 0} (taken mid new : Option (List ℕ)) (pending near left b : List ℕ) (done m r : Result T E) → PutsOn taken pending done mid near m [] → PutsOn mid near m new left r b → PutsOn taken pending done new left r b
 puts_after taken mid new pending near left b done m r h k = λ old front w. subst (λ t. Puts old new left r (t ++ b)) (append-nil front) (k old (front ++ []) (h old front w))
+
+-- a text behind another
+pub puts_then : {T E : Type 0} (taken mid new : Option (List ℕ)) (pending near left a b : List ℕ) (done m r : Result T E) → PutsOn taken pending done mid near m a → PutsOn mid near m new left r b → PutsOn taken pending done new left r (a ++ b)
+puts_then taken mid new pending near left a b done m r h k = λ old front w. subst (Puts old new left r) (append_assoc front a b) (k old (front ++ a) (h old front w))
+
+-- a text with nothing behind it
+pub puts_last : {T E : Type 0} (taken new : Option (List ℕ)) (pending left : List ℕ) (done r : Result T E) (a : List ℕ) → PutsOn taken pending done new left r a → PutsOn taken pending done new left r (a ++ [])
+puts_last taken new pending left done r a h = subst (PutsOn taken pending done new left r) (sym (append-nil a)) h
