@@ -16,9 +16,9 @@ one_more front bytes names i item lt is same =
     let before = name_bytes (take i names) in
     append_assoc (front ++ spaced before) (32 ∷ []) bytes ∙ append_assoc front (spaced before) (32 ∷ bytes)
     ∙ ap (λ s. front ++ s) (
-      ap (λ b. spaced before ++ 32 ∷ b) (same ∙ ap (λ v. v.items) is ∙ sym (append-nil (get_or names i item).items))
-      ∙ sym (flat_map-append (λ name. 32 ∷ name) before ((get_or names i item).items ∷ []))
-      ∙ ap spaced (sym (map-append (λ (name : Vec ℕ Global). name.items) (take i names) (get_or names i item ∷ [])) ∙ ap name_bytes (sym (take_more names i item lt)))
+    ap (λ b. spaced before ++ 32 ∷ b) (same ∙ ap (λ v. v.items) is ∙ sym (append-nil (get_or names i item).items))
+    ∙ sym (flat_map-append (λ name. 32 ∷ name) before ((get_or names i item).items ∷ []))
+    ∙ ap spaced (sym (map-append (λ (name : Vec ℕ Global). name.items) (take i names) (get_or names i item ∷ [])) ∙ ap name_bytes (sym (take_more names i item lt)))
     )
 
 pub loop-name-preserved : goal.loop-name-preserved

@@ -1,4 +1,4 @@
-use Rattle.std.proofs.Common.{◌≡◌, ℕ, List, [], ◌∷◌, ◌++◌, Option, Some, None, flat_map, subst, sym, ap, ◌∙◌, append_assoc, append-nil, codes}
+use Rattle.std.proofs.Common.{◌≡◌, ℕ, List, ◌∷◌, ◌++◌, Option, Some, flat_map, subst, sym, ap, ◌∙◌, append_assoc, append-nil, codes}
 use Rattle.pla.specs.Device.{Puts}
 use Rattle.pla.specs.Names.{lent_names, name_bytes}
 use Rattle.pla.specs.Text.{names_text}

@@ -13,8 +13,8 @@ one_more : (front : List ℕ) (row : Cube → List ℕ) (cubes : List Cube) (i :
 one_more front row cubes i cube lt is =
     append_assoc front (flat_map row (take i cubes)) (row cube)
     ∙ ap (λ s. front ++ s) (
-      ap (λ b. flat_map row (take i cubes) ++ b) (ap row is ∙ sym (append-nil (row (get_or cubes i cube))))
-      ∙ sym (flat_map-append row (take i cubes) (get_or cubes i cube ∷ [])) ∙ ap (flat_map row) (sym (take_more cubes i cube lt))
+    ap (λ b. flat_map row (take i cubes) ++ b) (ap row is ∙ sym (append-nil (row (get_or cubes i cube))))
+    ∙ sym (flat_map-append row (take i cubes) (get_or cubes i cube ∷ [])) ∙ ap (flat_map row) (sym (take_more cubes i cube lt))
     )
 
 pub loop-cube-preserved : goal.loop-cube-preserved

@@ -1,6 +1,6 @@
-use Rattle.std.proofs.Common.{◌≡◌, ℕ, List, Option, Result, sym, flat_map, subst, ap, ◌∙◌, append-nil, ◌++◌}
+use Rattle.std.proofs.Common.{◌≡◌, ℕ, List, sym, flat_map, subst, ap, ◌∙◌, append-nil, ◌++◌}
 use Rattle.pla.specs.declared.out_type.OutType.{OutType}
-use Rattle.pla.specs.declared.out_type.OutType.TheVariants.{F, Fd, Fr, Fdr}
+use Rattle.pla.specs.declared.out_type.OutType.TheVariants.{F}
 use Rattle.pla.specs.Device.{Puts}
 use Rattle.pla.specs.Sets.{SetLists, lists_of}
 use Rattle.pla.specs.Text.{elsewhere, rows_text, sections}

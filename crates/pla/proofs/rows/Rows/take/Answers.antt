@@ -50,10 +50,10 @@ loop-rest-preserved c =
 
 pub returns-else-row_blank-clause-err : goal.returns-else-row_blank-clause-err
 returns-else-row_blank-clause-err c = (
-      refl,
-      c.loop-rest.invariant.read ∙ bad_byte c.args.file_type c.loop-rest.self c.loop-rest.rest.now (sym c.is_empty.ensures ∙ c.loop-rest-test.true) (sym c.row_blank.ensures ∙ c.if-row_blank.false)
-          (c.run_length-count.ensures.none (omega (arith, c.if-count-gt0.false))),
-    )
+  refl,
+  c.loop-rest.invariant.read ∙ bad_byte c.args.file_type c.loop-rest.self c.loop-rest.rest.now (sym c.is_empty.ensures ∙ c.loop-rest-test.true) (sym c.row_blank.ensures ∙ c.if-row_blank.false)
+      (c.run_length-count.ensures.none (omega (arith, c.if-count-gt0.false))),
+)
 
 pub returns-clause-ok : goal.returns-clause-ok
 returns-clause-ok c = c.loop-rest.invariant.read ∙ none_left c.args.file_type c.loop-rest.self c.loop-rest.rest.now (sym c.is_empty.ensures ∙ c.loop-rest-test.false)
