@@ -95,7 +95,7 @@ impl Sets {
         ensures { result ≡ record self { on = on.cubes } }
     {
         let Sets { on: _, dc, off } = self;
-        Sets { on, dc, off }
+        Sets::new(on, dc, off)
     }
 }
 
