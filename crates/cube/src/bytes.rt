@@ -136,5 +136,10 @@ pub(crate) fn two_words_of(
 pub(crate) fn has_any_mark(bytes: &[u8], marks: &[u8; 256], mask: u8) -> bool
     ensures { result ≡ list_any (has_mark marks.now mask) bytes.now }
 {
-    bytes.iter().any(|b| marks[*b as usize] & mask != 0)
+    for b in bytes {
+        if marks[*b as usize] & mask != 0 {
+            return true;
+        }
+    }
+    false
 }

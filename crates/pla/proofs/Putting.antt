@@ -1,5 +1,6 @@
 -- What is put together before it is written.
-use Rattle.std.proofs.Common.{◌≡◌, ℕ, List, [], ◌++◌, Option, Some, None, ap, sym, ◌∙◌, subst, append_assoc, append-nil}
+use Rattle.std.proofs.Common.{◌≡◌, ℕ, ◌+◌, ◌≤◌, List, [], ◌++◌, take, drop, length, Option, Some, None, ap, sym, ◌∙◌, subst, append_assoc, append-nil, length-append, arith}
+use Rattle.std.proofs.lemmas.List.{take-append-drop, length-take-le, take_at}
 use Rattle.std.specs.Prelude.{Result, Ok, Err, OnErr, IsErr}
 use Rattle.std.specs.Io.KnownBytes.{Appends}
 use Rattle.pla.specs.Device.{AppendsFront, Writes, Continues, Puts, PutsOn}
@@ -48,3 +49,24 @@ puts_failed taken pending done new left (Err x) a b e h = λ old front w. subst 
 -- a text behind one that changed nothing
 pub puts_after : {T E : Type 0} (taken mid new : Option (List ℕ)) (pending near left b : List ℕ) (done m r : Result T E) → PutsOn taken pending done mid near m [] → PutsOn mid near m new left r b → PutsOn taken pending done new left r b
 puts_after taken mid new pending near left b done m r h k = λ old front w. subst (λ t. Puts old new left r (t ++ b)) (append-nil front) (k old (front ++ []) (h old front w))
+
+-- a text behind another
+pub puts_then : {T E : Type 0} (taken mid new : Option (List ℕ)) (pending near left a b : List ℕ) (done m r : Result T E) → PutsOn taken pending done mid near m a → PutsOn mid near m new left r b → PutsOn taken pending done new left r (a ++ b)
+puts_then taken mid new pending near left a b done m r h k = λ old front w. subst (Puts old new left r) (append_assoc front a b) (k old (front ++ a) (h old front w))
+
+-- a text with nothing behind it
+pub puts_last : {T E : Type 0} (taken new : Option (List ℕ)) (pending left : List ℕ) (done r : Result T E) (a : List ℕ) → PutsOn taken pending done new left r a → PutsOn taken pending done new left r (a ++ [])
+puts_last taken new pending left done r a h = subst (PutsOn taken pending done new left r) (sym (append-nil a)) h
+
+-- bytes put behind those that are used
+pub used_more : (old bytes row rest text : List ℕ) (used count : ℕ) → used ≤ length bytes → count ≤ length row → take used bytes ≡ old → take count row ≡ text
+    → take (used + count) (take used bytes ++ (row ++ rest)) ≡ old ++ text
+used_more old bytes row rest text used count within fits is same =
+    let at = used + count in
+    let front = take used bytes ++ take count row in
+    let long : length front ≡ at = omega (arith, length-append (take used bytes) (take count row), length-take-le used bytes within, length-take-le count row fits) in
+    ap (λ r. take at (take used bytes ++ (r ++ rest))) (sym (take-append-drop count row))
+    ∙ ap (λ t. take at (take used bytes ++ t)) (append_assoc (take count row) (drop count row) rest)
+    ∙ ap (take at) (sym (append_assoc (take used bytes) (take count row) (drop count row ++ rest)))
+    ∙ take_at front (drop count row ++ rest) at long
+    ∙ ap (λ t. t ++ take count row) is ∙ ap (λ t. old ++ t) same

@@ -51,7 +51,7 @@ pub struct ReadFault {
 }
 
 /// Why a line was not taken.
-#[derive(Debug, Drop)]
+#[derive(Drop)]
 pub enum LineError {
     /// A growth of memory was refused.
     Memory,

@@ -1,5 +1,5 @@
 //! What a line holds.
-ghost use Rattle.std.specs.Prelude.{◌≡◌, [], slice_index_or, ◌<◌, ◌^◌, IfOk, find, position, ◌==◌, not, filter, bytes_eq};
+ghost use Rattle.std.specs.Prelude.{◌≡◌, [], slice_index_or, ◌<◌, ◌^◌, IfOk, position, ◌==◌, not, filter, bytes_eq};
 ghost use Rattle.std.specs.List.{list_any};
 ghost use Rattle.pla.specs.Lines.{is_blank, is_row_blank, is_keyword_line, words, is_empty, row_code, keyword_code, keyword};
 ghost use Rattle.pla.specs.Keywords.{texts, number_within};
@@ -21,21 +21,16 @@ pub fn row_blank(b: u8) -> bool
     blank(b) || b == b'|'
 }
 
-/// The first byte that is no blank.
-pub fn first_not_blank(line: &[u8]) -> Option<u8>
-    ensures { result ≡ find (λ b. not (is_blank b)) line.now }
-{
-    line.iter().copied().find(|b| !blank(*b))
-}
-
 /// Whether the line is a keyword line: its first byte that is no blank is a dot.
 pub fn begins_keyword(line: &[u8]) -> bool
     ensures { result ≡ is_keyword_line line.now }
 {
-    match first_not_blank(line) {
-        Some(b) => b == b'.',
-        None => false,
+    for b in line {
+        if !blank(*b) {
+            return *b == b'.';
+        }
     }
+    false
 }
 
 /// The words of a line: what stands between blanks.
@@ -58,7 +53,12 @@ pub(crate) fn is(word: &[u8], text: &[u8]) -> bool
 pub fn has_symbol(code: &[u8]) -> bool
     ensures { result ≡ list_any (λ b. not (is_row_blank b)) code.now }
 {
-    code.iter().any(|b| !row_blank(*b))
+    for b in code {
+        if !row_blank(*b) {
+            return true;
+        }
+    }
+    false
 }
 
 /// The decimal number that the words are, if they are one word of digits alone and the number is in

@@ -21,7 +21,7 @@ use std::marker::Model;
 
 /// The lists of a description: where the function is true, where it may be either, where it is
 /// false.
-#[derive(Clone, Copy, Debug, PartialEq, Eq)]
+#[derive(Clone, Copy)]
 pub enum Part {
     On,
     DontCare,

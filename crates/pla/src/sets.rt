@@ -10,11 +10,21 @@ use std::alloc::{AllocError, Global};
 use std::marker::Model;
 
 /// Lists of cubes of one shape for the ON-set, the DC-set and the OFF-set.
-#[derive(Drop)]
 pub struct Sets {
     on: Cover,
     dc: Cover,
     off: Cover,
+}
+
+// Written out, so that where the lists end a proof has one call.
+impl Drop for Sets {
+    fn drop(self) {
+        let Sets {
+            on: _,
+            dc: _,
+            off: _,
+        } = self;
+    }
 }
 
 impl Model for Sets {
@@ -84,11 +94,8 @@ impl Sets {
         requires { on.size ≡ self.size }
         ensures { result ≡ record self { on = on.cubes } }
     {
-        Sets {
-            on,
-            dc: self.dc,
-            off: self.off,
-        }
+        let Sets { on: _, dc, off } = self;
+        Sets::new(on, dc, off)
     }
 }
 

@@ -3,7 +3,7 @@
 //! A text begins with the shape, the names and the output type, and counts its rows before it gives
 //! them. It is put together in one buffer on the stack and handed to the output in few and large
 //! writes, so printing takes no memory, and its time grows with the names and the symbols alone.
-ghost use Rattle.std.specs.Prelude.{◌≡◌, ◌∷◌, length, flat_map, sum_by};
+ghost use Rattle.std.specs.Prelude.{◌≡◌, ◌∷◌, ◌++◌, codes, decimal, length, flat_map, sum_by};
 ghost use Rattle.pla.specs.Device.{CountsOn, PutsOn, TellsFailure, Writes};
 ghost use Rattle.pla.specs.Names.{lent_names, name_bytes};
 ghost use Rattle.pla.specs.Sets.{lists_of};
@@ -60,23 +60,35 @@ pub fn write_covers<W: Output>(
     ensures count { TellsFailure (W.calls out.old) (W.calls out.new) result }
 {
     let shape = pla.shape();
-    let mut digits = Buffer::new();
     let mut buffer = PrintBuffer::new();
-    let done = buffer.write_next(out, Ok(()), b".i ");
-    let done = buffer.write_next(out, done, digits.format(shape.inputs()).as_bytes());
-    let done = buffer.write_next(out, done, b"\n.o ");
-    let done = buffer.write_next(out, done, digits.format(shape.outputs()).as_bytes());
-    let done = buffer.write_next(out, done, b"\n");
+    let done = write_number(&mut buffer, out, Ok(()), b".i ", shape.inputs() as u128);
+    let done = write_number(&mut buffer, out, done, b".o ", shape.outputs() as u128);
     let done = write_names(&mut buffer, out, done, b".ilb", pla.input_names());
     let done = write_names(&mut buffer, out, done, b".ob", pla.output_names());
     let done = buffer.write_next(out, done, type_line(out_type));
-    let done = buffer.write_next(out, done, b".p ");
     let rows = row_count(out_type, on, dc, off);
-    let done = buffer.write_next(out, done, digits.format(rows).as_bytes());
-    let done = buffer.write_next(out, done, b"\n");
+    let done = write_number(&mut buffer, out, done, b".p ", rows);
     let done = write_sections(&mut buffer, out, done, out_type, on, dc, off);
     let done = buffer.write_next(out, done, b".e\n");
     buffer.flush_to(out, done)
+}
+
+// Writes the line of a keyword with a number.
+fn write_number<W: Output>(
+    buffer: &mut PrintBuffer,
+    out: &mut W,
+    done: Result<(), WriteFault>,
+    keyword: &[u8],
+    number: u128,
+) -> Result<(), WriteFault>
+    ensures bytes { PutsOn (W.taken out.old) buffer.old done (W.taken out.new) buffer.new result
+        (keyword.now ++ decimal number ++ codes "\n") }
+    ensures count { CountsOn (W.calls out.old) done (W.calls out.new) result }
+{
+    let mut digits = Buffer::new();
+    let done = buffer.write_next(out, done, keyword);
+    let done = buffer.write_next(out, done, digits.format(number).as_bytes());
+    buffer.write_next(out, done, b"\n")
 }
 
 // The line that says the type; empty under f, which has none.

@@ -1,7 +1,8 @@
-use Rattle.std.proofs.Common.{◌≡◌, ◌++◌, Bool, true, List, map, Option, Some, None, false, cond, ap, sym, ◌∙◌, append-nil, refl, subst, rules}
+use Rattle.std.proofs.Common.{◌≡◌, ◌++◌, Bool, true, List, map, length, Option, Some, None, false, cond, ap, sym, ◌∙◌, append-nil, refl, subst, rules}
 use Rattle.std.specs.Prelude.{IsSome, IfSome, IsTrue, option_to_list}
 use Rattle.std.specs.List.{list_any}
 use Rattle.std.proofs.lemmas.Bool.{cond-true}
+use Rattle.std.proofs.lemmas.List.{length-map}
 use Rattle.cube.specs.declared.symbol.Symbol.{Symbol}
 use Rattle.cube.specs.Cube.{Cube}
 use Rattle.cube.specs.Bytes.{byte_symbol, has_mark}
@@ -59,3 +60,11 @@ returns-clause-cubes c =
     subst P c.in-Some.is c.in_ok-cube.ensures.value ∙ ap (λ (o : List Bool). let r : Cube = record { symbols = symbols; outputs = o } in r) same in
     let one : cube_by symbols outputs ≡ Some c.in-Some.cube = one_cube symbols outputs _ c.in_ok-cube.field-0 c.in-Some.cube any c.in-Some.is c.in_ok-cube.ensures.found.0 value in
     rw one (search rules)
+
+pub push-requires : goal.push-requires
+push-requires c =
+    let P : Option Cube → Type 0 = λ o. IfSome o (λ x. x ≡ record { symbols = map byte_symbol c.args.inputs.now; outputs = map (has_mark MARKS c.marks_of-mask.result) c.args.outputs.now }) in
+    let value = subst P c.in-Some.is c.in_ok-cube.ensures.value in (
+      ap (λ x. length x.symbols) value ∙ length-map c.args.inputs.now byte_symbol ∙ c.requires.inputs,
+      ap (λ x. length x.outputs) value ∙ length-map c.args.outputs.now (has_mark MARKS c.marks_of-mask.result) ∙ c.requires.outputs,
+    )

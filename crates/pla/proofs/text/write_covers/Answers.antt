@@ -1,4 +1,4 @@
-use Rattle.std.proofs.Common.{◌≡◌, ℕ, List, ◌++◌, Result, Ok, refl, append-nil, ap, ◌∙◌, subst, codes, decimal, sum_by, length, flat_map}
+use Rattle.std.proofs.Common.{◌≡◌, ℕ, List, [], ◌++◌, Result, Ok, refl, append_assoc, append-nil, ap, ◌∙◌, subst, codes, decimal, sum_by, length, flat_map}
 use Rattle.pla.specs.declared.writing.WriteFault.{WriteFault}
 use Rattle.pla.specs.Device.{Writes}
 use Rattle.pla.specs.Description.{Description}
@@ -7,6 +7,12 @@ use Rattle.pla.specs.Text.{elsewhere, names_text, rows_text, sections, text_of, 
 use Rattle.pla.specs.declared.out_type.OutType.{OutType}
 use Rattle.pla.proofs.Putting.{puts_first, puts_writes}
 use Rattle.pla.proofs.text.write_covers.Goals as goal
+
+-- lines with a number, by their parts
+by_parts : (i o p end feed inputs outputs input_names output_names type count rows : List ℕ)
+    → (i ++ inputs ++ feed) ++ (o ++ outputs ++ feed) ++ input_names ++ output_names ++ type ++ (p ++ count ++ feed) ++ rows ++ end ++ []
+    ≡ i ++ inputs ++ (feed ++ o) ++ outputs ++ feed ++ input_names ++ output_names ++ type ++ p ++ count ++ feed ++ rows ++ end
+by_parts i o p end feed inputs outputs input_names output_names type count rows = simp (append_assoc, append-nil)
 
 -- the text by its parts
 text_parts : (d : Description) (t : OutType) (lists : SetLists) (inputs outputs input_names output_names type count : List ℕ)
@@ -22,17 +28,11 @@ returns-clause-bytes g c =
     let pla = c.args.pla.now in
     let lists = lists_of c.args.on.now c.args.dc.now c.args.off.now in
     let shape = c.shape-shape.ensures in
-    let inputs : c.as_bytes.result.now ≡ decimal pla.size.inputs =
-    c.as_bytes.ensures.value ∙ c.format.ensures.text ∙ ap decimal (c.inputs.ensures.value ∙ ap (λ s. s.inputs) shape) in
-    let outputs : c.as_bytes-2.result.now ≡ decimal pla.size.outputs =
-    c.as_bytes-2.ensures.value ∙ c.format-2.ensures.text ∙ ap decimal (c.outputs.ensures.value ∙ ap (λ s. s.outputs) shape) in
-    let count = c.as_bytes-3.ensures.value ∙ c.format-3.ensures.text ∙ ap decimal c.row_count-rows.ensures in
     let first : Result (Unit {0}) WriteFault = Ok tt in
     let start = puts_first (g.W.Output.taken c.args.out.now) c.new-buffer.result first tt refl c.new-buffer.ensures in
-    let whole = c.write_next-done-10.ensures.bytes _ _ (c.write_sections-done.ensures.bytes _ _ (c.write_next-done-9.ensures.bytes _ _ (c.write_next-done-8.ensures.bytes _ _
-    (c.write_next-done-7.ensures.bytes _ _ (c.write_next-done-6.ensures.bytes _ _ (c.write_names-done-2.ensures.bytes _ _ (c.write_names-done.ensures.bytes _ _
-    (c.write_next-done-5.ensures.bytes _ _ (c.write_next-done-4.ensures.bytes _ _ (c.write_next-done-3.ensures.bytes _ _ (c.write_next-done-2.ensures.bytes _ _ (c.write_next-done.ensures.bytes _ _ start)))))))))))) in
+    let whole = c.write_next-done-2.ensures.bytes _ _ (c.write_sections-done.ensures.bytes _ _ (c.write_number-done-3.ensures.bytes _ _ (c.write_next-done.ensures.bytes _ _
+    (c.write_names-done-2.ensures.bytes _ _ (c.write_names-done.ensures.bytes _ _ (c.write_number-done-2.ensures.bytes _ _ (c.write_number-done.ensures.bytes _ _ start))))))) in
     subst (Writes (g.W.Output.taken c.args.out.now) (g.W.Output.taken c.flush_to.new.out) c.flush_to.result)
-    (append-nil _ ∙ text_parts pla c.args.out_type lists _ _ _ _ _ _ inputs outputs
-    (ap (names_text (codes ".ilb")) c.input_names.ensures) (ap (names_text (codes ".ob")) c.output_names.ensures) c.type_line.ensures count)
+    (by_parts (codes ".i ") (codes ".o ") (codes ".p ") (codes ".e\n") (codes "\n") _ _ _ _ _ _ _ ∙ text_parts pla c.args.out_type lists _ _ _ _ _ _ (ap decimal (c.inputs.ensures.value ∙ ap (λ s. s.inputs) shape)) (ap decimal (c.outputs.ensures.value ∙ ap (λ s. s.outputs) shape))
+    (ap (names_text (codes ".ilb")) c.input_names.ensures) (ap (names_text (codes ".ob")) c.output_names.ensures) c.type_line.ensures (ap decimal c.row_count-rows.ensures))
     (puts_writes _ _ _ _ c.flush_to.result c.flush_to.ensures.empty (c.flush_to.ensures.bytes _ _ whole))

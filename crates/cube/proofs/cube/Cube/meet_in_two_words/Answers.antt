@@ -44,3 +44,10 @@ returns-clause-none c = (
   λ e _ _ _. false≢true (sym e),
   λ apart. let place = common_place _ _ c.requires.size (meets c).0 (meets c).1 in absurd (apart place.0 place.1 place.2),
 )
+
+pub returns-clause-size : goal.returns-clause-size
+returns-clause-size c =
+    let n = c.self.inside.shape.inputs in
+    let m = c.self.inside.shape.outputs in
+    let words = c.push_reserved-2.new.self.items in
+    (length-symbols n m words _ refl ∙ sym (length-symbols _ _ _ _ c.self.view_is), length-outputs n m words _ refl ∙ sym (length-outputs _ _ _ _ c.self.view_is))
