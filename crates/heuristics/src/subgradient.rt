@@ -12,7 +12,7 @@
 use crate::compact::Compact;
 use crate::goal::Goal;
 use crate::lists::Lists;
-use crate::numbers::{add_to_each, at, flag, mark, number, overwrite, put, set, total};
+use crate::numbers::{add_to_each, at, flag, number, overwrite, put, set, total};
 use std::alloc::{AllocError, Global};
 
 /// The highest likelihood of a column.
@@ -215,9 +215,9 @@ fn cost_multiplier(table: &Compact) -> i64 {
 fn lower(
     table: &Compact,
     slopes: &[i64],
-    slacks: &mut Vec<i64>,
+    slacks: &mut [i64],
     order: &mut Vec<(i64, usize)>,
-    weights: &mut Vec<i64>,
+    weights: &mut [i64],
 ) -> Result<(), AllocError> {
     order.clear();
     for (i, weight) in weights.iter().enumerate() {
@@ -234,8 +234,8 @@ fn lower(
 fn lower_each(
     table: &Compact,
     order: &[(i64, usize)],
-    slacks: &mut Vec<i64>,
-    weights: &mut Vec<i64>,
+    slacks: &mut [i64],
+    weights: &mut [i64],
 ) {
     for (weight, i) in order {
         let row = table.rows.list(*i);
@@ -252,9 +252,9 @@ fn lower_each(
 fn raise(
     table: &Compact,
     before: &[i64],
-    slacks: &mut Vec<i64>,
+    slacks: &mut [i64],
     order: &mut Vec<(i64, usize)>,
-    weights: &mut Vec<i64>,
+    weights: &mut [i64],
 ) -> Result<(), AllocError> {
     order.clear();
     for (i, weight) in before.iter().enumerate() {
@@ -272,8 +272,8 @@ fn raise(
 fn raise_each(
     table: &Compact,
     order: &[(i64, usize)],
-    slacks: &mut Vec<i64>,
-    weights: &mut Vec<i64>,
+    slacks: &mut [i64],
+    weights: &mut [i64],
 ) {
     for (_, i) in order {
         let row = table.rows.list(*i);
@@ -292,7 +292,7 @@ fn polished_weights(
     alloc: Global,
     table: &Compact,
     slopes: &[i64],
-    slacks: &mut Vec<i64>,
+    slacks: &mut [i64],
     before: &[i64],
 ) -> Result<Vec<i64>, AllocError> {
     let mut weights = before.to_vec(alloc)?;
@@ -302,21 +302,26 @@ fn polished_weights(
     Ok(weights)
 }
 
+/// Subtracts from each number the load of its column, which is what comes between two of the sums
+/// in `partial`.
+fn subtract_loads(ends: &[u32], partial: &[i64], numbers: &mut [i64]) {
+    let mut before: i64 = 0;
+    for column in 0..ends.len().min(numbers.len()) {
+        let now = at(partial, ends[column] as usize);
+        numbers[column] = numbers[column].wrapping_sub(now.wrapping_sub(before));
+        before = now;
+    }
+}
+
 /// The slack of each column, from its scaled cost and from sums of weights.
 fn slacks_of(
     alloc: Global,
-    column_rows: &Lists,
+    ends: &[u32],
     scaled_costs: &[i64],
     partial: &[i64],
 ) -> Result<Vec<i64>, AllocError> {
-    let mut slacks = vec![in alloc; 0; scaled_costs.len()]?;
-    let mut before: i64 = 0;
-    for (column, scaled_cost) in scaled_costs.iter().enumerate() {
-        let now = at(partial, column_rows.end_of(column) as usize);
-        let load = now.wrapping_sub(before);
-        put(&mut slacks, column, scaled_cost.wrapping_sub(load));
-        before = now;
-    }
+    let mut slacks = scaled_costs.to_vec(alloc)?;
+    subtract_loads(ends, partial, &mut slacks);
     Ok(slacks)
 }
 
@@ -325,31 +330,31 @@ fn slacks_of(
 /// comes between two of the sums in `partial`. Which marks change is hard to foretell, so that
 /// nothing branches on it here.
 fn mark_overloaded(
-    column_rows: &Lists,
+    ends: &[u32],
     scaled_costs: &[i64],
     partial: &[i64],
-    overloaded: &mut Vec<bool>,
-    changed: &mut Vec<usize>,
+    overloaded: &mut [bool],
+    changed: &mut [usize],
 ) -> (i64, usize) {
     let mut overload: i64 = 0;
     let mut before: i64 = 0;
     let mut changes: usize = 0;
-    let columns = column_rows.len().min(scaled_costs.len());
+    let columns = ends.len().min(scaled_costs.len());
     for column in 0..columns.min(overloaded.len()) {
-        let now = at(partial, column_rows.end_of(column) as usize);
+        let now = at(partial, ends[column] as usize);
         let load = now.wrapping_sub(before);
-        let over = load.wrapping_sub(at(scaled_costs, column)).max(0);
+        let over = load.wrapping_sub(scaled_costs[column]).max(0);
         before = now;
         overload = overload.wrapping_add(over);
         set(changed, changes, column);
-        changes = changes.wrapping_add(usize::from(flag(overloaded, column) != (over > 0)));
-        mark(overloaded, column, over > 0);
+        changes = changes.wrapping_add(usize::from(overloaded[column] != (over > 0)));
+        overloaded[column] = over > 0;
     }
     (overload, changes)
 }
 
 /// Raises the likelihood of overloaded columns, and lowers the others'.
-fn note_likely(likely: &mut Vec<i64>, overloaded: &[bool], fresh: bool) {
+fn note_likely(likely: &mut [i64], overloaded: &[bool], fresh: bool) {
     for (column, overloaded) in overloaded.iter().enumerate() {
         let now = if *overloaded { LIKELIEST } else { 0 };
         let before = if fresh { now } else { at(likely, column) };
@@ -411,18 +416,13 @@ impl Marks {
 
 /// Turns the direction: three quarters of the last one, plus the subgradient. Answers the square of
 /// its length, without the rows whose weight is 0 and would become less.
-fn turn(direction: &mut Vec<i64>, slopes: &[i64], weights: &[i64]) -> i64 {
+fn turn(direction: &mut [i64], slopes: &[i64], weights: &[i64]) -> i64 {
     let mut square: i64 = 0;
     let rows = slopes.len().min(weights.len());
     for row in 0..rows.min(direction.len()) {
-        let last = at(direction, row).wrapping_mul(12) >> 4;
-        let next = at(slopes, row).wrapping_add(last);
-        put(direction, row, next);
-        let moved = if next.max(at(weights, row)) > 0 {
-            next
-        } else {
-            0
-        };
+        let next = slopes[row].wrapping_add(direction[row].wrapping_mul(12) >> 4);
+        direction[row] = next;
+        let moved = if next.max(weights[row]) > 0 { next } else { 0 };
         square = square.wrapping_add(moved.wrapping_mul(moved));
     }
     square
@@ -436,15 +436,14 @@ fn number_after_step(number: i64, direction: i64, pace: i64) -> i64 {
 }
 
 /// Moves each weight in its direction.
-fn move_each(weights: &mut Vec<i64>, direction: &[i64], pace: i64) {
+fn move_each(weights: &mut [i64], direction: &[i64], pace: i64) {
     for row in 0..weights.len().min(direction.len()) {
-        let weight = number_after_step(at(weights, row), at(direction, row), pace);
-        put(weights, row, weight);
+        weights[row] = number_after_step(weights[row], direction[row], pace);
     }
 }
 
 /// Moves weights a quarter of the way to their mean.
-fn draw_to_mean(weights: &mut Vec<i64>) {
+fn draw_to_mean(weights: &mut [i64]) {
     let number = i64::try_from(weights.len()).unwrap_or(i64::MAX);
     let mean = total(weights).wrapping_div(number.max(1));
     for weight in weights.iter_mut() {
@@ -453,7 +452,7 @@ fn draw_to_mean(weights: &mut Vec<i64>) {
 }
 
 /// Sets each number to 0.
-fn clear(numbers: &mut Vec<i64>) {
+fn clear(numbers: &mut [i64]) {
     for number in numbers.iter_mut() {
         *number = 0;
     }
@@ -533,7 +532,7 @@ impl Ascent {
     fn mark_overloaded(&mut self, table: &Compact) -> i64 {
         let marks = &mut self.marks;
         let (overload, changes) = mark_overloaded(
-            &table.column_rows,
+            table.column_rows.ends(),
             &self.scaled_costs,
             &self.partial,
             &mut marks.overloaded,
@@ -661,7 +660,7 @@ impl Ascent {
     /// Polishes the present weights, whose sums and overloaded columns are known.
     fn polish(&mut self, alloc: Global, table: &Compact, goal: Goal) -> Result<(), AllocError> {
         let slopes = &self.marks.slopes;
-        let mut slacks = slacks_of(alloc, &table.column_rows, &self.scaled_costs, &self.partial)?;
+        let mut slacks = slacks_of(alloc, table.column_rows.ends(), &self.scaled_costs, &self.partial)?;
         let weights = polished_weights(alloc, table, slopes, &mut slacks, &self.weights)?;
         self.keep_if_best(weights, overload(&slacks), goal);
         Ok(())

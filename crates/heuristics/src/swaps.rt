@@ -417,7 +417,7 @@ impl LocalSearch {
 }
 
 /// Sets each number to its index.
-fn number_each(numbers: &mut Vec<usize>) {
+fn number_each(numbers: &mut [usize]) {
     for index in 0..numbers.len() {
         numbers[index] = index;
     }
