@@ -8,7 +8,7 @@ use crate::numbers::{mark, number, set};
 use std::alloc::{AllocError, Global};
 
 /// The column that stands for the component of this one. The path to it is halved.
-fn leader(leaders: &mut [usize], column: usize) -> usize {
+fn leader(leaders: &mut Vec<usize>, column: usize) -> usize {
     let mut at = column;
     for _ in 0..leaders.len() {
         let next = number(leaders, at);
@@ -23,7 +23,7 @@ fn leader(leaders: &mut [usize], column: usize) -> usize {
 }
 
 /// Joins the components of the row's columns.
-fn join_columns(leaders: &mut [usize], row: &[usize]) {
+fn join_columns(leaders: &mut Vec<usize>, row: &[usize]) {
     let Some(first) = row.first() else {
         return;
     };
@@ -39,7 +39,7 @@ fn join_columns(leaders: &mut [usize], row: &[usize]) {
 fn sizes(
     alloc: Global,
     rows: &[Vec<usize>],
-    leaders: &mut [usize],
+    leaders: &mut Vec<usize>,
 ) -> Result<Vec<usize>, AllocError> {
     let mut sizes: Vec<usize> = vec![in alloc; 0; leaders.len()]?;
     for row in rows {
@@ -72,7 +72,7 @@ fn half_way(sizes: &[usize], rows: usize) -> Option<usize> {
 /// Marks the columns of the components that have rows and are before `end`.
 fn columns_before(
     alloc: Global,
-    leaders: &mut [usize],
+    leaders: &mut Vec<usize>,
     sizes: &[usize],
     end: usize,
 ) -> Result<Vec<bool>, AllocError> {
@@ -89,7 +89,7 @@ fn columns_before(
 fn side_of(
     alloc: Global,
     rows: &[Vec<usize>],
-    leaders: &mut [usize],
+    leaders: &mut Vec<usize>,
 ) -> Result<Option<Vec<bool>>, AllocError> {
     let sizes = sizes(alloc, rows, leaders)?;
     match half_way(&sizes, rows.len()) {

@@ -28,14 +28,14 @@ pub(crate) fn at(numbers: &[i64], index: usize) -> i64 {
 }
 
 /// Sets the number at the index; does nothing past the end.
-pub(crate) fn put(numbers: &mut [i64], index: usize, number: i64) {
+pub(crate) fn put(numbers: &mut Vec<i64>, index: usize, number: i64) {
     if index < numbers.len() {
         numbers[index] = number;
     }
 }
 
 /// Adds `amount` to the number at the index; does nothing past the end.
-pub(crate) fn add_at(numbers: &mut [i64], index: usize, amount: i64) {
+pub(crate) fn add_at(numbers: &mut Vec<i64>, index: usize, amount: i64) {
     if index < numbers.len() {
         numbers[index] = numbers[index].wrapping_add(amount);
     }
@@ -77,14 +77,14 @@ pub(crate) fn number(numbers: &[usize], index: usize) -> usize {
 }
 
 /// Sets the number at the index; does nothing past the end.
-pub(crate) fn set(numbers: &mut [usize], index: usize, number: usize) {
+pub(crate) fn set(numbers: &mut Vec<usize>, index: usize, number: usize) {
     if index < numbers.len() {
         numbers[index] = number;
     }
 }
 
 /// Adds `amount` to the number at the index, which is 0 past the end; answers the sum.
-pub(crate) fn add_to(numbers: &mut [usize], index: usize, amount: usize) -> usize {
+pub(crate) fn add_to(numbers: &mut Vec<usize>, index: usize, amount: usize) -> usize {
     let sum = number(numbers, index).wrapping_add(amount);
     set(numbers, index, sum);
     sum
@@ -96,7 +96,7 @@ pub(crate) fn flag(flags: &[bool], index: usize) -> bool {
 }
 
 /// Sets or clears the mark at the index; does nothing past the end.
-pub(crate) fn mark(flags: &mut [bool], index: usize, to: bool) {
+pub(crate) fn mark(flags: &mut Vec<bool>, index: usize, to: bool) {
     if index < flags.len() {
         flags[index] = to;
     }
