@@ -5,7 +5,7 @@ use crate::numbers::{at, mark};
 use std::alloc::{AllocError, Global};
 
 /// Adds one at each column of the row.
-fn count_columns(numbers: &mut Vec<i64>, row: &[usize]) {
+fn count_columns(numbers: &mut [i64], row: &[usize]) {
     for column in row {
         if *column < numbers.len() {
             numbers[*column] = numbers[*column].wrapping_add(1);

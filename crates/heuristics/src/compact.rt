@@ -5,7 +5,6 @@ use crate::numbers::{at, small};
 use std::alloc::{AllocError, Global};
 
 /// A table whose live columns are renumbered from 0 on, in their order.
-#[derive(Drop)]
 pub struct Compact {
     /// The columns of each row.
     pub(crate) rows: Lists,
@@ -13,6 +12,17 @@ pub struct Compact {
     pub(crate) column_rows: Lists,
     /// What each column costs.
     pub(crate) costs: Vec<i64>,
+}
+
+// Written out, so that where one ends a proof has one call, and not one for each of its lists.
+impl Drop for Compact {
+    fn drop(self) {
+        let Compact {
+            rows: _,
+            column_rows: _,
+            costs: _,
+        } = self;
+    }
 }
 
 /// The new number of each live column.
@@ -49,18 +59,6 @@ fn size_of(rows: &[Vec<usize>]) -> usize {
     size
 }
 
-/// Adds the rows, renumbered.
-fn push_rows(
-    renumbered: &mut Lists,
-    rows: &[Vec<usize>],
-    numbers: &[u32],
-) -> Result<(), AllocError> {
-    for row in rows {
-        push_renumbered(renumbered, row, numbers)?;
-    }
-    Ok(())
-}
-
 /// The rows, with their live columns renumbered.
 fn renumber_rows(
     alloc: Global,
@@ -70,7 +68,9 @@ fn renumber_rows(
 ) -> Result<Lists, AllocError> {
     let numbers = new_numbers(alloc, live, columns)?;
     let mut renumbered = Lists::with_capacity(alloc, rows.len(), size_of(rows))?;
-    push_rows(&mut renumbered, rows, &numbers)?;
+    for row in rows {
+        push_renumbered(&mut renumbered, row, &numbers)?;
+    }
     Ok(renumbered)
 }
 

@@ -42,7 +42,7 @@ pub(crate) fn add_at(numbers: &mut Vec<i64>, index: usize, amount: i64) {
 }
 
 /// Adds `amount` to the number of each of the row's columns.
-pub(crate) fn add_to_each(numbers: &mut Vec<i64>, row: &[u32], amount: i64) {
+pub(crate) fn add_to_each(numbers: &mut [i64], row: &[u32], amount: i64) {
     for column in row {
         let column = *column as usize;
         if column < numbers.len() {
@@ -52,7 +52,7 @@ pub(crate) fn add_to_each(numbers: &mut Vec<i64>, row: &[u32], amount: i64) {
 }
 
 /// Overwrites `numbers` with `others`, if there are as many.
-pub(crate) fn overwrite(numbers: &mut Vec<i64>, others: &[i64]) {
+pub(crate) fn overwrite(numbers: &mut [i64], others: &[i64]) {
     if numbers.len() == others.len() {
         numbers.copy_from_slice(others);
     }

@@ -12,7 +12,7 @@
 use crate::compact::Compact;
 use crate::goal::Goal;
 use crate::lists::Lists;
-use crate::numbers::{add_to_each, at, flag, mark, number, overwrite, put, set, total};
+use crate::numbers::{add_at, add_to_each, at, flag, number, overwrite, put, total};
 use std::alloc::{AllocError, Global};
 
 /// The highest likelihood of a column.
@@ -92,7 +92,6 @@ struct Marks {
 }
 
 /// The state of the steps: the present weights, their direction, and the best weights so far.
-#[derive(Drop)]
 pub(crate) struct Ascent {
     /// The weight of each row.
     weights: Vec<i64>,
@@ -118,6 +117,26 @@ pub(crate) struct Ascent {
     pace: i64,
     /// How many steps there were without a gain.
     idle: u32,
+}
+
+// Written out, so that where one ends a proof has one call, and not one for each of its lists.
+impl Drop for Ascent {
+    fn drop(self) {
+        let Ascent {
+            weights: _,
+            column: _,
+            cost: _,
+            direction: _,
+            column_direction: _,
+            scaled_costs: _,
+            partial: _,
+            marks: _,
+            top: _,
+            best: _,
+            pace: _,
+            idle: _,
+        } = self;
+    }
 }
 
 /// How long the steps go on.
@@ -215,7 +234,7 @@ fn cost_multiplier(table: &Compact) -> i64 {
 fn lower(
     table: &Compact,
     slopes: &[i64],
-    slacks: &mut Vec<i64>,
+    slacks: &mut [i64],
     order: &mut Vec<(i64, usize)>,
     weights: &mut Vec<i64>,
 ) -> Result<(), AllocError> {
@@ -226,18 +245,7 @@ fn lower(
         }
     }
     order.sort_unstable();
-    lower_each(table, order, slacks, weights);
-    Ok(())
-}
-
-/// Lowers the weights of those of the rows that have several overloaded columns, in this order.
-fn lower_each(
-    table: &Compact,
-    order: &[(i64, usize)],
-    slacks: &mut Vec<i64>,
-    weights: &mut Vec<i64>,
-) {
-    for (weight, i) in order {
+    for (weight, i) in order.iter() {
         let row = table.rows.list(*i);
         let less = weight_decrease(row, *weight, slacks);
         if less > 0 {
@@ -245,6 +253,7 @@ fn lower_each(
             add_to_each(slacks, row, less);
         }
     }
+    Ok(())
 }
 
 /// Raises the weights of rows by the slack of their columns, the row first that weighed most before
@@ -252,7 +261,7 @@ fn lower_each(
 fn raise(
     table: &Compact,
     before: &[i64],
-    slacks: &mut Vec<i64>,
+    slacks: &mut [i64],
     order: &mut Vec<(i64, usize)>,
     weights: &mut Vec<i64>,
 ) -> Result<(), AllocError> {
@@ -264,42 +273,15 @@ fn raise(
     }
     order.sort_unstable();
     order.reverse();
-    raise_each(table, order, slacks, weights);
-    Ok(())
-}
-
-/// Raises the weights of these rows by the slack of their columns, in this order.
-fn raise_each(
-    table: &Compact,
-    order: &[(i64, usize)],
-    slacks: &mut Vec<i64>,
-    weights: &mut Vec<i64>,
-) {
-    for (_, i) in order {
+    for (_, i) in order.iter() {
         let row = table.rows.list(*i);
         let more = least_slack(row, slacks);
         if more > 0 {
-            let weight = at(weights, *i);
-            put(weights, *i, weight.wrapping_add(more));
+            add_at(weights, *i, more);
             add_to_each(slacks, row, 0i64.wrapping_sub(more));
         }
     }
-}
-
-/// The weights, polished: lowered where columns are overloaded, and then raised by what is left of
-/// the slacks.
-fn polished_weights(
-    alloc: Global,
-    table: &Compact,
-    slopes: &[i64],
-    slacks: &mut Vec<i64>,
-    before: &[i64],
-) -> Result<Vec<i64>, AllocError> {
-    let mut weights = before.to_vec(alloc)?;
-    let mut order: Vec<(i64, usize)> = Vec::new(alloc);
-    lower(table, slopes, slacks, &mut order, &mut weights)?;
-    raise(table, before, slacks, &mut order, &mut weights)?;
-    Ok(weights)
+    Ok(())
 }
 
 /// The slack of each column, from its scaled cost and from sums of weights.
@@ -320,44 +302,12 @@ fn slacks_of(
     Ok(slacks)
 }
 
-/// Marks the overloaded columns, and lists first in `changed` those where a mark changes; answers
-/// by how much the columns are overloaded together, and how many marks change. The loads are what
-/// comes between two of the sums in `partial`. Which marks change is hard to foretell, so that
-/// nothing branches on it here.
-fn mark_overloaded(
-    column_rows: &Lists,
-    scaled_costs: &[i64],
-    partial: &[i64],
-    overloaded: &mut Vec<bool>,
-    changed: &mut Vec<usize>,
-) -> (i64, usize) {
-    let mut overload: i64 = 0;
-    let mut before: i64 = 0;
-    let mut changes: usize = 0;
-    let columns = column_rows.len().min(scaled_costs.len());
-    for column in 0..columns.min(overloaded.len()) {
-        let now = at(partial, column_rows.end_of(column) as usize);
-        let load = now.wrapping_sub(before);
-        let over = load.wrapping_sub(at(scaled_costs, column)).max(0);
-        before = now;
-        overload = overload.wrapping_add(over);
-        set(changed, changes, column);
-        changes = changes.wrapping_add(usize::from(flag(overloaded, column) != (over > 0)));
-        mark(overloaded, column, over > 0);
-    }
-    (overload, changes)
-}
-
 /// Raises the likelihood of overloaded columns, and lowers the others'.
-fn note_likely(likely: &mut Vec<i64>, overloaded: &[bool], fresh: bool) {
-    for (column, overloaded) in overloaded.iter().enumerate() {
-        let now = if *overloaded { LIKELIEST } else { 0 };
-        let before = if fresh { now } else { at(likely, column) };
-        put(
-            likely,
-            column,
-            before.wrapping_add(now.wrapping_sub(before) >> 1),
-        );
+fn note_likely(likely: &mut [i64], overloaded: &[bool], fresh: bool) {
+    for column in 0..overloaded.len().min(likely.len()) {
+        let now = if overloaded[column] { LIKELIEST } else { 0 };
+        let before = if fresh { now } else { likely[column] };
+        likely[column] = before.wrapping_add(now.wrapping_sub(before) >> 1);
     }
 }
 
@@ -393,6 +343,38 @@ impl Marks {
         Ok(())
     }
 
+    /// Marks the overloaded columns; answers by how much they are overloaded together. The loads
+    /// are what comes between two of the sums in `partial`. Which marks change is hard to foretell,
+    /// so that nothing branches on it here.
+    fn mark_overloaded(
+        &mut self,
+        column_rows: &Lists,
+        scaled_costs: &[i64],
+        partial: &[i64],
+    ) -> i64 {
+        let ends = column_rows.ends();
+        let overloaded: &mut [bool] = &mut self.overloaded;
+        let changed: &mut [usize] = &mut self.changed;
+        let mut overload: i64 = 0;
+        let mut before: i64 = 0;
+        let mut changes: usize = 0;
+        let columns = ends.len().min(scaled_costs.len());
+        for column in 0..columns.min(overloaded.len()) {
+            let now = at(partial, ends[column] as usize);
+            let load = now.wrapping_sub(before);
+            let over = load.wrapping_sub(scaled_costs[column]).max(0);
+            before = now;
+            overload = overload.wrapping_add(over);
+            if changes < changed.len() {
+                changed[changes] = column;
+            }
+            changes = changes.wrapping_add(usize::from(overloaded[column] != (over > 0)));
+            overloaded[column] = over > 0;
+        }
+        self.count_changes(column_rows, changes);
+        overload
+    }
+
     /// Counts the changes of marks for each row of the columns, which are the first in `changed`.
     fn count_changes(&mut self, column_rows: &Lists, changes: usize) {
         for index in 0..changes {
@@ -411,18 +393,13 @@ impl Marks {
 
 /// Turns the direction: three quarters of the last one, plus the subgradient. Answers the square of
 /// its length, without the rows whose weight is 0 and would become less.
-fn turn(direction: &mut Vec<i64>, slopes: &[i64], weights: &[i64]) -> i64 {
+fn turn(direction: &mut [i64], slopes: &[i64], weights: &[i64]) -> i64 {
     let mut square: i64 = 0;
     let rows = slopes.len().min(weights.len());
     for row in 0..rows.min(direction.len()) {
-        let last = at(direction, row).wrapping_mul(12) >> 4;
-        let next = at(slopes, row).wrapping_add(last);
-        put(direction, row, next);
-        let moved = if next.max(at(weights, row)) > 0 {
-            next
-        } else {
-            0
-        };
+        let next = slopes[row].wrapping_add(direction[row].wrapping_mul(12) >> 4);
+        direction[row] = next;
+        let moved = if next.max(weights[row]) > 0 { next } else { 0 };
         square = square.wrapping_add(moved.wrapping_mul(moved));
     }
     square
@@ -436,15 +413,14 @@ fn number_after_step(number: i64, direction: i64, pace: i64) -> i64 {
 }
 
 /// Moves each weight in its direction.
-fn move_each(weights: &mut Vec<i64>, direction: &[i64], pace: i64) {
+fn move_each(weights: &mut [i64], direction: &[i64], pace: i64) {
     for row in 0..weights.len().min(direction.len()) {
-        let weight = number_after_step(at(weights, row), at(direction, row), pace);
-        put(weights, row, weight);
+        weights[row] = number_after_step(weights[row], direction[row], pace);
     }
 }
 
 /// Moves weights a quarter of the way to their mean.
-fn draw_to_mean(weights: &mut Vec<i64>) {
+fn draw_to_mean(weights: &mut [i64]) {
     let number = i64::try_from(weights.len()).unwrap_or(i64::MAX);
     let mean = total(weights).wrapping_div(number.max(1));
     for weight in weights.iter_mut() {
@@ -453,7 +429,7 @@ fn draw_to_mean(weights: &mut Vec<i64>) {
 }
 
 /// Sets each number to 0.
-fn clear(numbers: &mut Vec<i64>) {
+fn clear(numbers: &mut [i64]) {
     for number in numbers.iter_mut() {
         *number = 0;
     }
@@ -529,20 +505,6 @@ impl Ascent {
         }
     }
 
-    /// Marks the overloaded columns; answers by how much they are overloaded together.
-    fn mark_overloaded(&mut self, table: &Compact) -> i64 {
-        let marks = &mut self.marks;
-        let (overload, changes) = mark_overloaded(
-            &table.column_rows,
-            &self.scaled_costs,
-            &self.partial,
-            &mut marks.overloaded,
-            &mut marks.changed,
-        );
-        marks.count_changes(&table.column_rows, changes);
-        overload
-    }
-
     /// A step in the direction of the subgradient plus three quarters of the last direction.
     fn step(&mut self, goal: Goal, far: i64) {
         let mut square = turn(&mut self.direction, &self.marks.slopes, &self.weights);
@@ -581,7 +543,9 @@ impl Ascent {
             self.set_scaled_costs(&table.costs, self.column);
         }
         table.column_rows.add_up(&self.weights, &mut self.partial);
-        let overload = self.mark_overloaded(table);
+        let overload = self
+            .marks
+            .mark_overloaded(&table.column_rows, &self.scaled_costs, &self.partial);
         self.value(&self.weights, overload, goal)
     }
 
@@ -658,11 +622,20 @@ impl Ascent {
         Ok(false)
     }
 
-    /// Polishes the present weights, whose sums and overloaded columns are known.
+    /// Polishes the present weights, whose sums and overloaded columns are known: lowers them where
+    /// columns are overloaded, and then raises them by what is left of the slacks.
     fn polish(&mut self, alloc: Global, table: &Compact, goal: Goal) -> Result<(), AllocError> {
-        let slopes = &self.marks.slopes;
         let mut slacks = slacks_of(alloc, &table.column_rows, &self.scaled_costs, &self.partial)?;
-        let weights = polished_weights(alloc, table, slopes, &mut slacks, &self.weights)?;
+        let mut weights = self.weights.to_vec(alloc)?;
+        let mut order: Vec<(i64, usize)> = Vec::new(alloc);
+        lower(
+            table,
+            &self.marks.slopes,
+            &mut slacks,
+            &mut order,
+            &mut weights,
+        )?;
+        raise(table, &self.weights, &mut slacks, &mut order, &mut weights)?;
         self.keep_if_best(weights, overload(&slacks), goal);
         Ok(())
     }

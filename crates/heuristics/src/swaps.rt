@@ -14,7 +14,6 @@ use crate::numbers::{
 use std::alloc::{AllocError, Global};
 
 /// The present list of columns, and the best one so far.
-#[derive(Drop)]
 struct LocalSearch {
     /// The weight of each row.
     weights: Vec<i64>,
@@ -44,6 +43,28 @@ struct LocalSearch {
     stamps: Vec<usize>,
     /// The best list so far.
     best: Vec<usize>,
+}
+
+// Written out, so that where one ends a proof has one call, and not one for each of its lists.
+impl Drop for LocalSearch {
+    fn drop(self) {
+        let LocalSearch {
+            weights: _,
+            held: _,
+            holders: _,
+            open: _,
+            places: _,
+            scores: _,
+            inside: _,
+            chosen: _,
+            losses: _,
+            slots: _,
+            cost: _,
+            fresh: _,
+            stamps: _,
+            best: _,
+        } = self;
+    }
 }
 
 impl LocalSearch {
@@ -397,27 +418,10 @@ impl LocalSearch {
         self.remove(table, column, now)?;
         Ok(false)
     }
-
-    /// The best list of a search of `steps` steps, which starts near the hint.
-    fn run(
-        &mut self,
-        alloc: Global,
-        table: &Compact,
-        live: &[usize],
-        hint: &[bool],
-        goal: Goal,
-        steps: usize,
-    ) -> Result<Vec<usize>, AllocError> {
-        self.start_rows(table.rows.len())?;
-        self.start_columns(alloc, table)?;
-        self.begin_with(table, live, hint)?;
-        self.go_on(alloc, table, goal, steps)?;
-        self.best.to_vec(alloc)
-    }
 }
 
 /// Sets each number to its index.
-fn number_each(numbers: &mut Vec<usize>) {
+fn number_each(numbers: &mut [usize]) {
     for index in 0..numbers.len() {
         numbers[index] = index;
     }
@@ -447,5 +451,9 @@ pub fn local_search(
 ) -> Result<Vec<usize>, AllocError> {
     let hint = marked(alloc, hint, columns)?;
     let mut search = LocalSearch::new(alloc);
-    search.run(alloc, table, live, &hint, goal, steps)
+    search.start_rows(table.rows.len())?;
+    search.start_columns(alloc, table)?;
+    search.begin_with(table, live, &hint)?;
+    search.go_on(alloc, table, goal, steps)?;
+    search.best.to_vec(alloc)
 }

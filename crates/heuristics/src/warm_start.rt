@@ -71,7 +71,6 @@ fn first_weights(alloc: Global, table: &Compact) -> Result<Vec<i64>, AllocError>
 }
 
 /// What a search remembers from table to table, and how much work it did.
-#[derive(Drop)]
 pub struct WarmStart {
     /// The rows of the last bound; none before the first.
     rows: Lists,
@@ -91,6 +90,23 @@ pub struct WarmStart {
     hint: Vec<usize>,
     /// The work so far.
     effort: Effort,
+}
+
+// Written out, so that where one ends a proof has one call, and not one for each of its lists.
+impl Drop for WarmStart {
+    fn drop(self) {
+        let WarmStart {
+            rows: _,
+            numbers: _,
+            weights: _,
+            column: _,
+            likely: _,
+            missing: _,
+            steps: _,
+            hint: _,
+            effort: _,
+        } = self;
+    }
 }
 
 impl WarmStart {
@@ -154,17 +170,15 @@ impl WarmStart {
 
     /// A copy of what is remembered.
     pub fn copy(&self, alloc: Global) -> Result<WarmStart, AllocError> {
-        Ok(WarmStart {
-            rows: self.rows.copy(alloc)?,
-            numbers: self.numbers.to_vec(alloc)?,
-            weights: self.weights.to_vec(alloc)?,
-            column: self.column,
-            likely: self.likely.to_vec(alloc)?,
-            missing: self.missing,
-            steps: STEPS,
-            hint: self.hint.to_vec(alloc)?,
-            effort: self.effort,
-        })
+        let mut copy = WarmStart::new(alloc, self.effort);
+        copy.column = self.column;
+        copy.missing = self.missing;
+        copy.rows.extend_from(&self.rows)?;
+        copy.numbers.extend_from_slice(&self.numbers)?;
+        copy.weights.extend_from_slice(&self.weights)?;
+        copy.likely.extend_from_slice(&self.likely)?;
+        copy.hint.extend_from_slice(&self.hint)?;
+        Ok(copy)
     }
 
     /// Takes over what a branch or a question has learned, which started with a copy: the weights
