@@ -16,12 +16,15 @@ pub(crate) struct BySymbol {
 }
 
 /// Adds a copy of a row, with `-` at input `i`.
+#[inline(always)]
 pub(crate) fn push_freed(rows: &mut Vec<Cube>, row: &Cube, i: usize) -> Result<(), AllocError>
     requires { i < length row.now.symbols }
     ensures { OnOk result
         (rows.new.items ≡ rows.old.items ++ with_symbol row.now i Symbol.Dash ∷ []) }
 {
-    rows.push(row.with_symbol(i, Symbol::Dash)?)?;
+    let mut freed = row.try_clone()?;
+    freed.set_symbol(i, Symbol::Dash);
+    rows.push(freed)?;
     Ok(())
 }
 

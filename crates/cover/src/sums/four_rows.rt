@@ -183,6 +183,7 @@ fn sum_of_four_rows(alloc: Global, rows: &[Cube]) -> Result<Option<Vec<Cube>>, A
 
 /// The complete sum of the places of the rows, if they are two with opposite literals at an input,
 /// or four with the four pairs of literals at two inputs, in row order.
+#[inline(always)]
 pub(crate) fn sum_of_few_rows(alloc: Global, rows: &[Cube]) -> Result<Option<Vec<Cube>>, AllocError>
     requires { HaveOneSize rows.now }
     ensures { IfOk result (λ found. IfSome found (λ sum. (size : Size) → AreCubes size rows.now
