@@ -77,7 +77,7 @@ fn largest_cubes_outside(
     ensures { IfOk result (λ v. IsRest shape (holds region.now) rows.items v.items) }
 {
     let mut own = Vec::new(alloc);
-    own.push(region.try_clone()?)?;
+    push_copy(&mut own, region)?;
     if rows.is_empty() {
         return Ok(own);
     }
