@@ -19,7 +19,7 @@ use crate::list::{Cover, any_meets, clone_cubes, clone_referents};
 use crate::references::references_to;
 use crate::region::open_literals::{count_bits, open_bits};
 use crate::sums::difference;
-use crate::sums::rows::sort_rows;
+use crate::sums::rows::{joined, push_copy, sort_rows};
 use cube::{Cube, Shape, Symbol};
 use std::alloc::{AllocError, Global};
 
@@ -59,7 +59,7 @@ fn rows_meeting_region(alloc: Global, region: &Cube, rows: &[Cube]) -> Result<Ve
     let mut meeting = Vec::new(alloc);
     for row in rows {
         if !row.disjoint(region) {
-            meeting.push(row.try_clone()?)?;
+            push_copy(&mut meeting, row)?;
         }
     }
     Ok(meeting)
@@ -77,7 +77,7 @@ fn largest_cubes_outside(
     ensures { IfOk result (λ v. IsRest shape (holds region.now) rows.items v.items) }
 {
     let mut own = Vec::new(alloc);
-    own.push(region.try_clone()?)?;
+    push_copy(&mut own, region)?;
     if rows.is_empty() {
         return Ok(own);
     }
@@ -237,6 +237,7 @@ fn merge_halves(
 }
 
 // Cubes that together have the region's places outside the rows, or `None` if the budget is spent.
+#[cycle(outside_rows)]
 fn outside_rows(
     alloc: Global,
     shape: Shape,
@@ -256,16 +257,36 @@ fn outside_rows(
     let Some(i) = split_input_of_region(shape, region, &rows) else {
         return Ok(Some(largest_cubes_outside(alloc, shape, region, rows)?));
     };
+    outside_halves(alloc, shape, region, &rows, i, left)
+}
+
+// Cubes that together have the region's places outside the rows, from its halves at the input, or
+// `None` if the budget is spent.
+#[cycle(outside_rows)]
+fn outside_halves(
+    alloc: Global,
+    shape: Shape,
+    region: &Cube,
+    rows: &[Cube],
+    i: usize,
+    left: &mut Budget,
+) -> Result<Option<Vec<Cube>>, AllocError>
+    requires region { IsCube shape region.now }
+    requires rows { AreCubes shape rows.now }
+    requires input { slice_get region.now.symbols i ≡ Some Symbol.Dash }
+    ensures { IfOk result (λ o. IfSome o
+        (λ v. IsRest shape (holds region.now) rows.now v.items)) }
+{
     let low = region.with_symbol(i, Symbol::Zero)?;
-    let Some(mut cubes) = outside_rows(alloc, shape, &low, &rows, left)? else {
+    let Some(cubes) = outside_rows(alloc, shape, &low, rows, left)? else {
         return Ok(None);
     };
     let high = region.with_symbol(i, Symbol::One)?;
-    let Some(mut more) = outside_rows(alloc, shape, &high, &rows, left)? else {
+    let Some(more) = outside_rows(alloc, shape, &high, rows, left)? else {
         return Ok(None);
     };
-    cubes.append(&mut more)?;
-    merge_halves(alloc, region, &rows, i, cubes, left)
+    let halves = joined(cubes, more)?;
+    merge_halves(alloc, region, rows, i, halves, left)
 }
 
 /// Cubes of one output each that together have the places outside the list, and no others; `None`
@@ -289,10 +310,10 @@ pub fn outside(list: &Cover, budget: Budget) -> Result<Option<Cover>, AllocError
     for j in 0..shape.outputs() {
         let region = cube_of_output(alloc, shape, j)?;
         let rows = list.as_slice();
-        let Some(mut more) = outside_rows(alloc, shape, &region, rows, &mut left)? else {
+        let Some(more) = outside_rows(alloc, shape, &region, rows, &mut left)? else {
             return Ok(None);
         };
-        off.append(&mut more)?;
+        off = joined(off, more)?;
         if off.len() > budget.cubes {
             return Ok(None);
         }
@@ -316,10 +337,10 @@ fn subtract_row_by_row(
 {
     let mut all = Vec::new(alloc);
     for row in rows {
-        let Some(mut more) = outside_rows(alloc, shape, row, others, left)? else {
+        let Some(more) = outside_rows(alloc, shape, row, others, left)? else {
             return Ok(None);
         };
-        all.append(&mut more)?;
+        all = joined(all, more)?;
     }
     Ok(Some(all))
 }
@@ -345,14 +366,13 @@ fn subtract_by_halves(
         return Ok(Some(clone_cubes(alloc, rows)?));
     }
     let (front, back) = rows.split_at(rows.len() / 2);
-    let Some(mut first) = subtract_by_halves(alloc, shape, front, others, left)? else {
+    let Some(first) = subtract_by_halves(alloc, shape, front, others, left)? else {
         return Ok(None);
     };
-    let Some(mut second) = subtract_by_halves(alloc, shape, back, others, left)? else {
+    let Some(second) = subtract_by_halves(alloc, shape, back, others, left)? else {
         return Ok(None);
     };
-    first.append(&mut second)?;
-    Ok(Some(first))
+    Ok(Some(joined(first, second)?))
 }
 
 // Copies of the rows of the list, without those that are found in the other.

@@ -65,12 +65,11 @@ use crate::sums::constant_outputs::{
 use crate::sums::ends::{
     has_row_without_literals, has_universal_row, is_unate, sum_without_literals,
 };
-use crate::sums::four_rows::sum_of_four_rows;
+use crate::sums::four_rows::sum_of_few_rows;
 use crate::sums::independent_parts::{Parts, independent_parts};
 use crate::sums::meets::meets;
 use crate::sums::rows::{merge, sort_rows};
 use crate::sums::split_input::{input_order_hint, split_input_of_lists};
-use crate::sums::two_rows::sum_of_two_rows;
 use crate::symbols::literal_of_value;
 use cube::{Cube, Shape};
 use std::alloc::{AllocError, Global};
@@ -118,10 +117,7 @@ fn sum_by_case(
         if minuend.len() == 1 {
             return Ok(minuend);
         }
-        if let Some(sum) = sum_of_two_rows(alloc, &minuend)? {
-            return Ok(sum);
-        }
-        if let Some(sum) = sum_of_four_rows(alloc, &minuend)? {
+        if let Some(sum) = sum_of_few_rows(alloc, &minuend)? {
             return Ok(sum);
         }
         if is_unate(shape, &minuend)? {

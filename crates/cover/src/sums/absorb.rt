@@ -8,7 +8,7 @@ ghost use Rattle.cover.specs.Sizes.{HaveOneSize, ShareOneSize};
 ghost use Rattle.cover.specs.Reduced.{IsAbsorbed, IsPartlyAbsorbed, IsWithoutAbsorbed};
 
 use crate::sums::keys::literal_pairs;
-use crate::sums::rows::sort_rows;
+use crate::sums::rows::{push_copy, sort_rows};
 use cube::{Cube, Shape};
 use std::alloc::{AllocError, Global};
 
@@ -38,7 +38,7 @@ fn absorb_sorted(alloc: Global, rows: &[Cube]) -> Result<Vec<Cube>, AllocError>
     let mut kept = Vec::new(alloc);
     for row in rows {
         if !lies_in_some(&kept, row) {
-            kept.push(row.try_clone()?)?;
+            push_copy(&mut kept, row)?;
         }
     }
     Ok(kept)
@@ -117,7 +117,7 @@ pub(crate) fn drop_absorbed_by(
     let mut kept = Vec::new(alloc);
     for row in rows {
         if !lies_in_some(others, row) {
-            kept.push(row.try_clone()?)?;
+            push_copy(&mut kept, row)?;
         }
     }
     Ok(kept)

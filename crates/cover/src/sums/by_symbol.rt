@@ -1,5 +1,6 @@
 //! A list of rows split by the symbol at an input.
-ghost use Rattle.std.specs.Prelude.{◌≡◌, ◌<◌, IfOk, All, length, false, true};
+ghost use Rattle.std.specs.Prelude.{◌≡◌, ◌<◌, ◌++◌, ◌∷◌, [], IfOk, OnOk, All, length, false, true};
+ghost use Rattle.cube.specs.Cube.{with_symbol};
 ghost use Rattle.cover.specs.Parts.{part as part_of, has_symbol as has_symbol_of};
 
 use crate::symbols::has_symbol_at;
@@ -12,6 +13,19 @@ pub(crate) struct BySymbol {
     pub(crate) dashes: Vec<Cube>,
     pub(crate) zeros: Vec<Cube>,
     pub(crate) ones: Vec<Cube>,
+}
+
+/// Adds a copy of a row, with `-` at input `i`.
+#[inline(always)]
+pub(crate) fn push_freed(rows: &mut Vec<Cube>, row: &Cube, i: usize) -> Result<(), AllocError>
+    requires { i < length row.now.symbols }
+    ensures { OnOk result
+        (rows.new.items ≡ rows.old.items ++ with_symbol row.now i Symbol.Dash ∷ []) }
+{
+    let mut freed = row.try_clone()?;
+    freed.set_symbol(i, Symbol::Dash);
+    rows.push(freed)?;
+    Ok(())
 }
 
 /// Splits the rows by their symbol at input `i`, and puts `-` there.
@@ -31,12 +45,10 @@ pub(crate) fn split_by_symbol(
     let mut zeros = Vec::with_capacity(alloc, room)?;
     let mut ones = Vec::with_capacity(alloc, room)?;
     for row in rows {
-        let mut freed = row.try_clone()?;
-        freed.set_symbol(i, Symbol::Dash);
         match row.symbol(i) {
-            Symbol::Dash => dashes.push(freed)?,
-            Symbol::Zero => zeros.push(freed)?,
-            Symbol::One => ones.push(freed)?,
+            Symbol::Dash => push_freed(&mut dashes, row, i)?,
+            Symbol::Zero => push_freed(&mut zeros, row, i)?,
+            Symbol::One => push_freed(&mut ones, row, i)?,
         }
     }
     Ok(BySymbol {

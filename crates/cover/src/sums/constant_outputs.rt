@@ -15,7 +15,7 @@ ghost use Rattle.cover.specs.Places.{places};
 ghost use Rattle.cover.specs.Sizes.{HaveOneSize};
 
 use crate::sums::ends::has_row_without_literals;
-use crate::sums::rows::sort_rows;
+use crate::sums::rows::{joined, sort_rows};
 use cube::Cube;
 use std::alloc::{AllocError, Global};
 
@@ -99,14 +99,14 @@ pub(crate) fn with_constant_outputs(
         → sum.items ≡ complete_sum size (places rest)
         → all.items ≡ complete_sum size (places cubes)) }
 {
-    let mut wide = with_outputs_of(alloc, &sum, &constant)?;
+    let wide = with_outputs_of(alloc, &sum, &constant)?;
     if has_row_without_literals(&sum) {
         let sorted = sort_rows(alloc, wide)?;
         return Ok(sorted);
     }
     let mut all = Vec::new(alloc);
     all.push(constant)?;
-    all.append(&mut wide)?;
+    let all = joined(all, wide)?;
     let whole = sort_rows(alloc, all)?;
     Ok(whole)
 }

@@ -25,6 +25,7 @@ ghost use Rattle.cover.specs.Containing.{ArePieces, Cuts, lies_in_larger as is_i
 use crate::cubes::universal_cube;
 use crate::list::{Cover, any_meets};
 use crate::sums::absorb::{absorb, drop_absorbed_by};
+use crate::sums::rows::{joined, push_copy};
 use cube::{Cube, Shape};
 use std::alloc::{AllocError, Global};
 
@@ -48,7 +49,7 @@ fn select_containing(alloc: Global, region: &Cube, cubes: &[Cube]) -> Result<Vec
     let mut kept = Vec::new(alloc);
     for cube in cubes {
         if contains(cube, region) {
-            kept.push(cube.try_clone()?)?;
+            push_copy(&mut kept, cube)?;
         }
     }
     Ok(kept)
@@ -150,16 +151,15 @@ fn cut_by_row(
     let mut rest = Vec::new(alloc);
     for cube in &cubes {
         if cube.disjoint(row) {
-            kept.push(cube.try_clone()?)?;
+            push_copy(&mut kept, cube)?;
         } else {
-            let mut more = pieces_containing(alloc, region, row, cube)?;
-            rest.append(&mut more)?;
+            let more = pieces_containing(alloc, region, row, cube)?;
+            rest = joined(rest, more)?;
         }
     }
-    let rest = absorb_pieces(alloc, shape, row, rest)?;
-    let mut rest = drop_absorbed_by(alloc, &rest, &kept)?;
-    kept.append(&mut rest)?;
-    Ok(kept)
+    let pieces = absorb_pieces(alloc, shape, row, rest)?;
+    let left = drop_absorbed_by(alloc, &pieces, &kept)?;
+    joined(kept, left)
 }
 
 // The list cut by one row after the other, or `None` once it is longer than `most`.
@@ -218,7 +218,7 @@ fn rows_at_distance(
     let mut kept = Vec::new(alloc);
     for row in rows {
         if distance(region, row) == count {
-            kept.push(row.try_clone()?)?;
+            push_copy(&mut kept, row)?;
         }
     }
     Ok(kept)
@@ -235,12 +235,10 @@ fn near_rows_then_all(
 {
     let mut all = Vec::new(alloc);
     for count in 2..MANY {
-        let mut some = rows_at_distance(alloc, region, &rows, count)?;
-        all.append(&mut some)?;
+        let some = rows_at_distance(alloc, region, &rows, count)?;
+        all = joined(all, some)?;
     }
-    let mut rows = rows;
-    all.append(&mut rows)?;
-    Ok(all)
+    joined(all, rows)
 }
 
 // The rows that meet some cube of the list.
@@ -252,7 +250,7 @@ fn rows_meeting_any(alloc: Global, cubes: &[Cube], rows: &[Cube]) -> Result<Vec<
     let mut meeting = Vec::new(alloc);
     for row in rows {
         if any_meets(cubes, row) {
-            meeting.push(row.try_clone()?)?;
+            push_copy(&mut meeting, row)?;
         }
     }
     Ok(meeting)
@@ -305,7 +303,7 @@ fn largest_cubes(alloc: Global, cubes: &[Cube]) -> Result<Vec<Cube>, AllocError>
     let mut kept = Vec::new(alloc);
     for cube in cubes {
         if !lies_in_larger(cubes, cube) {
-            kept.push(cube.try_clone()?)?;
+            push_copy(&mut kept, cube)?;
         }
     }
     Ok(kept)

@@ -13,7 +13,7 @@ ghost use Rattle.cover.specs.Places.{places};
 ghost use Rattle.cover.specs.Sizes.{HaveOneSize};
 
 use crate::sums::branch::combine_branches;
-use crate::sums::two_rows::sum_of_opposites;
+use crate::sums::two_rows::{sum_of_opposites, sum_of_two_rows};
 use crate::symbols::has_symbol_at;
 use cube::{Cube, Symbol};
 use std::alloc::{AllocError, Global};
@@ -153,12 +153,9 @@ fn sum_of_square(
     combine_branches(alloc, i, both, low, high)
 }
 
-/// The complete sum of the places of the rows, if they are four with the four pairs of literals at
-/// two inputs, in row order.
-pub(crate) fn sum_of_four_rows(
-    alloc: Global,
-    rows: &[Cube],
-) -> Result<Option<Vec<Cube>>, AllocError>
+// The complete sum of the places of the rows, if they are four with the four pairs of literals at
+// two inputs, in row order.
+fn sum_of_four_rows(alloc: Global, rows: &[Cube]) -> Result<Option<Vec<Cube>>, AllocError>
     requires { HaveOneSize rows.now }
     ensures { IfOk result (λ found. IfSome found (λ sum. (size : Size) → AreCubes size rows.now
         → sum.items ≡ complete_sum size (places rows.now))) }
@@ -182,4 +179,18 @@ pub(crate) fn sum_of_four_rows(
         return Ok(Some(sum));
     }
     Ok(None)
+}
+
+/// The complete sum of the places of the rows, if they are two with opposite literals at an input,
+/// or four with the four pairs of literals at two inputs, in row order.
+#[inline(always)]
+pub(crate) fn sum_of_few_rows(alloc: Global, rows: &[Cube]) -> Result<Option<Vec<Cube>>, AllocError>
+    requires { HaveOneSize rows.now }
+    ensures { IfOk result (λ found. IfSome found (λ sum. (size : Size) → AreCubes size rows.now
+        → sum.items ≡ complete_sum size (places rows.now))) }
+{
+    if rows.len() == 4 {
+        return sum_of_four_rows(alloc, rows);
+    }
+    sum_of_two_rows(alloc, rows)
 }

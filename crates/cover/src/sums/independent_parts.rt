@@ -11,6 +11,7 @@ ghost use Rattle.cover.specs.Apart.{IsOnSide, IsDivided, IsInParts, HasSomeLiter
 
 use crate::sums::ends::{differ_in_first_outputs, have_same_outputs};
 use crate::sums::input_groups::groups_hint;
+use crate::sums::rows::push_copy;
 use cube::{Cube, Shape};
 use std::alloc::{AllocError, Global};
 
@@ -52,9 +53,9 @@ fn divide_by_groups(
     let mut other = Vec::new(alloc);
     for row in rows {
         if is_in_group(row, groups, true) {
-            one.push(row.try_clone()?)?;
+            push_copy(&mut one, row)?;
         } else if is_in_group(row, groups, false) {
-            other.push(row.try_clone()?)?;
+            push_copy(&mut other, row)?;
         } else {
             return Ok(None);
         }

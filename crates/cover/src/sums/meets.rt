@@ -11,6 +11,7 @@ ghost use Rattle.cover.specs.Reduced.{IsMeets, IsMeetsWithBoth, IsInThirds};
 
 use crate::sums::keys::{keys_of, literal_pairs, meets_by_keys};
 use crate::sums::meets_by_pairs::meets_by_pairs;
+use crate::sums::rows::joined;
 use crate::symbols::has_symbol_at;
 use cube::{Cube, Shape, Symbol};
 use std::alloc::{AllocError, Global};
@@ -112,14 +113,13 @@ fn meets_by_thirds(
         return meets_by_pairs(alloc, rows, others);
     };
     let next = at + 1;
-    let mut all = meets_with_both(alloc, shape, next, mine.dashes, theirs.dashes, theirs.zeros)?;
-    let mut more = meets_by_thirds(alloc, shape, next, mine.dashes, theirs.ones)?;
-    all.append(&mut more)?;
-    let mut more = meets_with_both(alloc, shape, next, mine.zeros, theirs.dashes, theirs.zeros)?;
-    all.append(&mut more)?;
-    let mut more = meets_with_both(alloc, shape, next, mine.ones, theirs.dashes, theirs.ones)?;
-    all.append(&mut more)?;
-    Ok(all)
+    let all = meets_with_both(alloc, shape, next, mine.dashes, theirs.dashes, theirs.zeros)?;
+    let more = meets_by_thirds(alloc, shape, next, mine.dashes, theirs.ones)?;
+    let all = joined(all, more)?;
+    let more = meets_with_both(alloc, shape, next, mine.zeros, theirs.dashes, theirs.zeros)?;
+    let all = joined(all, more)?;
+    let more = meets_with_both(alloc, shape, next, mine.ones, theirs.dashes, theirs.ones)?;
+    joined(all, more)
 }
 
 // The meets of the rows with one list, and then their meets with another.
@@ -137,8 +137,7 @@ fn meets_with_both(
     requires more { AreCubes shape more.now }
     ensures { IfOk result (λ all. IsMeetsWithBoth shape rows.now others.now more.now all.items) }
 {
-    let mut all = meets_by_thirds(alloc, shape, at, rows, others)?;
-    let mut rest = meets_by_thirds(alloc, shape, at, rows, more)?;
-    all.append(&mut rest)?;
-    Ok(all)
+    let all = meets_by_thirds(alloc, shape, at, rows, others)?;
+    let rest = meets_by_thirds(alloc, shape, at, rows, more)?;
+    joined(all, rest)
 }

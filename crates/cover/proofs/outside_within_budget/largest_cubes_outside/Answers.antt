@@ -10,19 +10,19 @@ use Rattle.cover.proofs.outside_within_budget.largest_cubes_outside.Goals as goa
 pub returns-then-is_empty : goal.returns-then-is_empty
 returns-then-is_empty c =
     let region = c.args.region.now in
-    let own : c.push.new.self.items ≡ region ∷ [] = c.in_ok-push.ensures.items ∙ ap (λ l. l ++ c.in_ok-try_clone.field-0 ∷ []) c.new-own.ensures.items ∙ ap (λ d. d ∷ []) c.in_ok-try_clone.ensures.value in
-    IsRest-whole c.args.shape region c.args.rows.items c.push.new.self.items c.requires.region
+    let own : c.push_copy.new.rows.items ≡ region ∷ [] = c.in_ok-push_copy.ensures ∙ ap (λ l. l ++ c.args.region.now ∷ []) c.new-own.ensures.items in
+    IsRest-whole c.args.shape region c.args.rows.items c.push_copy.new.rows.items c.requires.region
     (none_left c.args.rows.items (vec_len c.args.rows) c.is_empty.result c.args.rows.ok.0 c.is_empty.ensures c.if-is_empty.true) own
 
 pub returns : goal.returns
 returns c =
     let size = c.args.shape in
-    let own : c.push.new.self.items ≡ c.args.region.now ∷ [] = c.in_ok-push.ensures.items ∙ ap (λ l. l ++ c.in_ok-try_clone.field-0 ∷ []) c.new-own.ensures.items ∙ ap (λ d. d ∷ []) c.in_ok-try_clone.ensures.value in
-    let is : c.into_cubes.result.items ≡ complete_sum size (difference (places c.push.new.self.items) (places c.args.rows.items)) =
+    let own : c.push_copy.new.rows.items ≡ c.args.region.now ∷ [] = c.in_ok-push_copy.ensures ∙ ap (λ l. l ++ c.args.region.now ∷ []) c.new-own.ensures.items in
+    let is : c.into_cubes.result.items ≡ complete_sum size (difference (places c.push_copy.new.rows.items) (places c.args.rows.items)) =
     c.into_cubes.ensures.value ∙ ap (λ l. l.cubes) c.in_ok-difference.ensures
     ∙ ap (λ (l : Cubes). complete_sum l.size (difference (places l.cubes) (places c.from_cubes-rows.result.cubes))) c.from_cubes-list.ensures
-    ∙ ap (λ (l : Cubes). complete_sum size (difference (places c.push.new.self.items) (places l.cubes))) c.from_cubes-rows.ensures in
+    ∙ ap (λ (l : Cubes). complete_sum size (difference (places c.push_copy.new.rows.items) (places l.cubes))) c.from_cubes-rows.ensures in
     record {
       are_cubes = subst (λ z. AreCubes z c.into_cubes.result.items) (ap (λ (l : Cubes). l.size) c.in_ok-difference.ensures ∙ ap (λ (l : Cubes). l.size) c.from_cubes-list.ensures) c.into_cubes.ensures.cubes;
-      places = places-rest size c.args.region.now c.push.new.self.items c.args.rows.items c.into_cubes.result.items own is;
+      places = places-rest size c.args.region.now c.push_copy.new.rows.items c.args.rows.items c.into_cubes.result.items own is;
     }

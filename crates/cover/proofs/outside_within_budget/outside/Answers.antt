@@ -17,6 +17,6 @@ loop-j-preserved c =
     let same = c.shape-shape.ensures.size in
     let made : Size → Cube = λ z. record { symbols = replicate z.inputs Dash; outputs = set (replicate z.outputs false) j true } in
     let lt : j < size.outputs = (let t = c.loop-j-test.true in let v = c.outputs-j-end.ensures.value in let s = ap (λ (z : Size). z.outputs) same in omega arith) in
-    outside-more size rows j region c.loop-j.off.items more.items c.append.new.self.items lt (c.in_ok-region.ensures ∙ ap made same) c.in_ok-append.ensures.items c.loop-j.invariant
+    outside-more size rows j region c.loop-j.off.items more.items c.in_ok-off.off.items lt (c.in_ok-region.ensures ∙ ap made same) c.in_ok-off.ensures c.loop-j.invariant
     (subst (λ z. IsRest z (holds region) rows more.items) same
     (subst (λ l. IsRest c.shape-shape.result (holds region) l more.items) c.as_slice-rows.ensures.value (MatchOption-at_some _ _ more c.in-Some.is c.in_ok-more.ensures)))

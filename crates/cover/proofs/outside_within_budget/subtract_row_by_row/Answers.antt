@@ -9,7 +9,7 @@ use Rattle.cover.proofs.outside_within_budget.subtract_row_by_row.Goals as goal
 pub loop-row-preserved : goal.loop-row-preserved
 loop-row-preserved c =
     let more = c.in-Some.more in
-    rows-more c.args.shape c.args.rows.now c.args.others.now c.loop-row.row-index c.row-item.result c.loop-row.all.items more.items c.append.new.self.items c.loop-row-test.true c.row-item.is c.in_ok-append.ensures.items
+    rows-more c.args.shape c.args.rows.now c.args.others.now c.loop-row.row-index c.row-item.result c.loop-row.all.items more.items c.in_ok-all.all.items c.loop-row-test.true c.row-item.is c.in_ok-all.ensures
     c.loop-row.invariant (MatchOption-at_some _ _ more c.in-Some.is c.in_ok-more.ensures)
 
 pub returns : goal.returns

@@ -39,7 +39,7 @@ sum_by_case-returns-then-len-eq1 t c =
 
 pub sum_by_case-returns-then-branch : goal.sum_by_case-returns-then-branch
 sum_by_case-returns-then-branch t c =
-    let unate = subst (IsUnate c.args.shape) c.deref-then-is_empty-2-2.ensures.value (c.in_ok-is_unate.ensures c.if-branch.true) in
+    let unate = subst (IsUnate c.args.shape) c.deref-then-is_empty-2.ensures.value (c.in_ok-is_unate.ensures c.if-branch.true) in
     IfOk-weaker c.absorb.result _ _ (λ rows h. complete_sum-no_outer c.args.shape rows.items c.args.minuend.items c.args.subtrahend.items (nothing_left c.args.subtrahend.items (sym c.args.subtrahend.ok.0 ∙ eqb-true (vec_len c.args.subtrahend) 0 (sym c.is_empty-2.ensures ∙ c.if-is_empty-2.true)))
     (complete_sum-unate c.args.shape c.args.minuend.items rows.items c.requires.minuend unate h)) c.absorb.ensures
 
@@ -50,16 +50,10 @@ sum_by_case-returns-then-has_universal_row t c =
     c.new.ensures.items ∙ complete_sum-covered c.args.shape c.args.minuend.items c.args.subtrahend.items
     (subst (λ l. (p : Place) → IsPlace c.args.shape p → places l p ≡ true) c.deref-2.ensures.value all)
 
-pub sum_by_case-sum_of_two_rows-requires : goal.sum_by_case-sum_of_two_rows-requires
-sum_by_case-sum_of_two_rows-requires t c = record {
+pub sum_by_case-sum_of_few_rows-requires : goal.sum_by_case-sum_of_few_rows-requires
+sum_by_case-sum_of_few_rows-requires t c = record {
   size = c.args.shape;
   are_cubes = subst (AreCubes c.args.shape) (sym c.deref.ensures.value) c.requires.minuend;
-}
-
-pub sum_by_case-sum_of_four_rows-requires : goal.sum_by_case-sum_of_four_rows-requires
-sum_by_case-sum_of_four_rows-requires t c = record {
-  size = c.args.shape;
-  are_cubes = subst (AreCubes c.args.shape) (sym c.deref-then-is_empty-2.ensures.value) c.requires.minuend;
 }
 
 pub sum_by_case-returns-in-Some : goal.sum_by_case-returns-in-Some
@@ -69,63 +63,56 @@ sum_by_case-returns-in-Some t c =
     (sum_of_copy c.args.shape c.deref.result.now c.args.minuend.items c.in-Some.sum.items c.deref.ensures.value c.requires.minuend
     (subst (λ found. IfSome found (λ sum. (size : Size) → AreCubes size c.deref.result.now → sum.items ≡ complete_sum size (places c.deref.result.now))) c.in-Some.is c.in_ok-sum.ensures))
 
-pub sum_by_case-returns-in-Some-2 : goal.sum_by_case-returns-in-Some-2
-sum_by_case-returns-in-Some-2 t c =
-    complete_sum-no_outer c.args.shape c.in-Some-2.sum.items c.args.minuend.items c.args.subtrahend.items
-    (nothing_left c.args.subtrahend.items (sym c.args.subtrahend.ok.0 ∙ eqb-true (vec_len c.args.subtrahend) 0 (sym c.is_empty-2.ensures ∙ c.if-is_empty-2.true)))
-    (sum_of_copy c.args.shape c.deref-then-is_empty-2.result.now c.args.minuend.items c.in-Some-2.sum.items c.deref-then-is_empty-2.ensures.value c.requires.minuend
-    (subst (λ found. IfSome found (λ sum. (size : Size) → AreCubes size c.deref-then-is_empty-2.result.now → sum.items ≡ complete_sum size (places c.deref-then-is_empty-2.result.now))) c.in-Some-2.is c.in_ok-sum-2.ensures))
-
 pub sum_by_case-remembered_sum-requires : goal.sum_by_case-remembered_sum-requires
 sum_by_case-remembered_sum-requires t c =
     let size = c.args.shape in
-    let cubes = subst (AreCubes size) (sym c.deref-then-is_empty-2-3.ensures.value) c.requires.minuend in
-    let part = subst (λ o. IfSome o (λ x. IsFreePart size c.deref-then-is_empty-2-3.result.now x)) c.in-Some-3.is (c.in_ok-constant.ensures size cubes) in
-    let left = subst (λ l. AreCubes size l → IsRest size l c.in-Some-3.constant c.in_ok-rest.rest.items) c.deref-in-Some-3.ensures.value (λ h. c.in_ok-rest.ensures size h part.is_cube) c.requires.minuend in
+    let cubes = subst (AreCubes size) (sym c.deref-then-is_empty-2-2.ensures.value) c.requires.minuend in
+    let part = subst (λ o. IfSome o (λ x. IsFreePart size c.deref-then-is_empty-2-2.result.now x)) c.in-Some-2.is (c.in_ok-constant.ensures size cubes) in
+    let left = subst (λ l. AreCubes size l → IsRest size l c.in-Some-2.constant c.in_ok-rest.rest.items) c.deref-in-Some-2.ensures.value (λ h. c.in_ok-rest.ensures size h part.is_cube) c.requires.minuend in
     let less : live c.args.shape.inputs c.in_ok-rest.rest.items c.args.subtrahend.items ≤ live c.args.shape.inputs c.args.minuend.items c.args.subtrahend.items =
-    live-rest c.args.shape c.args.minuend.items c.in_ok-rest.rest.items c.args.subtrahend.items c.in-Some-3.constant left c.args.shape.inputs in
+    live-rest c.args.shape c.args.minuend.items c.in_ok-rest.rest.items c.args.subtrahend.items c.in-Some-2.constant left c.args.shape.inputs in
     (omega arith, (left.are_cubes, c.requires.subtrahend))
 
 pub sum_by_case-constant_row-requires : goal.sum_by_case-constant_row-requires
 sum_by_case-constant_row-requires t c =
-    record { size = c.args.shape; are_cubes = subst (AreCubes c.args.shape) (sym c.deref-then-is_empty-2-3.ensures.value) c.requires.minuend }
+    record { size = c.args.shape; are_cubes = subst (AreCubes c.args.shape) (sym c.deref-then-is_empty-2-2.ensures.value) c.requires.minuend }
 
 pub sum_by_case-without_constant_outputs-requires : goal.sum_by_case-without_constant_outputs-requires
 sum_by_case-without_constant_outputs-requires t c =
     let size = c.args.shape in
-    let cubes = subst (AreCubes size) (sym c.deref-then-is_empty-2-3.ensures.value) c.requires.minuend in
-    let part = subst (λ o. IfSome o (λ x. IsFreePart size c.deref-then-is_empty-2-3.result.now x)) c.in-Some-3.is (c.in_ok-constant.ensures size cubes) in
-    sizes size c.in-Some-3.constant c.deref-in-Some-3.result.now part.is_cube (subst (AreCubes size) (sym c.deref-in-Some-3.ensures.value) c.requires.minuend)
+    let cubes = subst (AreCubes size) (sym c.deref-then-is_empty-2-2.ensures.value) c.requires.minuend in
+    let part = subst (λ o. IfSome o (λ x. IsFreePart size c.deref-then-is_empty-2-2.result.now x)) c.in-Some-2.is (c.in_ok-constant.ensures size cubes) in
+    sizes size c.in-Some-2.constant c.deref-in-Some-2.result.now part.is_cube (subst (AreCubes size) (sym c.deref-in-Some-2.ensures.value) c.requires.minuend)
 
 pub sum_by_case-with_constant_outputs-requires : goal.sum_by_case-with_constant_outputs-requires
 sum_by_case-with_constant_outputs-requires t c =
     let size = c.args.shape in
-    let cubes = subst (AreCubes size) (sym c.deref-then-is_empty-2-3.ensures.value) c.requires.minuend in
-    let part = subst (λ o. IfSome o (λ x. IsFreePart size c.deref-then-is_empty-2-3.result.now x)) c.in-Some-3.is (c.in_ok-constant.ensures size cubes) in
+    let cubes = subst (AreCubes size) (sym c.deref-then-is_empty-2-2.ensures.value) c.requires.minuend in
+    let part = subst (λ o. IfSome o (λ x. IsFreePart size c.deref-then-is_empty-2-2.result.now x)) c.in-Some-2.is (c.in_ok-constant.ensures size cubes) in
     record {
       size = (
         size,
-        AreCubes-complete_sum size (difference (places c.in_ok-rest.rest.items) (places c.args.subtrahend.items)) c.in_ok-sum-3.sum.items c.in_ok-sum-3.ensures,
+        AreCubes-complete_sum size (difference (places c.in_ok-rest.rest.items) (places c.args.subtrahend.items)) c.in_ok-sum-2.sum.items c.in_ok-sum-2.ensures,
         part.is_cube,
       );
       no_literal = part.no_literal;
     }
 
-pub sum_by_case-returns-in-Some-3 : goal.sum_by_case-returns-in-Some-3
-sum_by_case-returns-in-Some-3 t c =
+pub sum_by_case-returns-in-Some-2 : goal.sum_by_case-returns-in-Some-2
+sum_by_case-returns-in-Some-2 t c =
     let size = c.args.shape in
     let minuend = c.args.minuend.items in
-    let constant = c.in-Some-3.constant in
+    let constant = c.in-Some-2.constant in
     let rest = c.in_ok-rest.rest.items in
     let none' = nothing_left c.args.subtrahend.items (sym c.args.subtrahend.ok.0 ∙ eqb-true (vec_len c.args.subtrahend) 0 (sym c.is_empty-2.ensures ∙ c.if-is_empty-2.true)) in
-    let cubes = subst (AreCubes size) (sym c.deref-then-is_empty-2-3.ensures.value) c.requires.minuend in
-    let part = subst (λ l. IsFreePart size l constant) c.deref-then-is_empty-2-3.ensures.value
-    (subst (λ o. IfSome o (λ x. IsFreePart size c.deref-then-is_empty-2-3.result.now x)) c.in-Some-3.is (c.in_ok-constant.ensures size cubes)) in
-    let left = subst (λ l. AreCubes size l → IsRest size l constant rest) c.deref-in-Some-3.ensures.value (λ h. c.in_ok-rest.ensures size h part.is_cube) c.requires.minuend in
-    let own = AreCubes-complete_sum size (difference (places rest) (places c.args.subtrahend.items)) c.in_ok-sum-3.sum.items c.in_ok-sum-3.ensures in
+    let cubes = subst (AreCubes size) (sym c.deref-then-is_empty-2-2.ensures.value) c.requires.minuend in
+    let part = subst (λ l. IsFreePart size l constant) c.deref-then-is_empty-2-2.ensures.value
+    (subst (λ o. IfSome o (λ x. IsFreePart size c.deref-then-is_empty-2-2.result.now x)) c.in-Some-2.is (c.in_ok-constant.ensures size cubes)) in
+    let left = subst (λ l. AreCubes size l → IsRest size l constant rest) c.deref-in-Some-2.ensures.value (λ h. c.in_ok-rest.ensures size h part.is_cube) c.requires.minuend in
+    let own = AreCubes-complete_sum size (difference (places rest) (places c.args.subtrahend.items)) c.in_ok-sum-2.sum.items c.in_ok-sum-2.ensures in
     IfOk-weaker c.with_constant_outputs.result _ _ (λ rows h.
     complete_sum-no_outer size rows.items minuend c.args.subtrahend.items none'
-    (h size minuend rest own part left (c.in_ok-sum-3.ensures ∙ sum_of_list size rest rest c.args.subtrahend.items refl none'))) c.with_constant_outputs.ensures
+    (h size minuend rest own part left (c.in_ok-sum-2.ensures ∙ sum_of_list size rest rest c.args.subtrahend.items refl none'))) c.with_constant_outputs.ensures
 
 pub remembered_sum-returns-in-Some : goal.remembered_sum-returns-in-Some
 remembered_sum-returns-in-Some t c =

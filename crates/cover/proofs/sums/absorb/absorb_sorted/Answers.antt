@@ -3,7 +3,7 @@ use Rattle.cube.specs.Cube.{Cube, SameSize, IsSubset, holds}
 use Rattle.cover.specs.Reduced.{IsAbsorbed}
 use Rattle.cover.proofs.SumAbsorb.{IsAbsorbed-none, IsAbsorbed-kept, IsAbsorbed-left_out, kept_sizes}
 use Rattle.cover.proofs.sums.absorb.absorb_sorted.Goals as goal
-use Rattle.cover.proofs.sums.absorb.absorb_sorted.Goals.{then-not-lies_in_some+in_ok-try_clone+in_ok-push, else-not-lies_in_some}
+use Rattle.cover.proofs.sums.absorb.absorb_sorted.Goals.{then-not-lies_in_some+in_ok-push_copy, else-not-lies_in_some}
 
 pub loop-row-init : goal.loop-row-init
 loop-row-init c = subst (IsAbsorbed []) (sym c.new-kept.ensures.items) IsAbsorbed-none
@@ -17,12 +17,12 @@ pub loop-row-preserved : goal.loop-row-preserved
 loop-row-preserved c =
     let rows = c.args.rows.now in
     elim c.if-not-lies_in_some.branch [
-      | then-not-lies_in_some+in_ok-try_clone+in_ok-push w ↦
+      | then-not-lies_in_some+in_ok-push_copy w ↦
           let P : Cube → Type 0 = λ d. IsSubset (holds c.row-item.result) (holds d) → ⊥ in
           subst (λ v. IsAbsorbed (take (c.loop-row.row-index + 1) rows) v.items) (sym w.kept-is)
           (IsAbsorbed-kept rows c.loop-row.row-index c.row-item.result c.loop-row.kept.items c.requires.rising c.loop-row-test.true c.row-item.is c.loop-row.invariant
-          w.push.new.self.items (subst (All P) c.deref.ensures.value (c.lies_in_some.ensures.open w.if-not-lies_in_some.true))
-          (w.in_ok-push.ensures.items ∙ ap (λ d. c.loop-row.kept.items ++ d ∷ []) w.in_ok-try_clone.ensures.value))
+          w.push_copy.new.rows.items (subst (All P) c.deref.ensures.value (c.lies_in_some.ensures.open w.if-not-lies_in_some.true))
+          w.in_ok-push_copy.ensures)
       | else-not-lies_in_some w ↦
           let r = c.lies_in_some.ensures.absorbed w.if-not-lies_in_some.false in
           subst (λ v. IsAbsorbed (take (c.loop-row.row-index + 1) rows) v.items) (sym w.kept-is)

@@ -2,16 +2,16 @@ use Rattle.std.proofs.Common.{◌∙◌, ◌+◌, ◌++◌, ◌∷◌, [], ap, s
 use Rattle.cover.specs.Reduced.{IsWithoutAbsorbed}
 use Rattle.cover.proofs.SumWithoutAbsorbed.{IsWithoutAbsorbed-kept, IsWithoutAbsorbed-left_out}
 use Rattle.cover.proofs.sums.absorb.drop_absorbed_by.Goals as goal
-use Rattle.cover.proofs.sums.absorb.drop_absorbed_by.Goals.{then-not-lies_in_some+in_ok-try_clone+in_ok-push, else-not-lies_in_some}
+use Rattle.cover.proofs.sums.absorb.drop_absorbed_by.Goals.{then-not-lies_in_some+in_ok-push_copy, else-not-lies_in_some}
 
 pub loop-row-preserved : goal.loop-row-preserved
 loop-row-preserved c =
     let rows = c.args.rows.now in
     elim c.if-not-lies_in_some.branch [
-      | then-not-lies_in_some+in_ok-try_clone+in_ok-push w ↦
+      | then-not-lies_in_some+in_ok-push_copy w ↦
           subst (λ v. IsWithoutAbsorbed (take (c.loop-row.row-index + 1) rows) c.args.others.now v.items) (sym w.kept-is)
           (IsWithoutAbsorbed-kept rows c.loop-row.row-index c.row-item.result c.args.others.now c.loop-row.kept.items c.loop-row-test.true c.row-item.is c.loop-row.invariant
-          w.push.new.self.items (w.in_ok-push.ensures.items ∙ ap (λ d. c.loop-row.kept.items ++ d ∷ []) w.in_ok-try_clone.ensures.value))
+          w.push_copy.new.rows.items w.in_ok-push_copy.ensures)
       | else-not-lies_in_some w ↦
           subst (λ v. IsWithoutAbsorbed (take (c.loop-row.row-index + 1) rows) c.args.others.now v.items) (sym w.kept-is)
           (IsWithoutAbsorbed-left_out rows c.loop-row.row-index c.row-item.result c.args.others.now c.loop-row.kept.items c.loop-row-test.true c.row-item.is c.loop-row.invariant

@@ -41,5 +41,5 @@ returns-clause-low c =
 
 pub returns-clause-high : goal.returns-clause-high
 returns-clause-high c =
-    IsBranch-side c.args.shape c.args.i c.requires.input c.args.rows.now c.requires.rows true c.in_ok-dashes.field-0.ones.items c.in_ok-dashes.field-0.dashes.items c.append.new.self.items
-    c.in_ok-dashes.ensures.ones c.in_ok-dashes.ensures.dashes c.in_ok-append.ensures.items
+    IsBranch-side c.args.shape c.args.i c.requires.input c.args.rows.now c.requires.rows true c.in_ok-dashes.field-0.ones.items c.in_ok-dashes.field-0.dashes.items c.in_ok-high.high.items
+    c.in_ok-dashes.ensures.ones c.in_ok-dashes.ensures.dashes c.in_ok-high.ensures

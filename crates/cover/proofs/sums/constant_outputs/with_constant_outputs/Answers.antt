@@ -25,8 +25,8 @@ sort_rows-requires-2 c =
     let constant = c.args.constant in
     let wide = c.in_ok-wide.wide.items in
     let widened = c.in_ok-wide.ensures size (subst (AreCubes size) (sym c.deref.ensures.value) c.requires.size.1) c.requires.size.2 in
-    let is_all : c.append.new.self.items ≡ constant ∷ wide =
-    c.in_ok-append.ensures.items ∙ ap (λ l. l ++ wide) (c.in_ok-push.ensures.items ∙ ap (λ l. l ++ constant ∷ []) c.new-all.ensures.items) in
+    let is_all : c.in_ok-all.all.items ≡ constant ∷ wide =
+    c.in_ok-all.ensures ∙ ap (λ l. l ++ wide) (c.in_ok-push.ensures.items ∙ ap (λ l. l ++ constant ∷ []) c.new-all.ensures.items) in
     record { size = size; are_cubes = subst (AreCubes size) (sym is_all) (All-cons (IsCube size) constant wide c.requires.size.2 widened.are_cubes) }
 
 pub returns : goal.returns
@@ -36,8 +36,8 @@ returns c = λ size cubes rest own part left is.
     let constant = c.args.constant in
     let widened = subst (λ l. AreCubes size l → AreWider size constant l wide) c.deref.ensures.value (λ h. c.in_ok-wide.ensures size h part.is_cube) own in
     let none' = subst (λ l. (m : Cube) → Contains l m → IsFree m → ⊥) c.deref-2.ensures.value (none_of c.deref-2.result.now (c.has_row_without_literals.ensures.none c.if-has_row_without_literals.false)) in
-    let is_all : c.append.new.self.items ≡ constant ∷ wide =
-    c.in_ok-append.ensures.items ∙ ap (λ l. l ++ wide) (c.in_ok-push.ensures.items ∙ ap (λ l. l ++ constant ∷ []) c.new-all.ensures.items) in
+    let is_all : c.in_ok-all.all.items ≡ constant ∷ wide =
+    c.in_ok-all.ensures ∙ ap (λ l. l ++ wide) (c.in_ok-push.ensures.items ∙ ap (λ l. l ++ constant ∷ []) c.new-all.ensures.items) in
     complete_sum-with_constant_outputs size cubes rest constant part left sum wide is widened c.in_ok-whole.whole.items
     c.in_ok-whole.ensures.rising (subst (λ l. HasSameCubes l c.in_ok-whole.whole.items) is_all c.in_ok-whole.ensures.cubes) none'
   where

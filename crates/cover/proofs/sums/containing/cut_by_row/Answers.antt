@@ -1,6 +1,7 @@
 use Rattle.std.proofs.Common.{◌≡◌, ◌∙◌, ◌+◌, ◌++◌, ◌∷◌, [], ap, sym, subst, take, All}
 use Rattle.std.proofs.lemmas.List.{take_all}
 use Rattle.std.proofs.lemmas.List.Elements.{All-same}
+use Rattle.std.proofs.lemmas.Result.{IfOk-weaker}
 use Rattle.cube.specs.Cube.{IsCube, IsDisjoint, holds}
 use Rattle.cover.specs.Cubes.{AreCubes}
 use Rattle.cover.specs.Reduced.{IsWithoutAbsorbed}
@@ -8,7 +9,7 @@ use Rattle.cover.specs.Containing.{ArePieces, IsCut}
 use Rattle.cover.proofs.Lists.{all_members, members_all}
 use Rattle.cover.proofs.OverRegion.{size_of-is, IsCut-none, IsCut-kept, IsCut-pieces, IsCut-absorbed, AreCubes-cut, Cuts-none, Cuts-all}
 use Rattle.cover.proofs.sums.containing.cut_by_row.Goals as goal
-use Rattle.cover.proofs.sums.containing.cut_by_row.Goals.{then-disjoint+in_ok-try_clone+in_ok-push, else-disjoint+in_ok-more+in_ok-append}
+use Rattle.cover.proofs.sums.containing.cut_by_row.Goals.{then-disjoint+in_ok-push_copy, else-disjoint+in_ok-more+in_ok-rest}
 
 pub returns-then-not-any_meets-clause-cuts : goal.returns-then-not-any_meets-clause-cuts
 returns-then-not-any_meets-clause-cuts c =
@@ -32,16 +33,16 @@ loop-cube-preserved c =
     let rest = c.loop-cube.rest.items in
     let are : AreCubes size cubes = All-same (IsCube size) cubes c.args.cubes.items c.deref-cube-items.ensures.value c.requires.cubes in
     elim c.if-disjoint.branch [
-      | then-disjoint+in_ok-try_clone+in_ok-push w ↦
+      | then-disjoint+in_ok-push_copy w ↦
           subst (λ v. IsCut size region row (take (at + 1) cubes) v.items c.if-disjoint.rest.items) (sym w.kept-is)
-          (subst (λ v. IsCut size region row (take (at + 1) cubes) w.push.new.self.items v.items) (sym w.rest-is)
-          (IsCut-kept size region row cubes at cube kept rest are c.loop-cube-test.true c.cube-item.is c.loop-cube.invariant w.push.new.self.items
-          (w.in_ok-push.ensures.items ∙ ap (λ d. kept ++ d ∷ []) w.in_ok-try_clone.ensures.value) (c.disjoint.ensures.0 w.if-disjoint.true)))
-      | else-disjoint+in_ok-more+in_ok-append w ↦
+          (subst (λ v. IsCut size region row (take (at + 1) cubes) w.push_copy.new.rows.items v.items) (sym w.rest-is)
+          (IsCut-kept size region row cubes at cube kept rest are c.loop-cube-test.true c.cube-item.is c.loop-cube.invariant w.push_copy.new.rows.items
+          w.in_ok-push_copy.ensures (c.disjoint.ensures.0 w.if-disjoint.true)))
+      | else-disjoint+in_ok-more+in_ok-rest w ↦
           subst (λ v. IsCut size region row (take (at + 1) cubes) v.items c.if-disjoint.rest.items) (sym w.kept-is)
           (subst (λ v. IsCut size region row (take (at + 1) cubes) kept v.items) (sym w.rest-is)
-          (IsCut-pieces size region row cubes at cube kept rest are c.loop-cube-test.true c.cube-item.is c.loop-cube.invariant w.in_ok-more.more.items w.append.new.self.items
-          w.in_ok-append.ensures.items (subst (λ z. ArePieces z region row cube w.in_ok-more.more.items) (size_of-is region size c.requires.region) w.in_ok-more.ensures)))
+          (IsCut-pieces size region row cubes at cube kept rest are c.loop-cube-test.true c.cube-item.is c.loop-cube.invariant w.in_ok-more.more.items w.in_ok-rest.rest.items
+          w.in_ok-rest.ensures (subst (λ z. ArePieces z region row cube w.in_ok-more.more.items) (size_of-is region size c.requires.region) w.in_ok-more.ensures)))
     ]
 
 pub drop_absorbed_by-requires : goal.drop_absorbed_by-requires
@@ -49,8 +50,8 @@ drop_absorbed_by-requires c =
     let size = c.args.shape in
     record {
       size = size;
-      are_cubes = All-same (IsCube size) c.deref-2.result.now c.in_ok-rest.rest.items c.deref-2.ensures.value
-          (members_all (IsCube size) c.in_ok-rest.rest.items (λ d h. all_members (IsCube size) c.loop-cube.rest.items c.loop-cube.invariant.piece_cubes d (c.in_ok-rest.ensures.within d h)));
+      are_cubes = All-same (IsCube size) c.deref-2.result.now c.in_ok-pieces.pieces.items c.deref-2.ensures.value
+          (members_all (IsCube size) c.in_ok-pieces.pieces.items (λ d h. all_members (IsCube size) c.loop-cube.rest.items c.loop-cube.invariant.piece_cubes d (c.in_ok-pieces.ensures.within d h)));
       are_others = All-same (IsCube size) c.deref-3.result.now c.loop-cube.kept.items c.deref-3.ensures.value c.loop-cube.invariant.kept_cubes;
     }
 
@@ -61,10 +62,10 @@ returns-clause-cubes c =
     let row = c.args.row.now in
     let kept = c.loop-cube.kept.items in
     let seen = take c.loop-cube.cube-index c.deref-cube-items.result.now in
-    AreCubes-cut size region row seen kept c.in_ok-rest-2.rest.items c.append-2.new.self.items c.in_ok-append-2.ensures.items
-    (IsCut-absorbed size region row seen kept c.loop-cube.rest.items c.in_ok-rest.rest.items c.in_ok-rest-2.rest.items c.in_ok-rest.ensures
-    (subst (λ l. IsWithoutAbsorbed l kept c.in_ok-rest-2.rest.items) c.deref-2.ensures.value (subst (λ l. IsWithoutAbsorbed c.deref-2.result.now l c.in_ok-rest-2.rest.items) c.deref-3.ensures.value c.in_ok-rest-2.ensures))
-    c.loop-cube.invariant)
+    IfOk-weaker c.joined-2.result _ _ (λ v h. AreCubes-cut size region row seen kept c.in_ok-left.left.items v.items h
+    (IsCut-absorbed size region row seen kept c.loop-cube.rest.items c.in_ok-pieces.pieces.items c.in_ok-left.left.items c.in_ok-pieces.ensures
+    (subst (λ l. IsWithoutAbsorbed l kept c.in_ok-left.left.items) c.deref-2.ensures.value (subst (λ l. IsWithoutAbsorbed c.deref-2.result.now l c.in_ok-left.left.items) c.deref-3.ensures.value c.in_ok-left.ensures))
+    c.loop-cube.invariant)) c.joined-2.ensures
 
 pub returns-clause-cuts : goal.returns-clause-cuts
 returns-clause-cuts c =
@@ -73,7 +74,7 @@ returns-clause-cuts c =
     let row = c.args.row.now in
     let kept = c.loop-cube.kept.items in
     let whole : take c.loop-cube.cube-index c.deref-cube-items.result.now ≡ c.args.cubes.items = take_all c.loop-cube.cube-index c.deref-cube-items.result.now c.loop-cube-test.false ∙ c.deref-cube-items.ensures.value in
-    Cuts-all size region row c.args.cubes.items kept c.in_ok-rest-2.rest.items c.append-2.new.self.items c.in_ok-append-2.ensures.items
-    (IsCut-absorbed size region row c.args.cubes.items kept c.loop-cube.rest.items c.in_ok-rest.rest.items c.in_ok-rest-2.rest.items c.in_ok-rest.ensures
-    (subst (λ l. IsWithoutAbsorbed l kept c.in_ok-rest-2.rest.items) c.deref-2.ensures.value (subst (λ l. IsWithoutAbsorbed c.deref-2.result.now l c.in_ok-rest-2.rest.items) c.deref-3.ensures.value c.in_ok-rest-2.ensures))
-    (subst (λ l. IsCut size region row l kept c.loop-cube.rest.items) whole c.loop-cube.invariant))
+    IfOk-weaker c.joined-2.result _ _ (λ v h. Cuts-all size region row c.args.cubes.items kept c.in_ok-left.left.items v.items h
+    (IsCut-absorbed size region row c.args.cubes.items kept c.loop-cube.rest.items c.in_ok-pieces.pieces.items c.in_ok-left.left.items c.in_ok-pieces.ensures
+    (subst (λ l. IsWithoutAbsorbed l kept c.in_ok-left.left.items) c.deref-2.ensures.value (subst (λ l. IsWithoutAbsorbed c.deref-2.result.now l c.in_ok-left.left.items) c.deref-3.ensures.value c.in_ok-left.ensures))
+    (subst (λ l. IsCut size region row l kept c.loop-cube.rest.items) whole c.loop-cube.invariant))) c.joined-2.ensures

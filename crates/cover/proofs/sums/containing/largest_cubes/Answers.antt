@@ -7,7 +7,7 @@ use Rattle.cover.proofs.Lists.{all_members}
 use Rattle.cover.proofs.OverRegion.{size_of-is}
 use Rattle.cover.proofs.SumRows.{sizes}
 use Rattle.cover.proofs.sums.containing.largest_cubes.Goals as goal
-use Rattle.cover.proofs.sums.containing.largest_cubes.Goals.{then-not-lies_in_larger+in_ok-try_clone+in_ok-push, else-not-lies_in_larger}
+use Rattle.cover.proofs.sums.containing.largest_cubes.Goals.{then-not-lies_in_larger+in_ok-push_copy, else-not-lies_in_larger}
 
 pub lies_in_larger-requires : goal.lies_in_larger-requires
 lies_in_larger-requires c =
@@ -24,11 +24,11 @@ loop-cube-preserved c = λ size are.
     let test : Cube → Bool = λ d. not (lies_in_larger size cubes d) in
     let says : not c.lies_in_larger.result ≡ test cube = ap not c.lies_in_larger.ensures ∙ ap (λ z. not (lies_in_larger z cubes cube)) (size_of-is cube size is.has_size) in
     elim c.if-not-lies_in_larger.branch [
-      | then-not-lies_in_larger+in_ok-try_clone+in_ok-push w ↦
+      | then-not-lies_in_larger+in_ok-push_copy w ↦
           ap (λ v. v.items) w.kept-is
-          ∙ chosen test cubes at cube cube c.loop-cube-test.true c.cube-item.is c.loop-cube.kept.items (c.loop-cube.invariant size are) (not c.lies_in_larger.result) says w.push.new.self.items
+          ∙ chosen test cubes at cube cube c.loop-cube-test.true c.cube-item.is c.loop-cube.kept.items (c.loop-cube.invariant size are) (not c.lies_in_larger.result) says w.push_copy.new.rows.items
           (ap not w.if-not-lies_in_larger.true)
-          (w.in_ok-push.ensures.items ∙ ap (λ d. c.loop-cube.kept.items ++ d ∷ []) w.in_ok-try_clone.ensures.value)
+          w.in_ok-push_copy.ensures
       | else-not-lies_in_larger w ↦
           ap (λ v. v.items) w.kept-is
           ∙ left_out test cubes at cube cube c.loop-cube-test.true c.cube-item.is c.loop-cube.kept.items (c.loop-cube.invariant size are) (not c.lies_in_larger.result) says

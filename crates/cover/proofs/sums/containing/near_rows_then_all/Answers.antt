@@ -1,6 +1,7 @@
 use Rattle.std.proofs.Common.{subst, inl, inr}
 use Rattle.std.specs.List.{Contains}
 use Rattle.std.proofs.lemmas.List.Elements.{Contains-append_cases}
+use Rattle.std.proofs.lemmas.Result.{IfOk-weaker}
 use Rattle.cube.proofs.Members.{Contains-nil}
 use Rattle.cover.proofs.OverRegion.{HasSameCubes-first}
 use Rattle.cover.proofs.sums.containing.near_rows_then_all.Goals as goal
@@ -10,11 +11,11 @@ loop-count-init c = λ d k. absurd (Contains-nil d (subst (λ l. Contains l d) c
 
 pub loop-count-preserved : goal.loop-count-preserved
 loop-count-preserved c = λ d k.
-    elim (Contains-append_cases c.loop-count.all.items c.in_ok-some.some.items d (subst (λ l. Contains l d) c.in_ok-append.ensures.items k)) [
+    elim (Contains-append_cases c.loop-count.all.items c.in_ok-some.some.items d (subst (λ l. Contains l d) c.in_ok-all.ensures k)) [
       | inl m ↦ c.loop-count.invariant d m
       | inr m ↦ subst (λ l. Contains l d) c.deref.ensures.value (c.in_ok-some.ensures d m)
     ]
 
 pub returns : goal.returns
 returns c =
-    HasSameCubes-first c.args.rows.items c.loop-count.all.items c.append-2.new.self.items c.in_ok-append-2.ensures.items c.loop-count.invariant
+    IfOk-weaker c.joined-2.result _ _ (λ all h. HasSameCubes-first c.args.rows.items c.loop-count.all.items all.items h c.loop-count.invariant) c.joined-2.ensures

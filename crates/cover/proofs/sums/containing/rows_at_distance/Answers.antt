@@ -4,7 +4,7 @@ use Rattle.std.proofs.lemmas.List.{take_all}
 use Rattle.cube.specs.Cube.{Cube}
 use Rattle.cover.proofs.OverRegion.{some-left, some-kept}
 use Rattle.cover.proofs.sums.containing.rows_at_distance.Goals as goal
-use Rattle.cover.proofs.sums.containing.rows_at_distance.Goals.{then-distance-count+in_ok-try_clone+in_ok-push, else-distance-count}
+use Rattle.cover.proofs.sums.containing.rows_at_distance.Goals.{then-distance-count+in_ok-push_copy, else-distance-count}
 
 pub loop-row-preserved : goal.loop-row-preserved
 loop-row-preserved c =
@@ -13,10 +13,10 @@ loop-row-preserved c =
     let row = c.row-item.result in
     let kept = c.loop-row.kept.items in
     elim c.if-distance-count.branch [
-      | then-distance-count+in_ok-try_clone+in_ok-push w ↦
+      | then-distance-count+in_ok-push_copy w ↦
           subst (λ v. (d : Cube) → Contains v.items d → Contains (take (at + 1) rows) d) (sym w.kept-is)
-          (some-kept rows at row c.loop-row-test.true c.row-item.is kept w.push.new.self.items
-          (w.in_ok-push.ensures.items ∙ ap (λ d. kept ++ d ∷ []) w.in_ok-try_clone.ensures.value) c.loop-row.invariant)
+          (some-kept rows at row c.loop-row-test.true c.row-item.is kept w.push_copy.new.rows.items
+          w.in_ok-push_copy.ensures c.loop-row.invariant)
       | else-distance-count w ↦
           subst (λ v. (d : Cube) → Contains v.items d → Contains (take (at + 1) rows) d) (sym w.kept-is)
           (some-left rows at row c.loop-row-test.true c.row-item.is kept c.loop-row.invariant)

@@ -5,7 +5,7 @@ use Rattle.cover.specs.Outside.{AreNear}
 use Rattle.cover.proofs.OffSets.{near-kept, near-left}
 use Rattle.cover.proofs.OverRegion.{apart_from_all}
 use Rattle.cover.proofs.sums.containing.rows_meeting_any.Goals as goal
-use Rattle.cover.proofs.sums.containing.rows_meeting_any.Goals.{then-any_meets+in_ok-try_clone+in_ok-push, else-any_meets}
+use Rattle.cover.proofs.sums.containing.rows_meeting_any.Goals.{then-any_meets+in_ok-push_copy, else-any_meets}
 
 pub loop-row-preserved : goal.loop-row-preserved
 loop-row-preserved c = λ size cubes.
@@ -15,10 +15,10 @@ loop-row-preserved c = λ size cubes.
     let row = c.row-item.result in
     let meeting = c.loop-row.meeting.items in
     elim c.if-any_meets.branch [
-      | then-any_meets+in_ok-try_clone+in_ok-push w ↦
+      | then-any_meets+in_ok-push_copy w ↦
           subst (λ v. AreNear size s (take (at + 1) rows) v.items) (sym w.meeting-is)
-          (near-kept size s rows at row meeting cubes c.loop-row-test.true c.row-item.is (c.loop-row.invariant size cubes) w.push.new.self.items
-          (w.in_ok-push.ensures.items ∙ ap (λ d. meeting ++ d ∷ []) w.in_ok-try_clone.ensures.value))
+          (near-kept size s rows at row meeting cubes c.loop-row-test.true c.row-item.is (c.loop-row.invariant size cubes) w.push_copy.new.rows.items
+          w.in_ok-push_copy.ensures)
       | else-any_meets w ↦
           subst (λ v. AreNear size s (take (at + 1) rows) v.items) (sym w.meeting-is)
           (near-left size s rows at row meeting cubes c.loop-row-test.true c.row-item.is (c.loop-row.invariant size cubes)

@@ -3,7 +3,7 @@ use Rattle.cube.specs.Cube.{size_of}
 use Rattle.cover.specs.Contained.{is_within}
 use Rattle.cover.proofs.Chosen.{chosen, left_out}
 use Rattle.cover.proofs.sums.containing.select_containing.Goals as goal
-use Rattle.cover.proofs.sums.containing.select_containing.Goals.{then-contains+in_ok-try_clone+in_ok-push, else-contains}
+use Rattle.cover.proofs.sums.containing.select_containing.Goals.{then-contains+in_ok-push_copy, else-contains}
 
 pub loop-cube-preserved : goal.loop-cube-preserved
 loop-cube-preserved c =
@@ -12,9 +12,9 @@ loop-cube-preserved c =
     let at = c.loop-cube.cube-index in
     let cube = c.cube-item.result in
     elim c.if-contains.branch [
-      | then-contains+in_ok-try_clone+in_ok-push w ↦
+      | then-contains+in_ok-push_copy w ↦
           ap (λ v. v.items) w.kept-is
-          ∙ chosen test cubes at cube cube c.loop-cube-test.true c.cube-item.is c.loop-cube.kept.items c.loop-cube.invariant c.contains.result c.contains.ensures w.push.new.self.items w.if-contains.true
-          (w.in_ok-push.ensures.items ∙ ap (λ d. c.loop-cube.kept.items ++ d ∷ []) w.in_ok-try_clone.ensures.value)
+          ∙ chosen test cubes at cube cube c.loop-cube-test.true c.cube-item.is c.loop-cube.kept.items c.loop-cube.invariant c.contains.result c.contains.ensures w.push_copy.new.rows.items w.if-contains.true
+          w.in_ok-push_copy.ensures
       | else-contains w ↦ ap (λ v. v.items) w.kept-is ∙ left_out test cubes at cube cube c.loop-cube-test.true c.cube-item.is c.loop-cube.kept.items c.loop-cube.invariant c.contains.result c.contains.ensures w.if-contains.false
     ]

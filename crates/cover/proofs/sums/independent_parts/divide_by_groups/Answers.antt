@@ -2,7 +2,7 @@ use Rattle.std.proofs.Common.{◌∙◌, ◌+◌, ◌++◌, ◌∷◌, [], ap, s
 use Rattle.cover.specs.Apart.{IsDivided}
 use Rattle.cover.proofs.Dividing.{IsDivided-one, IsDivided-other}
 use Rattle.cover.proofs.sums.independent_parts.divide_by_groups.Goals as goal
-use Rattle.cover.proofs.sums.independent_parts.divide_by_groups.Goals.{then-is_in_group+in_ok-try_clone+in_ok-push, else-is_in_group+then-is_in_group-2+in_ok-try_clone-2+in_ok-push-2}
+use Rattle.cover.proofs.sums.independent_parts.divide_by_groups.Goals.{then-is_in_group+in_ok-push_copy, else-is_in_group+then-is_in_group-2+in_ok-push_copy-2}
 
 pub loop-row-preserved : goal.loop-row-preserved
 loop-row-preserved c =
@@ -11,15 +11,15 @@ loop-row-preserved c =
     let one = c.loop-row.one.items in
     let other = c.loop-row.other.items in
     elim c.if-is_in_group.branch [
-      | then-is_in_group+in_ok-try_clone+in_ok-push w ↦
+      | then-is_in_group+in_ok-push_copy w ↦
           subst (λ v. IsDivided c.args.groups.now (take (i + 1) rows) v.items c.if-is_in_group.other.items) (sym w.one-is)
-          (subst (λ v. IsDivided c.args.groups.now (take (i + 1) rows) w.push.new.self.items v.items) (sym w.other-is)
+          (subst (λ v. IsDivided c.args.groups.now (take (i + 1) rows) w.push_copy.new.rows.items v.items) (sym w.other-is)
           (IsDivided-one c.args.groups.now rows i c.row-item.result one other c.loop-row-test.true c.row-item.is c.loop-row.invariant
-          w.push.new.self.items (w.in_ok-push.ensures.items ∙ ap (λ d. one ++ d ∷ []) w.in_ok-try_clone.ensures.value) (c.is_in_group.ensures w.if-is_in_group.true)))
-      | else-is_in_group+then-is_in_group-2+in_ok-try_clone-2+in_ok-push-2 w ↦
+          w.push_copy.new.rows.items w.in_ok-push_copy.ensures (c.is_in_group.ensures w.if-is_in_group.true)))
+      | else-is_in_group+then-is_in_group-2+in_ok-push_copy-2 w ↦
           subst (λ v. IsDivided c.args.groups.now (take (i + 1) rows) v.items c.if-is_in_group.other.items) (sym w.one-is)
           (subst (λ v. IsDivided c.args.groups.now (take (i + 1) rows) one v.items) (sym w.other-is)
           (IsDivided-other c.args.groups.now rows i c.row-item.result one other c.loop-row-test.true c.row-item.is c.loop-row.invariant
-          w.push-then-is_in_group-2.new.self.items (w.in_ok-push-2.ensures.items ∙ ap (λ d. other ++ d ∷ []) w.in_ok-try_clone-2.ensures.value)
+          w.push_copy-then-is_in_group-2.new.rows.items w.in_ok-push_copy-2.ensures
           (w.is_in_group-else-is_in_group.ensures w.if-is_in_group-2.true)))
     ]
