@@ -1,6 +1,6 @@
 -- What a cube is that a call found: a meet, or a cube of symbols and outputs.
-use Rattle.std.proofs.Common.{◌≡◌, ◌∙◌, Bool, true, false, ◌&&◌, IsTrue, IsNone, ◌↔◌, get_or, length, sym, subst, refl, inl, inr}
-use Rattle.std.specs.Prelude.{Option, Some, None, Result, Ok, Err, IsSome, IfSome, IfOk, List}
+use Rattle.std.proofs.Common.{◌≡◌, ◌∙◌, Bool, true, false, ◌&&◌, IsNone, ◌↔◌, get_or, length, sym, subst, refl, inl, inr}
+use Rattle.std.specs.Prelude.{Option, Some, None, IsSome, IfSome, List}
 use Rattle.std.specs.List.{Contains, list_any}
 use Rattle.std.proofs.lemmas.Bool.{cases_Bool, false≢true, and_parts, and_from}
 use Rattle.cube.specs.declared.symbol.Symbol.{Symbol}
@@ -51,10 +51,3 @@ pub made_output : (symbols : List Symbol) (outputs : List Bool) (c : Cube) (foun
 made_output symbols outputs c found is some value =
     let P : Cube → Type 0 = λ d. list_any (λ b. b) d.outputs ≡ true in
     subst P (sym value) (list_any_from (λ b. b) outputs true (some.0 (subst IsSome (sym is) refl)) refl)
-
-pub made_outputs : {E : Type 0} (symbols : List Symbol) (outputs : List Bool) (r : Result (Option Cube) E) → IfOk r (λ found. IsSome found ↔ Contains outputs true)
-    → IfOk r (λ found. IfSome found (λ c. c ≡ record { symbols = symbols; outputs = outputs }))
-    → IfOk r (λ found. IfSome found (λ c. IsTrue (list_any (λ b. b) c.outputs)))
-made_outputs symbols outputs (Ok None) some value = tt
-made_outputs symbols outputs (Ok (Some c)) some value = made_output symbols outputs c (Some c) refl some value
-made_outputs symbols outputs (Err e) some value = tt

@@ -88,11 +88,13 @@ fn indices_with_symbol(
         (λ kept. kept.items
         ≡ filter (λ k. is_symbol (symbol_at list.now.cubes i k) symbol) indices.now) }
 {
-    indices
-        .iter()
-        .copied()
-        .filter(|k| is_same_symbol(symbol_of_cube(list, i, *k), symbol))
-        .collect(alloc)
+    let mut kept = Vec::new(alloc);
+    for k in indices {
+        if is_same_symbol(symbol_of_cube(list, i, *k), symbol) {
+            kept.push(*k)?;
+        }
+    }
+    Ok(kept)
 }
 
 // Those of the indices whose cubes have a symbol at input `i` that contains this one.
@@ -109,11 +111,13 @@ fn indices_with_containing_symbol(
         (λ kept. kept.items
         ≡ filter (λ k. is_over (symbol_at list.now.cubes i k) symbol) indices.now) }
 {
-    indices
-        .iter()
-        .copied()
-        .filter(|k| symbol_contains(symbol_of_cube(list, i, *k), symbol))
-        .collect(alloc)
+    let mut kept = Vec::new(alloc);
+    for k in indices {
+        if symbol_contains(symbol_of_cube(list, i, *k), symbol) {
+            kept.push(*k)?;
+        }
+    }
+    Ok(kept)
 }
 
 // Marks the indices of `inner` whose cubes are absorbed by cubes of `outer`, by splits at the

@@ -165,5 +165,10 @@ pub(crate) fn any_meets(cubes: &[Cube], row: &Cube) -> bool
     requires { All (λ d. SameSize d row.now) cubes.now }
     ensures { result ≡ false → All (λ d. IsDisjoint (holds d) (holds row.now)) cubes.now }
 {
-    cubes.iter().any(|cube| !cube.disjoint(row))
+    for cube in cubes {
+        if !cube.disjoint(row) {
+            return true;
+        }
+    }
+    false
 }

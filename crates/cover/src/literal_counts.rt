@@ -1,16 +1,32 @@
 //! How many rows have each literal.
-ghost use Rattle.std.specs.Prelude.{◌≡◌, IfOk, length, All};
+ghost use Rattle.std.specs.Prelude.{◌≡◌, [], IfOk, length, All};
+ghost use Rattle.cube.specs.Cube.{HasSize};
 ghost use Rattle.cover.specs.Places.{behind};
 ghost use Rattle.cover.specs.Splits.{CountsLiterals, Grows};
 
-use cube::{Cube, Symbol};
+use cube::{Cube, Shape, Symbol};
 use std::alloc::{AllocError, Global};
 
+// At most this many rows of a list are counted to choose an input, so that the choice costs less
+// than the split.
+const SAMPLE: usize = 64;
+
+/// How many of so many rows a sample has.
+pub(crate) fn sample_size(rows: usize) -> usize {
+    rows.saturating_add(rows / SAMPLE) / (rows / SAMPLE + 1)
+}
+
 // By input how many rows have `0`, and how many have `1`.
-#[derive(Drop)]
 pub(crate) struct LiteralCounts {
     pub(crate) zeros: Vec<u32>,
     pub(crate) ones: Vec<u32>,
+}
+
+// Written out, so that where counts end a proof has one call, and not one for each of the lists.
+impl Drop for LiteralCounts {
+    fn drop(self) {
+        let LiteralCounts { zeros: _, ones: _ } = self;
+    }
 }
 
 impl LiteralCounts {
@@ -24,14 +40,41 @@ impl LiteralCounts {
         ensures { IfOk result
             (λ t. CountsLiterals inputs t.zeros.items t.ones.items (behind rows.now)) }
     {
-        let mut counts = LiteralCounts {
-            zeros: vec![in alloc; 0u32; inputs]?,
-            ones: vec![in alloc; 0u32; inputs]?,
-        };
+        let mut counts = LiteralCounts::new(alloc, inputs)?;
         for row in rows {
             counts.add(row);
         }
         Ok(counts)
+    }
+
+    // Counts the literals of at most `SAMPLE` rows, evenly from the list.
+    pub(crate) fn of_sample(
+        alloc: Global,
+        shape: Shape,
+        rows: &[&Cube],
+    ) -> Result<LiteralCounts, AllocError>
+        requires { All (λ d. HasSize d.now shape) rows.now }
+        ensures zeros { IfOk result (λ t. length t.zeros.items ≡ shape.inputs) }
+        ensures ones { IfOk result (λ t. length t.ones.items ≡ shape.inputs) }
+    {
+        let step = rows.len() / SAMPLE + 1;
+        let mut counts = LiteralCounts::new(alloc, shape.inputs())?;
+        for k in 0..SAMPLE {
+            if let Some(row) = rows.get(k.saturating_mul(step)) {
+                counts.add(row);
+            }
+        }
+        Ok(counts)
+    }
+
+    // The counts of no row.
+    fn new(alloc: Global, inputs: usize) -> Result<LiteralCounts, AllocError>
+        ensures { IfOk result (λ t. CountsLiterals inputs t.zeros.items t.ones.items []) }
+    {
+        Ok(LiteralCounts {
+            zeros: vec![in alloc; 0u32; inputs]?,
+            ones: vec![in alloc; 0u32; inputs]?,
+        })
     }
 
     // Counts the literals of one more row.

@@ -92,10 +92,13 @@ pub(crate) fn rows_with_symbol<'a>(
         (λ kept. kept.items
         ≡ filter (λ d. is_symbol symbol (slice_index_or d.now.symbols i Symbol.Dash)) rows.now) }
 {
-    rows.iter()
-        .copied()
-        .filter(|row| has_symbol_at(row, i, symbol))
-        .collect(alloc)
+    let mut kept = Vec::new(alloc);
+    for row in rows {
+        if has_symbol_at(row, i, symbol) {
+            kept.push(*row)?;
+        }
+    }
+    Ok(kept)
 }
 
 /// The rows that can have a place in common with one that has this symbol at input `i`.
@@ -111,8 +114,11 @@ pub(crate) fn rows_with_compatible_symbol<'a>(
         ≡ filter (λ d. is_compatible symbol (slice_index_or d.now.symbols i Symbol.Dash))
         rows.now) }
 {
-    rows.iter()
-        .copied()
-        .filter(|row| is_compatible_at(row, i, symbol))
-        .collect(alloc)
+    let mut kept = Vec::new(alloc);
+    for row in rows {
+        if is_compatible_at(row, i, symbol) {
+            kept.push(*row)?;
+        }
+    }
+    Ok(kept)
 }

@@ -12,7 +12,7 @@ ghost use Rattle.cover.specs.Places.{places, behind};
 ghost use Rattle.cover.specs.Marks.{is_symbol};
 ghost use Rattle.cover.specs.Relation.{AreRelated};
 
-use crate::literal_counts::LiteralCounts;
+use crate::literal_counts::{LiteralCounts, sample_size};
 use crate::region::nearest_first::{are_both_long, are_held_one_by_one};
 use crate::symbols::{rows_with_compatible_symbol, rows_with_symbol};
 use cube::{Cube, Shape, Symbol};
@@ -74,25 +74,6 @@ fn are_related_without_splits(
     }
 }
 
-// At most this many rows of each list are counted to choose an input, so that the choice costs less
-// than the split.
-const SAMPLE: usize = 64;
-
-// At most [`SAMPLE`] rows, evenly from the list.
-fn sample_rows<'a>(alloc: Global, rows: &[&'a Cube]) -> Result<Vec<&'a Cube>, AllocError>
-    ensures { IfOk result (λ some. (size : Size) → All (λ d. HasSize d.now size) rows.now
-        → All (λ d. HasSize d.now size) some.items) }
-{
-    let step = rows.len() / SAMPLE + 1;
-    let mut some = Vec::new(alloc);
-    for k in 0..SAMPLE {
-        if let Some(row) = rows.get(k.saturating_mul(step)) {
-            some.push(*row)?;
-        }
-    }
-    Ok(some)
-}
-
 // How many pairs of a row of each list have opposite literals at input `i`.
 fn count_opposite_pairs(rows: &LiteralCounts, others: &LiteralCounts, i: usize) -> u64
     requires { All (λ n. i < n)
@@ -111,7 +92,8 @@ const SHARE: u64 = 32;
 // is left is compared with all others, so a split has to save two rows' worth of pairs, and
 // `pairs / SHARE` where bits compare 64 rows at once. Disjoint lists are compared pair by pair, so
 // each split pays.
-fn least_opposite_pairs(relation: Relation, pairs: u64, rows: usize, others: usize) -> u64 {
+fn least_opposite_pairs(relation: Relation, rows: usize, others: usize) -> u64 {
+    let pairs = (sample_size(rows) as u64).saturating_mul(sample_size(others) as u64);
     match relation {
         Relation::Disjoint => 0,
         Relation::Contained => {
@@ -162,15 +144,10 @@ fn split_input_of_pairs(
     requires others { All (λ d. HasSize d.now shape) others.now }
     ensures { IfOk result (λ found. IfSome found (λ i. i < shape.inputs)) }
 {
-    let (some, more) = (sample_rows(alloc, rows)?, sample_rows(alloc, others)?);
-    let inputs = shape.inputs();
-    let (mine, theirs) = (
-        LiteralCounts::of(alloc, &some, inputs)?,
-        LiteralCounts::of(alloc, &more, inputs)?,
-    );
-    let pairs = (some.len() as u64).saturating_mul(more.len() as u64);
-    let least = least_opposite_pairs(relation, pairs, rows.len(), others.len());
-    Ok(most_opposite_input(&mine, &theirs, inputs, least))
+    let mine = LiteralCounts::of_sample(alloc, shape, rows)?;
+    let theirs = LiteralCounts::of_sample(alloc, shape, others)?;
+    let least = least_opposite_pairs(relation, rows.len(), others.len());
+    Ok(most_opposite_input(&mine, &theirs, shape.inputs(), least))
 }
 
 /// Whether the relation holds between the lists. At most `depth` inputs are split at, one below the

@@ -17,7 +17,7 @@ use crate::cubes::cube_of_output;
 use crate::list::clone_referents;
 use crate::region::open_literals::first_open_literal;
 use crate::region::passes::passes_before_search;
-use crate::symbols::opposite;
+use crate::symbols::{literal_of_value, opposite};
 use cube::{Cube, Shape, Symbol};
 use sat_search::{Answer, Limits, Refutation, Search};
 use std::alloc::{AllocError, Global};
@@ -74,22 +74,17 @@ fn cube_of_literals(
     ensures output { IfOk result
         (λ found. IfSome found (λ c. IsTrue (list_any (λ b. b) c.outputs))) }
 {
-    let mut symbols = vec![in alloc; Symbol::Dash; shape.inputs()]?;
-    let mut outputs = vec![in alloc; false; shape.outputs()]?;
+    if output >= shape.outputs() {
+        return Ok(None);
+    }
+    let mut cube = cube_of_output(alloc, shape, output)?;
     for literal in literals {
         let i = *literal as usize / 2;
-        if i < symbols.len() {
-            symbols[i] = if *literal % 2 == 0 {
-                Symbol::One
-            } else {
-                Symbol::Zero
-            };
+        if i < shape.inputs() {
+            cube.set_symbol(i, literal_of_value(*literal % 2 == 0));
         }
     }
-    if output < outputs.len() {
-        outputs[output] = true;
-    }
-    Cube::from_symbols(alloc, shape, &symbols, &outputs)
+    Ok(Some(cube))
 }
 
 // Adds the cube with these literals to the known cubes, if the hints show that they hold it.
@@ -174,7 +169,6 @@ fn is_point_outside(
 /// output that was asked, and the implicants that answers needed. All of it together comes to 2^27
 /// numbers of four bytes at most, half a gigabyte, and with room to grow to a gigabyte and a half.
 /// A question that would take more has no answer here.
-#[derive(Drop)]
 pub(crate) struct Learned {
     // Copies of the rows, once a search is asked, and then cubes that they hold.
     pub(crate) known: Vec<Cube>,
@@ -184,6 +178,18 @@ pub(crate) struct Learned {
     pub(crate) row_budget: u64,
     // Whether a question was asked.
     is_asked: bool,
+}
+
+// Written out, so that where this ends a proof has one call, and not one for each of the lists.
+impl Drop for Learned {
+    fn drop(self) {
+        let Learned {
+            known: _,
+            searches: _,
+            row_budget: _,
+            is_asked: _,
+        } = self;
+    }
 }
 
 // A search looks at no more than this many watches for one question, so that it ends.
@@ -292,11 +298,10 @@ fn numbers_per_cube(shape: Shape) -> usize {
 fn literals_of(alloc: Global, cube: &Cube) -> Result<Vec<u32>, AllocError> {
     let mut literals = Vec::new(alloc);
     for i in 0..cube.shape().inputs() {
-        let first = u32::try_from(i).unwrap_or(0).saturating_mul(2);
-        match cube.symbol(i) {
-            Symbol::Dash => (),
-            Symbol::One => literals.push(first)?,
-            Symbol::Zero => literals.push(first.saturating_add(1))?,
+        let symbol = cube.symbol(i);
+        if symbol != Symbol::Dash {
+            let one = u32::try_from(i).unwrap_or(0).saturating_mul(2);
+            literals.push(one.saturating_add((symbol == Symbol::Zero) as u32))?;
         }
     }
     Ok(literals)
@@ -310,7 +315,8 @@ fn build_search(
     inputs: usize,
 ) -> Result<Search, AllocError> {
     let mut search = Search::new(alloc, inputs)?;
-    for (k, row) in rows.iter().enumerate() {
+    for k in 0..rows.len() {
+        let row = rows[k];
         if output < row.shape().outputs() && row.output(output) {
             let literals = literals_of(alloc, row)?;
             search.add_nogood(&literals, u32::try_from(k).unwrap_or(u32::MAX))?;

@@ -41,9 +41,12 @@ fn literal_words(
 
 // Whether a row has one of the literals that [`literal_words`] answered.
 fn shares_literal(row: &Cube, words: &[(usize, u64)]) -> bool {
-    words
-        .iter()
-        .any(|(w, bits)| row.literal_bits(*w) & *bits != 0)
+    for (w, bits) in words {
+        if row.literal_bits(*w) & *bits != 0 {
+            return true;
+        }
+    }
+    false
 }
 
 // The rows that share a literal with the region. (Nothing depends on it.)
@@ -142,9 +145,9 @@ pub(crate) fn holds_each_region(
     ensures { IfOk result (λ held. held.items
         ≡ map (λ d. is_subset shape (holds d) (places (behind rows.now))) regions.now) }
 {
+    let mut held = Vec::with_capacity(alloc, regions.len())?;
     let bits = bits_if_both_long(alloc, shape, regions.len(), rows)?;
     let mut learned = Learned::new(alloc);
-    let mut held = Vec::with_capacity(alloc, regions.len())?;
     for region in regions {
         let answer = holds_region_nearest_first(alloc, shape, rows, &bits, region, &mut learned)?;
         held.push(answer)?;

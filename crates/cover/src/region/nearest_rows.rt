@@ -20,11 +20,13 @@ const DIGITS: usize = 11;
 /// Which rows of a list have each literal and each output, and how many literals each row has.
 #[derive(Drop)]
 pub(crate) struct RowBits {
-    // For each input the rows with `1`, and then the rows with `0`.
-    literals: Vec<Vec<u64>>,
-    outputs: Vec<Vec<u64>>,
-    // The digits of the numbers of literals, the lowest first.
-    digits: Vec<Vec<u64>>,
+    // For each input the rows with `1` and the rows with `0`, then for each output the rows that
+    // have it, and then the digits of the numbers of literals, the lowest first.
+    columns: Vec<Vec<u64>>,
+    // Where the columns of the outputs begin.
+    outputs: usize,
+    // Where the digits begin.
+    first_digit: usize,
     // How many words a column has.
     words: usize,
     // The fewest literals of a row.
@@ -50,7 +52,7 @@ fn empty_columns(alloc: Global, count: usize, words: usize) -> Result<Vec<Vec<u6
 }
 
 // Puts row `k` into a column.
-fn put_row(columns: &mut Vec<Vec<u64>>, at: usize, k: usize) {
+fn put_row(columns: &mut [Vec<u64>], at: usize, k: usize) {
     if let Some(column) = columns.get_mut(at) {
         if let Some(word) = column.get_mut(k / 64) {
             *word |= 1 << (k % 64);
@@ -59,7 +61,7 @@ fn put_row(columns: &mut Vec<Vec<u64>>, at: usize, k: usize) {
 }
 
 // Puts row `k` into the columns of the bits that are set, where bit 0 is column `first`.
-fn put_row_at_bits(columns: &mut Vec<Vec<u64>>, first: usize, bits: u64, k: usize) {
+fn put_row_at_bits(columns: &mut [Vec<u64>], first: usize, bits: u64, k: usize) {
     let mut left = bits;
     for _ in 0..64 {
         if left == 0 {
@@ -68,6 +70,14 @@ fn put_row_at_bits(columns: &mut Vec<Vec<u64>>, first: usize, bits: u64, k: usiz
         let at = first.saturating_add(left.trailing_zeros() as usize);
         put_row(columns, at, k);
         left &= left - 1;
+    }
+}
+
+// The column at an index, or one without words past the last.
+fn column(columns: &[Vec<u64>], at: usize) -> &[u64] {
+    match columns.get(at) {
+        Some(column) => column.as_slice(),
+        None => &[],
     }
 }
 
@@ -142,33 +152,30 @@ fn push_rows_at_bits<'a>(
     Ok(())
 }
 
-// The rows with fewest open literals so far, and how many open literals they have.
-#[derive(Drop)]
-struct Nearest<'a> {
-    rows: Vec<&'a Cube>,
+// Adds the rows of word `w` whose bits are set, which have `open` open literals, unless the others
+// have fewer than that: `fewest`. Answers how many those have then.
+fn add_nearest<'a>(
+    rows: &[&'a Cube],
+    w: usize,
+    bits: u64,
+    open: u32,
     fewest: u32,
-}
-
-impl<'a> Nearest<'a> {
-    // Adds the rows of word `w` whose bits are set, which have `open` open literals, unless rows
-    // with fewer were added.
-    fn add(&mut self, rows: &[&'a Cube], w: usize, bits: u64, open: u32) -> Result<(), AllocError>
-        requires { AreAmong self.old.rows.items rows.now }
-        ensures { OnOk result (AreAmong self.new.rows.items rows.now) }
-    {
-        if bits == 0 || open > self.fewest {
-            return Ok(());
-        }
-        if open < self.fewest {
-            self.rows.clear();
-        }
-        self.fewest = open;
-        push_rows_at_bits(rows, w, bits, &mut self.rows)
+    some: &mut Vec<&'a Cube>,
+) -> Result<u32, AllocError>
+    requires { AreAmong some.old.items rows.now }
+    ensures { OnOk result (AreAmong some.new.items rows.now) }
+{
+    if bits == 0 || open > fewest {
+        return Ok(fewest);
     }
+    if open < fewest {
+        some.clear();
+    }
+    push_rows_at_bits(rows, w, bits, some)?;
+    Ok(open)
 }
 
 // The columns that a question looks at.
-#[derive(Drop)]
 struct Columns<'a> {
     // For each literal of the region the rows that have it, and the rows that have its opposite.
     literals: Vec<(&'a [u64], &'a [u64])>,
@@ -176,22 +183,32 @@ struct Columns<'a> {
     outputs: Vec<&'a [u64]>,
 }
 
+// Written out, so that where the columns end a proof has one call, and not one for each list.
+impl<'a> Drop for Columns<'a> {
+    fn drop(self) {
+        let Columns {
+            literals: _,
+            outputs: _,
+        } = self;
+    }
+}
+
 impl RowBits {
     /// The bits of these rows.
     pub(crate) fn of(alloc: Global, shape: Shape, rows: &[&Cube]) -> Result<RowBits, AllocError> {
         let words = rows.len() / 64 + 1;
-        let inputs = shape.inputs();
-        let digits = usize::BITS.saturating_sub(inputs.leading_zeros()) as usize;
+        let outputs = shape.inputs().saturating_mul(2);
+        let first_digit = outputs.saturating_add(shape.outputs());
+        let digits = usize::BITS.saturating_sub(shape.inputs().leading_zeros()) as usize;
         let mut bits = RowBits {
-            literals: empty_columns(alloc, inputs.saturating_mul(2), words)?,
-            outputs: empty_columns(alloc, shape.outputs(), words)?,
-            digits: empty_columns(alloc, digits, words)?,
+            columns: empty_columns(alloc, first_digit.saturating_add(digits), words)?,
+            outputs,
+            first_digit,
             words,
             fewest: fewest_literals(rows),
         };
-        for (k, row) in rows.iter().enumerate() {
-            bits.add_inputs(shape, row, k);
-            bits.add_outputs(shape, row, k);
+        for k in 0..rows.len() {
+            bits.add_row(shape, rows[k], k);
         }
         Ok(bits)
     }
@@ -201,29 +218,17 @@ impl RowBits {
         self.fewest
     }
 
-    // Adds row `k` with its literals, and their number.
-    fn add_inputs(&mut self, shape: Shape, row: &Cube, k: usize) {
+    // Adds row `k` with its literals, their number, and its outputs.
+    fn add_row(&mut self, shape: Shape, row: &Cube, k: usize) {
+        let columns = self.columns.as_mut_slice();
         for w in 0..shape.inputs() / 32 + 1 {
-            put_row_at_bits(
-                &mut self.literals,
-                w.saturating_mul(64),
-                row.literal_bits(w),
-                k,
-            );
+            put_row_at_bits(columns, w.saturating_mul(64), row.literal_bits(w), k);
         }
-        put_row_at_bits(&mut self.digits, 0, row.literals() as u64, k);
-    }
-
-    // Adds row `k` with its outputs.
-    fn add_outputs(&mut self, shape: Shape, row: &Cube, k: usize) {
         for w in 0..shape.outputs() / 64 + 1 {
-            put_row_at_bits(
-                &mut self.outputs,
-                w.saturating_mul(64),
-                row.output_bits(w),
-                k,
-            );
+            let first = self.outputs.saturating_add(w.saturating_mul(64));
+            put_row_at_bits(columns, first, row.output_bits(w), k);
         }
+        put_row_at_bits(columns, self.first_digit, row.literals() as u64, k);
     }
 
     // For each literal of the region its column, and that of its opposite.
@@ -239,15 +244,14 @@ impl RowBits {
             let Some(i) = region.next_literal(from) else {
                 break;
             };
-            let one = i.saturating_mul(2);
-            let zero = one.saturating_add(1);
-            if let (Some(ones), Some(zeros)) = (self.literals.get(one), self.literals.get(zero)) {
-                if region.symbol(i) == Symbol::One {
-                    columns.push((ones.as_slice(), zeros.as_slice()))?;
-                } else {
-                    columns.push((zeros.as_slice(), ones.as_slice()))?;
-                }
-            }
+            let ones = column(&self.columns, i.saturating_mul(2));
+            let zeros = column(&self.columns, i.saturating_mul(2).saturating_add(1));
+            let pair = if region.symbol(i) == Symbol::One {
+                (ones, zeros)
+            } else {
+                (zeros, ones)
+            };
+            columns.push(pair)?;
             from = i + 1;
         }
         Ok(columns)
@@ -256,9 +260,9 @@ impl RowBits {
     // For each output of the region its column.
     fn output_columns(&self, alloc: Global, region: &Cube) -> Result<Vec<&[u64]>, AllocError> {
         let mut columns = Vec::new(alloc);
-        for (j, column) in self.outputs.iter().enumerate() {
-            if j < region.shape().outputs() && region.output(j) {
-                columns.push(column.as_slice())?;
+        for j in 0..region.shape().outputs() {
+            if region.output(j) {
+                columns.push(column(&self.columns, self.outputs.saturating_add(j)))?;
             }
         }
         Ok(columns)
@@ -268,9 +272,11 @@ impl RowBits {
     // all of its outputs, and how many open literals they have.
     fn nearest_in_word(&self, columns: &Columns, w: usize) -> (u64, u32) {
         let mut numbers = [0u64; DIGITS];
-        for (digit, column) in self.digits.iter().enumerate() {
-            if let Some(word) = numbers.get_mut(digit) {
-                *word = word_at(column, w);
+        let mut digits = 0;
+        for at in self.first_digit..self.columns.len() {
+            if digits < DIGITS {
+                numbers[digits] = word_at(column(&self.columns, at), w);
+                digits += 1;
             }
         }
         let mut rows = rows_in_all(&columns.outputs, w);
@@ -278,7 +284,7 @@ impl RowBits {
             rows &= !word_at(opposite, w);
             decrement_numbers(&mut numbers, word_at(own, w));
         }
-        rows_with_least(&numbers, self.digits.len(), rows)
+        rows_with_least(&numbers, digits, rows)
     }
 
     /// The rows with fewest open literals among the rows, whose bits these are, that meet the
@@ -295,17 +301,15 @@ impl RowBits {
             literals: self.literal_columns(alloc, region)?,
             outputs: self.output_columns(alloc, region)?,
         };
-        let mut nearest = Nearest {
-            rows: Vec::new(alloc),
-            fewest: u32::MAX,
-        };
+        let mut some = Vec::new(alloc);
+        let mut fewest = u32::MAX;
         for w in 0..self.words {
-            let (some, open) = self.nearest_in_word(&columns, w);
-            nearest.add(rows, w, some, open)?;
-            if nearest.fewest == 0 {
-                return Ok(nearest.rows);
+            let (bits, open) = self.nearest_in_word(&columns, w);
+            fewest = add_nearest(rows, w, bits, open, fewest, &mut some)?;
+            if fewest == 0 {
+                return Ok(some);
             }
         }
-        Ok(nearest.rows)
+        Ok(some)
     }
 }

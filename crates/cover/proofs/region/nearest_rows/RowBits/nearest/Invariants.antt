@@ -2,4 +2,4 @@ use Rattle.cover.specs.Reason.{AreAmong}
 use Rattle.cover.proofs.region.nearest_rows.RowBits.nearest.Given as goal
 
 abbrev pub invariant-loop-w : goal.invariant-loop-w
-invariant-loop-w l = AreAmong l.nearest.rows.items l.rows
+invariant-loop-w l = AreAmong l.some.items l.rows

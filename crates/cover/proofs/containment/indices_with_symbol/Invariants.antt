@@ -1,0 +1,6 @@
+use Rattle.std.proofs.Common.{◌≡◌, take, filter}
+use Rattle.cover.specs.Marks.{is_symbol, symbol_at}
+use Rattle.cover.proofs.containment.indices_with_symbol.Given as goal
+
+abbrev pub invariant-loop-k : goal.invariant-loop-k
+invariant-loop-k l = l.kept.items ≡ filter (λ k. is_symbol (symbol_at l.list.cubes l.i k) l.symbol) (take l.k-index l.indices)
