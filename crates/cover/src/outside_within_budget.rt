@@ -19,7 +19,7 @@ use crate::list::{Cover, any_meets, clone_cubes, clone_referents};
 use crate::references::references_to;
 use crate::region::open_literals::{count_bits, open_bits};
 use crate::sums::difference;
-use crate::sums::rows::{joined, push_copy, sort_rows};
+use crate::sums::rows::{push_copy, rows_of_both, sort_rows};
 use cube::{Cube, Shape, Symbol};
 use std::alloc::{AllocError, Global};
 
@@ -285,7 +285,7 @@ fn outside_halves(
     let Some(more) = outside_rows(alloc, shape, &high, rows, left)? else {
         return Ok(None);
     };
-    let halves = joined(cubes, more)?;
+    let halves = rows_of_both(cubes, more)?;
     merge_halves(alloc, region, rows, i, halves, left)
 }
 
@@ -313,7 +313,7 @@ pub fn outside(list: &Cover, budget: Budget) -> Result<Option<Cover>, AllocError
         let Some(more) = outside_rows(alloc, shape, &region, rows, &mut left)? else {
             return Ok(None);
         };
-        off = joined(off, more)?;
+        off = rows_of_both(off, more)?;
         if off.len() > budget.cubes {
             return Ok(None);
         }
@@ -340,7 +340,7 @@ fn subtract_row_by_row(
         let Some(more) = outside_rows(alloc, shape, row, others, left)? else {
             return Ok(None);
         };
-        all = joined(all, more)?;
+        all = rows_of_both(all, more)?;
     }
     Ok(Some(all))
 }
@@ -372,7 +372,7 @@ fn subtract_by_halves(
     let Some(second) = subtract_by_halves(alloc, shape, back, others, left)? else {
         return Ok(None);
     };
-    Ok(Some(joined(first, second)?))
+    Ok(Some(rows_of_both(first, second)?))
 }
 
 // Copies of the rows of the list, without those that are found in the other.

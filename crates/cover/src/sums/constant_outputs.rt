@@ -15,7 +15,7 @@ ghost use Rattle.cover.specs.Places.{places};
 ghost use Rattle.cover.specs.Sizes.{HaveOneSize};
 
 use crate::sums::ends::has_row_without_literals;
-use crate::sums::rows::{joined, sort_rows};
+use crate::sums::rows::{rows_of_both, sort_rows};
 use cube::Cube;
 use std::alloc::{AllocError, Global};
 
@@ -106,7 +106,7 @@ pub(crate) fn with_constant_outputs(
     }
     let mut all = Vec::new(alloc);
     all.push(constant)?;
-    let all = joined(all, wide)?;
+    let all = rows_of_both(all, wide)?;
     let whole = sort_rows(alloc, all)?;
     Ok(whole)
 }

@@ -25,7 +25,7 @@ ghost use Rattle.cover.specs.Containing.{ArePieces, Cuts, lies_in_larger as is_i
 use crate::cubes::universal_cube;
 use crate::list::{Cover, any_meets};
 use crate::sums::absorb::{absorb, drop_absorbed_by};
-use crate::sums::rows::{joined, push_copy};
+use crate::sums::rows::{push_copy, rows_of_both};
 use cube::{Cube, Shape};
 use std::alloc::{AllocError, Global};
 
@@ -154,12 +154,12 @@ fn cut_by_row(
             push_copy(&mut kept, cube)?;
         } else {
             let more = pieces_containing(alloc, region, row, cube)?;
-            rest = joined(rest, more)?;
+            rest = rows_of_both(rest, more)?;
         }
     }
     let pieces = absorb_pieces(alloc, shape, row, rest)?;
     let left = drop_absorbed_by(alloc, &pieces, &kept)?;
-    joined(kept, left)
+    rows_of_both(kept, left)
 }
 
 // The list cut by one row after the other, or `None` once it is longer than `most`.
@@ -236,9 +236,9 @@ fn near_rows_then_all(
     let mut all = Vec::new(alloc);
     for count in 2..MANY {
         let some = rows_at_distance(alloc, region, &rows, count)?;
-        all = joined(all, some)?;
+        all = rows_of_both(all, some)?;
     }
-    joined(all, rows)
+    rows_of_both(all, rows)
 }
 
 // The rows that meet some cube of the list.

@@ -11,7 +11,7 @@ ghost use Rattle.cover.specs.Reduced.{IsMeets, IsMeetsWithBoth, IsInThirds};
 
 use crate::sums::keys::{keys_of, literal_pairs, meets_by_keys};
 use crate::sums::meets_by_pairs::meets_by_pairs;
-use crate::sums::rows::joined;
+use crate::sums::rows::rows_of_both;
 use crate::symbols::has_symbol_at;
 use cube::{Cube, Shape, Symbol};
 use std::alloc::{AllocError, Global};
@@ -115,11 +115,11 @@ fn meets_by_thirds(
     let next = at + 1;
     let all = meets_with_both(alloc, shape, next, mine.dashes, theirs.dashes, theirs.zeros)?;
     let more = meets_by_thirds(alloc, shape, next, mine.dashes, theirs.ones)?;
-    let all = joined(all, more)?;
+    let all = rows_of_both(all, more)?;
     let more = meets_with_both(alloc, shape, next, mine.zeros, theirs.dashes, theirs.zeros)?;
-    let all = joined(all, more)?;
+    let all = rows_of_both(all, more)?;
     let more = meets_with_both(alloc, shape, next, mine.ones, theirs.dashes, theirs.ones)?;
-    joined(all, more)
+    rows_of_both(all, more)
 }
 
 // The meets of the rows with one list, and then their meets with another.
@@ -139,5 +139,5 @@ fn meets_with_both(
 {
     let all = meets_by_thirds(alloc, shape, at, rows, others)?;
     let rest = meets_by_thirds(alloc, shape, at, rows, more)?;
-    joined(all, rest)
+    rows_of_both(all, rest)
 }

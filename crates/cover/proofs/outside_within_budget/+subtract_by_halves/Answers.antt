@@ -30,6 +30,6 @@ subtract_by_halves-requires-2 t c =
 
 pub returns : goal.returns
 returns t c =
-    IsRest-parts c.args.shape c.args.rows.now c.args.others.now c.split_at.result.0.now c.split_at.result.1.now _ c.in-Some.first.items c.in-Some-2.second.items c.in_ok-joined.field-0.items
-    c.split_at.ensures.front c.split_at.ensures.back c.in_ok-joined.ensures
+    IsRest-parts c.args.shape c.args.rows.now c.args.others.now c.split_at.result.0.now c.split_at.result.1.now _ c.in-Some.first.items c.in-Some-2.second.items c.in_ok-rows_of_both.field-0.items
+    c.split_at.ensures.front c.split_at.ensures.back c.in_ok-rows_of_both.ensures
     (MatchOption-at_some _ _ c.in-Some.first c.in-Some.is c.in_ok-first.ensures) (MatchOption-at_some _ _ c.in-Some-2.second c.in-Some-2.is c.in_ok-second.ensures)

@@ -62,10 +62,10 @@ returns-clause-cubes c =
     let row = c.args.row.now in
     let kept = c.loop-cube.kept.items in
     let seen = take c.loop-cube.cube-index c.deref-cube-items.result.now in
-    IfOk-weaker c.joined-2.result _ _ (λ v h. AreCubes-cut size region row seen kept c.in_ok-left.left.items v.items h
+    IfOk-weaker c.rows_of_both-2.result _ _ (λ v h. AreCubes-cut size region row seen kept c.in_ok-left.left.items v.items h
     (IsCut-absorbed size region row seen kept c.loop-cube.rest.items c.in_ok-pieces.pieces.items c.in_ok-left.left.items c.in_ok-pieces.ensures
     (subst (λ l. IsWithoutAbsorbed l kept c.in_ok-left.left.items) c.deref-2.ensures.value (subst (λ l. IsWithoutAbsorbed c.deref-2.result.now l c.in_ok-left.left.items) c.deref-3.ensures.value c.in_ok-left.ensures))
-    c.loop-cube.invariant)) c.joined-2.ensures
+    c.loop-cube.invariant)) c.rows_of_both-2.ensures
 
 pub returns-clause-cuts : goal.returns-clause-cuts
 returns-clause-cuts c =
@@ -74,7 +74,7 @@ returns-clause-cuts c =
     let row = c.args.row.now in
     let kept = c.loop-cube.kept.items in
     let whole : take c.loop-cube.cube-index c.deref-cube-items.result.now ≡ c.args.cubes.items = take_all c.loop-cube.cube-index c.deref-cube-items.result.now c.loop-cube-test.false ∙ c.deref-cube-items.ensures.value in
-    IfOk-weaker c.joined-2.result _ _ (λ v h. Cuts-all size region row c.args.cubes.items kept c.in_ok-left.left.items v.items h
+    IfOk-weaker c.rows_of_both-2.result _ _ (λ v h. Cuts-all size region row c.args.cubes.items kept c.in_ok-left.left.items v.items h
     (IsCut-absorbed size region row c.args.cubes.items kept c.loop-cube.rest.items c.in_ok-pieces.pieces.items c.in_ok-left.left.items c.in_ok-pieces.ensures
     (subst (λ l. IsWithoutAbsorbed l kept c.in_ok-left.left.items) c.deref-2.ensures.value (subst (λ l. IsWithoutAbsorbed c.deref-2.result.now l c.in_ok-left.left.items) c.deref-3.ensures.value c.in_ok-left.ensures))
-    (subst (λ l. IsCut size region row l kept c.loop-cube.rest.items) whole c.loop-cube.invariant))) c.joined-2.ensures
+    (subst (λ l. IsCut size region row l kept c.loop-cube.rest.items) whole c.loop-cube.invariant))) c.rows_of_both-2.ensures

@@ -18,4 +18,4 @@ loop-count-preserved c = λ d k.
 
 pub returns : goal.returns
 returns c =
-    IfOk-weaker c.joined-2.result _ _ (λ all h. HasSameCubes-first c.args.rows.items c.loop-count.all.items all.items h c.loop-count.invariant) c.joined-2.ensures
+    IfOk-weaker c.rows_of_both-2.result _ _ (λ all h. HasSameCubes-first c.args.rows.items c.loop-count.all.items all.items h c.loop-count.invariant) c.rows_of_both-2.ensures
