@@ -5,8 +5,7 @@ usage: tests/unread.py [CRATE ..]      (none named: each crate of crates/, but f
 
 A line `FILE:LINE: ..` for each, then how many there are by crate and in all. What a contract says of a parameter is no
 reading of it. A method of a trait has the parameters that the trait prescribes: `self`, and names that begin with `_`,
-may stay unread there. A line `let _ = ..` or `let _refused = ..` is no matter of proofs: it drops an answer. The status is 1
-where there is any.
+may stay unread there. A line `let _ = ..` is no matter of proofs: it drops an answer. The status is 1 where there is any.
 """
 import os
 import re
@@ -20,7 +19,7 @@ from as_rust import QUIET, blank, without_ghosts  # noqa: E402
 
 OPENING, CLOSING = "([{", ")]}"
 ITEM = re.compile(r"\bfn\s+(\w+)|\b(?:impl|trait)\b[^{;]*\{")
-KEPT = re.compile(r"\blet\s+(?:mut\s+)?(_(?!refused\b)\w+)|\blet\s*\(([^=;]*\b_\w[^=;]*)\)\s*=")
+KEPT = re.compile(r"\blet\s+(?:mut\s+)?(_\w+)|\blet\s*\(([^=;]*\b_\w[^=;]*)\)\s*=")
 
 
 def quieted(found):

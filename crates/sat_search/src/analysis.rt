@@ -101,7 +101,7 @@ impl Analysis {
 
     /// Puts two numbers on the stack.
     pub(crate) fn push_on_stack(&mut self, one: u32, other: u32) {
-        let _refused = self.stack.push((one, other));
+        let _ = self.stack.push((one, other));
     }
 
     /// Forgets all marks.

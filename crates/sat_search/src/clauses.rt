@@ -223,7 +223,7 @@ impl Clauses {
             let record = self.record_of(*clause);
             if record.distance > 2 && record.distance != NONE {
                 let unused = u32::MAX - record.last_use;
-                let _refused = order.push((record.distance, unused, *clause));
+                let _ = order.push((record.distance, unused, *clause));
             }
         }
         order.sort_unstable();

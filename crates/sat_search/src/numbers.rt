@@ -21,7 +21,7 @@ pub(crate) fn at(numbers: &[u32], index: u32) -> u32 {
 /// Adds a number to a list that has room for it. A list without room grows; where memory is refused
 /// then, the number is left out.
 pub(crate) fn add(numbers: &mut Vec<u32>, number: u32) {
-    let _refused = numbers.push(number);
+    let _ = numbers.push(number);
 }
 
 /// Sets the number at the index; does nothing past the end.
