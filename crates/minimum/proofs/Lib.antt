@@ -1,3 +1,4 @@
+pub mod Filters
 pub mod BothLists
 pub mod RegionCandidates
 pub mod Numbers
