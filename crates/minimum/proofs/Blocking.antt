@@ -4,15 +4,15 @@ use Rattle.std.specs.List.{Contains, filter}
 use Rattle.std.specs.List.Sorted.{IsPermutation}
 use Rattle.std.proofs.Math.Bool.{or-false}
 use Rattle.std.proofs.lemmas.Bool.{cases_Bool, cases_lt, false≢true, and_parts, and_from, or_left}
-use Rattle.std.proofs.lemmas.List.{get_or_default, get_or_past, get_or-set_same, length-set, set-set, take_more}
-use Rattle.std.proofs.lemmas.List.Elements.{Contains-append_cases, Contains-append_left, Contains-append_right}
+use Rattle.std.proofs.lemmas.List.{get_or_default, get_or_past, get_or-set_same, length-set, set-set, take_more, take_all}
+use Rattle.std.proofs.lemmas.List.Elements.{All-nil, All-cons, All-append, Contains-append_cases, Contains-append_left, Contains-append_right}
 use Rattle.std.proofs.lemmas.List.Kept.{IsStrictlySortedBy-filter}
 use Rattle.std.proofs.lemmas.List.Sorted.{Contains-permutation, IsPermutation-sym}
 use Rattle.cube.specs.declared.symbol.Symbol.{Symbol}
 use Rattle.cube.specs.declared.symbol.Symbol.TheVariants.{Dash, Zero, One}
 use Rattle.cube.specs.Size.{Size}
 use Rattle.cube.specs.Pattern.{agrees, matches}
-use Rattle.cube.specs.Cube.{Cube, Place, holds, with_symbol, intersection, IsCube, IsPlace, IsSubset, IsDisjoint, HasSize, SameSize}
+use Rattle.cube.specs.Cube.{Cube, Place, holds, with_symbol, intersection, IsCube, IsPlace, IsSubset, IsDisjoint, HasSize, SameSize, size_of}
 use Rattle.cube.specs.Order.{row_cmp}
 use Rattle.cube.specs.Sum.{complete_sum, is_subset, IsMaximal}
 use Rattle.cube.proofs.HoldsLemmas.{agrees_at-matches}
@@ -23,6 +23,7 @@ use Rattle.cover.specs.Places.{places}
 use Rattle.cover.proofs.Everywhere.{same_test}
 use Rattle.cover.proofs.Inputs.{matches-set_bit, matches-own}
 use Rattle.cover.proofs.Lists.{list_any_witness, all_members}
+use Rattle.cover.proofs.OverRegion.{size_of-is}
 use Rattle.cover.proofs.SumMeets.{places-append}
 use Rattle.pla.specs.Sets.{SetLists}
 use Rattle.minimum.specs.declared.essential_by_neighbours.growth.Side.TheVariants.{Outside}
@@ -131,6 +132,39 @@ module _ (rows : List Cube) (i : ℕ) (row : Cube) (lt : i < length rows) (at : 
 
   pub row_left : holds row q ≡ false → places old p ≡ places (take (i + 1) rows) q
   row_left off = before ∙ sym (or-false (places (take i rows) q)) ∙ ap (λ b. places (take i rows) q || b) (sym off) ∙ sym (more_places rows i row lt at q)
+
+-- ---- the blocking list of one step
+
+-- the list has the places of the cube from which the step leads into the rows
+pub record LeadsInto (c : Cube) (step : Place → Place) (rows list : List Cube) : Type 0 where
+  pub cubes : AreCubes (size_of c) list
+  pub same : (p : Place) → holds c p ≡ true → places list p ≡ places rows (step p)
+
+pub leads_none : (c : Cube) (step : Place → Place) (list : List Cube) → list ≡ [] → LeadsInto c step [] list
+leads_none c step list none = subst (LeadsInto c step []) (sym none) (record { cubes = All-nil (IsCube (size_of c)); same = λ p in_c. refl })
+
+module _ (c : Cube) (step : Place → Place) (rows : List Cube) (i : ℕ) (row : Cube) (lt : i < length rows) (at : row ≡ get_or rows i row) (old : List Cube) (so : LeadsInto c step (take i rows) old) where
+  -- what is added has the places from which the step leads into the row
+  pub leads_more : (new : List Cube) (held : Place → Bool) → AreCubes (size_of c) new → ((p : Place) → holds c p ≡ true → held p ≡ holds row (step p))
+      → ((p : Place) → holds c p ≡ true → places new p ≡ (places old p || held p)) → LeadsInto c step (take (i + 1) rows) new
+  leads_more new held are is more = record { cubes = are; same = λ p in_c. row_added rows i row lt at p (step p) old new (so.same p in_c) (held p) (is p in_c) (more p in_c) }
+
+  pub leads_pushed : (new : List Cube) (e : Cube) → IsCube (size_of c) e → ((p : Place) → holds c p ≡ true → holds e p ≡ holds row (step p)) → new ≡ old ++ e ∷ [] → LeadsInto c step (take (i + 1) rows) new
+  leads_pushed new e cube is added = subst (LeadsInto c step (take (i + 1) rows)) (sym added)
+      (leads_more (old ++ e ∷ []) (holds e) (All-append (IsCube (size_of c)) old (e ∷ []) so.cubes (All-cons (IsCube (size_of c)) e [] cube (All-nil (IsCube (size_of c))))) is
+      (λ p in_c. places-append old (e ∷ []) p ∙ ap (λ b. places old p || b) (or-false (holds e p))))
+
+  -- from no place does it lead into the row
+  pub leads_on : (new : List Cube) → ((p : Place) → holds c p ≡ true → holds row (step p) ≡ false) → new ≡ old → LeadsInto c step (take (i + 1) rows) new
+  leads_on new off same = subst (LeadsInto c step (take (i + 1) rows)) (sym same)
+      (record { cubes = so.cubes; same = λ p in_c. row_left rows i row lt at p (step p) old old (so.same p in_c) (off p in_c) })
+
+pub leads_all : (n : Size) (c : Cube) → IsCube n c → (step : Place → Place) (rows : List Cube) (i : ℕ) (list : List Cube) → length rows ≤ i → LeadsInto c step (take i rows) list → (off : List Cube) → rows ≡ off
+    → (size : Size) → HasSize c size → (made : Cubes) → made ≡ record { size = size; cubes = list } → Blocks n c (λ p. places off (step p)) made
+leads_all n c cube step rows i list past so off is size own made e = record {
+  size = ap (λ l. l.size) e ∙ sym (size_of-is c size own) ∙ size_of-is c n cube.has_size;
+  same = λ p in_c. ap (λ l. places l.cubes p) e ∙ so.same p in_c ∙ ap (λ l. places l (step p)) (take_all i rows past ∙ is);
+}
 
 -- ---- all blocking lists
 

@@ -16,6 +16,7 @@ use Rattle.cover.specs.Places.{places}
 use Rattle.cover.proofs.Everywhere.{is_subset-iff}
 use Rattle.cover.proofs.Found.{output_of_place}
 use Rattle.cover.proofs.Inputs.{matches-set_symbol, matches-own}
+use Rattle.cover.proofs.SumSplit.{IsCube-with_symbol}
 use Rattle.minimum.specs.declared.essential_by_neighbours.growth.Side.{Side}
 use Rattle.minimum.specs.declared.essential_by_neighbours.growth.Side.TheVariants.{Inside}
 use Rattle.minimum.specs.Neighbours.{on_side, Grows, IsGrown, IsSettledInput, IsSettledOutput, IsBeside}
@@ -33,9 +34,6 @@ dash_from : (t : Symbol) → ((bit : Bool) → agrees t bit ≡ true) → t ≡ 
 dash_from Dash h = refl
 dash_from Zero h = absurd (false≢true (h true))
 dash_from One h = absurd (false≢true (h false))
-
-pub with_symbol_cube : (size : Size) (c : Cube) (i : ℕ) (t : Symbol) → IsCube size c → IsCube size (with_symbol c i t)
-with_symbol_cube size c i t cube = record { has_size = (length-set c.symbols i t ∙ cube.has_size.0, cube.has_size.1); some_output = cube.some_output }
 
 -- ---- what was settled stays so
 
@@ -86,7 +84,7 @@ module _ (size : Size) (s : Place → Bool) (c : Cube) (cube : IsCube size c) (i
 
   pub freed_grows : (new rest : Cube) → new ≡ with_symbol c i Dash → rest ≡ with_symbol c i (opposite (get_or c.symbols i Dash)) → IsSubset (holds rest) s → Grows size s c new
   freed_grows new rest e f part = subst (Grows size s c) (sym e) (record {
-    is_cube = with_symbol_cube size c i Dash cube;
+    is_cube = IsCube-with_symbol size c i Dash cube;
     over = in_free;
     within = λ own p h. elim (free_cases p h) [
       | inl old ↦ own p old
@@ -101,7 +99,7 @@ module _ (size : Size) (s : Place → Bool) (c : Cube) (cube : IsCube size c) (i
   refused_settles rest f refused d d_cube above within dash =
       let over = covering size c d cube d_cube above in
       let own = opposite (get_or c.symbols i Dash) in
-      let more : IsSubset (holds half) (holds d) = IsSubset-from_Covers d half (same_sizes size half d (with_symbol_cube size c i own cube) d_cube) (record {
+      let more : IsSubset (holds half) (holds d) = IsSubset-from_Covers d half (same_sizes size half d (IsCube-with_symbol size c i own cube) d_cube) (record {
         inputs = λ k bit ok. elim (cases_eq k i) [
           | inl e ↦ ap (λ x. agrees (get_or d.symbols x Dash) bit) e ∙ ap (λ t. agrees t bit) dash
           | inr ne ↦ over.inputs k bit (ap (λ t. agrees t bit) (sym (get_or-set_other c.symbols i k own Dash ne)) ∙ ok)
