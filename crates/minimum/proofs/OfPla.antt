@@ -87,6 +87,11 @@ module _ (given : SetLists) (none : given.dc ≡ []) where
       twice true = refl
       twice false = refl
 
--- the lists of a description under fr
-pub open_sets : (d : Description) (given : SetLists) → given ≡ record { size = d.size; on = d.on; dc = []; off = d.off } → d.file_type ≡ Fr → with_open given ≡ sets_of d true true
-open_sets d given e f = ap with_open e ∙ ap (λ t. record { size = d.size; on = d.on; dc = dc_list t true d; off = off_list t true d }) (sym f)
+-- an answer for the samples' lists is one for those of a description under fr
+module _ (d : Description) (given : SetLists) (e : given ≡ record { size = d.size; on = d.on; dc = []; off = d.off }) (f : d.file_type ≡ Fr) where
+  pub open_sets : with_open given ≡ sets_of d true true
+  open_sets = ap with_open e ∙ ap (λ t. record { size = d.size; on = d.on; dc = dc_list t true d; off = off_list t true d }) (sym f)
+
+  pub exact_of_open : (choice : Choice) (r : Result (Option Cubes) AllocError) → IfOk r (λ o. IfSome o (λ list. list ≡ record { size = given.size; cubes = exact_of choice (with_open given) }))
+      → IfOk r (λ o. IfSome o (λ list. list ≡ record { size = d.size; cubes = exact_of choice (sets_of d true true) }))
+  exact_of_open choice r = subst (λ sets. IfOk r (λ o. IfSome o (λ list. list ≡ record { size = sets.size; cubes = exact_of choice sets }))) open_sets
