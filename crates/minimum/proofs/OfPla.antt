@@ -1,5 +1,6 @@
 -- The places of the ON-set with the DC-set under fr, by those that OFF alone holds.
-use Rattle.std.proofs.Common.{◌≡◌, ◌∙◌, Bool, true, false, not, ◌&&◌, ◌||◌, List, [], ◌++◌, refl, ap, sym}
+use Rattle.std.proofs.Common.{◌≡◌, ◌∙◌, Bool, true, false, not, ◌&&◌, ◌||◌, List, [], ◌++◌, refl, ap, sym, subst, Option}
+use Rattle.std.specs.Prelude.{IfOk, IfSome, Result}
 use Rattle.cube.specs.Cube.{Cube, Place, IsPlace, difference}
 use Rattle.cube.specs.Sum.{complete_sum}
 use Rattle.cover.specs.Cubes.{Cubes}
@@ -11,8 +12,9 @@ use Rattle.pla.specs.declared.file_type.FileType.TheVariants.{Fr}
 use Rattle.pla.specs.Completed.{dc_list, off_list, outside, sets_of}
 use Rattle.pla.specs.Description.{Description}
 use Rattle.pla.specs.Sets.{SetLists}
+use Rattle.covering.specs.declared.choice.Choice.{Choice}
 use Rattle.minimum.specs.declared.points.source.Source.TheVariants.{Outside, Primes}
-use Rattle.minimum.specs.Primes.{care_on, primes_of}
+use Rattle.minimum.specs.Primes.{care_on, exact_of, primes_of}
 use Rattle.minimum.specs.Points.{StandsFor}
 use Rattle.minimum.specs.Blocking.{IsSampled}
 
@@ -92,6 +94,6 @@ module _ (d : Description) (given : SetLists) (e : given ≡ record { size = d.s
   pub open_sets : with_open given ≡ sets_of d true true
   open_sets = ap with_open e ∙ ap (λ t. record { size = d.size; on = d.on; dc = dc_list t true d; off = off_list t true d }) (sym f)
 
-  pub exact_of_open : (choice : Choice) (r : Result (Option Cubes) AllocError) → IfOk r (λ o. IfSome o (λ list. list ≡ record { size = given.size; cubes = exact_of choice (with_open given) }))
+  pub exact_of_open : (choice : Choice) {E : Type 0} (r : Result (Option Cubes) E) → IfOk r (λ o. IfSome o (λ list. list ≡ record { size = given.size; cubes = exact_of choice (with_open given) }))
       → IfOk r (λ o. IfSome o (λ list. list ≡ record { size = d.size; cubes = exact_of choice (sets_of d true true) }))
   exact_of_open choice r = subst (λ sets. IfOk r (λ o. IfSome o (λ list. list ≡ record { size = sets.size; cubes = exact_of choice sets }))) open_sets
