@@ -1,5 +1,6 @@
 -- The places of the ON-set with the DC-set under fr, by those that OFF alone holds.
 use Rattle.std.proofs.Common.{◌≡◌, ◌∙◌, Bool, true, false, not, ◌&&◌, ◌||◌, List, [], ◌++◌, refl, ap, sym, subst, Option}
+use Rattle.std.proofs.Math.Bool.{not-not}
 use Rattle.std.specs.Prelude.{IfOk, IfSome, Result}
 use Rattle.cube.specs.Cube.{Cube, Place, IsPlace, difference}
 use Rattle.cube.specs.Sum.{complete_sum}
@@ -78,16 +79,12 @@ module _ (given : SetLists) (none : given.dc ≡ []) where
   sampled_alone alone on e is = record {
     size = ap (λ (l : Cubes). l.size) e;
     wanted = λ p place. ap (λ (l : Cubes). places l.cubes p) e ∙ all_wanted (places given.on p) ∙ ap (λ l. places given.on p && not (places l p)) (sym none) ∙ wanted_place p place;
-    outside = λ p place. sym (twice (places alone.cubes p)) ∙ ap not (valid_place alone.cubes p place (is p place));
+    outside = λ p place. sym (not-not (places alone.cubes p)) ∙ ap not (valid_place alone.cubes p place (is p place));
   }
     where
       all_wanted : (n : Bool) → n ≡ (n && not false)
       all_wanted true = refl
       all_wanted false = refl
-
-      twice : (b : Bool) → not (not b) ≡ b
-      twice true = refl
-      twice false = refl
 
 -- an answer for the samples' lists is one for those of a description under fr
 module _ (d : Description) (given : SetLists) (e : given ≡ record { size = d.size; on = d.on; dc = []; off = d.off }) (f : d.file_type ≡ Fr) where
