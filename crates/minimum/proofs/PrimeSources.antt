@@ -1,5 +1,5 @@
 -- Sources of the primes of three lists.
-use Rattle.std.proofs.Common.{◌≡◌, Bool, true, false, not, ◌||◌, refl, ap, subst, ◌∙◌}
+use Rattle.std.proofs.Common.{◌≡◌, not, ◌||◌, refl, ap, subst, ◌∙◌}
 use Rattle.std.proofs.Math.Bool.{not-not}
 use Rattle.std.specs.List.{Contains}
 use Rattle.cube.specs.Cube.{Place, IsCube, IsPlace}
