@@ -2,17 +2,17 @@
 use Rattle.std.proofs.Common.{◌≡◌, ◌≢◌, ℕ, ◌+◌, ◌<◌, ◌≤◌, inl, inr, Bool, true, false, not, ◌&&◌, ◌||◌, List, [], ◌∷◌, ◌++◌, length, take, get_or, set, refl, ap, sym, subst, ◌∙◌, arith, Option, Some, None, IfSome, IfNone, All}
 use Rattle.std.specs.List.{Contains, filter}
 use Rattle.std.specs.List.Sorted.{IsPermutation}
-use Rattle.std.proofs.Math.Bool.{or-false}
+use Rattle.std.proofs.Math.Bool.{not-not, or-false}
 use Rattle.std.proofs.lemmas.Bool.{cases_Bool, cases_lt, false≢true, and_parts, and_from, or_left}
-use Rattle.std.proofs.lemmas.List.{get_or_default, get_or_past, get_or-set_same, length-set, set-set, take_more}
-use Rattle.std.proofs.lemmas.List.Elements.{Contains-append_cases, Contains-append_left, Contains-append_right}
+use Rattle.std.proofs.lemmas.List.{get_or_default, get_or_past, get_or-set_same, length-set, set-set, take_all}
+use Rattle.std.proofs.lemmas.List.Elements.{All-nil, All-cons, All-append, Contains-append_cases, Contains-append_left, Contains-append_right}
 use Rattle.std.proofs.lemmas.List.Kept.{IsStrictlySortedBy-filter}
 use Rattle.std.proofs.lemmas.List.Sorted.{Contains-permutation, IsPermutation-sym}
 use Rattle.cube.specs.declared.symbol.Symbol.{Symbol}
 use Rattle.cube.specs.declared.symbol.Symbol.TheVariants.{Dash, Zero, One}
 use Rattle.cube.specs.Size.{Size}
 use Rattle.cube.specs.Pattern.{agrees, matches}
-use Rattle.cube.specs.Cube.{Cube, Place, holds, with_symbol, intersection, IsCube, IsPlace, IsSubset, IsDisjoint, HasSize, SameSize}
+use Rattle.cube.specs.Cube.{Cube, Place, holds, with_symbol, intersection, IsCube, IsPlace, IsSubset, IsDisjoint, HasSize, SameSize, size_of}
 use Rattle.cube.specs.Order.{row_cmp}
 use Rattle.cube.specs.Sum.{complete_sum, is_subset, IsMaximal}
 use Rattle.cube.proofs.HoldsLemmas.{agrees_at-matches}
@@ -23,22 +23,18 @@ use Rattle.cover.specs.Places.{places}
 use Rattle.cover.proofs.Everywhere.{same_test}
 use Rattle.cover.proofs.Inputs.{matches-set_bit, matches-own}
 use Rattle.cover.proofs.Lists.{list_any_witness, all_members}
-use Rattle.cover.proofs.SumMeets.{places-append}
+use Rattle.cover.proofs.OverRegion.{size_of-is}
 use Rattle.pla.specs.Sets.{SetLists}
 use Rattle.minimum.specs.declared.essential_by_neighbours.growth.Side.TheVariants.{Outside}
 use Rattle.minimum.specs.Primes.{primes_of, care_on, others, essential_of}
 use Rattle.minimum.specs.Neighbours.{on_side, flip, under, held_by, IsAlone, IsAloneByInputs, has_own, essential_in}
 use Rattle.minimum.specs.Blocking.{IsSampled, flip_in, under_in, Blocks, AreBlocking, HasCommon}
+use Rattle.minimum.proofs.MorePlaces.{places_pushed, more_places}
 use Rattle.minimum.proofs.EssentialByNeighbours.{has_own_from, no_own_from, only_from_alone, alone_from_only}
 
 from_not : (b : Bool) → not b ≡ false → b ≡ true
 from_not true e = refl
 from_not false e = sym e
-
-pub more_places : (rows : List Cube) (i : ℕ) (row : Cube) → i < length rows → row ≡ get_or rows i row → (q : Place) → places (take (i + 1) rows) q ≡ (places (take i rows) q || holds row q)
-more_places rows i row lt at q =
-    ap (λ l. places l q) (take_more rows i row lt ∙ ap (λ y. take i rows ++ y ∷ []) (sym at)) ∙ places-append (take i rows) (row ∷ []) q
-    ∙ ap (λ b. places (take i rows) q || b) (or-false (holds row q))
 
 -- ---- a row put back by one step
 
@@ -131,6 +127,39 @@ module _ (rows : List Cube) (i : ℕ) (row : Cube) (lt : i < length rows) (at : 
 
   pub row_left : holds row q ≡ false → places old p ≡ places (take (i + 1) rows) q
   row_left off = before ∙ sym (or-false (places (take i rows) q)) ∙ ap (λ b. places (take i rows) q || b) (sym off) ∙ sym (more_places rows i row lt at q)
+
+-- ---- the blocking list of one step
+
+-- the list has the places of the cube from which the step leads into the rows
+pub record LeadsInto (c : Cube) (step : Place → Place) (rows list : List Cube) : Type 0 where
+  pub cubes : AreCubes (size_of c) list
+  pub same : (p : Place) → holds c p ≡ true → places list p ≡ places rows (step p)
+
+pub leads_none : (c : Cube) (step : Place → Place) (list : List Cube) → list ≡ [] → LeadsInto c step [] list
+leads_none c step list none = subst (LeadsInto c step []) (sym none) (record { cubes = All-nil (IsCube (size_of c)); same = λ p in_c. refl })
+
+module _ (c : Cube) (step : Place → Place) (rows : List Cube) (i : ℕ) (row : Cube) (lt : i < length rows) (at : row ≡ get_or rows i row) (old : List Cube) (so : LeadsInto c step (take i rows) old) where
+  -- what is added has the places from which the step leads into the row
+  pub leads_more : (new : List Cube) (held : Place → Bool) → AreCubes (size_of c) new → ((p : Place) → holds c p ≡ true → held p ≡ holds row (step p))
+      → ((p : Place) → holds c p ≡ true → places new p ≡ (places old p || held p)) → LeadsInto c step (take (i + 1) rows) new
+  leads_more new held are is more = record { cubes = are; same = λ p in_c. row_added rows i row lt at p (step p) old new (so.same p in_c) (held p) (is p in_c) (more p in_c) }
+
+  pub leads_pushed : (new : List Cube) (e : Cube) → IsCube (size_of c) e → ((p : Place) → holds c p ≡ true → holds e p ≡ holds row (step p)) → new ≡ old ++ e ∷ [] → LeadsInto c step (take (i + 1) rows) new
+  leads_pushed new e cube is added = subst (LeadsInto c step (take (i + 1) rows)) (sym added)
+      (leads_more (old ++ e ∷ []) (holds e) (All-append (IsCube (size_of c)) old (e ∷ []) so.cubes (All-cons (IsCube (size_of c)) e [] cube (All-nil (IsCube (size_of c))))) is
+      (λ p in_c. places_pushed old e p))
+
+  -- from no place does it lead into the row
+  pub leads_on : (new : List Cube) → ((p : Place) → holds c p ≡ true → holds row (step p) ≡ false) → new ≡ old → LeadsInto c step (take (i + 1) rows) new
+  leads_on new off same = subst (LeadsInto c step (take (i + 1) rows)) (sym same)
+      (record { cubes = so.cubes; same = λ p in_c. row_left rows i row lt at p (step p) old old (so.same p in_c) (off p in_c) })
+
+pub leads_all : (n : Size) (c : Cube) → IsCube n c → (step : Place → Place) (rows : List Cube) (i : ℕ) (list : List Cube) → length rows ≤ i → LeadsInto c step (take i rows) list → (off : List Cube) → rows ≡ off
+    → (size : Size) → HasSize c size → (made : Cubes) → made ≡ record { size = size; cubes = list } → Blocks n c (λ p. places off (step p)) made
+leads_all n c cube step rows i list past so off is size own made e = record {
+  size = ap (λ l. l.size) e ∙ sym (size_of-is c size own) ∙ size_of-is c n cube.has_size;
+  same = λ p in_c. ap (λ l. places l.cubes p) e ∙ so.same p in_c ∙ ap (λ l. places l (step p)) (take_all i rows past ∙ is);
+}
 
 -- ---- all blocking lists
 
@@ -300,17 +329,13 @@ module _ (sets : SetLists) (on off : Cubes) (fits : IsSampled sets on off) where
       let want = and_parts (places sets.on p) (not (places sets.dc p)) (sym (fits.wanted p place) ∙ h) in
       ap not (fits.outside p place ∙ ap not (or_left (places sets.on p) (places sets.dc p) want.0))
 
-  not_not : (b : Bool) → not (not b) ≡ b
-  not_not true = refl
-  not_not false = refl
-
   pub sampled_essential : essential_in on.size (on_side Outside off.cubes) (places on.cubes) ≡ essential_of sets (primes_of sets)
   sampled_essential =
       let ps = primes_of sets in
       let both = λ (p : Place). places sets.on p || places sets.dc p in
       let member_cube : (c : Cube) → Contains ps c → IsCube sets.size c = λ c h. ((Contains-complete_sum sets.size both c).0 h).is_cube in
       ap (λ z. essential_in z (on_side Outside off.cubes) (places on.cubes)) fits.size
-      ∙ ap (λ l. filter (has_own sets.size (places on.cubes) l) l) (complete_sum-same_at sets.size (on_side Outside off.cubes) both (λ p place. ap not (fits.outside p place) ∙ not_not (both p)))
+      ∙ ap (λ l. filter (has_own sets.size (places on.cubes) l) l) (complete_sum-same_at sets.size (on_side Outside off.cubes) both (λ p place. ap not (fits.outside p place) ∙ not-not (both p)))
       ∙ same_from_members row_cmp row_asymmetric (filter (has_own sets.size (places on.cubes) ps) ps) (essential_of sets ps)
       (IsStrictlySortedBy-filter row_cmp (has_own sets.size (places on.cubes) ps) ps (sorted-complete_sum sets.size both))
       (IsStrictlySortedBy-filter row_cmp (has_own sets.size (care_on sets) ps) ps (sorted-complete_sum sets.size both))

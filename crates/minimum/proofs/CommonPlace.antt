@@ -14,7 +14,7 @@ use Rattle.cover.proofs.Lists.{list_any_from, list_any_witness}
 use Rattle.cover.proofs.Regions.{place_at}
 use Rattle.minimum.specs.Neighbours.{LiesInOneOf}
 use Rattle.minimum.specs.Blocking.{HasCommon, IsNogood, IsWidening}
-use Rattle.minimum.proofs.Blocking.{more_places}
+use Rattle.minimum.proofs.MorePlaces.{more_places}
 
 pub common_none : (region : Cube) (lists : List Cubes) (from : ℕ) → length lists ≤ from → list_any (λ b. b) region.outputs ≡ true → HasCommon region lists from
 common_none region lists from past some =

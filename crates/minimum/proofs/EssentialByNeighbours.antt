@@ -6,7 +6,7 @@ use Rattle.std.specs.Ordering.{is_eq}
 use Rattle.std.specs.declared.cmp.Ordering.{Ordering}
 use Rattle.std.specs.declared.cmp.Ordering.TheVariants.{Less, Equal, Greater}
 use Rattle.std.proofs.lemmas.Bool.{cases_Bool, cases_eq, cases_lt, false≢true, and_parts, and_from, or_cases, or_left, or_parts, not-true, not_from_false}
-use Rattle.std.proofs.lemmas.List.{get_or-set_same, get_or-set_other, get_or_past, set-get_or, set-set, length-set, length-map, length-replicate, get_or-replicate, take_more}
+use Rattle.std.proofs.lemmas.List.{get_or-set_same, get_or-set_other, get_or_past, set-get_or, set-set, length-set, length-map, length-replicate, get_or-replicate}
 use Rattle.std.proofs.lemmas.List.Elements.{All-append, All-cons, All-nil, Contains-append_cases, Contains-append_left, Contains-append_right}
 use Rattle.std.proofs.lemmas.List.Kept.{IsStrictlySortedBy-filter}
 use Rattle.std.proofs.lemmas.Cmp.{tied_itself}
@@ -34,6 +34,7 @@ use Rattle.minimum.specs.Primes.{primes_of, care_on, others, essential_of}
 use Rattle.minimum.specs.declared.essential_by_neighbours.grown_primes.GrownPrimes.{GrownPrimes}
 use Rattle.minimum.specs.Neighbours.{flip, under, IsAlone, AreNeighbours, has_own, essential_in, IsOwn, LiesInOneOf, HaveSize, AddsPrime, AreGrown, AreFoundIn, AddsEssential}
 use Rattle.minimum.proofs.BothLists.{primes-together}
+use Rattle.minimum.proofs.MorePlaces.{more_places}
 use Rattle.minimum.proofs.Growth.{same_sizes}
 
 -- ---- two places as a cube
@@ -386,18 +387,12 @@ module _ (size : Size) (s wanted : Place → Bool) where
     all = λ c p alone h. absurd (false≢true h);
   }
 
-  or_false : (b : Bool) → (b || false) ≡ b
-  or_false true = refl
-  or_false false = refl
-
   pub found_next : (on : List Cube) (i : ℕ) (cube : Cube) (old new : GrownPrimes) → i < length on → cube ≡ get_or on i cube → AreFoundIn size s wanted (places (take i on)) old
       → AddsEssential size s wanted cube old new → AreFoundIn size s wanted (places (take (i + 1) on)) new
   found_next on i cube old new lt at so adds = record {
     grown = adds.grown so.grown;
     all = λ c p own h.
-        let split : places (take (i + 1) on) p ≡ (places (take i on) p || holds cube p) =
-        ap (λ l. places l p) (take_more on i cube lt ∙ ap (λ y. take i on ++ y ∷ []) (sym at)) ∙ places-append (take i on) (cube ∷ []) p ∙ ap (λ b. places (take i on) p || b) (or_false (holds cube p)) in
-        elim (or_cases (places (take i on) p) (holds cube p) (sym split ∙ h)) [
+        elim (or_cases (places (take i on) p) (holds cube p) (sym (more_places on i cube lt at p) ∙ h)) [
           | inl was ↦ adds.kept c (so.all c p own was)
           | inr here ↦ adds.all so.grown c p own here
         ];

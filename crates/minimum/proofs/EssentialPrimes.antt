@@ -1,10 +1,9 @@
 -- Whether other primes and the DC-set hold a prime.
-use Rattle.std.proofs.Common.{◌≡◌, ℕ, ◌+◌, ◌<◌, Bool, true, false, not, ◌||◌, cond, List, [], ◌∷◌, ◌++◌, length, take, get_or, ap, sym, ◌∙◌, inl, inr, ◌↔◌, IsTrue}
+use Rattle.std.proofs.Common.{◌≡◌, Bool, true, not, ◌||◌, List, ◌++◌, ap, sym, ◌∙◌, inl, inr, ◌↔◌, IsTrue}
 use Rattle.std.specs.List.{Contains, filter}
 use Rattle.std.specs.Ordering.{is_eq}
 use Rattle.std.proofs.lemmas.Bool.{cases_Bool, false≢true, and_parts, and_from, or_cases, not-true, not_from_false}
-use Rattle.std.proofs.lemmas.List.{take_more, append-nil}
-use Rattle.std.proofs.lemmas.List.Elements.{filter-append, Contains-append_cases, Contains-append_left, Contains-append_right}
+use Rattle.std.proofs.lemmas.List.Elements.{Contains-append_cases, Contains-append_left, Contains-append_right}
 use Rattle.cube.specs.Cube.{Cube, Place, holds, intersection, SameSize, IsCube, IsSubset, IsDisjoint, size_of}
 use Rattle.cube.specs.Order.{row_cmp}
 use Rattle.cube.specs.Sum.{is_subset}
@@ -18,22 +17,6 @@ use Rattle.cover.proofs.Everywhere.{same_test}
 use Rattle.pla.specs.Sets.{SetLists}
 use Rattle.minimum.specs.Primes.{care_on, others, is_essential}
 use Rattle.minimum.specs.EssentialPrimes.{intersects_cube, is_rival}
-
--- ---- one more of a list
-
-module _ {X : Type 0} (test : X → Bool) (xs : List X) (i : ℕ) (lt : i < length xs) (x : X) (at : x ≡ get_or xs i x) where
-  taken_next : take (i + 1) xs ≡ take i xs ++ x ∷ []
-  taken_next = take_more xs i x lt ∙ ap (λ y. take i xs ++ y ∷ []) (sym at)
-
-  pub kept_next : (kept next : List X) (r : Bool) → kept ≡ filter test (take i xs) → r ≡ test x → r ≡ true → next ≡ kept ++ x ∷ [] → next ≡ filter test (take (i + 1) xs)
-  kept_next kept next r so same on is =
-      is ∙ ap (λ l. l ++ x ∷ []) so ∙ ap (λ b. filter test (take i xs) ++ cond b (x ∷ []) []) (sym on ∙ same)
-      ∙ sym (filter-append test (take i xs) (x ∷ [])) ∙ ap (filter test) (sym taken_next)
-
-  pub skipped_next : (kept : List X) (r : Bool) → kept ≡ filter test (take i xs) → r ≡ test x → r ≡ false → kept ≡ filter test (take (i + 1) xs)
-  skipped_next kept r so same off =
-      so ∙ sym (append-nil (filter test (take i xs))) ∙ ap (λ b. filter test (take i xs) ++ cond b (x ∷ []) []) (sym off ∙ same)
-      ∙ sym (filter-append test (take i xs) (x ∷ [])) ∙ ap (filter test) (sym taken_next)
 
 -- ---- the cubes that have a place of a prime
 

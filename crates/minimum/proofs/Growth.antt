@@ -2,7 +2,7 @@
 use Rattle.std.proofs.Common.{◌≡◌, ℕ, zero, suc, ◌+◌, ◌<◌, ◌⊎◌, inl, inr, Bool, true, false, not, ◌&&◌, ◌||◌, List, [], ◌∷◌, length, map, replicate, get_or, set, refl, ap, sym, subst, ◌∙◌, arith, ◌↔◌, IsTrue}
 use Rattle.std.specs.List.{list_any}
 use Rattle.std.proofs.lemmas.Bool.{cases_Bool, cases_eq, cases_lt, false≢true, and_parts, and_from, or_cases, or_left, or_right, not_from_false}
-use Rattle.std.proofs.lemmas.List.{get_or-set_same, get_or-set_other, get_or_past, set-get_or, length-set, length-replicate}
+use Rattle.std.proofs.lemmas.List.{get_or-set_same, get_or-set_other, get_or_past, set-get_or, length-replicate}
 use Rattle.cube.specs.declared.symbol.Symbol.{Symbol}
 use Rattle.cube.specs.declared.symbol.Symbol.TheVariants.{Dash, Zero, One}
 use Rattle.cube.specs.Size.{Size}
@@ -16,6 +16,7 @@ use Rattle.cover.specs.Places.{places}
 use Rattle.cover.proofs.Everywhere.{is_subset-iff}
 use Rattle.cover.proofs.Found.{output_of_place}
 use Rattle.cover.proofs.Inputs.{matches-set_symbol, matches-own}
+use Rattle.cover.proofs.SumSplit.{IsCube-with_symbol}
 use Rattle.minimum.specs.declared.essential_by_neighbours.growth.Side.{Side}
 use Rattle.minimum.specs.declared.essential_by_neighbours.growth.Side.TheVariants.{Inside}
 use Rattle.minimum.specs.Neighbours.{on_side, Grows, IsGrown, IsSettledInput, IsSettledOutput, IsBeside}
@@ -33,9 +34,6 @@ dash_from : (t : Symbol) → ((bit : Bool) → agrees t bit ≡ true) → t ≡ 
 dash_from Dash h = refl
 dash_from Zero h = absurd (false≢true (h true))
 dash_from One h = absurd (false≢true (h false))
-
-pub with_symbol_cube : (size : Size) (c : Cube) (i : ℕ) (t : Symbol) → IsCube size c → IsCube size (with_symbol c i t)
-with_symbol_cube size c i t cube = record { has_size = (length-set c.symbols i t ∙ cube.has_size.0, cube.has_size.1); some_output = cube.some_output }
 
 -- ---- what was settled stays so
 
@@ -86,7 +84,7 @@ module _ (size : Size) (s : Place → Bool) (c : Cube) (cube : IsCube size c) (i
 
   pub freed_grows : (new rest : Cube) → new ≡ with_symbol c i Dash → rest ≡ with_symbol c i (opposite (get_or c.symbols i Dash)) → IsSubset (holds rest) s → Grows size s c new
   freed_grows new rest e f part = subst (Grows size s c) (sym e) (record {
-    is_cube = with_symbol_cube size c i Dash cube;
+    is_cube = IsCube-with_symbol size c i Dash cube;
     over = in_free;
     within = λ own p h. elim (free_cases p h) [
       | inl old ↦ own p old
@@ -101,7 +99,7 @@ module _ (size : Size) (s : Place → Bool) (c : Cube) (cube : IsCube size c) (i
   refused_settles rest f refused d d_cube above within dash =
       let over = covering size c d cube d_cube above in
       let own = opposite (get_or c.symbols i Dash) in
-      let more : IsSubset (holds half) (holds d) = IsSubset-from_Covers d half (same_sizes size half d (with_symbol_cube size c i own cube) d_cube) (record {
+      let more : IsSubset (holds half) (holds d) = IsSubset-from_Covers d half (same_sizes size half d (IsCube-with_symbol size c i own cube) d_cube) (record {
         inputs = λ k bit ok. elim (cases_eq k i) [
           | inl e ↦ ap (λ x. agrees (get_or d.symbols x Dash) bit) e ∙ ap (λ t. agrees t bit) dash
           | inr ne ↦ over.inputs k bit (ap (λ t. agrees t bit) (sym (get_or-set_other c.symbols i k own Dash ne)) ∙ ok)
@@ -118,8 +116,11 @@ dashes_match zero (b ∷ bs) e = absurd (omega arith)
 dashes_match (suc n) [] e = absurd (omega arith)
 dashes_match (suc n) (b ∷ bs) e = dashes_match n bs (omega arith)
 
-module _ (size : Size) (s : Place → Bool) (c : Cube) (cube : IsCube size c) (j : ℕ) (lt : j < size.outputs) (u : Cube)
-    (is : u ≡ record { symbols = replicate size.inputs Dash; outputs = set (replicate size.outputs false) j true }) where
+-- the cube of all places that have the output
+abbrev pub all_with : Size → ℕ → Cube
+all_with size j = record { symbols = replicate size.inputs Dash; outputs = set (replicate size.outputs false) j true }
+
+module _ (size : Size) (c : Cube) (cube : IsCube size c) (j : ℕ) (lt : j < size.outputs) (u : Cube) (is : u ≡ all_with size j) where
   u_matches : (point : List Bool) → matches c.symbols point ≡ true → matches u.symbols point ≡ true
   u_matches point h = ap (λ k. matches k.symbols point) is ∙ dashes_match size.inputs point (length-matches c.symbols point h ∙ cube.has_size.0)
 
@@ -141,85 +142,96 @@ module _ (size : Size) (s : Place → Bool) (c : Cube) (cube : IsCube size c) (j
             (and_from (matches c.symbols p.point) (matches u.symbols p.point) m (u_matches p.point m)) (or_right (get_or c.outputs j false) (get_or u.outputs j false) u_output));
       }
 
-  module _ (wide : Cube) (wide_cube : IsCube size wide) (stacked : (p : Place) → holds wide p ≡ ((matches c.symbols p.point && matches u.symbols p.point)
-      && (get_or c.outputs p.output false || get_or u.outputs p.output false))) where
-    wide_from : (p : Place) → matches c.symbols p.point ≡ true → (get_or c.outputs p.output false || get_or u.outputs p.output false) ≡ true → holds wide p ≡ true
-    wide_from p m o = stacked p ∙ and_from (matches c.symbols p.point && matches u.symbols p.point) (get_or c.outputs p.output false || get_or u.outputs p.output false)
-        (and_from (matches c.symbols p.point) (matches u.symbols p.point) m (u_matches p.point m)) o
+-- a cube put together with the cube of all places that have an output
+pub record IsWidened (size : Size) (c : Cube) (j : ℕ) (u wide : Cube) : Type 0 where
+  pub cube : IsCube size c
+  pub below : j < size.outputs
+  pub output : u ≡ all_with size j
+  pub same : SameSize wide c
+  pub stacked : (p : Place) → holds wide p ≡ ((matches c.symbols p.point && matches u.symbols p.point)
+      && (get_or c.outputs p.output false || get_or u.outputs p.output false))
 
-    pub wide_output : get_or wide.outputs j false ≡ true
-    wide_output =
-        let p : Place = record { point = map pick c.symbols; output = j } in
-        (and_parts (matches wide.symbols p.point) (get_or wide.outputs j false) (wide_from p (matches-map_pick c.symbols) (or_right (get_or c.outputs j false) (get_or u.outputs j false) u_output))).1
+module _ {size : Size} {c : Cube} {j : ℕ} {u wide : Cube} (w : IsWidened size c j u wide) where
+  wide_cube : IsCube size wide
+  wide_cube = stacked_cube size c w.cube j w.below u w.output wide w.same w.stacked
 
-    in_wide : (p : Place) → holds c p ≡ true → holds wide p ≡ true
-    in_wide p h =
-        let parts = and_parts (matches c.symbols p.point) (get_or c.outputs p.output false) h in
-        wide_from p parts.0 (or_left (get_or c.outputs p.output false) (get_or u.outputs p.output false) parts.1)
+  wide_from : (p : Place) → matches c.symbols p.point ≡ true → (get_or c.outputs p.output false || get_or u.outputs p.output false) ≡ true → holds wide p ≡ true
+  wide_from p m o = w.stacked p ∙ and_from (matches c.symbols p.point && matches u.symbols p.point) (get_or c.outputs p.output false || get_or u.outputs p.output false)
+      (and_from (matches c.symbols p.point) (matches u.symbols p.point) m (u_matches size c w.cube j w.below u w.output p.point m)) o
 
-    wide_parts : (p : Place) → holds wide p ≡ true → (matches c.symbols p.point ≡ true) × ((get_or c.outputs p.output false || get_or u.outputs p.output false) ≡ true)
-    wide_parts p h =
-        let parts = and_parts (matches c.symbols p.point && matches u.symbols p.point) (get_or c.outputs p.output false || get_or u.outputs p.output false) (sym (stacked p) ∙ h) in
-        ((and_parts (matches c.symbols p.point) (matches u.symbols p.point) parts.0).0, parts.1)
+  pub wide_output : get_or wide.outputs j false ≡ true
+  wide_output =
+      let p : Place = record { point = map pick c.symbols; output = j } in
+      (and_parts (matches wide.symbols p.point) (get_or wide.outputs j false) (wide_from p (matches-map_pick c.symbols) (or_right (get_or c.outputs j false) (get_or u.outputs j false) (u_output size c w.cube j w.below u w.output)))).1
 
-    beside_point : (p : Place) → matches c.symbols p.point ≡ true → (i : ℕ) (bit : Bool) (q : Place) → q.point ≡ set p.point i bit → IsBeside c q
-    beside_point p m i bit q same =
-        let w = some_true c.outputs cube.some_output in
-        record { place = record { point = p.point; output = w.0 }; held = and_from (matches c.symbols p.point) (get_or c.outputs w.0 false) m w.1; input = i; bit = bit; same = same }
+  pub widened_settles : {s : Place → Bool} → IsSettledOutput size s wide j
+  widened_settles d _ _ _ _ = wide_output
 
-    pub beside_wide : (p : Place) → IsBeside wide p → IsBeside c p
-    beside_wide p beside = beside_point beside.place (wide_parts beside.place beside.held).0 beside.input beside.bit p beside.same
+  in_wide : (p : Place) → holds c p ≡ true → holds wide p ≡ true
+  in_wide p h =
+      let parts = and_parts (matches c.symbols p.point) (get_or c.outputs p.output false) h in
+      wide_from p parts.0 (or_left (get_or c.outputs p.output false) (get_or u.outputs p.output false) parts.1)
 
-    long : length wide.outputs ≡ length c.outputs
-    long = wide_cube.has_size.1 ∙ sym cube.has_size.1
+  wide_parts : (p : Place) → holds wide p ≡ true → (matches c.symbols p.point ≡ true) × ((get_or c.outputs p.output false || get_or u.outputs p.output false) ≡ true)
+  wide_parts p h =
+      let parts = and_parts (matches c.symbols p.point && matches u.symbols p.point) (get_or c.outputs p.output false || get_or u.outputs p.output false) (sym (w.stacked p) ∙ h) in
+      ((and_parts (matches c.symbols p.point) (matches u.symbols p.point) parts.0).0, parts.1)
 
-    pub rest_output : get_or c.outputs j false ≡ false → list_any (λ b. b) (minus wide.outputs c.outputs) ≡ true
-    rest_output lacks = true_some (minus wide.outputs c.outputs) j (get_or-minus wide.outputs c.outputs j long
-        ∙ and_from (get_or wide.outputs j false) (not (get_or c.outputs j false)) wide_output (not_from_false (get_or c.outputs j false) lacks))
+  beside_point : (p : Place) → matches c.symbols p.point ≡ true → (i : ℕ) (bit : Bool) (q : Place) → q.point ≡ set p.point i bit → IsBeside c q
+  beside_point p m i bit q same =
+      let some = some_true c.outputs w.cube.some_output in
+      record { place = record { point = p.point; output = some.0 }; held = and_from (matches c.symbols p.point) (get_or c.outputs some.0 false) m some.1; input = i; bit = bit; same = same }
 
-    module _ (rest : Cube) (left : rest ≡ rest_row wide c) where
-      rest_in : (p : Place) → holds rest p ≡ true → holds wide p ≡ true
-      rest_in p h =
-          let parts = and_parts (matches wide.symbols p.point) (get_or (minus wide.outputs c.outputs) p.output false) (ap (λ k. holds k p) (sym left) ∙ h) in
-          and_from (matches wide.symbols p.point) (get_or wide.outputs p.output false) parts.0
-          (and_parts (get_or wide.outputs p.output false) (not (get_or c.outputs p.output false)) (sym (get_or-minus wide.outputs c.outputs p.output long) ∙ parts.1)).0
+  pub beside_wide : (p : Place) → IsBeside wide p → IsBeside c p
+  beside_wide p beside = beside_point beside.place (wide_parts beside.place beside.held).0 beside.input beside.bit p beside.same
 
-      pub beside_rest : (p : Place) → holds rest p ≡ true → IsBeside c p
-      beside_rest p h = beside_point p (wide_parts p (rest_in p h)).0 0 (get_or p.point 0 false) p (sym (set-get_or p.point 0 false))
+  long : length wide.outputs ≡ length c.outputs
+  long = w.same.1
 
-      wide_cases : (p : Place) → holds wide p ≡ true → (holds c p ≡ true) ⊎ (holds rest p ≡ true)
-      wide_cases p h = elim (cases_Bool (get_or c.outputs p.output false)) [
-        | inl on ↦ inl (and_from (matches c.symbols p.point) (get_or c.outputs p.output false) (wide_parts p h).0 on)
-        | inr off ↦ inr (
-            let parts = and_parts (matches wide.symbols p.point) (get_or wide.outputs p.output false) h in
-            ap (λ k. holds k p) left ∙ and_from (matches wide.symbols p.point) (get_or (minus wide.outputs c.outputs) p.output false) parts.0
-            (get_or-minus wide.outputs c.outputs p.output long
-            ∙ and_from (get_or wide.outputs p.output false) (not (get_or c.outputs p.output false)) parts.1 (not_from_false (get_or c.outputs p.output false) off)))
-      ]
+  pub rest_output : get_or c.outputs j false ≡ false → list_any (λ b. b) (minus wide.outputs c.outputs) ≡ true
+  rest_output lacks = true_some (minus wide.outputs c.outputs) j (get_or-minus wide.outputs c.outputs j long
+      ∙ and_from (get_or wide.outputs j false) (not (get_or c.outputs j false)) wide_output (not_from_false (get_or c.outputs j false) lacks))
 
-      pub widened_grows : IsSubset (holds rest) s → Grows size s c wide
-      widened_grows part = record {
-        is_cube = wide_cube;
-        over = in_wide;
-        within = λ own p h. elim (wide_cases p h) [ inl old ↦ own p old | inr more ↦ part p more ];
-      }
+  module _ (rest : Cube) (left : rest ≡ rest_row wide c) where
+    rest_in : (p : Place) → holds rest p ≡ true → holds wide p ≡ true
+    rest_in p h =
+        let parts = and_parts (matches wide.symbols p.point) (get_or (minus wide.outputs c.outputs) p.output false) (ap (λ k. holds k p) (sym left) ∙ h) in
+        and_from (matches wide.symbols p.point) (get_or wide.outputs p.output false) parts.0
+        (and_parts (get_or wide.outputs p.output false) (not (get_or c.outputs p.output false)) (sym (get_or-minus wide.outputs c.outputs p.output long) ∙ parts.1)).0
 
-      pub widened_settles : IsSettledOutput size s wide j
-      widened_settles d _ _ _ _ = wide_output
+    pub beside_rest : (p : Place) → holds rest p ≡ true → IsBeside c p
+    beside_rest p h = beside_point p (wide_parts p (rest_in p h)).0 0 (get_or p.point 0 false) p (sym (set-get_or p.point 0 false))
 
-      pub unwidened_settles : (IsSubset (holds rest) s → ⊥) → IsSettledOutput size s c j
-      unwidened_settles refused d d_cube above within on =
-          let w = some_true c.outputs cube.some_output in
-          absurd (refused (λ p h.
-          let parts = wide_parts p (rest_in p h) in
-          let q : Place = record { point = p.point; output = w.0 } in
-          let point = (and_parts (matches d.symbols p.point) (get_or d.outputs w.0 false) (above q (and_from (matches c.symbols p.point) (get_or c.outputs w.0 false) parts.0 w.1))).0 in
-          within p (elim (or_cases (get_or c.outputs p.output false) (get_or u.outputs p.output false) parts.1) [
-            | inl own ↦ above p (and_from (matches c.symbols p.point) (get_or c.outputs p.output false) parts.0 own)
-            | inr new ↦ (
-                let at : p.output ≡ j = set_one size.outputs j p.output (ap (λ k. get_or k.outputs p.output false) (sym is) ∙ new) in
-                and_from (matches d.symbols p.point) (get_or d.outputs p.output false) point (ap (λ k. get_or d.outputs k false) at ∙ on))
-          ])))
+    wide_cases : (p : Place) → holds wide p ≡ true → (holds c p ≡ true) ⊎ (holds rest p ≡ true)
+    wide_cases p h = elim (cases_Bool (get_or c.outputs p.output false)) [
+      | inl on ↦ inl (and_from (matches c.symbols p.point) (get_or c.outputs p.output false) (wide_parts p h).0 on)
+      | inr off ↦ inr (
+          let parts = and_parts (matches wide.symbols p.point) (get_or wide.outputs p.output false) h in
+          ap (λ k. holds k p) left ∙ and_from (matches wide.symbols p.point) (get_or (minus wide.outputs c.outputs) p.output false) parts.0
+          (get_or-minus wide.outputs c.outputs p.output long
+          ∙ and_from (get_or wide.outputs p.output false) (not (get_or c.outputs p.output false)) parts.1 (not_from_false (get_or c.outputs p.output false) off)))
+    ]
+
+    pub widened_grows : {s : Place → Bool} → IsSubset (holds rest) s → Grows size s c wide
+    widened_grows part = record {
+      is_cube = wide_cube;
+      over = in_wide;
+      within = λ own p h. elim (wide_cases p h) [ inl old ↦ own p old | inr more ↦ part p more ];
+    }
+
+    pub unwidened_settles : {s : Place → Bool} → (IsSubset (holds rest) s → ⊥) → IsSettledOutput size s c j
+    unwidened_settles refused d d_cube above within on =
+        let some = some_true c.outputs w.cube.some_output in
+        absurd (refused (λ p h.
+        let parts = wide_parts p (rest_in p h) in
+        let q : Place = record { point = p.point; output = some.0 } in
+        let point = (and_parts (matches d.symbols p.point) (get_or d.outputs some.0 false) (above q (and_from (matches c.symbols p.point) (get_or c.outputs some.0 false) parts.0 some.1))).0 in
+        within p (elim (or_cases (get_or c.outputs p.output false) (get_or u.outputs p.output false) parts.1) [
+          | inl own ↦ above p (and_from (matches c.symbols p.point) (get_or c.outputs p.output false) parts.0 own)
+          | inr new ↦ (
+              let at : p.output ≡ j = set_one size.outputs j p.output (ap (λ k. get_or k.outputs p.output false) (sym w.output) ∙ new) in
+              and_from (matches d.symbols p.point) (get_or d.outputs p.output false) point (ap (λ k. get_or d.outputs k false) at ∙ on))
+        ])))
 
 -- ---- what is asked
 

@@ -1,6 +1,8 @@
+pub mod Filters
 pub mod BothLists
 pub mod RegionCandidates
 pub mod Numbers
+pub mod MorePlaces
 pub mod PrimeRows
 pub mod RowsByCube
 pub mod PrimeTables

@@ -1,6 +1,7 @@
 -- The rows near a cube hold what all rows hold beside it.
-use Rattle.std.proofs.Common.{◌≡◌, ◌≢◌, ℕ, ◌+◌, ◌<◌, inl, inr, ◌∷◌, ◌++◌, [], Bool, true, false, not, ◌||◌, List, length, take, get_or, set, refl, ap, sym, ◌∙◌, arith}
-use Rattle.std.proofs.lemmas.Bool.{cases_Bool, cases_eq, cases_lt, and_parts, and_from}
+use Rattle.std.proofs.Common.{◌≡◌, ◌≢◌, ℕ, ◌+◌, ◌<◌, inl, inr, ◌∷◌, ◌++◌, [], Bool, true, false, not, List, length, take, get_or, set, refl, ap, sym, subst, ◌∙◌, arith, ◌↔◌, IsTrue, Option, Some, None}
+use Rattle.std.specs.Prelude.{is_some}
+use Rattle.std.proofs.lemmas.Bool.{cases_Bool, cases_eq, cases_lt, false≢true, and_parts, and_from}
 use Rattle.std.proofs.lemmas.List.{get_or-set_other, get_or_past, set-get_or, set-set}
 use Rattle.cube.specs.declared.symbol.Symbol.{Symbol}
 use Rattle.cube.specs.declared.symbol.Symbol.TheVariants.{Dash, Zero, One}
@@ -10,10 +11,10 @@ use Rattle.cube.proofs.HoldsLemmas.{agrees_at-matches}
 use Rattle.cover.specs.Cubes.{Cubes}
 use Rattle.cover.specs.Places.{places}
 use Rattle.cover.proofs.Inputs.{matches-set_bit, matches-set_symbol}
-use Rattle.cover.proofs.SumMeets.{places-append}
 use Rattle.minimum.specs.declared.essential_by_neighbours.growth.Side.{Side}
 use Rattle.minimum.specs.declared.essential_by_neighbours.growth.Side.TheVariants.{Inside, Outside}
-use Rattle.minimum.specs.Neighbours.{on_side, flip, under, IsAlone, AreNeighbours, IsBeside, Conflicts, IsFar, AreNear}
+use Rattle.minimum.specs.Neighbours.{on_side, flip, under, IsAlone, AreNeighbours, IsBeside, Conflicts, IsFar, AreNear, near_or}
+use Rattle.minimum.proofs.MorePlaces.{places_pushed}
 use Rattle.minimum.proofs.Neighbours.{against}
 use Rattle.minimum.proofs.Blocking.{row_added, row_left}
 
@@ -78,13 +79,9 @@ abbrev pub AreNearSoFar : Cube → List Cube → List Cube → Type 0
 AreNearSoFar c rows near = (p : Place) → IsBeside c p → places near p ≡ places rows p
 
 module _ (c : Cube) (rows : List Cube) (i : ℕ) (row : Cube) (lt : i < length rows) (at : row ≡ get_or rows i row) (near : List Cube) (so : AreNearSoFar c (take i rows) near) where
-  or_false : (b : Bool) → (b || false) ≡ b
-  or_false true = refl
-  or_false false = refl
-
   pub near_kept : (new : List Cube) → new ≡ near ++ row ∷ [] → AreNearSoFar c (take (i + 1) rows) new
   near_kept new is p beside =
-      row_added rows i row lt at p p near new (so p beside) (holds row p) refl (ap (λ l. places l p) is ∙ places-append near (row ∷ []) p ∙ ap (λ b. places near p || b) (or_false (holds row p)))
+      row_added rows i row lt at p p near new (so p beside) (holds row p) refl (ap (λ l. places l p) is ∙ places_pushed near row p)
 
   pub near_left : SameSize row c → IsFar c row → AreNearSoFar c (take (i + 1) rows) near
   near_left size far p beside = row_left rows i row lt at p p near near (so p beside) (far_out c row size p beside far)
@@ -128,3 +125,15 @@ module _ (c : Cube) (rows near : Cubes) (are : AreNear c rows near) where
     none = λ p in_c h. alone_to_all Inside p in_c (so.none p in_c h);
     some = λ p in_c h alone. so.some p in_c h (alone_to_near Inside p in_c alone);
   }
+
+-- whether a part beside the cube lies on that side of the rows that are asked is whether it lies on that side of all
+pub answer_for_all : (c : Cube) (rows near asked : Cubes) → AreNear c rows near → asked ≡ near → (side : Side) (part : Cube) → ((p : Place) → holds part p ≡ true → IsBeside c p) → (b : Bool)
+    → IsTrue b ↔ IsSubset (holds part) (on_side side asked.cubes) → IsTrue b ↔ IsSubset (holds part) (on_side side rows.cubes)
+answer_for_all c rows near asked are is side part beside b answer =
+    let here = subst (AreNear c rows) (sym is) are in
+    (λ yes. near_to_all c rows asked here side part beside (answer.0 yes), λ sub. answer.1 (all_to_near c rows asked here side part beside sub))
+
+-- without a list of their own the near rows are all rows
+pub near_none : (c : Cube) (rows : Cubes) (near : Option Cubes) → is_some near ≡ false → AreNear c rows (near_or rows near)
+near_none c rows None is = near_all c rows
+near_none c rows (Some l) is = absurd (false≢true (sym is))

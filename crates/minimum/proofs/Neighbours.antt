@@ -1,9 +1,9 @@
 -- The rows put back by a step out of a prime.
-use Rattle.std.proofs.Common.{◌≡◌, ◌≢◌, ℕ, ◌+◌, ◌<◌, ◌⊎◌, inl, inr, Bool, true, false, not, ◌&&◌, ◌||◌, List, [], ◌∷◌, ◌++◌, length, take, get_or, set, refl, ap, sym, ◌∙◌, arith, Option, Some, None, IfSome, IfNone}
+use Rattle.std.proofs.Common.{◌≡◌, ◌≢◌, ℕ, ◌+◌, ◌<◌, ◌⊎◌, inl, inr, Bool, true, false, not, ◌&&◌, ◌||◌, List, length, take, get_or, set, refl, ap, sym, ◌∙◌, arith, Option, Some, None, IfSome, IfNone}
 use Rattle.std.specs.List.{list_any}
 use Rattle.std.specs.Option.{is_some}
 use Rattle.std.proofs.lemmas.Bool.{cases_Bool, cases_eq, cases_lt, false≢true, and_parts, and_from, or_cases, or_parts, or_from, not-true, not_from_false}
-use Rattle.std.proofs.lemmas.List.{get_or-set_other, get_or_past, take_more}
+use Rattle.std.proofs.lemmas.List.{get_or-set_other, get_or_past}
 use Rattle.cube.specs.declared.symbol.Symbol.{Symbol}
 use Rattle.cube.specs.declared.symbol.Symbol.TheVariants.{Dash, Zero, One}
 use Rattle.cube.specs.Pattern.{agrees, matches}
@@ -17,8 +17,8 @@ use Rattle.cover.specs.Places.{places}
 use Rattle.cover.proofs.Found.{output_of_place}
 use Rattle.cover.proofs.Inputs.{matches-set_bit, matches-own}
 use Rattle.cover.proofs.Regions.{zero_literal, one_literal}
-use Rattle.cover.proofs.SumMeets.{places-append}
 use Rattle.minimum.specs.Neighbours.{flip, under, held_by, IsAlone, IsAloneByInputs, IsAloneByOutputs, AreNeighbours, AddsNeighbours}
+use Rattle.minimum.proofs.MorePlaces.{more_places}
 
 -- ---- a symbol at a literal
 
@@ -223,15 +223,9 @@ adds_both c d a b old mid new a_none a_some b_none b_some first second to_mid to
   ];
 }
 
-or_false : (b : Bool) → (b || false) ≡ b
-or_false true = refl
-or_false false = refl
-
 module _ (c : Cube) (rows : List Cube) (i : ℕ) (row : Cube) (lt : i < length rows) (at : row ≡ get_or rows i row) where
   next_places : (q : Place) → places (take (i + 1) rows) q ≡ (places (take i rows) q || holds row q)
-  next_places q =
-      ap (λ l. places l q) (take_more rows i row lt ∙ ap (λ y. take i rows ++ y ∷ []) (sym at)) ∙ places-append (take i rows) (row ∷ []) q
-      ∙ ap (λ b. places (take i rows) q || b) (or_false (holds row q))
+  next_places = more_places rows i row lt at
 
   pub neighbours_next : (near new : List Cube) → AreNeighbours c (take i rows) near → AddsNeighbours c row near new → AreNeighbours c (take (i + 1) rows) new
   neighbours_next near new so adds = record {

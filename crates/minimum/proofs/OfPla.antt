@@ -1,5 +1,7 @@
 -- The places of the ON-set with the DC-set under fr, by those that OFF alone holds.
-use Rattle.std.proofs.Common.{◌≡◌, ◌∙◌, Bool, true, false, not, ◌&&◌, ◌||◌, List, [], ◌++◌, refl, ap, sym}
+use Rattle.std.proofs.Common.{◌≡◌, ◌∙◌, Bool, true, false, not, ◌&&◌, ◌||◌, List, [], ◌++◌, refl, ap, sym, subst, Option}
+use Rattle.std.proofs.Math.Bool.{not-not}
+use Rattle.std.specs.Prelude.{IfOk, IfSome, Result}
 use Rattle.cube.specs.Cube.{Cube, Place, IsPlace, difference}
 use Rattle.cube.specs.Sum.{complete_sum}
 use Rattle.cover.specs.Cubes.{Cubes}
@@ -11,8 +13,9 @@ use Rattle.pla.specs.declared.file_type.FileType.TheVariants.{Fr}
 use Rattle.pla.specs.Completed.{dc_list, off_list, outside, sets_of}
 use Rattle.pla.specs.Description.{Description}
 use Rattle.pla.specs.Sets.{SetLists}
+use Rattle.covering.specs.declared.choice.Choice.{Choice}
 use Rattle.minimum.specs.declared.points.source.Source.TheVariants.{Outside, Primes}
-use Rattle.minimum.specs.Primes.{care_on, primes_of}
+use Rattle.minimum.specs.Primes.{care_on, exact_of, primes_of}
 use Rattle.minimum.specs.Points.{StandsFor}
 use Rattle.minimum.specs.Blocking.{IsSampled}
 
@@ -76,17 +79,18 @@ module _ (given : SetLists) (none : given.dc ≡ []) where
   sampled_alone alone on e is = record {
     size = ap (λ (l : Cubes). l.size) e;
     wanted = λ p place. ap (λ (l : Cubes). places l.cubes p) e ∙ all_wanted (places given.on p) ∙ ap (λ l. places given.on p && not (places l p)) (sym none) ∙ wanted_place p place;
-    outside = λ p place. sym (twice (places alone.cubes p)) ∙ ap not (valid_place alone.cubes p place (is p place));
+    outside = λ p place. sym (not-not (places alone.cubes p)) ∙ ap not (valid_place alone.cubes p place (is p place));
   }
     where
       all_wanted : (n : Bool) → n ≡ (n && not false)
       all_wanted true = refl
       all_wanted false = refl
 
-      twice : (b : Bool) → not (not b) ≡ b
-      twice true = refl
-      twice false = refl
+-- an answer for the samples' lists is one for those of a description under fr
+module _ (d : Description) (given : SetLists) (e : given ≡ record { size = d.size; on = d.on; dc = []; off = d.off }) (f : d.file_type ≡ Fr) where
+  pub open_sets : with_open given ≡ sets_of d true true
+  open_sets = ap with_open e ∙ ap (λ t. record { size = d.size; on = d.on; dc = dc_list t true d; off = off_list t true d }) (sym f)
 
--- the lists of a description under fr
-pub open_sets : (d : Description) (given : SetLists) → given ≡ record { size = d.size; on = d.on; dc = []; off = d.off } → d.file_type ≡ Fr → with_open given ≡ sets_of d true true
-open_sets d given e f = ap with_open e ∙ ap (λ t. record { size = d.size; on = d.on; dc = dc_list t true d; off = off_list t true d }) (sym f)
+  pub exact_of_open : (choice : Choice) {E : Type 0} (r : Result (Option Cubes) E) → IfOk r (λ o. IfSome o (λ list. list ≡ record { size = given.size; cubes = exact_of choice (with_open given) }))
+      → IfOk r (λ o. IfSome o (λ list. list ≡ record { size = d.size; cubes = exact_of choice (sets_of d true true) }))
+  exact_of_open choice r = subst (λ sets. IfOk r (λ o. IfSome o (λ list. list ≡ record { size = sets.size; cubes = exact_of choice sets }))) open_sets

@@ -1,5 +1,6 @@
 -- Sources of the primes of three lists.
-use Rattle.std.proofs.Common.{◌≡◌, Bool, true, false, not, ◌||◌, refl, ap, subst, ◌∙◌}
+use Rattle.std.proofs.Common.{◌≡◌, not, ◌||◌, refl, ap, subst, ◌∙◌}
+use Rattle.std.proofs.Math.Bool.{not-not}
 use Rattle.std.specs.List.{Contains}
 use Rattle.cube.specs.Cube.{Place, IsCube, IsPlace}
 use Rattle.cube.specs.Sum.{complete_sum}
@@ -11,10 +12,6 @@ use Rattle.pla.specs.Sets.{SetLists}
 use Rattle.minimum.specs.declared.points.source.Source.TheVariants.{Outside, Primes}
 use Rattle.minimum.specs.Primes.{primes_of}
 use Rattle.minimum.specs.Points.{IsSource, StandsFor}
-
-twice : (b : Bool) → not (not b) ≡ b
-twice true = refl
-twice false = refl
 
 module _ (sets : SetLists) (off : Cubes) (e : off.size ≡ sets.size) where
   pub primes_outside : IsSource sets.size (Outside off)
@@ -30,7 +27,7 @@ module _ (sets : SetLists) (off : Cubes) (e : off.size ≡ sets.size) where
     wanted = λ p place. refl;
     primes = ap (λ z. complete_sum z (λ p. not (places off.cubes p))) e
         ∙ complete_sum-agree sets.size (λ p. not (places off.cubes p)) (λ p. places sets.on p || places sets.dc p)
-        (λ p place. ap not (h p place) ∙ twice (places sets.on p || places sets.dc p));
+        (λ p place. ap not (h p place) ∙ not-not (places sets.on p || places sets.dc p));
   }
 
 module _ (sets : SetLists) (list : Cubes) (e : list ≡ record { size = sets.size; cubes = primes_of sets }) where

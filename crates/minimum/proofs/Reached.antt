@@ -16,7 +16,8 @@ use Rattle.cover.specs.Cubes.{Cubes}
 use Rattle.cover.specs.Places.{places}
 use Rattle.cover.proofs.Regions.{narrowed}
 use Rattle.minimum.specs.Neighbours.{Grows, IsSettledOutput, IsBeside, AreNear, IsPartOf, AreReached}
-use Rattle.minimum.proofs.Blocking.{more_places, row_left}
+use Rattle.minimum.proofs.MorePlaces.{more_places}
+use Rattle.minimum.proofs.Blocking.{row_left}
 
 -- ---- a part to begin with
 

@@ -1,6 +1,6 @@
 use Rattle.std.proofs.Common.{◌++◌, ap, sym, subst, ◌∙◌}
 use Rattle.std.proofs.lemmas.List.Elements.{All-append}
-use Rattle.cube.specs.Cube.{IsCube, holds}
+use Rattle.cube.specs.Cube.{IsCube, HasSize, holds}
 use Rattle.cube.specs.Sum.{is_subset}
 use Rattle.cover.specs.Cubes.{Cubes, AreCubes}
 use Rattle.cover.specs.Places.{places}
@@ -32,3 +32,11 @@ from_cubes-requires c =
     record { has_size = (cube.has_size.0 ∙ own.0, cube.has_size.1 ∙ own.1); some_output = cube.some_output } in
     subst (λ n. AreCubes n c.append.new.self.items) (sym (c.shape.ensures.size ∙ ap (λ k. k.size) c.requires.rows))
     (subst (AreCubes size) (sym c.in_ok-append.ensures.items) (All-append P c.into_cubes-rest.result.items c.in_ok-beside.beside.items dc beside))
+
+pub neighbours-requires : goal.neighbours-requires
+neighbours-requires c =
+    subst (HasSize c.args.prime.now) (sym (c.requires.near.size ∙ ap (λ k. k.size) c.requires.rows)) c.requires.prime.is_cube.has_size
+
+pub holds_cube-requires : goal.holds_cube-requires
+holds_cube-requires c =
+    subst (HasSize c.args.prime.now) (sym (ap (λ k. k.size) c.from_cubes.ensures ∙ c.shape.ensures.size ∙ ap (λ k. k.size) c.requires.rows)) c.requires.prime.is_cube.has_size

@@ -1,10 +1,9 @@
-use Rattle.std.proofs.Common.{◌≡◌, ap, sym, subst, ◌∙◌, ◌<◌, ◌≤◌, filter, length, get_or}
-use Rattle.std.proofs.lemmas.List.{take_all}
+use Rattle.std.proofs.Common.{◌≡◌, ap, sym, subst, ◌∙◌, ◌<◌, ◌≤◌, length, get_or, inl, inr}
 use Rattle.cover.specs.Cubes.{AreCubes}
 use Rattle.cover.proofs.ContainmentLemmas.{cube_at-is}
 use Rattle.minimum.specs.Primes.{primes_of, essential_of, is_essential}
 use Rattle.minimum.specs.EssentialPrimes.{AreNonCandidates}
-use Rattle.minimum.proofs.EssentialPrimes.{kept_next, skipped_next}
+use Rattle.minimum.proofs.Filters.{filter_next, filter_done}
 use Rattle.minimum.proofs.NonCandidates.{same_sizes}
 use Rattle.minimum.proofs.essential_primes.essential.Goals as goal
 use Rattle.minimum.proofs.essential_primes.essential.Goals.{then-branch+in_ok-add_copy, else-branch, After-as_slice-2}
@@ -55,15 +54,15 @@ loop-number-preserved c =
     let lt = subst (λ l. i < length l) value c.loop-number-test.true in
     let at = c.prime-item.is ∙ ap (λ l. get_or l i c.prime-item.result) value in
     let asked = c.in_ok-is_essential_at.ensures ∙ ap (λ l. is_essential c.args.sets.now l c.prime-item.result) (sym (ap (λ k. k.cubes) c.requires)) in
+    let next = filter_next test primes i list.cubes c.loop-number.invariant.cubes c.prime-item.result c.prime-item.result lt at c.in_ok-is_essential_at.field-0 asked c.if-branch.list.cubes in
     elim c.if-branch.branch [
       | then-branch+in_ok-add_copy w ↦ record {
         size = ap (λ l. l.size) w.list-is ∙ w.in_ok-add_copy.ensures.size ∙ c.loop-number.invariant.size;
-        cubes = kept_next test primes i lt c.prime-item.result at list.cubes c.if-branch.list.cubes c.in_ok-is_essential_at.field-0 c.loop-number.invariant.cubes asked w.if-branch.true
-            (ap (λ l. l.cubes) w.list-is ∙ w.in_ok-add_copy.ensures.cubes);
+        cubes = next (inl (w.if-branch.true, ap (λ l. l.cubes) w.list-is ∙ w.in_ok-add_copy.ensures.cubes));
       }
       | else-branch w ↦ record {
         size = ap (λ l. l.size) w.list-is ∙ c.loop-number.invariant.size;
-        cubes = ap (λ l. l.cubes) w.list-is ∙ skipped_next test primes i lt c.prime-item.result at list.cubes c.in_ok-is_essential_at.field-0 c.loop-number.invariant.cubes asked w.if-branch.false;
+        cubes = next (inr (w.if-branch.false, ap (λ l. l.cubes) w.list-is));
       }
     ]
 
@@ -73,6 +72,6 @@ returns c =
     let primes = c.args.primes.now.cubes in
     let n = c.loop-number.number in
     let past = subst (λ l. length l ≤ n) c.as_slice-prime-items.ensures.value c.loop-number-test.false in
-    let cubes = c.loop-number.invariant.cubes ∙ ap (filter (is_essential sets primes)) (take_all n primes past) ∙ ap (λ k. essential_of sets k.cubes) c.requires in
+    let cubes = filter_done (is_essential sets primes) primes n c.loop-number.list.cubes c.loop-number.invariant.cubes past ∙ ap (λ k. essential_of sets k.cubes) c.requires in
     let size = c.loop-number.invariant.size ∙ ap (λ k. k.size) c.requires in
     λ i. record { size = size i; cubes = cubes i }

@@ -1,22 +1,21 @@
-use Rattle.std.proofs.Common.{◌++◌, ◌∷◌, [], ap, filter, ◌∙◌}
-use Rattle.std.proofs.lemmas.List.{take_all}
+use Rattle.std.proofs.Common.{List, ◌++◌, ◌∷◌, [], ap, ◌∙◌, inl, inr}
+use Rattle.cube.specs.Cube.{Cube}
 use Rattle.minimum.specs.EssentialPrimes.{intersects_cube}
-use Rattle.minimum.proofs.EssentialPrimes.{kept_next, skipped_next}
+use Rattle.minimum.proofs.Filters.{filter_next, filter_done}
 use Rattle.minimum.proofs.essential_primes.intersecting_cubes.Goals as goal
 use Rattle.minimum.proofs.essential_primes.intersecting_cubes.Goals.{then-intersects_cube+in_ok-try_clone+in_ok-push, else-intersects_cube}
 
 pub loop-cube-preserved : goal.loop-cube-preserved
 loop-cube-preserved c =
-    let test = intersects_cube c.args.prime.now in
-    elim c.if-intersects_cube.branch [
+    let kept = c.loop-cube.kept.items in
+    let cube = c.cube-item.result in
+    filter_next (intersects_cube c.args.prime.now) c.args.cubes.now c.loop-cube.cube-index kept c.loop-cube.invariant cube cube c.loop-cube-test.true c.cube-item.is
+    c.intersects_cube.result c.intersects_cube.ensures c.if-intersects_cube.kept.items (elim c.if-intersects_cube.branch [
       | then-intersects_cube+in_ok-try_clone+in_ok-push w ↦
-          kept_next test c.args.cubes.now c.loop-cube.cube-index c.loop-cube-test.true c.cube-item.result c.cube-item.is c.loop-cube.kept.items c.if-intersects_cube.kept.items c.intersects_cube.result
-          c.loop-cube.invariant c.intersects_cube.ensures w.if-intersects_cube.true
-          (ap (λ k. k.items) w.kept-is ∙ w.in_ok-push.ensures.items ∙ ap (λ d. c.loop-cube.kept.items ++ d ∷ []) w.in_ok-try_clone.ensures.value)
-      | else-intersects_cube w ↦
-          ap (λ k. k.items) w.kept-is
-          ∙ skipped_next test c.args.cubes.now c.loop-cube.cube-index c.loop-cube-test.true c.cube-item.result c.cube-item.is c.loop-cube.kept.items c.intersects_cube.result c.loop-cube.invariant c.intersects_cube.ensures w.if-intersects_cube.false
-    ]
+          let same = ap (λ d. kept ++ d ∷ []) w.in_ok-try_clone.ensures.value in
+          inl (w.if-intersects_cube.true, ◌∙◌ {A = List Cube} (ap (λ k. k.items) w.kept-is) (◌∙◌ {A = List Cube} w.in_ok-push.ensures.items same))
+      | else-intersects_cube w ↦ inr (w.if-intersects_cube.false, ap (λ k. k.items) w.kept-is)
+    ])
 
 pub returns : goal.returns
-returns c = c.loop-cube.invariant ∙ ap (filter (intersects_cube c.args.prime.now)) (take_all c.loop-cube.cube-index c.args.cubes.now c.loop-cube-test.false)
+returns c = filter_done (intersects_cube c.args.prime.now) c.args.cubes.now c.loop-cube.cube-index c.loop-cube.kept.items c.loop-cube.invariant c.loop-cube-test.false

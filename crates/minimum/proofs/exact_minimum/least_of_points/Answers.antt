@@ -1,6 +1,7 @@
 use Rattle.std.proofs.Common.{◌≡◌, ◌∙◌, ap, sym, subst}
 use Rattle.std.specs.List.{Contains}
 use Rattle.std.proofs.lemmas.Result.{IfOk-weaker}
+use Rattle.cube.specs.Limits.{IsWithinLimits, format_limits}
 use Rattle.covering.specs.Cover.{IsLeast}
 use Rattle.minimum.specs.Points.{function_of, AreHolders, point_table}
 use Rattle.minimum.proofs.PickedPoints.{holders_sorted, holder_sizes}
@@ -43,3 +44,6 @@ returns-clause-least g c =
       cubes = ap (λ l. l.cubes) h;
     })
     c.cubes_at.ensures
+
+pub point_table-requires-clause-limits : goal.point_table-requires-clause-limits
+point_table-requires-clause-limits g c = subst (IsWithinLimits format_limits) (sym (c.in_ok-columns.ensures.size ∙ c.requires.1.1.0)) c.requires.1.1.1

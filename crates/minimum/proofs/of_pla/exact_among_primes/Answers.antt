@@ -1,9 +1,8 @@
-use Rattle.std.proofs.Common.{◌≡◌, ◌∙◌, ap, sym, subst}
-use Rattle.std.specs.Prelude.{IfOk, IfSome}
+use Rattle.std.proofs.Common.{◌≡◌, ◌∙◌, ap, sym}
 use Rattle.cover.specs.Cubes.{Cubes}
 use Rattle.pla.specs.Sets.{SetLists}
-use Rattle.minimum.specs.Primes.{exact_of, primes_of}
-use Rattle.minimum.proofs.OfPla.{open_sets, stands_primes, with_open}
+use Rattle.minimum.specs.Primes.{primes_of}
+use Rattle.minimum.proofs.OfPla.{exact_of_open, open_sets, stands_primes, with_open}
 use Rattle.minimum.proofs.PrimeSources.{primes_among}
 use Rattle.minimum.proofs.of_pla.exact_among_primes.Goals as goal
 
@@ -18,7 +17,4 @@ exact_by_points-requires c =
     (primes_among (with_open given) list same, (stands_primes given (ap (λ (s : SetLists). s.dc) is) list (ap (λ (l : Cubes). l.cubes) same), c.in_ok-proposer.ensures))
 
 pub returns : goal.returns
-returns c =
-    let all : SetLists → Cubes = λ sets. record { size = sets.size; cubes = exact_of c.args.choice sets } in
-    subst (λ value. IfOk c.exact_by_points.result (λ o. IfSome o (λ list. list ≡ value)))
-    (ap all (open_sets c.args.pla.now c.in_ok-samples.samples c.in_ok-samples.ensures c.requires.file_type)) c.exact_by_points.ensures
+returns c = exact_of_open c.args.pla.now c.in_ok-samples.samples c.in_ok-samples.ensures c.requires.file_type c.args.choice c.exact_by_points.result c.exact_by_points.ensures

@@ -1,11 +1,9 @@
 use Rattle.std.proofs.Common.{◌≡◌, ◌∙◌, ap, sym, subst}
-use Rattle.std.specs.Prelude.{IfOk, IfSome}
 use Rattle.cube.specs.Cube.{Place, IsPlace, difference}
 use Rattle.cover.specs.Cubes.{Cubes}
 use Rattle.cover.specs.Places.{places}
 use Rattle.pla.specs.Sets.{SetLists}
-use Rattle.minimum.specs.Primes.{exact_of}
-use Rattle.minimum.proofs.OfPla.{open_sets, stands_alone}
+use Rattle.minimum.proofs.OfPla.{exact_of_open, stands_alone}
 use Rattle.minimum.proofs.PrimeSources.{primes_outside}
 use Rattle.minimum.proofs.of_pla.exact_outside_off.Goals as goal
 
@@ -22,7 +20,4 @@ exact_by_points-requires c =
     (primes_outside given off sized, (stands_alone given (ap (λ (s : SetLists). s.dc) is) off sized alone, c.in_ok-proposer.ensures))
 
 pub returns : goal.returns
-returns c =
-    let all : SetLists → Cubes = λ sets. record { size = sets.size; cubes = exact_of c.args.choice sets } in
-    subst (λ value. IfOk c.exact_by_points.result (λ o. IfSome o (λ list. list ≡ value)))
-    (ap all (open_sets c.args.pla.now c.in_ok-samples.samples c.in_ok-samples.ensures c.requires.file_type)) c.exact_by_points.ensures
+returns c = exact_of_open c.args.pla.now c.in_ok-samples.samples c.in_ok-samples.ensures c.requires.file_type c.args.choice c.exact_by_points.result c.exact_by_points.ensures

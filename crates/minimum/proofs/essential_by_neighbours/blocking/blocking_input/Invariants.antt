@@ -1,12 +1,7 @@
-use Rattle.std.proofs.Common.{◌≡◌, true, take}
-use Rattle.cube.specs.Cube.{Place, holds, size_of}
-use Rattle.cover.specs.Cubes.{AreCubes}
-use Rattle.cover.specs.Places.{places}
-use Rattle.minimum.specs.Blocking.{flip_in}
+use Rattle.std.proofs.Common.{take}
+use Rattle.minimum.specs.Neighbours.{flip}
+use Rattle.minimum.proofs.Blocking.{LeadsInto}
 use Rattle.minimum.proofs.essential_by_neighbours.blocking.blocking_input.Given as goal
 
 abbrev pub invariant-loop-row : goal.invariant-loop-row
-invariant-loop-row l = record {
-  cubes : AreCubes (size_of l.prime) l.list.items;
-  same : (p : Place) → holds l.prime p ≡ true → places l.list.items p ≡ flip_in (take l.row-index l.row-items) l.i p;
-}
+invariant-loop-row l = LeadsInto l.prime (flip l.i) (take l.row-index l.row-items) l.list.items

@@ -2,8 +2,8 @@ use Rattle.std.proofs.Common.{◌+◌, arith, ap, sym, subst, ◌∙◌, false}
 use Rattle.std.proofs.lemmas.Option.{get_or_from_slice_get}
 use Rattle.minimum.specs.Blocking.{AreBlocking}
 use Rattle.minimum.specs.declared.essential_by_neighbours.growth.Side.TheVariants.{Outside}
-use Rattle.minimum.specs.Neighbours.{on_side, IsAlone}
-use Rattle.minimum.proofs.Blocking.{OutputsSoFar, outputs_next, outputs_skipped, outputs_all, blocking_sorted}
+use Rattle.minimum.specs.Neighbours.{on_side, IsAlone, IsAloneByInputs}
+use Rattle.minimum.proofs.Blocking.{OutputsSoFar, blocking_same, outputs_next, outputs_skipped, outputs_all, blocking_sorted}
 use Rattle.minimum.proofs.essential_by_neighbours.blocking.blocking_lists.Goals as goal
 use Rattle.minimum.proofs.essential_by_neighbours.blocking.blocking_lists.Goals.{then-not-output+in_ok-blocking_output+in_ok-push, else-not-output}
 
@@ -32,3 +32,10 @@ returns c =
     blocking_sorted off.size prime lists c.sort_unstable_by_key.new.self.items (IsAlone (on_side Outside off.cubes) prime)
     (outputs_all off.size off.cubes prime c.requires lists c.loop-j.j (omega (arith, c.loop-j-test.false, c.loop-j.auto.j-end, c.outputs-j-end.ensures.value, ap (λ z. z.outputs) c.shape.ensures.size)) c.loop-j.invariant)
     c.sort_unstable_by_key.ensures.permutation
+
+pub loop-j-init : goal.loop-j-init
+loop-j-init c =
+    let off = c.args.off.now in
+    let prime = c.args.prime.now in
+    blocking_same off.size prime c.in_ok-lists.lists.items (IsAloneByInputs (on_side Outside off.cubes) prime) (OutputsSoFar off.cubes prime 0) c.in_ok-lists.ensures
+    (λ p a. (a, λ k lt _. absurd (omega (arith, lt)))) (λ p a. a.0)

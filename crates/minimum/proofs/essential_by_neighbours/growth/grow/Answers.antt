@@ -1,5 +1,5 @@
-use Rattle.std.proofs.Common.{ap, sym, subst, ◌∙◌}
-use Rattle.minimum.specs.Neighbours.{AreNear, on_side}
+use Rattle.std.proofs.Common.{◌≡◌, ap, sym, subst, ◌∙◌, arith}
+use Rattle.minimum.specs.Neighbours.{AreNear, IsGrown, on_side}
 use Rattle.minimum.proofs.Growth.{grown_output, grows_none, grows_both}
 use Rattle.minimum.proofs.Reached.{reached_grown, reached_near}
 use Rattle.minimum.proofs.essential_by_neighbours.growth.grow.Goals as goal
@@ -38,3 +38,15 @@ loop-j-preserved c =
       near = c.in_ok-with_output.ensures.near;
       since = grows_both rows.size s c.in_ok-growth.growth.cube c.loop-j.growth.cube c.with_output.new.growth.cube c.loop-j.invariant.since c.in_ok-with_output.ensures.grows;
     }
+
+pub with_output-requires-clause-is_cube : goal.with_output-requires-clause-is_cube
+with_output-requires-clause-is_cube c = c.loop-j.invariant.grown.grows.is_cube
+
+pub with_output-requires-clause-near : goal.with_output-requires-clause-near
+with_output-requires-clause-near c = c.loop-j.invariant.near
+
+pub returns-clause-grown : goal.returns-clause-grown
+returns-clause-grown c =
+    let rows = c.args.rows.now in
+    let all : c.loop-j.j ≡ rows.size.outputs = omega (arith, c.loop-j-test.false, c.loop-j.auto.j-end, c.outputs-j-end.ensures.value, ap (λ z. z.outputs) c.shape.ensures.size) in
+    subst (IsGrown rows.size (on_side c.args.side rows.cubes) c.args.cube.now c.loop-j.growth.cube rows.size.inputs) all c.loop-j.invariant.grown

@@ -1,16 +1,14 @@
 use denote.Enum.Bare.{same_true}
-use Rattle.std.proofs.Common.{rules, ◌≡◌, ◌<◌, Option, None, Some, false, true, not, refl, length, get_or, ap, sym, subst, ◌∙◌, arith}
-use Rattle.std.specs.Prelude.{is_some}
+use Rattle.std.proofs.Common.{rules, ◌<◌, ◌↔◌, IsTrue, ◌≡◌, Bool, not, length, get_or, ap, sym, ◌∙◌, arith}
 use Rattle.std.proofs.lemmas.Bool.{false≢true}
 use Rattle.std.proofs.lemmas.Option.{get_or_from_slice_get}
 use Rattle.cube.specs.declared.symbol.Symbol.TheVariants.{Dash}
 use Rattle.cube.specs.contracts.symbol.Symbol.{the_type}
-use Rattle.cube.specs.Cube.{Place, holds, with_symbol}
+use Rattle.cube.specs.Cube.{holds, with_symbol, IsSubset}
 use Rattle.cube.specs.Sharp.{opposite}
-use Rattle.cover.specs.Cubes.{Cubes}
-use Rattle.minimum.specs.Neighbours.{on_side, IsBeside, AreNear, near_or}
+use Rattle.minimum.specs.Neighbours.{on_side, near_or}
 use Rattle.minimum.proofs.Growth.{grows_none, freed_grows, freed_settles, refused_settles}
-use Rattle.minimum.proofs.Near.{beside_half, near_all, near_to_all, all_to_near}
+use Rattle.minimum.proofs.Near.{answer_for_all, beside_half, near_none}
 use Rattle.minimum.proofs.essential_by_neighbours.growth.without_literal.Goals as goal
 use Rattle.minimum.proofs.essential_by_neighbours.growth.without_literal.Goals.{After-is_implicant}
 
@@ -21,29 +19,22 @@ is_rest : (c : After-is_implicant) → c.in_ok-rest.rest ≡ with_symbol c.args.
 is_rest c = c.in_ok-rest.ensures.value ∙ ap (with_symbol c.args.growth.now.cube c.args.i) (c.opposite.ensures
     ∙ ap opposite (sym (get_or_from_slice_get c.args.growth.now.cube.symbols c.args.i c.symbol-literal.result Dash c.symbol-literal.ensures)))
 
-beside : (c : After-is_implicant) → (p : Place) → holds c.in_ok-rest.rest p ≡ true → IsBeside c.args.growth.now.cube p
-beside c = beside_half c.args.growth.now.cube c.args.i _ (within c) c.in_ok-rest.rest (is_rest c)
-
--- without a list of their own the near rows are all rows
-no_near : (rows : Cubes) (near : Option Cubes) → is_some near ≡ false → near_or rows near ≡ rows
-no_near rows None is = refl
-no_near rows (Some l) is = absurd (false≢true (sym is))
-
-pub returns-then-not-branch-clause-settled : goal.returns-then-not-branch-clause-settled
-returns-then-not-branch-clause-settled c =
+asked : (c : After-is_implicant) (b : Bool) → IsTrue b ↔ IsSubset (holds c.in_ok-rest.rest) (on_side c.args.side c.rows_to_ask.result.now.cubes)
+    → IsTrue b ↔ IsSubset (holds c.in_ok-rest.rest) (on_side c.args.side c.args.rows.now.cubes)
+asked c =
     let rows = c.args.rows.now in
     let cube = c.args.growth.now.cube in
-    let s = (goal.at.returns-then-not-branch-clause-settled c).After-is_implicant in
-    refused_settles rows.size (on_side c.args.side rows.cubes) cube c.requires.is_cube c.args.i (within s) c.in_ok-rest.rest (is_rest s)
-    (λ sub. false≢true (sym c.if-not-branch.true ∙ c.in_ok-is_implicant.ensures.1 (all_to_near cube rows c.rows_to_ask.result.now (subst (AreNear cube rows) (sym c.rows_to_ask.ensures) c.requires.near) c.args.side c.in_ok-rest.rest (beside s) sub)))
+    answer_for_all cube rows (near_or rows c.args.growth.now.near) c.rows_to_ask.result.now c.requires.near c.rows_to_ask.ensures c.args.side c.in_ok-rest.rest
+    (beside_half cube c.args.i _ (within c) c.in_ok-rest.rest (is_rest c))
+
+-- ---- without the literal
 
 pub returns-clause-grows : goal.returns-clause-grows
 returns-clause-grows c =
     let rows = c.args.rows.now in
-    let cube = c.args.growth.now.cube in
     let s = (goal.at.returns-clause-grows c).After-is_implicant in
-    freed_grows rows.size (on_side c.args.side rows.cubes) cube c.requires.is_cube c.args.i (within s) c.set_symbol.new.self c.in_ok-rest.rest c.set_symbol.ensures (is_rest s)
-    (near_to_all cube rows c.rows_to_ask.result.now (subst (AreNear cube rows) (sym c.rows_to_ask.ensures) c.requires.near) c.args.side c.in_ok-rest.rest (beside s) (c.in_ok-is_implicant.ensures.0 c.if-not-branch.false))
+    freed_grows rows.size (on_side c.args.side rows.cubes) c.args.growth.now.cube c.requires.is_cube c.args.i (within s) c.set_symbol.new.self c.in_ok-rest.rest c.set_symbol.ensures (is_rest s)
+    ((asked s c.in_ok-is_implicant.field-0 c.in_ok-is_implicant.ensures).0 c.if-not-branch.false)
 
 pub returns-clause-settled : goal.returns-clause-settled
 returns-clause-settled c =
@@ -54,21 +45,27 @@ returns-clause-settled c =
 pub returns-then-is_none-clause-grows : goal.returns-then-is_none-clause-grows
 returns-then-is_none-clause-grows c =
     let rows = c.args.rows.now in
-    let cube = c.args.growth.now.cube in
     let s = (goal.at.returns-then-is_none-clause-grows c).After-is_implicant in
-    freed_grows rows.size (on_side c.args.side rows.cubes) cube c.requires.is_cube c.args.i (within s) c.set_symbol.new.self c.in_ok-rest.rest c.set_symbol.ensures (is_rest s)
-    (near_to_all cube rows c.rows_to_ask.result.now (subst (AreNear cube rows) (sym c.rows_to_ask.ensures) c.requires.near) c.args.side c.in_ok-rest.rest (beside s) (c.in_ok-is_implicant.ensures.0 c.if-not-branch.false))
-
-pub returns-then-is_none-clause-near : goal.returns-then-is_none-clause-near
-returns-then-is_none-clause-near c =
-    let near = no_near c.args.rows.now c.args.growth.now.near (c.is_none.ensures ∙ ap not c.if-is_none.true) in
-    subst (AreNear c.set_symbol.new.self c.args.rows.now) (sym near) (near_all c.set_symbol.new.self c.args.rows.now)
+    freed_grows rows.size (on_side c.args.side rows.cubes) c.args.growth.now.cube c.requires.is_cube c.args.i (within s) c.set_symbol.new.self c.in_ok-rest.rest c.set_symbol.ensures (is_rest s)
+    ((asked s c.in_ok-is_implicant.field-0 c.in_ok-is_implicant.ensures).0 c.if-not-branch.false)
 
 pub returns-then-is_none-clause-settled : goal.returns-then-is_none-clause-settled
 returns-then-is_none-clause-settled c =
     let rows = c.args.rows.now in
     let s = (goal.at.returns-then-is_none-clause-settled c).After-is_implicant in
     freed_settles rows.size (on_side c.args.side rows.cubes) c.args.growth.now.cube c.requires.is_cube c.args.i (within s) c.set_symbol.new.self c.set_symbol.ensures
+
+pub returns-then-is_none-clause-near : goal.returns-then-is_none-clause-near
+returns-then-is_none-clause-near c = near_none c.set_symbol.new.self c.args.rows.now c.args.growth.now.near (c.is_none.ensures ∙ ap not c.if-is_none.true)
+
+-- ---- the cube as it was
+
+pub returns-then-not-branch-clause-settled : goal.returns-then-not-branch-clause-settled
+returns-then-not-branch-clause-settled c =
+    let rows = c.args.rows.now in
+    let s = (goal.at.returns-then-not-branch-clause-settled c).After-is_implicant in
+    refused_settles rows.size (on_side c.args.side rows.cubes) c.args.growth.now.cube c.requires.is_cube c.args.i (within s) c.in_ok-rest.rest (is_rest s)
+    (λ sub. false≢true (sym c.if-not-branch.true ∙ (asked s c.in_ok-is_implicant.field-0 c.in_ok-is_implicant.ensures).1 sub))
 
 pub returns-then-eq-clause-settled : goal.returns-then-eq-clause-settled
 returns-then-eq-clause-settled c _ _ _ _ _ =

@@ -1,11 +1,11 @@
-use Rattle.std.proofs.Common.{◌≡◌, ◌∙◌, ◌||◌, ◌∷◌, [], Bool, true, false, refl, ap, sym, subst}
+use Rattle.std.proofs.Common.{◌∙◌, ◌||◌, ◌∷◌, [], ap, sym, subst}
 use Rattle.std.proofs.lemmas.Bool.{false≢true}
 use Rattle.std.proofs.lemmas.List.Elements.{All-append, All-cons, All-nil}
-use Rattle.cube.specs.Cube.{IsCube, SameSize, holds, size_of}
+use Rattle.cube.specs.Cube.{IsCube, SameSize, size_of}
 use Rattle.cover.specs.Cubes.{AreCubes}
 use Rattle.cover.specs.Places.{places}
-use Rattle.cover.proofs.SumMeets.{places-append}
 use Rattle.minimum.specs.Neighbours.{held_by}
+use Rattle.minimum.proofs.MorePlaces.{places_pushed}
 use Rattle.minimum.proofs.Neighbours.{met_output}
 use Rattle.minimum.proofs.essential_by_neighbours.neighbours.add_meeting.Goals as goal
 
@@ -22,13 +22,8 @@ returns-in_ok-push-clause-size c = λ are.
     } in
     subst (AreCubes size) (sym c.in_ok-push.ensures.items) (All-append (IsCube size) near (cube ∷ []) are (All-cons (IsCube size) cube [] is_cube (All-nil (IsCube size))))
 
-or_false : (b : Bool) → (b || false) ≡ b
-or_false true = refl
-or_false false = refl
-
 pub returns-in_ok-push-clause-places : goal.returns-in_ok-push-clause-places
 returns-in_ok-push-clause-places c = λ p _.
     let cube = c.in-Some.cube in
     let near = c.args.near.now.items in
-    ap (λ l. places l p) c.in_ok-push.ensures.items ∙ places-append near (cube ∷ []) p
-    ∙ ap (λ b. places near p || b) (or_false (holds cube p)) ∙ ap (λ f. places near p || held_by f p) (sym c.in-Some.is)
+    ap (λ l. places l p) c.in_ok-push.ensures.items ∙ places_pushed near cube p ∙ ap (λ f. places near p || held_by f p) (sym c.in-Some.is)

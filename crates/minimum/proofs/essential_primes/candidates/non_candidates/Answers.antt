@@ -1,4 +1,4 @@
-use Rattle.std.proofs.Common.{sym, subst, All}
+use Rattle.std.proofs.Common.{sym, subst, arith, All}
 use Rattle.cube.specs.Cube.{SameSize}
 use Rattle.cover.proofs.ContainmentLemmas.{cube_at-is}
 use Rattle.minimum.specs.EssentialPrimes.{UnmarksCandidate}
@@ -13,3 +13,9 @@ loop-cube-preserved c =
     non_candidates_next c.args.primes.now c.args.on.now c.loop-cube.cube-index c.loop-cube.non_candidates.items c.unmark_candidate.new.non_candidates.items c.loop-cube.invariant
     (subst (λ d. UnmarksCandidate c.args.primes.now d c.loop-cube.non_candidates.items c.unmark_candidate.new.non_candidates.items)
     (cube_at-is c.args.on.now c.loop-cube.cube-index c.cube-item.result c.loop-cube-test.true c.cube-item.is) c.unmark_candidate.ensures)
+
+pub loop-cube-init : goal.loop-cube-init
+loop-cube-init c k lt = absurd (omega (arith, lt))
+
+pub returns : goal.returns
+returns c k lt = let past = c.loop-cube-test.false in c.loop-cube.invariant k (omega (arith, lt, past))

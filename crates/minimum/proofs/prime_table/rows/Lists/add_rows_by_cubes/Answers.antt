@@ -1,4 +1,5 @@
 use Rattle.std.proofs.Common.{◌∙◌, ◌+◌, ◌<◌, ◌≤◌, length, get_or, sym, subst, refl, All}
+use Rattle.std.proofs.lemmas.Bool.{false≢true, and_parts}
 use Rattle.std.proofs.lemmas.List.{get_or_default}
 use Rattle.cube.specs.Cube.{holds}
 use Rattle.covering.specs.Table.{items_of}
@@ -51,3 +52,16 @@ returns c =
     let is = c.deref-number-items.ensures.value in
     parted_all lists.primes.now lists.on.now lists.dc.now c.args.region.now c.args.candidates.now.on.items k old new
     (subst (λ ns. length ns ≤ k) is c.loop-number-test.false) c.requires.on_candidates c.loop-number.invariant
+
+pub loop-number-init : goal.loop-number-init
+loop-number-init c = record {
+  kept = λ row h. h;
+  demands = λ h. h;
+  has_rows = λ p h _. absurd (false≢true (and_parts (holds c.args.region.now p) _ h).1);
+}
+
+pub meet-requires : goal.meet-requires
+meet-requires c =
+    let on = c.args.self.now.on.now in
+    let below = subst (All (λ i. i < length on)) (sym c.deref-number-items.ensures.value) c.requires.on_candidates.below in
+    c.requires.on_size (get_or c.deref-number-items.result.now c.loop-number.number-index 0) c.index-self-number.result (below c.loop-number.number-index 0 c.loop-number-test.true)

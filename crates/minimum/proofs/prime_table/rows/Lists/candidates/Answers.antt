@@ -1,4 +1,4 @@
-use Rattle.std.proofs.Common.{◌∙◌, ap, filter}
+use Rattle.std.proofs.Common.{◌∙◌, ◌<◌, ap, sym, subst, length, filter, All}
 use Rattle.minimum.specs.PrimeRows.{intersects_region}
 use Rattle.minimum.proofs.PrimeRows.{candidates_touching}
 use Rattle.minimum.proofs.prime_table.rows.Lists.candidates.Goals as goal
@@ -29,3 +29,12 @@ returns c =
       on_intersect = b.1;
       dc_intersect = d.1;
     }
+
+pub numbers_intersecting-requires-clause-below : goal.numbers_intersecting-requires-clause-below
+numbers_intersecting-requires-clause-below c = subst (All (λ i. i < length c.args.self.now.primes.now)) (sym c.deref.ensures.value) c.requires.primes_candidates.below
+
+pub numbers_intersecting-requires-2-clause-below : goal.numbers_intersecting-requires-2-clause-below
+numbers_intersecting-requires-2-clause-below c = subst (All (λ i. i < length c.args.self.now.on.now)) (sym c.deref-2.ensures.value) c.requires.on_candidates.below
+
+pub numbers_intersecting-requires-3-clause-below : goal.numbers_intersecting-requires-3-clause-below
+numbers_intersecting-requires-3-clause-below c = subst (All (λ i. i < length c.args.self.now.dc.now)) (sym c.deref-3.ensures.value) c.requires.dc_candidates.below

@@ -1,4 +1,4 @@
-use Rattle.std.proofs.Common.{◌∙◌, ℕ, ap, sym, eqb, length, Option, Some, None}
+use Rattle.std.proofs.Common.{◌∙◌, ◌<◌, ℕ, ap, sym, subst, All, eqb, length, Option, Some, None}
 use Rattle.std.specs.Prelude.{MatchOption}
 use Rattle.std.proofs.lemmas.Bool.{eqb-true}
 use Rattle.covering.specs.Table.{has}
@@ -27,3 +27,15 @@ returns-in-None c =
     go : (P Q : Type 0) (R : ℕ → Type 0) (o : Option ℕ) → (P → Q) → MatchOption o P R → MatchOption o Q R
     go P Q R None f h = f h
     go P Q R (Some x) f h = h
+
+pub first_inside-requires-clause-size : goal.first_inside-requires-clause-size
+first_inside-requires-clause-size c = c.requires.touched.split.primes_size
+
+pub first_inside-requires-clause-below : goal.first_inside-requires-clause-below
+first_inside-requires-clause-below c = subst (All (λ i. i < length c.args.self.now.primes.now)) (sym c.deref-2.ensures.value) c.requires.touched.split.primes_candidates.below
+
+pub first_inside-requires-in-None-clause-size : goal.first_inside-requires-in-None-clause-size
+first_inside-requires-in-None-clause-size c = c.requires.touched.split.dc_size
+
+pub first_inside-requires-in-None-clause-below : goal.first_inside-requires-in-None-clause-below
+first_inside-requires-in-None-clause-below c = subst (All (λ i. i < length c.args.self.now.dc.now)) (sym c.deref-in-None.ensures.value) c.requires.touched.split.dc_candidates.below
