@@ -1,13 +1,9 @@
-use Rattle.std.proofs.Common.{◌∙◌, ap, codes}
-use Rattle.std.proofs.lemmas.Result.{IfOk-weaker}
-use Rattle.clap.specs.Words.{with_rule}
-use Rattle.tool.specs.Parser.{files_arg, literals_arg, option_arg}
 use Rattle.tool.proofs.parser.espresso_command.Goals as goal
 
 pub returns : goal.returns
 returns c =
-    let one = c.in_ok-command.ensures ∙ ap (λ a. with_rule a (option_arg (codes "command") 68)) c.bare_command-command.ensures in
-    let two = c.in_ok-command-2.ensures ∙ ap (λ a. with_rule a (option_arg (codes "type") 111)) one in
-    let three = c.in_ok-command-3.ensures ∙ ap (λ a. with_rule a (option_arg (codes "eat") 101)) two in
-    let four = c.in_ok-command-4.ensures ∙ ap (λ a. with_rule a files_arg) three in
-    IfOk-weaker c.with_literals.result _ _ (λ r h. h ∙ ap (λ a. with_rule a literals_arg) four) c.with_literals.ensures
+    let command = c.with_arg-command.ensures _ _ c.bare_command.ensures c.option_with_value.ensures.rule c.option_with_value.ensures.local in
+    let type = c.with_arg-command-2.ensures _ _ command c.option_with_value-2.ensures.rule c.option_with_value-2.ensures.local in
+    let eat = c.with_arg-command-3.ensures _ _ type c.option_with_value-3.ensures.rule c.option_with_value-3.ensures.local in
+    let files = c.with_arg-command-4.ensures _ _ eat c.file_arguments.ensures.rule c.file_arguments.ensures.local in
+    c.with_arg.ensures _ _ files c.literals_option.ensures.rule c.literals_option.ensures.local
