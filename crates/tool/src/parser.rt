@@ -182,13 +182,12 @@ fn line_with(
 fn is_fitting(command: Command, out: OutType, choice: Choice, files: &[&str]) -> bool
     ensures { result ≡ fits command out choice (map (λ s. s.now) files.now) }
 {
-    let is_count = if command.takes_two() {
-        files.len() == 2
-    } else {
-        files.len() <= 1
+    let is_count = match files {
+        [] | [_] => !command.takes_two(),
+        [first, second] => command.takes_two() && (*first != "-" || *second != "-"),
+        _ => false,
     };
-    let inputs = files.iter().filter(|file| **file == "-").count();
-    command.allows(out, choice) && is_count && inputs <= 1
+    command.allows(out, choice) && is_count
 }
 
 fn copy_names(alloc: Global, names: &[&str]) -> Result<Vec<String>, AllocError>
