@@ -10,14 +10,14 @@ use itoa::Buffer;
 use pla::{Output, ReadFault, ReadKind, WriteFault, write_bytes, write_next};
 
 // A source of a run.
-#[derive(Clone, Copy, Debug, PartialEq, Eq)]
+#[derive(Clone, Copy)]
 pub(crate) enum Operand {
     First,
     Second,
 }
 
 // What stops a run before its answer was printed.
-#[derive(Clone, Copy, Debug, PartialEq, Eq)]
+#[derive(Clone, Copy)]
 pub(crate) enum Failure {
     NotOpened(Operand),
     Faulty(Operand, ReadFault),
