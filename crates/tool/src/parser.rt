@@ -1,8 +1,6 @@
 //! The parse of the words by `clap`, and the line that its matches say.
 ghost use Rattle.std.specs.Prelude.{◌≡◌, ◌≢◌, IfOk, Some, None, Err, map, string_bytes, codes, false, option_and_then};
 ghost use Rattle.std.specs.Option.{option_map_or};
-ghost use Rattle.clap.specs.Simple.{App, with_rule};
-ghost use Rattle.clap.specs.Walk.{Rule};
 ghost use Rattle.clap.specs.Words.{app_of, first_value, found_of, kind_of, rule_of};
 ghost use Rattle.tool.specs.Parser.{bare_app, espresso_app, files_arg, literals_arg, option_arg};
 ghost use Rattle.tool.specs.Matches.{choice_in, request_in};
@@ -52,31 +50,21 @@ fn literals_option<'a>(alloc: Global) -> Arg<'a>
         .action(ArgAction::SetTrue)
 }
 
-// The command with one argument more, if memory was enough for those before it.
-fn with_arg<'a>(
-    command: Result<clap::Command<'a>, AllocError>,
-    arg: Arg<'a>,
-) -> Result<clap::Command<'a>, AllocError>
-    ensures { (app : App) (rule : Rule) → IfOk command.entry (λ c. app_of c ≡ app)
-        → rule_of arg.entry ≡ rule → arg.entry.global ≡ false
-        → IfOk result (λ c. app_of c ≡ with_rule app rule) }
-{
-    match command {
-        Ok(command) => command.arg(arg),
-        Err(AllocError) => Err(AllocError),
-    }
-}
-
 // Three options with a value each, files, and an option without a value.
 pub(crate) fn espresso_command<'a>(alloc: Global) -> Result<clap::Command<'a>, AllocError>
     ensures { IfOk result (λ c. app_of c ≡ espresso_app) }
 {
-    let command = Ok(bare_command(alloc));
-    let command = with_arg(command, option_with_value(alloc, "command", 'D'));
-    let command = with_arg(command, option_with_value(alloc, "type", 'o'));
-    let command = with_arg(command, option_with_value(alloc, "eat", 'e'));
-    let command = with_arg(command, file_arguments(alloc));
-    with_arg(command, literals_option(alloc))
+    let command = option_with_value(alloc, "command", 'D');
+    let out = option_with_value(alloc, "type", 'o');
+    let eat = option_with_value(alloc, "eat", 'e');
+    let args = vec![in alloc;
+        command,
+        out,
+        eat,
+        file_arguments(alloc),
+        literals_option(alloc),
+    ]?;
+    bare_command(alloc).args(args)
 }
 
 // Out of memory if the parse was, and else a usage fault.
