@@ -1,5 +1,5 @@
 -- What an output took, from one step to the next.
-use Rattle.std.proofs.Common.{◌≡◌, ◌∙◌, ℕ, refl, sym, ap, subst, inl, inr, List, [], ◌++◌, Option, Some, None, Result, Ok, Err, append_assoc, append-nil}
+use Rattle.std.proofs.Common.{◌≡◌, ◌∙◌, ℕ, refl, sym, ap, subst, inl, inr, List, [], Option, Some, None, Result, Ok, Err, append-nil}
 use Rattle.std.specs.Io.KnownBytes.{Appends, Keeps}
 use Rattle.pla.specs.declared.calls.WriteCalls.{WriteCalls}
 use Rattle.pla.specs.Device.{AllWritten, AppendsFront, LastUnwritten, TellsFailure, Writes}

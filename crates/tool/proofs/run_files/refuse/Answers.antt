@@ -1,5 +1,5 @@
 use Rattle.std.proofs.Common.{ap, sym}
-use Rattle.tool.specs.Tool.{Outcome, refusal_of}
+use Rattle.tool.specs.Tool.{refusal_of}
 use Rattle.tool.proofs.Outputs.{wrote_or_failed}
 use Rattle.tool.proofs.run_files.refuse.Goals as goal
 
