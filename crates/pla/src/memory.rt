@@ -85,6 +85,15 @@ impl Given {
     {
         self.at
     }
+
+    // Whether the next read fails.
+    fn fails(&self) -> bool
+        ensures { IsTrue result ↔ ((self.now.until_failure ≡ Some 0)
+            ⊎ ((self.now.left ≡ []) × (self.now.ending ≡ Ending.Failed))) }
+    {
+        self.until_failure == Some(0)
+            || (self.at == self.bytes.len() && self.ending == Ending::Failed)
+    }
 }
 
 impl Input for Given {
@@ -107,13 +116,13 @@ impl Input for Given {
         ensures same_ending { self.new.ending ≡ self.old.ending }
         ensures nearer { self.new.until_failure ≡ one_nearer self.old.until_failure }
     {
-        let due = self.until_failure == Some(0);
+        let fails = self.fails();
         self.until_failure = calls_left_after_one(self.until_failure);
-        let rest = self.bytes.len() - self.at;
-        if due || (rest == 0 && self.ending == Ending::Failed) {
+        if fails {
             self.calls = self.calls.after_broken_read();
             return Err(Broken);
         }
+        let rest = self.bytes.len() - self.at;
         let count = rest.min(self.most).min(buffer.len());
         let from = self.at;
         buffer[..count].copy_from_slice(&self.bytes[from..from + count]);

@@ -9,7 +9,7 @@ use Rattle.tool.specs.declared.status.Status.{Status}
 use Rattle.tool.specs.declared.failure.Operand.TheVariants.{First, Second}
 use Rattle.tool.specs.declared.failure.Failure.{Failure}
 use Rattle.tool.specs.declared.failure.Failure.TheVariants as failure
-use Rattle.tool.specs.Run.{Intake, Intakes, IsSecondOf, Trace, Uncalled, echoes_due, second_due, trace}
+use Rattle.tool.specs.Run.{Intake, Intakes, Trace, Uncalled, echoes_due, second_due, trace}
 use Rattle.tool.specs.Steps.{Answers, FilesOf, IsReadAs, Names, PutsOut, Reports, SecondOf, Stands, StandsAt, StandsBehind, names_said}
 use Rattle.tool.specs.Answer.{Answer, Answering, answer_of, of_one, of_two}
 use Rattle.tool.specs.Tool.{Outcome, answered, first_name, reading_then, same_size, second_name, stopped, with_both, with_first}

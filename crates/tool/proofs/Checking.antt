@@ -55,6 +55,11 @@ module _ (on dc off : List Cube) where
   third : IsSubset (places off) all
   third p h = or_right (places on p || places dc p) (places off p) h
 
+-- the places of three lists, one behind the other
+pub places-of-three : (on dc off : List Cube) → places (on ++ dc ++ off) ≡ all on dc off
+places-of-three on dc off i p =
+    (list_any-append (λ (c : Cube). holds c p) (on ++ dc) off ∙ ap (λ b. b || places off p) (list_any-append (λ (c : Cube). holds c p) on dc)) i
+
 -- a list that is computed shares no place with the given ones, and with them leaves no gap
 pub flaws-shown : (t : FileType) (d : Description) → shown t d ≡ flaws_of (sets_by t d)
 flaws-shown F d =

@@ -1,8 +1,9 @@
 -- What an output took, from one step to the next.
-use Rattle.std.proofs.Common.{◌≡◌, ◌∙◌, ℕ, refl, sym, ap, subst, List, [], ◌++◌, Option, Some, None, append_assoc, append-nil}
+use Rattle.std.proofs.Common.{◌≡◌, ◌∙◌, ℕ, refl, sym, ap, subst, inl, inr, List, [], Option, Some, None, Result, Ok, Err, append-nil}
 use Rattle.std.specs.Io.KnownBytes.{Appends, Keeps}
 use Rattle.pla.specs.declared.calls.WriteCalls.{WriteCalls}
-use Rattle.pla.specs.Device.{AllWritten, AppendsFront, LastUnwritten}
+use Rattle.pla.specs.Device.{AllWritten, AppendsFront, LastUnwritten, TellsFailure, Writes}
+use Rattle.tool.specs.Run.{WroteOrFailed, trace}
 use Rattle.pla.proofs.Moves.{one_failed}
 
 -- and then nothing more
@@ -32,3 +33,12 @@ front_nothing old new a same = ([], a, refl, subst (λ t. Appends old t []) (sym
 -- a failure behind calls of which none failed
 pub failed_since : (before mid after : WriteCalls) → AllWritten before mid → LastUnwritten mid after → LastUnwritten before after
 failed_since before mid after same h = (h.0 ∙ ap one_failed same, h.1)
+
+-- a message was written as this text, or a write of it failed
+pub wrote_or_failed : {T E : Type 0} (old new : Option (List ℕ)) (before after : WriteCalls) (r : Result T E) (text message : List ℕ)
+    → text ≡ message → Writes old new r text → TellsFailure before after r → WroteOrFailed (trace old new before after) message
+wrote_or_failed old new before after r text message same written told = subst (WroteOrFailed (trace old new before after)) same (either r written told)
+  where
+    either : {T E : Type 0} (r : Result T E) → Writes old new r text → TellsFailure before after r → WroteOrFailed (trace old new before after) text
+    either (Ok x) written told = inl (written, told)
+    either (Err e) written told = inr (written, told)

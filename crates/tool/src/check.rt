@@ -31,7 +31,7 @@ pub(crate) fn check<W: Output>(pla: &Pla, out: &mut W) -> Result<Status, Failure
 }
 
 // Which of the three sets share a place, and whether there is a place outside of all.
-#[derive(Clone, Copy, Debug, PartialEq, Eq)]
+#[derive(Clone, Copy)]
 struct Flaws {
     on_dc: bool,
     on_off: bool,

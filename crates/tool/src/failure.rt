@@ -10,14 +10,14 @@ use itoa::Buffer;
 use pla::{Output, ReadFault, ReadKind, WriteFault, write_bytes, write_next};
 
 // A source of a run.
-#[derive(Clone, Copy, Debug, PartialEq, Eq)]
+#[derive(Clone, Copy)]
 pub(crate) enum Operand {
     First,
     Second,
 }
 
 // What stops a run before its answer was printed.
-#[derive(Clone, Copy, Debug, PartialEq, Eq)]
+#[derive(Clone, Copy)]
 pub(crate) enum Failure {
     NotOpened(Operand),
     Faulty(Operand, ReadFault),
@@ -98,7 +98,7 @@ fn say_fault<E: Output>(name: &[u8], fault: ReadFault, err: &mut E) -> Result<()
     let done = write_next(err, done, b":");
     let done = write_number(err, done, fault.line);
     let done = write_next(err, done, b": ");
-    let done = write_kind(err, done, fault.kind);
+    let done = write_next(err, done, text_of_kind(fault.kind));
     write_next(err, done, b"\n")
 }
 
@@ -115,18 +115,7 @@ fn write_number<E: Output>(
     write_next(err, done, digits.format(number).as_bytes())
 }
 
-// What the kind is called, after what was written.
-fn write_kind<E: Output>(
-    err: &mut E,
-    done: Result<(), WriteFault>,
-    kind: ReadKind,
-) -> Result<(), WriteFault>
-    ensures bytes { Continues (E.taken err.old) done (E.taken err.new) result (kind_text kind) }
-    ensures count { CountsOn (E.calls err.old) done (E.calls err.new) result }
-{
-    write_next(err, done, text_of_kind(kind))
-}
-
+// What the kind is called.
 fn text_of_kind(kind: ReadKind) -> &'static [u8]
     ensures { result.now ≡ kind_text kind }
 {

@@ -1,8 +1,7 @@
 //! The parse of the words by `clap`, and the line that its matches say.
 ghost use Rattle.std.specs.Prelude.{◌≡◌, ◌≢◌, IfOk, Some, None, Err, map, string_bytes, codes, false, option_and_then};
 ghost use Rattle.std.specs.Option.{option_map_or};
-ghost use Rattle.clap.specs.Simple.{with_rule};
-ghost use Rattle.clap.specs.Words.{app_of, first_value, found_of, kind_of};
+ghost use Rattle.clap.specs.Words.{app_of, first_value, found_of, kind_of, rule_of};
 ghost use Rattle.tool.specs.Parser.{bare_app, espresso_app, files_arg, literals_arg, option_arg};
 ghost use Rattle.tool.specs.Matches.{choice_in, request_in};
 ghost use Rattle.tool.specs.Words.{eat_named, fits, request, command_named, type_named};
@@ -25,50 +24,47 @@ fn bare_command<'a>(alloc: Global) -> clap::Command<'a>
         .disable_version_flag(true)
 }
 
-// The command with one more option, which has a value.
-fn with_option<'a>(
-    alloc: Global,
-    command: clap::Command<'a>,
-    name: &'a str,
-    letter: char,
-) -> Result<clap::Command<'a>, AllocError>
-    ensures { IfOk result
-        (λ c. app_of c ≡ with_rule (app_of command.entry) (option_arg name.entry.now letter)) }
+// An option with a value.
+fn option_with_value<'a>(alloc: Global, name: &'a str, letter: char) -> Arg<'a>
+    ensures rule { rule_of result ≡ option_arg name.entry.now letter }
+    ensures local { result.global ≡ false }
 {
-    command.arg(Arg::new(alloc, name).short(letter))
+    Arg::new(alloc, name).short(letter)
 }
 
-// The command with files.
-fn with_files<'a>(
-    alloc: Global,
-    command: clap::Command<'a>,
-) -> Result<clap::Command<'a>, AllocError>
-    ensures { IfOk result (λ c. app_of c ≡ with_rule (app_of command.entry) files_arg) }
+// The files.
+fn file_arguments<'a>(alloc: Global) -> Arg<'a>
+    ensures rule { rule_of result ≡ files_arg }
+    ensures local { result.global ≡ false }
 {
-    command.arg(Arg::new(alloc, "files").action(ArgAction::Append))
+    Arg::new(alloc, "files").action(ArgAction::Append)
 }
 
-// The command with the option without a value.
-fn with_literals<'a>(
-    alloc: Global,
-    command: clap::Command<'a>,
-) -> Result<clap::Command<'a>, AllocError>
-    ensures { IfOk result (λ c. app_of c ≡ with_rule (app_of command.entry) literals_arg) }
+// The option without a value.
+fn literals_option<'a>(alloc: Global) -> Arg<'a>
+    ensures rule { rule_of result ≡ literals_arg }
+    ensures local { result.global ≡ false }
 {
-    let literals = Arg::new(alloc, "literals").long("literals");
-    command.arg(literals.action(ArgAction::SetTrue))
+    Arg::new(alloc, "literals")
+        .long("literals")
+        .action(ArgAction::SetTrue)
 }
 
 // Three options with a value each, files, and an option without a value.
 pub(crate) fn espresso_command<'a>(alloc: Global) -> Result<clap::Command<'a>, AllocError>
     ensures { IfOk result (λ c. app_of c ≡ espresso_app) }
 {
-    let command = bare_command(alloc);
-    let command = with_option(alloc, command, "command", 'D')?;
-    let command = with_option(alloc, command, "type", 'o')?;
-    let command = with_option(alloc, command, "eat", 'e')?;
-    let command = with_files(alloc, command)?;
-    with_literals(alloc, command)
+    let command = option_with_value(alloc, "command", 'D');
+    let out = option_with_value(alloc, "type", 'o');
+    let eat = option_with_value(alloc, "eat", 'e');
+    let args = vec![in alloc;
+        command,
+        out,
+        eat,
+        file_arguments(alloc),
+        literals_option(alloc),
+    ]?;
+    bare_command(alloc).args(args)
 }
 
 // Out of memory if the parse was, and else a usage fault.
@@ -174,13 +170,12 @@ fn line_with(
 fn is_fitting(command: Command, out: OutType, choice: Choice, files: &[&str]) -> bool
     ensures { result ≡ fits command out choice (map (λ s. s.now) files.now) }
 {
-    let is_count = if command.takes_two() {
-        files.len() == 2
-    } else {
-        files.len() <= 1
+    let is_count = match files {
+        [] | [_] => !command.takes_two(),
+        [first, second] => command.takes_two() && (*first != "-" || *second != "-"),
+        _ => false,
     };
-    let inputs = files.iter().filter(|file| **file == "-").count();
-    command.allows(out, choice) && is_count && inputs <= 1
+    command.allows(out, choice) && is_count
 }
 
 fn copy_names(alloc: Global, names: &[&str]) -> Result<Vec<String>, AllocError>

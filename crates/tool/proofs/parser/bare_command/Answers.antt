@@ -1,4 +1,4 @@
-use Rattle.std.proofs.Common.{◌≡◌, ◌∙◌, ap, true}
+use Rattle.std.proofs.Common.{◌∙◌, ap, true}
 use Rattle.clap.specs.Simple.{Shape, app_of_fields, on_top}
 use Rattle.tool.proofs.parser.bare_command.Goals as goal
 
