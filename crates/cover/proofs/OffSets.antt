@@ -317,6 +317,9 @@ module _ (size : Size) (list rows : List Cube) where
 none_set : (m k : ℕ) → get_or (replicate m false) k false ≡ false
 none_set m k = elim (cases_lt k m) [ inl lt ↦ get_or-replicate m k false false lt | inr past ↦ get_or_past (replicate m false) k false (omega (arith, length-replicate m false)) ]
 
+pub all_set : (m : ℕ) → 1 ≤ m → Contains (replicate m true) true
+all_set m some = (0, omega (arith, some, length-replicate m true), get_or-replicate m 0 true true some)
+
 pub one_set : (m j : ℕ) → j < m → Contains (set (replicate m false) j true) true
 one_set m j lt = (j, omega (arith, length-set (replicate m false) j true, length-replicate m false), get_or-set_same (replicate m false) j true true (omega (arith, length-replicate m false)))
 
