@@ -8,6 +8,7 @@ use Rattle.std.proofs.lemmas.List.Folds.{list_any-append}
 use Rattle.std.proofs.lemmas.List.FromFn.{length-range_with_len, get_or-range_with_len}
 use Rattle.std.proofs.lemmas.List.Elements.{Contains-append_cases, All-filter, All-take, All-drop}
 use Rattle.std.proofs.lemmas.Map.Views.{any-filter_same}
+use Rattle.std.proofs.Math.Bool.{and-false, or-false, or-true}
 use Rattle.std.proofs.Math.Seq.{drop-cons, take-append_seam}
 use Rattle.cube.specs.declared.symbol.Symbol.{Symbol}
 use Rattle.cube.specs.declared.symbol.Symbol.TheVariants.{Dash, Zero, One}
@@ -148,22 +149,10 @@ split_asks size cubes order inner outer marks some are inputs mine theirs long =
 
 -- ---- one more index
 
-and-false : (b : Bool) → (b && false) ≡ false
-and-false true = refl
-and-false false = refl
-
-or-false : (b : Bool) → (b || false) ≡ b
-or-false true = refl
-or-false false = refl
-
-or-true : (b : Bool) → (b || true) ≡ true
-or-true true = refl
-or-true false = refl
-
 module _ (size : Size) (cubes : List Cube) (inner outer : List ℕ) (i : ℕ) (lt : i < length inner) (old new : List Bool) (b : Bool)
     (is : b ≡ list_any (is_absorbed_by size cubes (get_or inner i 0)) outer) (so_far : Marks size cubes (take i inner) outer old new) where
-  more : (k : ℕ) → list_any (λ x. nat_eq x k) (take (i + 1) inner) ≡ (list_any (λ x. nat_eq x k) (take i inner) || (nat_eq (get_or inner i 0) k || false))
-  more k = ap (list_any (λ x. nat_eq x k)) (take_more inner i 0 lt) ∙ list_any-append (λ x. nat_eq x k) (take i inner) (get_or inner i 0 ∷ [])
+  any_one_more : (k : ℕ) → list_any (λ x. nat_eq x k) (take (i + 1) inner) ≡ (list_any (λ x. nat_eq x k) (take i inner) || (nat_eq (get_or inner i 0) k || false))
+  any_one_more k = ap (list_any (λ x. nat_eq x k)) (take_more inner i 0 lt) ∙ list_any-append (λ x. nat_eq x k) (take i inner) (get_or inner i 0 ∷ [])
 
   -- the marks stay as they are, if its cube is not absorbed
   pub Marks-left : b ≡ false → Marks size cubes (take (i + 1) inner) outer old new
@@ -182,7 +171,7 @@ module _ (size : Size) (cubes : List Cube) (inner outer : List ℕ) (i : ℕ) (l
           ∙ sym (ap (λ a. list_any (λ x. nat_eq x k) (take (i + 1) inner) && a) none' ∙ and-false (list_any (λ x. nat_eq x k) (take (i + 1) inner)))
       same k false e =
           ap (λ a. a && list_any (is_absorbed_by size cubes k) outer)
-          (sym (more k ∙ ap (λ t. list_any (λ x. nat_eq x k) (take i inner) || (t || false)) e ∙ or-false (list_any (λ x. nat_eq x k) (take i inner))))
+          (sym (any_one_more k ∙ ap (λ t. list_any (λ x. nat_eq x k) (take i inner) || (t || false)) e ∙ or-false (list_any (λ x. nat_eq x k) (take i inner))))
 
   -- its mark is set, if its cube is absorbed
   pub Marks-marked : b ≡ true → get_or inner i 0 < length new → Marks size cubes (take (i + 1) inner) outer old (set new (get_or inner i 0) true)
@@ -198,14 +187,14 @@ module _ (size : Size) (cubes : List Cube) (inner outer : List ℕ) (i : ℕ) (l
           let here = eqb-true (get_or inner i 0) k e in
           let some : list_any (is_absorbed_by size cubes k) outer ≡ true = ap (λ j. list_any (is_absorbed_by size cubes j) outer) (sym here) ∙ sym is ∙ on in
           let member : list_any (λ x. nat_eq x k) (take (i + 1) inner) ≡ true =
-          more k ∙ ap (λ t. list_any (λ x. nat_eq x k) (take i inner) || (t || false)) e ∙ or-true (list_any (λ x. nat_eq x k) (take i inner)) in
+          any_one_more k ∙ ap (λ t. list_any (λ x. nat_eq x k) (take i inner) || (t || false)) e ∙ or-true (list_any (λ x. nat_eq x k) (take i inner)) in
           ap (λ j. get_or (set new (get_or inner i 0) true) j false) (sym here) ∙ get_or-set_same new (get_or inner i 0) true false within
           ∙ sym (ap (λ a. get_or old k false || (a && list_any (is_absorbed_by size cubes k) outer)) member ∙ ap (λ a. get_or old k false || a) some ∙ or-true (get_or old k false))
       each k k_lt false e =
           get_or-set_other new (get_or inner i 0) k true false (λ h. false≢true (sym e ∙ eq-eqb (get_or inner i 0) k (sym h)))
           ∙ so_far.each k k_lt
           ∙ ap (λ a. get_or old k false || (a && list_any (is_absorbed_by size cubes k) outer))
-          (sym (more k ∙ ap (λ t. list_any (λ x. nat_eq x k) (take i inner) || (t || false)) e ∙ or-false (list_any (λ x. nat_eq x k) (take i inner))))
+          (sym (any_one_more k ∙ ap (λ t. list_any (λ x. nat_eq x k) (take i inner) || (t || false)) e ∙ or-false (list_any (λ x. nat_eq x k) (take i inner))))
 
 -- ---- all indices
 

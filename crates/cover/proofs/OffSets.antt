@@ -7,6 +7,7 @@ use Rattle.std.proofs.lemmas.Bool.{cases_Bool, cases_lt, false≢true, not_from_
 use Rattle.std.proofs.lemmas.List.{take_more, take-append-drop, length-set, length-replicate, get_or-set_same, get_or-replicate, get_or_past}
 use Rattle.std.proofs.lemmas.List.Elements.{Contains-append_left, Contains-append_right, Contains-append_cases}
 use Rattle.std.proofs.lemmas.Option.{slice_get_within, get_or_from_slice_get}
+use Rattle.std.proofs.Math.Bool.{or-false}
 use Rattle.cube.specs.Size.{Size}
 use Rattle.cube.specs.declared.symbol.Symbol.TheVariants.{Dash, Zero, One}
 use Rattle.cube.specs.Pattern.{matches}
@@ -322,6 +323,25 @@ all_set m some = (0, omega (arith, some, length-replicate m true), get_or-replic
 
 pub one_set : (m j : ℕ) → j < m → Contains (set (replicate m false) j true) true
 one_set m j lt = (j, omega (arith, length-set (replicate m false) j true, length-replicate m false), get_or-set_same (replicate m false) j true true (omega (arith, length-replicate m false)))
+
+-- the cube of all places with an output
+pub output_cube : (size : Size) (j : ℕ) (c : Cube) → j < size.outputs → c ≡ record { symbols = replicate size.inputs Dash; outputs = set (replicate size.outputs false) j true }
+    → IsCube size c
+output_cube size j c lt is = record {
+  has_size = (
+    ap (λ d. length d.symbols) is ∙ length-replicate size.inputs Dash,
+    ap (λ d. length d.outputs) is ∙ length-set (replicate size.outputs false) j true ∙ length-replicate size.outputs false,
+  );
+  some_output = list_any_from (λ b. b) c.outputs true (subst (λ d. Contains d.outputs true) (sym is) (one_set size.outputs j lt)) refl;
+}
+
+-- a cube whose places a list holds adds none to the list
+pub within_more : (cubes : List Cube) (c : Cube) (longer : List Cube) → longer ≡ cubes ++ c ∷ [] → IsSubset (holds c) (places cubes) → IsSubset (places longer) (places cubes)
+within_more cubes c longer e within p h =
+    elim (or_cases (places cubes p) (places (c ∷ []) p) (sym (places-append cubes (c ∷ []) p) ∙ ap (λ l. places l p) (sym e) ∙ h)) [
+      | inl on ↦ on
+      | inr last ↦ within p (sym (or-false (holds c p)) ∙ last)
+    ]
 
 set_one : (m j k : ℕ) → get_or (set (replicate m false) j true) k false ≡ true → k ≡ j
 set_one zero j k h = absurd (false≢true h)
