@@ -2,6 +2,7 @@
 use Rattle.std.proofs.Common.{◌≡◌, ℕ, zero, suc, ◌+◌, ◌<◌, ◌≤◌, Bool, true, false, not, ◌&&◌, ◌||◌, ltb, List, [], ◌∷◌, ◌++◌, length, take, drop, get_or, set, replicate, All, slice_get, Some, refl, ap, sym, subst, ◌∙◌, arith, inl, inr, ◌⊎◌}
 use Rattle.std.specs.Prelude.{Option, None, MatchOption}
 use Rattle.std.specs.List.{Contains}
+use Rattle.std.specs.Bool.{if◌then◌else◌}
 use Rattle.std.specs.Cmp.{both_ways as same_bool}
 use Rattle.std.proofs.lemmas.Bool.{cases_Bool, cases_lt, false≢true, not_from_false, and_parts, and_from, or_cases, or_left, or_right, ltb-true, lt-ltb}
 use Rattle.std.proofs.lemmas.List.{take_more, take-append-drop, length-set, length-replicate, get_or-set_same, get_or-replicate, get_or_past}
@@ -121,6 +122,11 @@ AreCubes-append size cs ds one two = members_all (IsCube size) (cs ++ ds) (λ c 
   | inl m ↦ all_members (IsCube size) cs one c m
   | inr m ↦ all_members (IsCube size) ds two c m
 ])
+
+-- a list, or with others behind it
+pub AreCubes-grown : (size : Size) (b : Bool) (cs ds grown : List Cube) → grown ≡ (if b then cs ++ ds else cs) → AreCubes size cs → AreCubes size ds → AreCubes size grown
+AreCubes-grown size true cs ds grown is one two = subst (AreCubes size) (sym is) (AreCubes-append size cs ds one two)
+AreCubes-grown size false cs ds grown is one two = subst (AreCubes size) (sym is) one
 
 pub AreCubes-one : (size : Size) (c : Cube) → IsCube size c → AreCubes size (c ∷ [])
 AreCubes-one size c h = members_all (IsCube size) (c ∷ []) (λ d k. subst (IsCube size) (Contains-one c d k) h)
