@@ -8,7 +8,6 @@ use Rattle.std.proofs.lemmas.Bool.{cases_Bool, cases_lt, false≢true, not_from_
 use Rattle.std.proofs.lemmas.List.{take_more, take-append-drop, length-set, length-replicate, get_or-set_same, get_or-replicate, get_or_past}
 use Rattle.std.proofs.lemmas.List.Elements.{Contains-append_left, Contains-append_right, Contains-append_cases}
 use Rattle.std.proofs.lemmas.Option.{slice_get_within, get_or_from_slice_get}
-use Rattle.std.proofs.Math.Bool.{or-false}
 use Rattle.cube.specs.Size.{Size}
 use Rattle.cube.specs.declared.symbol.Symbol.TheVariants.{Dash, Zero, One}
 use Rattle.cube.specs.Pattern.{matches}
@@ -340,14 +339,6 @@ output_cube size j c lt is = record {
   );
   some_output = list_any_from (λ b. b) c.outputs true (subst (λ d. Contains d.outputs true) (sym is) (one_set size.outputs j lt)) refl;
 }
-
--- a cube whose places a list holds adds none to the list
-pub within_more : (cubes : List Cube) (c : Cube) (longer : List Cube) → longer ≡ cubes ++ c ∷ [] → IsSubset (holds c) (places cubes) → IsSubset (places longer) (places cubes)
-within_more cubes c longer e within p h =
-    elim (or_cases (places cubes p) (places (c ∷ []) p) (sym (places-append cubes (c ∷ []) p) ∙ ap (λ l. places l p) (sym e) ∙ h)) [
-      | inl on ↦ on
-      | inr last ↦ within p (sym (or-false (holds c p)) ∙ last)
-    ]
 
 set_one : (m j k : ℕ) → get_or (set (replicate m false) j true) k false ≡ true → k ≡ j
 set_one zero j k h = absurd (false≢true h)
