@@ -1,12 +1,14 @@
 -- Which cubes of a list lie in others of it, by their indices.
-use Rattle.std.proofs.Common.{◌≡◌, ℕ, zero, suc, ◌+◌, ◌<◌, Bool, true, false, not, ◌&&◌, ◌||◌, cond, nat_lt, nat_eq, List, [], ◌∷◌, ◌++◌, length, take, drop, get_or, All, refl, ap, sym, subst, ◌∙◌, arith, add-one, add-zero, zero-add, ◌-◌, replicate, append_assoc, inl, inr, ◌↔◌, IsTrue, filter}
+use Rattle.std.proofs.Common.{◌≡◌, ℕ, zero, suc, ◌+◌, ◌<◌, ◌≤◌, Bool, true, false, not, ◌&&◌, ◌||◌, cond, nat_lt, nat_eq, List, [], ◌∷◌, ◌++◌, length, take, drop, get_or, set, All, refl, ap, sym, subst, ◌∙◌, arith, add-one, add-zero, zero-add, ◌-◌, replicate, append_assoc, inl, inr, ◌↔◌, IsTrue, filter}
 use Rattle.std.specs.List.{Contains, list_any, range_with_len}
 use Rattle.std.proofs.lemmas.Bool.{cases_Bool, eqb-true, eq-eqb, ltb-true, lt-ltb, false≢true, and_parts, and_from, or_cases, or_left, or_right}
-use Rattle.std.proofs.lemmas.List.{get_or_default, take_more, length-take, length-drop, get_or-take, get_or-drop, length-replicate, get_or-replicate}
+use Rattle.std.proofs.lemmas.List.{length-set, get_or-set_same, get_or-set_other, get_or_default, take_more, length-take, length-drop, get_or-take, get_or-drop, length-replicate, get_or-replicate}
 use Rattle.std.specs.Cmp.{both_ways}
+use Rattle.std.proofs.lemmas.List.Folds.{list_any-append}
 use Rattle.std.proofs.lemmas.List.FromFn.{length-range_with_len, get_or-range_with_len}
-use Rattle.std.proofs.lemmas.List.Elements.{Contains-append_cases, All-filter}
+use Rattle.std.proofs.lemmas.List.Elements.{Contains-append_cases, All-filter, All-take, All-drop}
 use Rattle.std.proofs.lemmas.Map.Views.{any-filter_same}
+use Rattle.std.proofs.Math.Bool.{and-false, or-false, or-true}
 use Rattle.std.proofs.Math.Seq.{drop-cons, take-append_seam}
 use Rattle.cube.specs.declared.symbol.Symbol.{Symbol}
 use Rattle.cube.specs.declared.symbol.Symbol.TheVariants.{Dash, Zero, One}
@@ -127,6 +129,72 @@ MarksPart-from_Marks size cubes are i s inner outer near far old new long all e_
         ap (λ b. list_any (λ x. nat_eq x k) inner && b)
         (outer-same size cubes are i k s (omega (arith, long)) (is_symbol-same (symbol_at cubes i k) s e) outer (all_members (λ j. j < length cubes) outer all))
     far_same k false e lt = refl
+
+-- ---- splits at the inputs of a list, one after the other
+
+-- the inputs behind the first
+abbrev pub behind_first : List ℕ → List ℕ
+behind_first order = take (length order - 1) (drop 1 order)
+
+pub length-behind_first : (order : List ℕ) → 1 ≤ length order → length (behind_first order) + 1 ≡ length order
+length-behind_first order some = omega (arith, some, length-take (length order - 1) (drop 1 order), length-drop 1 order)
+
+-- what a split at the first of the inputs asks
+pub split_asks : (size : Size) (cubes : List Cube) (order inner outer : List ℕ) (marks : List Bool) → 1 ≤ length order → AreCubes size cubes
+    → All (λ i. i < size.inputs) order → All (λ k. k < length cubes) inner → All (λ k. k < length cubes) outer → length marks ≡ length cubes
+    → AreCubes size cubes × (All (λ i. i < size.inputs) (behind_first order) × ((get_or order 0 0 < size.inputs) × (All (λ k. k < length cubes) inner
+    × (All (λ k. k < length cubes) outer × (length marks ≡ length cubes)))))
+split_asks size cubes order inner outer marks some are inputs mine theirs long =
+    (are, (All-take (λ i. i < size.inputs) (length order - 1) (drop 1 order) (All-drop (λ i. i < size.inputs) 1 order inputs), (inputs 0 0 some, (mine, (theirs, long)))))
+
+-- ---- one more index
+
+module _ (size : Size) (cubes : List Cube) (inner outer : List ℕ) (i : ℕ) (lt : i < length inner) (old new : List Bool) (b : Bool)
+    (is : b ≡ list_any (is_absorbed_by size cubes (get_or inner i 0)) outer) (so_far : Marks size cubes (take i inner) outer old new) where
+  any_one_more : (k : ℕ) → list_any (λ x. nat_eq x k) (take (i + 1) inner) ≡ (list_any (λ x. nat_eq x k) (take i inner) || (nat_eq (get_or inner i 0) k || false))
+  any_one_more k = ap (list_any (λ x. nat_eq x k)) (take_more inner i 0 lt) ∙ list_any-append (λ x. nat_eq x k) (take i inner) (get_or inner i 0 ∷ [])
+
+  -- the marks stay as they are, if its cube is not absorbed
+  pub Marks-left : b ≡ false → Marks size cubes (take (i + 1) inner) outer old new
+  Marks-left off = record {
+    len = so_far.len;
+    each = λ k k_lt. so_far.each k k_lt ∙ ap (λ t. get_or old k false || t) (same k (nat_eq (get_or inner i 0) k) refl);
+  }
+    where
+      same : (k : ℕ) (t : Bool) → nat_eq (get_or inner i 0) k ≡ t
+          → (list_any (λ x. nat_eq x k) (take i inner) && list_any (is_absorbed_by size cubes k) outer)
+          ≡ (list_any (λ x. nat_eq x k) (take (i + 1) inner) && list_any (is_absorbed_by size cubes k) outer)
+      same k true e =
+          let none' : list_any (is_absorbed_by size cubes k) outer ≡ false =
+          ap (λ j. list_any (is_absorbed_by size cubes j) outer) (sym (eqb-true (get_or inner i 0) k e)) ∙ sym is ∙ off in
+          ap (λ a. list_any (λ x. nat_eq x k) (take i inner) && a) none' ∙ and-false (list_any (λ x. nat_eq x k) (take i inner))
+          ∙ sym (ap (λ a. list_any (λ x. nat_eq x k) (take (i + 1) inner) && a) none' ∙ and-false (list_any (λ x. nat_eq x k) (take (i + 1) inner)))
+      same k false e =
+          ap (λ a. a && list_any (is_absorbed_by size cubes k) outer)
+          (sym (any_one_more k ∙ ap (λ t. list_any (λ x. nat_eq x k) (take i inner) || (t || false)) e ∙ or-false (list_any (λ x. nat_eq x k) (take i inner))))
+
+  -- its mark is set, if its cube is absorbed
+  pub Marks-marked : b ≡ true → get_or inner i 0 < length new → Marks size cubes (take (i + 1) inner) outer old (set new (get_or inner i 0) true)
+  Marks-marked on within = record {
+    len = length-set new (get_or inner i 0) true ∙ so_far.len;
+    each = λ k k_lt. each k k_lt (nat_eq (get_or inner i 0) k) refl;
+  }
+    where
+      each : (k : ℕ) → k < length old → (t : Bool) → nat_eq (get_or inner i 0) k ≡ t
+          → get_or (set new (get_or inner i 0) true) k false
+          ≡ (get_or old k false || (list_any (λ x. nat_eq x k) (take (i + 1) inner) && list_any (is_absorbed_by size cubes k) outer))
+      each k k_lt true e =
+          let here = eqb-true (get_or inner i 0) k e in
+          let some : list_any (is_absorbed_by size cubes k) outer ≡ true = ap (λ j. list_any (is_absorbed_by size cubes j) outer) (sym here) ∙ sym is ∙ on in
+          let member : list_any (λ x. nat_eq x k) (take (i + 1) inner) ≡ true =
+          any_one_more k ∙ ap (λ t. list_any (λ x. nat_eq x k) (take i inner) || (t || false)) e ∙ or-true (list_any (λ x. nat_eq x k) (take i inner)) in
+          ap (λ j. get_or (set new (get_or inner i 0) true) j false) (sym here) ∙ get_or-set_same new (get_or inner i 0) true false within
+          ∙ sym (ap (λ a. get_or old k false || (a && list_any (is_absorbed_by size cubes k) outer)) member ∙ ap (λ a. get_or old k false || a) some ∙ or-true (get_or old k false))
+      each k k_lt false e =
+          get_or-set_other new (get_or inner i 0) k true false (λ h. false≢true (sym e ∙ eq-eqb (get_or inner i 0) k (sym h)))
+          ∙ so_far.each k k_lt
+          ∙ ap (λ a. get_or old k false || (a && list_any (is_absorbed_by size cubes k) outer))
+          (sym (any_one_more k ∙ ap (λ t. list_any (λ x. nat_eq x k) (take i inner) || (t || false)) e ∙ or-false (list_any (λ x. nat_eq x k) (take i inner))))
 
 -- ---- all indices
 

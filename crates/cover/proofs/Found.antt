@@ -1,7 +1,8 @@
 -- What a cube is that a call found: a meet, or a cube of symbols and outputs.
-use Rattle.std.proofs.Common.{◌≡◌, ◌∙◌, Bool, true, false, ◌&&◌, IsNone, ◌↔◌, get_or, length, sym, subst, refl, inl, inr}
+use Rattle.std.proofs.Common.{◌≡◌, ◌∙◌, Bool, true, false, ◌&&◌, IsNone, IfNone, ◌↔◌, get_or, length, sym, subst, refl, inl, inr}
 use Rattle.std.specs.Prelude.{Option, Some, None, IsSome, IfSome, List}
 use Rattle.std.specs.List.{Contains, list_any}
+use Rattle.std.specs.Option.{is_some}
 use Rattle.std.proofs.lemmas.Bool.{cases_Bool, false≢true, and_parts, and_from}
 use Rattle.cube.specs.declared.symbol.Symbol.{Symbol}
 use Rattle.cube.specs.Size.{Size}
@@ -13,6 +14,11 @@ use Rattle.cover.proofs.Lists.{list_any_from}
 -- a cube with a place has its output
 pub output_of_place : (c : Cube) (p : Place) → holds c p ≡ true → list_any (λ b. b) c.outputs ≡ true
 output_of_place c p h = true_some c.outputs p.output (and_parts (matches c.symbols p.point) (get_or c.outputs p.output false) h).1
+
+-- what holds if a call found none
+pub told_by_none : {X : Type 0} (P : Type 0) (found : Option X) → IfNone found P → is_some found ≡ false → P
+told_by_none P None h off = h
+told_by_none P (Some x) h off = absurd (false≢true (sym off))
 
 -- what a call that looks for the meet of two cubes has found: without a meet they share no place, and a meet has the size of the
 -- first, and the places that both have

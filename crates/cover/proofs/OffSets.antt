@@ -2,6 +2,7 @@
 use Rattle.std.proofs.Common.{◌≡◌, ℕ, zero, suc, ◌+◌, ◌<◌, ◌≤◌, Bool, true, false, not, ◌&&◌, ◌||◌, ltb, List, [], ◌∷◌, ◌++◌, length, take, drop, get_or, set, replicate, All, slice_get, Some, refl, ap, sym, subst, ◌∙◌, arith, inl, inr, ◌⊎◌}
 use Rattle.std.specs.Prelude.{Option, None, MatchOption}
 use Rattle.std.specs.List.{Contains}
+use Rattle.std.specs.Bool.{if◌then◌else◌}
 use Rattle.std.specs.Cmp.{both_ways as same_bool}
 use Rattle.std.proofs.lemmas.Bool.{cases_Bool, cases_lt, false≢true, not_from_false, and_parts, and_from, or_cases, or_left, or_right, ltb-true, lt-ltb}
 use Rattle.std.proofs.lemmas.List.{take_more, take-append-drop, length-set, length-replicate, get_or-set_same, get_or-replicate, get_or_past}
@@ -120,6 +121,11 @@ AreCubes-append size cs ds one two = members_all (IsCube size) (cs ++ ds) (λ c 
   | inl m ↦ all_members (IsCube size) cs one c m
   | inr m ↦ all_members (IsCube size) ds two c m
 ])
+
+-- a list, or with others behind it
+pub AreCubes-grown : (size : Size) (b : Bool) (cs ds grown : List Cube) → grown ≡ (if b then cs ++ ds else cs) → AreCubes size cs → AreCubes size ds → AreCubes size grown
+AreCubes-grown size true cs ds grown is one two = subst (AreCubes size) (sym is) (AreCubes-append size cs ds one two)
+AreCubes-grown size false cs ds grown is one two = subst (AreCubes size) (sym is) one
 
 pub AreCubes-one : (size : Size) (c : Cube) → IsCube size c → AreCubes size (c ∷ [])
 AreCubes-one size c h = members_all (IsCube size) (c ∷ []) (λ d k. subst (IsCube size) (Contains-one c d k) h)
@@ -317,8 +323,22 @@ module _ (size : Size) (list rows : List Cube) where
 none_set : (m k : ℕ) → get_or (replicate m false) k false ≡ false
 none_set m k = elim (cases_lt k m) [ inl lt ↦ get_or-replicate m k false false lt | inr past ↦ get_or_past (replicate m false) k false (omega (arith, length-replicate m false)) ]
 
+pub all_set : (m : ℕ) → 1 ≤ m → Contains (replicate m true) true
+all_set m some = (0, omega (arith, some, length-replicate m true), get_or-replicate m 0 true true some)
+
 pub one_set : (m j : ℕ) → j < m → Contains (set (replicate m false) j true) true
 one_set m j lt = (j, omega (arith, length-set (replicate m false) j true, length-replicate m false), get_or-set_same (replicate m false) j true true (omega (arith, length-replicate m false)))
+
+-- the cube of all places with an output
+pub output_cube : (size : Size) (j : ℕ) (c : Cube) → j < size.outputs → c ≡ record { symbols = replicate size.inputs Dash; outputs = set (replicate size.outputs false) j true }
+    → IsCube size c
+output_cube size j c lt is = record {
+  has_size = (
+    ap (λ d. length d.symbols) is ∙ length-replicate size.inputs Dash,
+    ap (λ d. length d.outputs) is ∙ length-set (replicate size.outputs false) j true ∙ length-replicate size.outputs false,
+  );
+  some_output = list_any_from (λ b. b) c.outputs true (subst (λ d. Contains d.outputs true) (sym is) (one_set size.outputs j lt)) refl;
+}
 
 set_one : (m j k : ℕ) → get_or (set (replicate m false) j true) k false ≡ true → k ≡ j
 set_one zero j k h = absurd (false≢true h)

@@ -403,6 +403,14 @@ unexplained_none rows references_to region sizes inside some none' all =
     let on = some_true region.outputs some in
     held_by_none region on.0 on.1 (subst (λ l. IsSubset (holds region) (places l)) none' ((held_lent rows references_to region sizes inside).0 all))
 
+-- a near row without an open literal is a next step
+pub closed_leads : (near : List (Bor Cube)) (region : Cube) (k : ℕ) (row : Bor Cube) → k < length near → row ≡ get_or near k row → IsClosed region row.now
+    → Leads region (behind near) (Row k)
+closed_leads near region k row lt at closed = (
+  omega (arith, lt, length-behind near),
+  λ d e. subst (IsClosed region) (sym (behind_at near k row lt at) ∙ get_or_from_slice_get (behind near) k d row.now e) closed,
+)
+
 -- what is known of a near row without an open literal
 pub row_leads : (rows near : List (Bor Cube)) (region : Cube) → All (λ d. SameSize d.now region) rows → AreAmong near rows
     → All (λ d. IsDisjoint (holds d.now) (holds region) → ⊥) near → (k : ℕ) (row : Bor Cube) → Leads region (behind near) (Row k) → row ≡ get_or near k row

@@ -1,9 +1,12 @@
-use Rattle.std.proofs.Common.{◌≡◌, ◌∙◌, ap, subst, replicate, length, true, IfSome, List, Bool}
+use Rattle.std.proofs.Common.{◌≡◌, ◌≤◌, ◌∙◌, ap, sym, subst, replicate, length, true, IfSome, List, Bool}
+use Rattle.std.specs.List.{Contains}
+use Rattle.std.proofs.lemmas.Bool.{false≢true}
 use Rattle.std.proofs.lemmas.List.{length-replicate}
 use Rattle.cube.specs.declared.symbol.Symbol.{Symbol}
 use Rattle.cube.specs.declared.symbol.Symbol.TheVariants.{Dash}
 use Rattle.cube.specs.Cube.{Cube}
 use Rattle.cover.proofs.Found.{made_output}
+use Rattle.cover.proofs.OffSets.{all_set}
 use Rattle.cover.proofs.cubes.universal_cube.Goals as goal
 
 abbrev cube_of : List Symbol → List Bool → Cube
@@ -26,3 +29,10 @@ returns-clause-is_cube c =
       );
       some_output = made_output ss os cube c.in_ok-cube.field-0 c.in-Some.is c.in_ok-cube.ensures.found made;
     }
+
+pub unreachable-requires : goal.unreachable-requires
+unreachable-requires c =
+    let found = rw c.in-None.is at c.in_ok-cube.ensures.found in
+    let outputs : c.deref-2.result.now ≡ replicate c.outputs.result true = c.deref-2.ensures.value ∙ c.in_ok-outputs.ensures.items_if_clones_equal (λ y e. e) in
+    false≢true (found.1 (subst (λ l. Contains l true) (sym outputs)
+    (all_set c.outputs.result (subst (λ n. 1 ≤ n) (sym c.outputs.ensures.value) c.outputs.ensures.limits.1))))

@@ -4,7 +4,7 @@ use Rattle.cube.specs.Size.{Size}
 use Rattle.cube.specs.declared.symbol.Symbol.TheVariants.{Dash}
 use Rattle.cube.specs.Cube.{Cube, holds}
 use Rattle.cover.specs.Outside.{IsRest}
-use Rattle.cover.proofs.OffSets.{outside-more}
+use Rattle.cover.proofs.OffSets.{outside-more, output_cube}
 use Rattle.cover.proofs.outside_within_budget.outside.Goals as goal
 
 pub loop-j-preserved : goal.loop-j-preserved
@@ -20,3 +20,8 @@ loop-j-preserved c =
     outside-more size rows j region c.loop-j.off.items more.items c.in_ok-off.off.items lt (c.in_ok-region.ensures ∙ ap made same) c.in_ok-off.ensures c.loop-j.invariant
     (subst (λ z. IsRest z (holds region) rows more.items) same
     (subst (λ l. IsRest c.shape-shape.result (holds region) l more.items) c.as_slice-rows.ensures.value (MatchOption-at_some _ _ more c.in-Some.is c.in_ok-more.ensures)))
+
+pub outside_rows-requires-clause-region : goal.outside_rows-requires-clause-region
+outside_rows-requires-clause-region c =
+    let lt = subst (λ n. c.loop-j.j < n) c.outputs-j-end.ensures.value c.loop-j-test.true in
+    output_cube c.shape-shape.result c.loop-j.j c.in_ok-region.region lt c.in_ok-region.ensures

@@ -1,4 +1,4 @@
-use Rattle.std.proofs.Common.{◌∙◌, ◌+◌, ◌++◌, ◌∷◌, [], ap, sym, subst, take}
+use Rattle.std.proofs.Common.{◌+◌, [], sym, subst, take}
 use Rattle.std.proofs.lemmas.List.{take_all}
 use Rattle.cube.specs.Cube.{holds}
 use Rattle.cover.specs.Outside.{AreNear}

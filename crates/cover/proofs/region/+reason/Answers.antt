@@ -7,6 +7,7 @@ use Rattle.cube.specs.Cube.{SameSize, IsDisjoint, holds, with_symbol, size_of}
 use Rattle.cover.specs.Places.{behind, meeting}
 use Rattle.cover.specs.Reason.{IsReason, Explains, Leads, AreAmong}
 use Rattle.cover.specs.declared.region.Step.TheVariants.{Row}
+use Rattle.cover.proofs.Lists.{length-behind}
 use Rattle.cover.proofs.Reasons.{freed_half, share_sides, opposite_literal, sizes_part, SameSize-part, reason_of_more, reason_joined, within_rows, reason_of_row, unexplained_half, extent_half, row_inputs, row_above, size_rest, extent_rest, unexplained_rest, joined_stack, other_inputs, either_output, explains_lent, unexplained_none, row_leads, reason_of_some, sizes_among, meets_among, among_lent, none_left, some_left}
 use Rattle.cover.proofs.region.+reason.Goals as goal
 
@@ -254,3 +255,16 @@ reason_by_all_rows-returns t c =
           c.reason_by_step.ensures.found;
       spent = c.reason_by_step.ensures.spent;
     }
+
+pub reason_by_split-with_symbol-requires : goal.reason_by_split-with_symbol-requires
+reason_by_split-with_symbol-requires t c = slice_get_within c.args.region.now.symbols c.args.at.0 Dash c.requires.dash
+
+pub reason_by_other_half-with_symbol-requires : goal.reason_by_other_half-with_symbol-requires
+reason_by_other_half-with_symbol-requires t c = slice_get_within c.args.region.now.symbols c.args.at.0 Dash c.requires.dash
+
+pub reason_by_step-bounds-near-k : goal.reason_by_step-bounds-near-k
+reason_by_step-bounds-near-k t c =
+    let h : Leads c.args.region.now (behind c.args.near.now) (Row c.in-Row.k) =
+    subst (Leads c.args.region.now (behind c.args.near.now)) c.in-Row.is c.next_step.ensures in
+    let lt = h.0 in
+    omega (arith, lt, length-behind c.args.near.now)

@@ -1,6 +1,7 @@
-use Rattle.std.proofs.Common.{◌≤◌, IfSome, length, ap, sym, subst, ◌∙◌, arith, refl}
-use Rattle.cube.specs.Cube.{SameSize}
-use Rattle.cover.specs.Places.{behind}
+use Rattle.std.proofs.Common.{◌≡◌, ◌≤◌, IfNone, IfSome, length, ap, sym, subst, ◌∙◌, arith, refl}
+use Rattle.std.proofs.lemmas.List.{take_all}
+use Rattle.cube.specs.Cube.{SameSize, size_of}
+use Rattle.cover.specs.Places.{behind, meeting}
 use Rattle.cover.specs.Reason.{IsReason, AreAmong}
 use Rattle.cover.proofs.Lists.{behind_member}
 use Rattle.cover.proofs.Meeting.{meeting-kept, meeting-skipped}
@@ -65,3 +66,10 @@ returns-clause-nearest c = c.loop-row.invariant.among
 
 pub returns-clause-some : goal.returns-clause-some
 returns-clause-some c = c.loop-row.invariant.some
+
+pub returns-clause-meeting : goal.returns-clause-meeting
+returns-clause-meeting c =
+    let region = c.args.region.now in
+    let met = c.loop-row.survey.meeting.items in
+    subst (λ o. IfNone o (behind met ≡ meeting (size_of region) region (behind c.args.rows.now))) (sym c.loop-row.invariant.none)
+    (c.loop-row.invariant.kept ∙ ap (λ l. meeting (size_of region) region (behind l)) (take_all c.loop-row.row-index c.args.rows.now c.loop-row-test.false))

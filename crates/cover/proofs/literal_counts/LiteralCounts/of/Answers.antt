@@ -1,4 +1,7 @@
 use Rattle.std.proofs.Common.{◌≡◌, length, subst, sym}
+use Rattle.std.proofs.lemmas.List.{take_all}
+use Rattle.cover.specs.Places.{behind}
+use Rattle.cover.specs.Splits.{CountsLiterals}
 use Rattle.cover.proofs.LiteralCounting.{CountsLiterals-more}
 use Rattle.cover.proofs.literal_counts.LiteralCounts.of.Goals as goal
 
@@ -7,3 +10,6 @@ loop-row-preserved c =
     CountsLiterals-more c.args.rows.now c.loop-row.row-index c.row-item.result c.loop-row-test.true c.row-item.is c.args.inputs _ _ _ _
     (subst (λ x. length x.now.symbols ≡ c.args.inputs) (sym c.row-item.is) (c.requires c.loop-row.row-index c.row-item.result c.loop-row-test.true))
     c.loop-row.invariant c.add.ensures.zeros c.add.ensures.ones
+
+pub returns : goal.returns
+returns c = subst (λ l. CountsLiterals c.args.inputs c.loop-row.counts.zeros.items c.loop-row.counts.ones.items (behind l)) (take_all c.loop-row.row-index c.args.rows.now c.loop-row-test.false) c.loop-row.invariant
