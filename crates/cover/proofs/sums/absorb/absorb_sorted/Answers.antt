@@ -1,4 +1,4 @@
-use Rattle.std.proofs.Common.{◌∙◌, ◌+◌, ◌++◌, ◌∷◌, [], ap, sym, subst, All, take, Contains}
+use Rattle.std.proofs.Common.{◌+◌, [], sym, subst, All, take, Contains}
 use Rattle.std.proofs.lemmas.List.{take_all}
 use Rattle.cube.specs.Cube.{Cube, SameSize, IsSubset, holds}
 use Rattle.cover.specs.Reduced.{IsAbsorbed}
