@@ -1,26 +1,26 @@
 -- Where the recursion over inputs ends: no place, or places by their output alone.
-use Rattle.std.proofs.Common.{◌≡◌, ℕ, zero, suc, ◌+◌, ◌<◌, Bool, true, false, not, ◌&&◌, ◌||◌, List, [], ◌∷◌, ◌++◌, length, map, take, get_or, replicate, refl, ap, sym, ◌∙◌, arith, inl, inr}
+use Rattle.std.proofs.Common.{◌≡◌, ℕ, zero, suc, ◌+◌, ◌<◌, Bool, true, false, not, ◌&&◌, ◌||◌, List, [], ◌∷◌, length, map, take, get_or, replicate, Option, None, Some, is_some, IfSome, refl, ap, sym, ◌∙◌, arith, inl, inr}
 use Rattle.std.specs.List.{Contains, list_any}
 use Rattle.std.proofs.lemmas.Bool.{and_parts, and_from, or_parts, or_from, cases_Bool, cases_lt, false≢true}
-use Rattle.std.proofs.lemmas.List.{take_more, get_or_past, ext_get_or, length-replicate, get_or-replicate}
+use Rattle.std.proofs.lemmas.List.{get_or_past, ext_get_or, length-replicate, get_or-replicate}
 use Rattle.std.proofs.lemmas.List.Elements.{All-head, All-tail}
 use Rattle.cube.specs.declared.symbol.Symbol.{Symbol}
 use Rattle.cube.specs.declared.symbol.Symbol.TheVariants.{Dash, Zero, One}
 use Rattle.cube.specs.Size.{Size}
-use Rattle.cube.specs.Pattern.{matches}
-use Rattle.cube.specs.Cube.{Cube, Place, IsPlace, holds, IsCube, IsSubset, difference}
+use Rattle.cube.specs.Pattern.{matches, is_literal}
+use Rattle.cube.specs.Cube.{Cube, Place, IsPlace, holds, IsCube, IsSubset, IsNextLiteral, difference}
 use Rattle.cube.specs.Sum.{complete_sum}
 use Rattle.cube.proofs.HoldsLemmas.{length-matches, pick, matches-map_pick}
 use Rattle.cube.proofs.SharpLemmas.{some_true, complete_sum-holds}
 use Rattle.cube.proofs.SumLemmas.{complete_sum-from_members, Contains-complete_sum, sorted-complete_sum}
 use Rattle.cube.proofs.Members.{Contains-nil}
+use Rattle.cover.specs.Apart.{IsFree}
 use Rattle.cover.specs.Cubes.{AreCubes}
 use Rattle.cover.specs.Places.{places, universal}
 use Rattle.cover.specs.Marks.{is_symbol}
 use Rattle.cover.specs.Parts.{has_literal}
 use Rattle.cover.specs.Reduced.{LeftOutputs}
-use Rattle.cover.proofs.Lists.{list_any_from}
-use Rattle.std.proofs.lemmas.List.Folds.{list_any-append}
+use Rattle.std.proofs.lemmas.List.Folds.{list_any_more}
 use Rattle.cover.proofs.SumOrder.{rising-nil}
 
 place_of_cube : (size : Size) (c : Cube) (p : Place) → IsCube size c → holds c p ≡ true → IsPlace size p
@@ -145,16 +145,16 @@ module _ (size : Size) (minuend subtrahend : List Cube) (cubes : AreCubes size m
 
 -- ---- the loop over the rows
 
-module _ (rows : List Cube) (i : ℕ) (row : Cube) (j : ℕ) (lt : i < length rows) (at : row ≡ get_or rows i row) where
-  pub output_found : get_or row.outputs j false ≡ true → list_any (λ (c : Cube). get_or c.outputs j false) rows ≡ true
-  output_found on = list_any_from (λ (c : Cube). get_or c.outputs j false) rows row (i, lt, sym at) on
+-- one more element, at which the test does not hold
+pub none_up_to : {X : Type 0} (q : X → Bool) (xs : List X) (i : ℕ) (x : X) → i < length xs → x ≡ get_or xs i x
+    → list_any q (take i xs) ≡ false → q x ≡ false → list_any q (take (i + 1) xs) ≡ false
+none_up_to q xs i x lt at before off =
+    list_any_more q xs i x lt ∙ or_from (list_any q (take i xs)) (q (get_or xs i x)) before (ap q (sym at) ∙ off)
 
-  pub output_not_found : list_any (λ (c : Cube). get_or c.outputs j false) (take i rows) ≡ false → get_or row.outputs j false ≡ false
-      → list_any (λ (c : Cube). get_or c.outputs j false) (take (i + 1) rows) ≡ false
-  output_not_found before off =
-      ap (list_any (λ (c : Cube). get_or c.outputs j false)) (take_more rows i row lt ∙ ap (λ c. take i rows ++ c ∷ []) (sym at))
-      ∙ list_any-append (λ (c : Cube). get_or c.outputs j false) (take i rows) (row ∷ [])
-      ∙ or_from (list_any (λ (c : Cube). get_or c.outputs j false) (take i rows)) (get_or row.outputs j false || false) before (ap (λ x. x || false) off)
+-- a row with a next literal is not free
+pub not_free : (row : Cube) (next : Option ℕ) → is_some next ≡ true → IfSome next (λ i. IsNextLiteral row 0 i) → IsFree row → ⊥
+not_free row None some next free = absurd (false≢true some)
+not_free row (Some i) some next free = false≢true (sym (ap is_literal (free i)) ∙ next.literal)
 
 pub universal-holds : (size : Size) (p : Place) → IsPlace size p → holds (universal size) p ≡ true
 universal-holds size p place =

@@ -77,6 +77,15 @@ module _ (i : ℕ) (a b c d : Cube) (at_a : get_or a.symbols i Dash ≡ Zero) (a
 
 -- ---- the sum
 
+-- sums of the three branches at input i that can be put together
+pub record AreBranches (size : Size) (i : ℕ) (both low high : List Cube) : Type 0 where
+  pub both_cubes : AreCubes size both
+  pub low_cubes : AreCubes size low
+  pub high_cubes : AreCubes size high
+  pub rising : IsStrictlySortedBy row_cmp both
+  pub zeros : IsStrictlySortedBy row_cmp (without_equal_rows i Zero low both)
+  pub ones : IsStrictlySortedBy row_cmp (without_equal_rows i One high both)
+
 module _ (size : Size) (i : ℕ) (lt : i < size.inputs) (a b c d : Cube) (cubes : AreCubes size (a ∷ b ∷ c ∷ d ∷ []))
     (at_a : get_or a.symbols i Dash ≡ Zero) (at_b : get_or b.symbols i Dash ≡ Zero) (at_c : get_or c.symbols i Dash ≡ One) (at_d : get_or d.symbols i Dash ≡ One)
     (both low high : List Cube)
@@ -111,21 +120,15 @@ module _ (size : Size) (i : ℕ) (lt : i < size.inputs) (a b c d : Cube) (cubes 
   high_sum : high ≡ complete_sum size (cofactor_at i true s)
   high_sum = high_is ∙ complete_sum-same size (places highs) (cofactor_at i true s) high_places
 
-  pub square-cubes : AreCubes size both × AreCubes size low × AreCubes size high
-  square-cubes = (
-    AreCubes-complete_sum size (consensus_at i s) both both_sum,
-    AreCubes-complete_sum size (cofactor_at i false s) low low_sum,
-    AreCubes-complete_sum size (cofactor_at i true s) high high_sum,
-  )
-
-  pub square-both : IsStrictlySortedBy row_cmp both
-  square-both = subst (IsStrictlySortedBy row_cmp) (sym both_sum) (sorted-complete_sum size (consensus_at i s))
-
-  pub square-zeros : IsStrictlySortedBy row_cmp (without_equal_rows i Zero low both)
-  square-zeros = IsSide-rising size i s lt false low both (IsSide-sum size i s false low low_sum) both_sum
-
-  pub square-ones : IsStrictlySortedBy row_cmp (without_equal_rows i One high both)
-  square-ones = IsSide-rising size i s lt true high both (IsSide-sum size i s true high high_sum) both_sum
+  pub square-branches : AreBranches size i both low high
+  square-branches = record {
+    both_cubes = AreCubes-complete_sum size (consensus_at i s) both both_sum;
+    low_cubes = AreCubes-complete_sum size (cofactor_at i false s) low low_sum;
+    high_cubes = AreCubes-complete_sum size (cofactor_at i true s) high high_sum;
+    rising = subst (IsStrictlySortedBy row_cmp) (sym both_sum) (sorted-complete_sum size (consensus_at i s));
+    zeros = IsSide-rising size i s lt false low both (IsSide-sum size i s false low low_sum) both_sum;
+    ones = IsSide-rising size i s lt true high both (IsSide-sum size i s true high high_sum) both_sum;
+  }
 
   pub complete_sum-square : (sum : List Cube) → sum ≡ combination i both low high → sum ≡ complete_sum size s
   complete_sum-square sum is =

@@ -1,8 +1,8 @@
 -- The cubes that agree with a value of an input, and all of them, without their literals there.
-use Rattle.std.proofs.Common.{◌≡◌, ◌≢◌, ℕ, ◌<◌, Bool, true, false, not, ◌&&◌, ◌||◌, cond, List, [], ◌∷◌, ◌++◌, ◌≤◌, length, drop, get_or, set, refl, ap, sym, subst, ◌∙◌, arith}
+use Rattle.std.proofs.Common.{◌≡◌, ◌≢◌, ℕ, ◌+◌, ◌<◌, Bool, true, false, not, ◌&&◌, ◌||◌, cond, List, [], ◌∷◌, ◌++◌, ◌≤◌, length, drop, get_or, set, refl, ap, sym, subst, ◌∙◌, arith}
 use Rattle.std.proofs.lemmas.Bool.{or_parts, or_from}
 use Rattle.std.proofs.Math.ListN.{drop_of_length-le}
-use Rattle.std.proofs.lemmas.List.{append-nil, get_or-set_same, get_or-set_other}
+use Rattle.std.proofs.lemmas.List.{append-nil, append_assoc, drop_more, get_or-set_same, get_or-set_other}
 use Rattle.std.proofs.lemmas.List.Elements.{All-head, All-tail, All-cons}
 use Rattle.cube.specs.declared.symbol.Symbol.{Symbol}
 use Rattle.cube.specs.declared.symbol.Symbol.TheVariants.{Dash, Zero, One}
@@ -17,7 +17,23 @@ use Rattle.cover.specs.Parts.{freed, has_literal}
 use Rattle.cover.specs.Reduced.{Frees, IsBranch}
 use Rattle.cover.proofs.SumSplit.{holds-put, IsCube-with_symbol}
 
--- at the end of the loop over a list
+-- in a loop over a list: a row that passes the test, one that does not, and the end
+module _ (i : ℕ) (test : Symbol → Bool) (cs kept : List Cube) (k : ℕ) (row : Cube) (lt : k < length cs) (at : row ≡ get_or cs k row)
+    (e : kept ++ freed i test (drop k cs) ≡ freed i test cs) where
+  abbrev rest : List Cube
+  rest = freed i test (drop (k + 1) cs)
+
+  freed_at : (b : Bool) → test (get_or row.symbols i Dash) ≡ b → kept ++ cond b (with_symbol row i Dash ∷ rest) rest ≡ freed i test cs
+  freed_at b is =
+      ap (λ t. kept ++ cond t (with_symbol row i Dash ∷ rest) rest) (sym is)
+      ∙ ap (λ c. kept ++ freed i test (c ∷ drop (k + 1) cs)) at ∙ ap (λ l. kept ++ freed i test l) (sym (drop_more cs k row lt)) ∙ e
+
+  pub freed-kept : (next : List Cube) → test (get_or row.symbols i Dash) ≡ true → next ≡ kept ++ with_symbol row i Dash ∷ [] → next ++ rest ≡ freed i test cs
+  freed-kept next on is = ap (λ l. l ++ rest) is ∙ append_assoc kept (with_symbol row i Dash ∷ []) rest ∙ freed_at true on
+
+  pub freed-left_out : test (get_or row.symbols i Dash) ≡ false → kept ++ rest ≡ freed i test cs
+  freed-left_out off = freed_at false off
+
 pub freed-done : (i : ℕ) (test : Symbol → Bool) (cs kept : List Cube) (k : ℕ) → length cs ≤ k → kept ++ freed i test (drop k cs) ≡ freed i test cs → kept ≡ freed i test cs
 freed-done i test cs kept k past e = sym (append-nil kept) ∙ ap (λ l. kept ++ freed i test l) (sym (drop_of_length-le cs past)) ∙ e
 

@@ -25,7 +25,12 @@ fn lies_in_some(kept: &[Cube], row: &Cube) -> bool
         × IsSubset (holds row.now) (holds d) }
     ensures open { result ≡ false → All (λ d. IsSubset (holds row.now) (holds d) → ⊥) kept.now }
 {
-    kept.iter().any(|old| old.contains(row))
+    for old in kept {
+        if old.contains(row) {
+            return true;
+        }
+    }
+    false
 }
 
 // The rows that lie in no row before them. In row order the larger rows come first, so that among
@@ -52,7 +57,12 @@ fn have_equal_literal_counts(rows: &[Cube]) -> bool {
         return true;
     };
     let literals = first.literals();
-    rows.iter().all(|row| row.literals() == literals)
+    for row in rows {
+        if row.literals() != literals {
+            return false;
+        }
+    }
+    true
 }
 
 // Whether the rows rise in row order and all have literals at the same inputs, as points have. Then
@@ -102,7 +112,12 @@ fn has_absorbed_by_earlier(rows: &[Cube]) -> bool
 fn has_absorbed_by(rows: &[Cube], others: &[Cube]) -> bool
     requires { ShareOneSize rows.now others.now }
 {
-    rows.iter().any(|row| lies_in_some(others, row))
+    for row in rows {
+        if lies_in_some(others, row) {
+            return true;
+        }
+    }
+    false
 }
 
 // The rows without those that lie in one of the others.

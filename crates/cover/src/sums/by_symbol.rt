@@ -71,5 +71,10 @@ pub(crate) fn has_symbol(rows: &[Cube], i: usize, symbol: Symbol) -> bool
             return true;
         }
     }
-    rows.iter().any(|row| has_symbol_at(row, i, symbol))
+    for row in rows {
+        if has_symbol_at(row, i, symbol) {
+            return true;
+        }
+    }
+    false
 }

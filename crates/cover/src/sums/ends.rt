@@ -52,7 +52,12 @@ pub(crate) fn differ_in_first_outputs(rows: &[Cube]) -> bool {
         Some(first) => first.output_bits(0),
         None => 0,
     };
-    rows.iter().any(|row| row.output_bits(0) != outputs)
+    for row in rows {
+        if row.output_bits(0) != outputs {
+            return true;
+        }
+    }
+    false
 }
 
 // Whether all rows have the same outputs.
@@ -61,8 +66,12 @@ pub(crate) fn have_same_outputs(shape: Shape, rows: &[Cube]) -> bool
     ensures { IsTrue result → (c d : Row) → Contains rows.now c → Contains rows.now d → c.outputs
         ≡ d.outputs }
 {
-    rows.iter()
-        .all(|row| has_same_outputs(shape, &rows[0], row))
+    for row in rows {
+        if !has_same_outputs(shape, &rows[0], row) {
+            return false;
+        }
+    }
+    true
 }
 
 /// Whether some row holds every place.
@@ -70,7 +79,12 @@ pub(crate) fn has_universal_row(rows: &[Cube]) -> bool
     ensures { IsTrue result → (size : Size) → AreCubes size rows.now → (p : Place)
         → IsPlace size p → IsTrue (places rows.now p) }
 {
-    rows.iter().any(|row| row.is_universal())
+    for row in rows {
+        if row.is_universal() {
+            return true;
+        }
+    }
+    false
 }
 
 /// Whether some row has no literal.
@@ -78,7 +92,12 @@ pub(crate) fn has_row_without_literals(rows: &[Cube]) -> bool
     ensures some { IsTrue result → (c : Row) × Contains rows.now c × IsFree c }
     ensures none { result ≡ false → All (λ c. IsFree c → ⊥) rows.now }
 {
-    rows.iter().any(|row| row.next_literal(0).is_none())
+    for row in rows {
+        if row.next_literal(0).is_none() {
+            return true;
+        }
+    }
+    false
 }
 
 /// Whether all rows have the same outputs and no input has both literals, so that they have a

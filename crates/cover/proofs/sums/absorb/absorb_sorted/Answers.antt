@@ -1,4 +1,5 @@
-use Rattle.std.proofs.Common.{◌∙◌, ◌+◌, ◌++◌, ◌∷◌, [], ap, sym, subst, All, take, Contains}
+use Rattle.std.proofs.Common.{◌+◌, [], sym, subst, All, take, Contains}
+use Rattle.std.proofs.lemmas.List.{take_all}
 use Rattle.cube.specs.Cube.{Cube, SameSize, IsSubset, holds}
 use Rattle.cover.specs.Reduced.{IsAbsorbed}
 use Rattle.cover.proofs.SumAbsorb.{IsAbsorbed-none, IsAbsorbed-kept, IsAbsorbed-left_out, kept_sizes}
@@ -29,3 +30,6 @@ loop-row-preserved c =
           (IsAbsorbed-left_out rows c.loop-row.row-index c.row-item.result c.loop-row.kept.items c.requires.rising c.loop-row-test.true c.row-item.is c.loop-row.invariant
           (r.0, subst (λ l. Contains l r.0) c.deref.ensures.value r.1, r.2))
     ]
+
+pub returns : goal.returns
+returns c = subst (λ l. IsAbsorbed l c.loop-row.kept.items) (take_all c.loop-row.row-index c.args.rows.now c.loop-row-test.false) c.loop-row.invariant

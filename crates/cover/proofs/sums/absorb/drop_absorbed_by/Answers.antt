@@ -1,4 +1,5 @@
-use Rattle.std.proofs.Common.{◌∙◌, ◌+◌, ◌++◌, ◌∷◌, [], ap, sym, subst, take}
+use Rattle.std.proofs.Common.{◌+◌, sym, subst, take}
+use Rattle.std.proofs.lemmas.List.{take_all}
 use Rattle.cover.specs.Reduced.{IsWithoutAbsorbed}
 use Rattle.cover.proofs.SumWithoutAbsorbed.{IsWithoutAbsorbed-kept, IsWithoutAbsorbed-left_out}
 use Rattle.cover.proofs.sums.absorb.drop_absorbed_by.Goals as goal
@@ -17,3 +18,6 @@ loop-row-preserved c =
           (IsWithoutAbsorbed-left_out rows c.loop-row.row-index c.row-item.result c.args.others.now c.loop-row.kept.items c.loop-row-test.true c.row-item.is c.loop-row.invariant
           (c.lies_in_some.ensures.absorbed w.if-not-lies_in_some.false))
     ]
+
+pub returns : goal.returns
+returns c = subst (λ l. IsWithoutAbsorbed l c.args.others.now c.loop-row.kept.items) (take_all c.loop-row.row-index c.args.rows.now c.loop-row-test.false) c.loop-row.invariant

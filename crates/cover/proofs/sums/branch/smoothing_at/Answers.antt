@@ -1,10 +1,15 @@
-use Rattle.std.proofs.Common.{true}
+use Rattle.std.proofs.Common.{true, refl}
 use Rattle.std.proofs.lemmas.Result.{IfOk-weaker}
 use Rattle.cover.specs.Places.{places}
 use Rattle.cover.specs.Complete.{smoothing_at}
 use Rattle.cover.proofs.SumBranches.{IsBranch-absorbed}
-use Rattle.cover.proofs.SumFreed.{IsBranch-either, freed-done}
+use Rattle.cover.proofs.SumFreed.{IsBranch-either, freed-kept, freed-done}
 use Rattle.cover.proofs.sums.branch.smoothing_at.Goals as goal
+
+pub loop-row-preserved : goal.loop-row-preserved
+loop-row-preserved c =
+    freed-kept c.args.i (λ s. true) c.args.rows.now c.loop-row.all.items c.loop-row.row-index c.row-item.result c.loop-row-test.true c.row-item.is c.loop-row.invariant
+    c.push_freed.new.rows.items refl c.in_ok-push_freed.ensures
 
 pub absorb_if_short-requires : goal.absorb_if_short-requires
 absorb_if_short-requires c =

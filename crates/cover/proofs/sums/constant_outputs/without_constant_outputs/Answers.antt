@@ -1,4 +1,5 @@
 use Rattle.std.proofs.Common.{◌∙◌, ◌+◌, ◌++◌, ◌∷◌, [], ap, sym, subst, take}
+use Rattle.std.proofs.lemmas.List.{take_all}
 use Rattle.cube.specs.Cube.{IsCube}
 use Rattle.cover.specs.Free.{IsRest}
 use Rattle.cover.proofs.Lists.{all_members}
@@ -25,3 +26,7 @@ loop-row-preserved c = λ size cubes cube_free.
           (IsRest-same size rows i row constant rest c.loop-row-test.true c.row-item.is cube cube_free (c.loop-row.invariant size cubes cube_free)
           c.has_outputs_beyond.result c.has_outputs_beyond.ensures w.if-has_outputs_beyond.false)
     ]
+
+pub returns : goal.returns
+returns c = λ size cubes cube_free.
+    subst (λ l. IsRest size l c.args.constant.now c.loop-row.rest.items) (take_all c.loop-row.row-index c.args.rows.now c.loop-row-test.false) (c.loop-row.invariant size cubes cube_free)

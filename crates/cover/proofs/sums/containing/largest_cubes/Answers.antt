@@ -1,4 +1,4 @@
-use Rattle.std.proofs.Common.{◌≡◌, ◌∙◌, ◌++◌, ◌∷◌, [], ap, sym, Bool, filter, not}
+use Rattle.std.proofs.Common.{◌≡◌, ◌∙◌, ap, sym, Bool, filter, not}
 use Rattle.std.proofs.lemmas.List.{take_all}
 use Rattle.cube.specs.Cube.{Cube, IsCube}
 use Rattle.cover.specs.Containing.{lies_in_larger}

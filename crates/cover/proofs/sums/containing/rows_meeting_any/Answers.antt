@@ -1,4 +1,4 @@
-use Rattle.std.proofs.Common.{◌∙◌, ◌+◌, ◌++◌, ◌∷◌, [], ap, sym, subst, take}
+use Rattle.std.proofs.Common.{◌+◌, sym, subst, take}
 use Rattle.std.proofs.lemmas.List.{take_all}
 use Rattle.cover.specs.Places.{places}
 use Rattle.cover.specs.Outside.{AreNear}

@@ -1,4 +1,5 @@
-use Rattle.std.proofs.Common.{◌∙◌, ◌++◌, ◌∷◌, [], ap}
+use Rattle.std.proofs.Common.{◌∙◌, ap, filter}
+use Rattle.std.proofs.lemmas.List.{take_all}
 use Rattle.cube.specs.Cube.{size_of}
 use Rattle.cover.specs.Contained.{is_within}
 use Rattle.cover.proofs.Chosen.{chosen, left_out}
@@ -18,3 +19,7 @@ loop-cube-preserved c =
           w.in_ok-push_copy.ensures
       | else-contains w ↦ ap (λ v. v.items) w.kept-is ∙ left_out test cubes at cube cube c.loop-cube-test.true c.cube-item.is c.loop-cube.kept.items c.loop-cube.invariant c.contains.result c.contains.ensures w.if-contains.false
     ]
+
+pub returns : goal.returns
+returns c =
+    c.loop-cube.invariant ∙ ap (filter (is_within (size_of c.args.region.now) c.args.region.now)) (take_all c.loop-cube.cube-index c.args.cubes.now c.loop-cube-test.false)

@@ -1,35 +1,37 @@
-use Rattle.std.proofs.Common.{◌∙◌, ◌∷◌, [], false, true, arith}
+use Rattle.std.proofs.Common.{◌∙◌, ◌∷◌, [], false, true, IfSome, arith}
 use Rattle.std.proofs.lemmas.Result.{IfOk-weaker}
 use Rattle.std.proofs.lemmas.List.{get_or-set_other}
 use Rattle.cube.specs.declared.symbol.Symbol.TheVariants.{Dash}
-use Rattle.cube.specs.Cube.{with_symbol, intersection}
+use Rattle.cube.specs.Cube.{IsCube, with_symbol, intersection}
 use Rattle.cube.proofs.SumLemmas.{complete_sum-same}
 use Rattle.cover.specs.Places.{places}
 use Rattle.cover.proofs.SumSplit.{IsCube-with_symbol}
 use Rattle.cover.proofs.SumFour.{freed_meet-cube, freed_meet-literal, places-meets}
 use Rattle.cover.proofs.sums.four_rows.sum_of_freed_meets.Goals as goal
 
+zero_cube : (c : goal.In_ok-one) → IfSome c.in_ok-zero.zero (IsCube c.requires.size.0)
+zero_cube c =
+    let r = c.requires.size in
+    freed_meet-cube r.0 c.args.i c.args.j c.requires.inputs c.args.low_zero.now c.args.high_zero.now r.3 r.5 c.in_ok-zero.zero c.in_ok-zero.ensures.none c.in_ok-zero.ensures.size c.in_ok-zero.ensures.places
+
+one_cube : (c : goal.In_ok-one) → IfSome c.in_ok-one.one (IsCube c.requires.size.0)
+one_cube c =
+    let r = c.requires.size in
+    freed_meet-cube r.0 c.args.i c.args.j c.requires.inputs c.args.low_one.now c.args.high_one.now r.4 r.6 c.in_ok-one.one c.in_ok-one.ensures.none c.in_ok-one.ensures.size c.in_ok-one.ensures.places
+
 pub sum_of_some_opposites-requires-clause-size : goal.sum_of_some_opposites-requires-clause-size
-sum_of_some_opposites-requires-clause-size c =
-    let r = c.requires.size in (
-      r.0,
-      r.2,
-      freed_meet-cube r.0 c.args.i c.args.j c.requires.inputs c.args.low_zero.now c.args.high_zero.now r.3 r.5 c.in_ok-zero.zero c.in_ok-zero.ensures.none c.in_ok-zero.ensures.size c.in_ok-zero.ensures.places,
-      freed_meet-cube r.0 c.args.i c.args.j c.requires.inputs c.args.low_one.now c.args.high_one.now r.4 r.6 c.in_ok-one.one c.in_ok-one.ensures.none c.in_ok-one.ensures.size c.in_ok-one.ensures.places,
-    )
+sum_of_some_opposites-requires-clause-size c = (c.requires.size.0, c.requires.size.2, zero_cube c, one_cube c)
 
 pub sum_of_some_opposites-requires-clause-zero : goal.sum_of_some_opposites-requires-clause-zero
 sum_of_some_opposites-requires-clause-zero c =
     let r = c.requires.size in
-    freed_meet-literal r.0 c.args.i c.args.j c.requires.inputs c.args.low_zero.now c.args.high_zero.now r.3 r.5 false c.requires.low_zero c.in_ok-zero.zero
-    (freed_meet-cube r.0 c.args.i c.args.j c.requires.inputs c.args.low_zero.now c.args.high_zero.now r.3 r.5 c.in_ok-zero.zero c.in_ok-zero.ensures.none c.in_ok-zero.ensures.size c.in_ok-zero.ensures.places)
+    freed_meet-literal r.0 c.args.i c.args.j c.requires.inputs c.args.low_zero.now c.args.high_zero.now r.3 r.5 false c.requires.low_zero c.in_ok-zero.zero (zero_cube c)
     c.in_ok-zero.ensures.places
 
 pub sum_of_some_opposites-requires-clause-one : goal.sum_of_some_opposites-requires-clause-one
 sum_of_some_opposites-requires-clause-one c =
     let r = c.requires.size in
-    freed_meet-literal r.0 c.args.i c.args.j c.requires.inputs c.args.low_one.now c.args.high_one.now r.4 r.6 true c.requires.low_one c.in_ok-one.one
-    (freed_meet-cube r.0 c.args.i c.args.j c.requires.inputs c.args.low_one.now c.args.high_one.now r.4 r.6 c.in_ok-one.one c.in_ok-one.ensures.none c.in_ok-one.ensures.size c.in_ok-one.ensures.places)
+    freed_meet-literal r.0 c.args.i c.args.j c.requires.inputs c.args.low_one.now c.args.high_one.now r.4 r.6 true c.requires.low_one c.in_ok-one.one (one_cube c)
     c.in_ok-one.ensures.places
 
 pub returns : goal.returns

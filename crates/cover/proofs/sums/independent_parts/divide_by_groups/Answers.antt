@@ -1,4 +1,5 @@
-use Rattle.std.proofs.Common.{◌∙◌, ◌+◌, ◌++◌, ◌∷◌, [], ap, sym, subst, take}
+use Rattle.std.proofs.Common.{◌+◌, sym, subst, take}
+use Rattle.std.proofs.lemmas.List.{take_all}
 use Rattle.cover.specs.Apart.{IsDivided}
 use Rattle.cover.proofs.Dividing.{IsDivided-one, IsDivided-other}
 use Rattle.cover.proofs.sums.independent_parts.divide_by_groups.Goals as goal
@@ -23,3 +24,7 @@ loop-row-preserved c =
           w.push_copy-then-is_in_group-2.new.rows.items w.in_ok-push_copy-2.ensures
           (w.is_in_group-else-is_in_group.ensures w.if-is_in_group-2.true)))
     ]
+
+pub returns : goal.returns
+returns c =
+    subst (λ l. IsDivided c.args.groups.now l c.loop-row.one.items c.loop-row.other.items) (take_all c.loop-row.row-index c.args.rows.now c.loop-row-test.false) c.loop-row.invariant

@@ -54,3 +54,15 @@ loop-k-preserved c =
 pub returns : goal.returns
 returns c = λ size cubes others.
     subst (λ l. IsMeets size l c.args.others.now c.loop-k.all.items) (take_all c.loop-k.k c.args.rows.now (omega arith)) (c.loop-k.invariant.meets size cubes others)
+
+pub push_meets-requires : goal.push_meets-requires
+push_meets-requires c =
+    let size = c.requires.size.size in
+    let row = c.index-rows-k.result in
+    let start = c.first_key_not_below-start.result in
+    let end = c.first_key_above-end.result in
+    let own = subst (IsCube size) (sym c.index-rows-k.is) (c.requires.size.are_cubes c.loop-k.k row c.loop-k-test.true) in
+    let equal = c.split_at-in-loop-k.ensures.back ∙ ap (λ l. drop start l) c.split_at.ensures.front in
+    let part = All-same (IsCube size) c.split_at-in-loop-k.result.1.now (drop start (take end c.args.others.now)) equal
+    (All-drop (IsCube size) start (take end c.args.others.now) (All-take (IsCube size) end c.args.others.now c.requires.size.are_others)) in
+    λ j d lt. (own.has_size.0 ∙ sym (part j d lt).has_size.0, own.has_size.1 ∙ sym (part j d lt).has_size.1)

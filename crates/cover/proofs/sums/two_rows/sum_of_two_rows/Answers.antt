@@ -1,4 +1,6 @@
 use Rattle.std.proofs.Common.{◌≡◌, ◌∙◌, ◌∷◌, [], sym, ap, subst, arith}
+use Rattle.std.proofs.lemmas.Option.{get_or_from_slice_get}
+use Rattle.cube.specs.declared.symbol.Symbol.TheVariants.{Dash, Zero, One}
 use Rattle.cube.specs.Cube.{IsCube}
 use Rattle.cube.specs.Sum.{complete_sum}
 use Rattle.cover.specs.Places.{places}
@@ -38,3 +40,15 @@ returns-in_ok-sum_of_opposites-in-One-Zero c size h =
     let cube = subst (IsCube size) (sym c.index-rows-0.is) (h 0 first (omega arith)) in
     let other = subst (IsCube size) (sym c.index-rows-1.is) (h 1 second (omega arith)) in
     c.in_ok-sum_of_opposites-in-One-Zero.ensures size other cube ∙ complete_sum-other_order size second first ∙ ap (λ l. complete_sum size (places l)) (sym rows)
+
+pub sum_of_opposites-requires-clause-low : goal.sum_of_opposites-requires-clause-low
+sum_of_opposites-requires-clause-low c = get_or_from_slice_get c.index-rows-0.result.symbols c.in-Some.i Zero Dash c.in-Zero-One.ensures
+
+pub sum_of_opposites-requires-clause-high : goal.sum_of_opposites-requires-clause-high
+sum_of_opposites-requires-clause-high c = get_or_from_slice_get c.index-rows-1.result.symbols c.in-Some.i One Dash c.in-Zero-One.ensures'
+
+pub sum_of_opposites-requires-in-One-Zero-clause-low : goal.sum_of_opposites-requires-in-One-Zero-clause-low
+sum_of_opposites-requires-in-One-Zero-clause-low c = get_or_from_slice_get c.index-rows-1.result.symbols c.in-Some.i Zero Dash c.in-One-Zero.ensures'
+
+pub sum_of_opposites-requires-in-One-Zero-clause-high : goal.sum_of_opposites-requires-in-One-Zero-clause-high
+sum_of_opposites-requires-in-One-Zero-clause-high c = get_or_from_slice_get c.index-rows-0.result.symbols c.in-Some.i One Dash c.in-One-Zero.ensures
