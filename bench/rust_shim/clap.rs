@@ -85,8 +85,8 @@ impl<'a> Command<'a> {
         self
     }
 
-    pub fn arg(mut self, arg: Arg<'a>) -> Result<Command<'a>, AllocError> {
-        self.rules.push(arg);
+    pub fn args(mut self, args: impl IntoIterator<Item = Arg<'a>>) -> Result<Command<'a>, AllocError> {
+        self.rules.extend(args);
         Ok(self)
     }
 
