@@ -1,15 +1,17 @@
-"""The script `espresso` at the top of the repository, over a stub of the command that proves and builds."""
+"""The script `espresso` at the top of the repository and `tools/build`, over a stub of the command that proves and builds."""
 import importlib.machinery
 import importlib.util
 import os
 import shutil
 import subprocess
+import time
 import unittest
 
 import support
 from support import folder_of
 
-LAUNCHER = os.path.join(os.path.dirname(os.path.dirname(os.path.abspath(__file__))), "espresso")
+TOP = os.path.dirname(os.path.dirname(os.path.abspath(__file__)))
+BUILD = os.path.join("tools", "build")
 
 # The command `rt` tells where the kit is.
 RT = b"""#!/bin/sh
@@ -55,15 +57,18 @@ ORDER = ["low", "left", "right", "espresso"]
 
 def sides():
     """How many crates the launcher proves side by side here."""
-    loader = importlib.machinery.SourceFileLoader("launcher", LAUNCHER)
-    module = importlib.util.module_from_spec(importlib.util.spec_from_loader("launcher", loader))
+    loader = importlib.machinery.SourceFileLoader("build", os.path.join(TOP, BUILD))
+    module = importlib.util.module_from_spec(importlib.util.spec_from_loader("build", loader))
     loader.exec_module(module)
     return module.most_at_once()
 
 
 class Launcher(unittest.TestCase):
     def setUp(self):
-        self.folder = self.enter(folder_of({"crates.txt": CRATES, "bin": None, "crates": None}))
+        self.folder = os.path.join(self.enter(folder_of({})), "with blanks")
+        for name in ("bin", "crates", "tools"):
+            os.makedirs(self.path(name))
+        self.write(CRATES, "crates.txt")
         for name in ORDER:
             for part in ("src", "specs", "proofs/inner", "out"):
                 os.makedirs(self.path("crates", name, part))
@@ -72,7 +77,8 @@ class Launcher(unittest.TestCase):
         for content, path in ((RT, ("bin", "rt")), (COMPILER, ("kit", "bin", "rattle")), (LINKER, ("kit", "bin", "rattle-link"))):
             self.write(content, *path)
             os.chmod(self.path(*path), 0o755)
-        shutil.copy(LAUNCHER, self.path("espresso"))
+        for script in ("espresso", BUILD):
+            shutil.copy(os.path.join(TOP, script), self.path(script))
 
     def enter(self, manager):
         found = manager.__enter__()
@@ -86,14 +92,14 @@ class Launcher(unittest.TestCase):
         with open(self.path(*names), "wb") as file:
             file.write(content)
 
-    def started(self, *words, path=None):
+    def started(self, *words, path=None, script="espresso"):
         environment = dict(os.environ, PATH=path or self.path("bin") + os.pathsep + os.environ["PATH"])
-        return subprocess.Popen([self.path("espresso"), *words], cwd="/", env=environment, stdin=subprocess.PIPE,
+        return subprocess.Popen([self.path(script), *words], cwd="/", env=environment, stdin=subprocess.PIPE,
                                 stdout=subprocess.PIPE, stderr=subprocess.PIPE)
 
-    def called(self, *words, status=1, output=None, path=None):
+    def called(self, *words, status=1, output=None, path=None, script="espresso"):
         """The messages of a call, which gives the program's output and status, or else these."""
-        process = self.started(*words, path=path)
+        process = self.started(*words, path=path, script=script)
         found, said = process.communicate(b"input\n", timeout=support.SECONDS)
         due = (" ".join(["program", *words]) + "\ninput\n").encode() if output is None else output
         self.assertEqual((found, process.returncode), (due, status), said)
@@ -108,6 +114,14 @@ class Launcher(unittest.TestCase):
         os.remove(self.path("log"))
         return found
 
+    def few(self, *tools):
+        """A PATH with these tools alone."""
+        folder = self.path("few")
+        os.makedirs(folder)
+        for tool in tools:
+            os.symlink(os.path.realpath(shutil.which(tool)), os.path.join(folder, tool))
+        return folder
+
     def test_a_first_call_builds_and_later_ones_run(self):
         said = self.called("-Decho", "a b")
         self.assertRegex(said, r"4 crates are proved and built first(.|\n)*proving low \(1 of 4\)(.|\n)*built in [0-9.]+ minutes\n\Z")
@@ -121,13 +135,22 @@ class Launcher(unittest.TestCase):
         self.assertEqual(self.called("-Decho", ""), "")
         self.assertEqual(self.log(), [])
 
+    def replace(self, content, *names):
+        """Writes other content of the same length into a file, and sets its old times."""
+        about = os.stat(self.path(*names))
+        self.write(content, *names)
+        self.assertEqual(os.stat(self.path(*names)).st_size, about.st_size)
+        os.utime(self.path(*names), ns=(about.st_atime_ns, about.st_mtime_ns))
+
     def test_a_change_is_seen(self):
         self.called()
         changes = [lambda: self.write(b"more", "crates", "low", "specs", "Lib.antt"),
                    lambda: self.write(b"more", "crates", "left", "proofs", "inner", "Answers.antt"),
+                   lambda: self.write(b"less", "crates", "left", "proofs", "inner", "Answers.antt"),
                    lambda: self.write(b"more", "crates", "right", "src", "lib.rt"),
                    lambda: self.write(CRATES + b"\n", "crates.txt"),
-                   lambda: os.utime(self.path("crates", "low", "src", "lib.rt"), (1, 1)),
+                   lambda: self.replace(b"edoc", "crates", "low", "src", "lib.rt"),
+                   lambda: os.rename(self.path("crates", "low", "src", "lib.rt"), self.path("crates", "low", "src", "bil.rt")),
                    lambda: os.remove(self.path("crates", "low", "specs", "Lib.antt")),
                    lambda: os.remove(self.path("crates", "espresso", "out", "espresso"))]
         for number, change in enumerate(changes):
@@ -137,8 +160,58 @@ class Launcher(unittest.TestCase):
                 self.assertIn("built in", self.called("-Dexact"))
                 self.assertEqual(len(self.log()), 8)
                 self.assertEqual(self.called(), "")
-        self.write(b"a test", "crates", "low", "other")
-        self.assertEqual(self.called(), "")
+
+    def test_what_is_no_change_builds_nothing(self):
+        self.called()
+        self.log()
+        changes = [lambda: self.write(b"a test", "crates", "low", "other"),
+                   lambda: os.utime(self.path("crates", "low", "src", "lib.rt"), (1, 1)),
+                   lambda: self.write(b"code", "crates", "low", "src", "lib.rt"),
+                   lambda: self.write(b"", "crates", "espresso", "out", "espresso.look"),
+                   lambda: os.remove(self.path("crates", "espresso", "out", "espresso.seen"))]
+        for number, change in enumerate(changes):
+            with self.subTest(number=number):
+                change()
+                self.assertEqual((self.called(), self.called(), self.log()), ("", "", []))
+
+    def test_a_later_call_starts_only_two_tools(self):
+        few = self.few("stat", "cmp", "cat")
+        self.called()
+        self.assertEqual(self.called("-Decho", "a b", path=few), "")
+        self.write(b"more", "crates", "low", "src", "lib.rt")
+        self.assertIn("python3", self.called(status=127, output=b"", path=few))
+        self.called()
+        self.assertEqual(self.called("-Decho", path=few), "")
+
+    def test_a_call_through_a_link(self):
+        os.symlink(self.path("espresso"), self.path("link"))
+        for _ in range(2):
+            self.called("-Decho", "a b", script="link")
+        self.assertEqual(len(self.log()), 8)
+
+    def test_a_change_during_the_build_is_seen(self):
+        os.mkdir(self.path("slow"))
+        self.write(b'#!/bin/sh\n[ -e ../../log ] || sleep 1\nexec "$(dirname "$0")/rattle.quick" "$@"\n', "slow", "rattle")
+        os.chmod(self.path("slow", "rattle"), 0o755)
+        os.rename(self.path("kit", "bin", "rattle"), self.path("kit", "bin", "rattle.quick"))
+        os.rename(self.path("slow", "rattle"), self.path("kit", "bin", "rattle"))
+        call = self.started("first")
+        while not os.path.exists(self.path("crates", "espresso", "out", "proved")):
+            time.sleep(0.01)
+        self.write(b"more", "crates", "right", "src", "lib.rt")
+        found, said = call.communicate(b"", timeout=support.SECONDS)
+        self.assertEqual((found, call.returncode), (b"program first\n", 1), said)
+        self.assertIn("built in", self.called("second"))
+        self.assertEqual(self.called("third"), "")
+
+    def test_building_alone(self):
+        said = self.called(status=0, output=b"", script=BUILD)
+        self.assertIn("built in", said)
+        self.log()
+        self.assertEqual(self.called(status=0, output=b"", script=BUILD), "")
+        self.called("--run", "a", "b", output=b"program a b\ninput\n", script=BUILD)
+        self.assertIn("usage: tools/build", self.called("a", "b", output=b"", script=BUILD))
+        self.assertEqual(self.log(), [])
 
     def test_a_failed_proof_leaves_no_program(self):
         self.called()
@@ -170,7 +243,4 @@ class Launcher(unittest.TestCase):
     def test_without_the_command_that_proves(self):
         self.called()
         os.remove(self.path("crates", "low", "src", "lib.rt"))
-        os.mkdir(self.path("few"))
-        for tool in ("env", "python3"):
-            os.symlink(os.path.realpath(shutil.which(tool)), self.path("few", tool))
-        self.assertIn("rt of the Rattle kit is not on the PATH", self.called(status=2, output=b"", path=self.path("few")))
+        self.assertIn("rt of the Rattle kit is not on the PATH", self.called(status=2, output=b"", path=self.few("env", "python3")))
