@@ -23,6 +23,7 @@ WORDS = {"Prim.Native.Nat", "mathlib.Core.Path", "lib.Dec", "lib.Chars", "lib.Bi
          "Rattle.std_alloc.specs.String", "Rattle.std_alloc.specs.Vec"}
 TOKEN = re.compile(r'"[^"]*"|--.*|\.[\w\']+|[(){},;.]|[^\s(){},;."]+')
 PUBLIC = r"(?:pub(?:\(crate\))? )?(?:const )?"
+TRAITS = ("Input", "Output", "Opener")      # those of devices, of which a page has what contracts see
 USE = re.compile(r"^\s*(?:unfoldable )?(?:pub )?(?:ghost )?use ([\w.]+?)(?:\.\{(.*?)\})?(?: as (\w+))?;?$", re.M | re.S)
 
 
@@ -229,7 +230,7 @@ class Source:
         if " for " in name:
             return self.block_of(name)
         inside, _, method = name.rpartition("::")
-        begin = self.line_of(rf"impl(?:<.*>)? {inside}(?:<.*>)? \{{") if inside else 0
+        begin = self.block_with(inside, method) if inside else 0
         what = PUBLIC + rf"fn {method}\b" if method[0].islower() else declaration(method)
         begin = self.line_of(rf"\s*{what}", begin)
         text, indent = [], re.match(" *", self.lines[begin]).group()
@@ -243,6 +244,7 @@ class Source:
         while re.match(r"\s*(///|#\[)", self.lines[begin - 1]):
             begin -= 1
             comment.insert(0, self.lines[begin])
+        comment = comment or self.comment_of_trait(self.lines[self.block_with(inside, method)] if inside else "", method)
         lines = self.text_of(comment, indent), self.text_of(text, indent)
         entry = Entry(f"{self.crate}::", name, lines[0], (), lines[1])
         entry.members = re.findall(r"^    (\w+).*,$", "\n".join(text), re.M) if " enum " in " " + text[0] else []
@@ -262,8 +264,31 @@ class Source:
         return rf"impl(?:<.*>)? {trait}(?:<.*>)? for {name}(?:<.*>)? \{{"
 
     def blocks_of(self, name):
-        """What stands in the blocks with the methods of a type."""
-        return re.findall(rf"^impl(?:<.*>)? {name}(?:<.*>)? \{{\n(.*?)^\}}", self.text, re.M | re.S)
+        """What stands in the blocks with the methods of a type, its own and those of the traits that are no devices."""
+        return [block for _, block in self.found_blocks(name)]
+
+    def found_blocks(self, name):
+        traits = "|".join(TRAITS)
+        pattern = rf"^impl(?:<[^\n{{]*>)? (?:(?!(?:{traits}|Drop|Model|Clone)\b)\w+ for )?{name}(?:<[^\n{{]*>)? \{{\n(.*?)^\}}"
+        return [(found.start(), found[1]) for found in re.finditer(pattern, self.text, re.M | re.S)]
+
+    def block_with(self, name, method):
+        """The line with which the block begins that has a method of a type."""
+        for start, block in self.found_blocks(name):
+            if re.search(rf"^    {PUBLIC}fn {method}\b", block, re.M):
+                return self.text.count("\n", 0, start)
+        sys.exit(f"statement: no file of {self.crate} has {name}::{method}")
+
+    def comment_of_trait(self, block, method):
+        """What a trait says of a method; nothing for a block that is of no trait, or of one of another file."""
+        trait = re.match(r"impl(?:<.*>)? (\w+) for ", block)
+        if not trait:
+            return []
+        at = self.line_of(rf"    fn {method}\b", self.line_of(rf"{PUBLIC}trait {trait[1]}\b"))
+        begin = at
+        while self.lines[begin - 1].lstrip().startswith("///"):
+            begin -= 1
+        return self.lines[begin:at]
 
     def line_of(self, pattern, begin=0):
         for at in range(begin, len(self.lines)):
@@ -411,12 +436,17 @@ class Book:
     def blocks_with_trait(self, crate, name):
         """What contracts see of a type by the traits of devices, as `Trait for Type`."""
         return [f"{trait} for {name}" for (of, _), source in self.sources.items() if of == crate
-                for trait in ("Input", "Output", "Opener") if re.search("^" + Source.block_like(trait, name), source.text, re.M)]
+                for trait in TRAITS if re.search("^" + Source.block_like(trait, name), source.text, re.M)]
 
     def methods_of(self, crate, name):
-        """The public methods of a type, as `Type::method`."""
-        blocks = [block for (of, _), source in self.sources.items() if of == crate for block in source.blocks_of(name)]
-        return [f"{name}::{method}" for block in blocks for method in re.findall(r"^    pub (?:const )?fn (\w+)", block, re.M)]
+        """The public methods of a type, as `Type::method`; of a trait, those of the types that have it."""
+        texts = [source for (of, _), source in self.sources.items() if of == crate]
+        found = [f"{name}::{method}" for source in texts for block in source.blocks_of(name)
+                 for method in re.findall(r"^    pub (?:const )?fn (\w+)", block, re.M)]
+        for source in texts if name not in TRAITS else ():
+            for type_, block in re.findall(rf"^impl(?:<[^\n{{]*>)? {name} for (\w+) \{{\n(.*?)^\}}", source.text, re.M | re.S):
+                found += [f"{type_}::{method}" for method in re.findall(r"^    fn (\w+)", block, re.M)]
+        return found
 
     def type_in(self, source, name):
         """The item that a name of a type means in a file; None where it is one of std's."""

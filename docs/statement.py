@@ -37,8 +37,8 @@ table with a row for each point is the least cover by primes if its primes hold 
 those with the fewest literals: for every table, and there is one (`least_is_unique`). Lists of one length compare by the least
 number in which they differ (`least_difference_decides`). A reduced table comes from the old one by steps that drop a row, choose a
 column or drop a column; none applies any more, and the least cover stays. No contract speaks of the figures of an `Effort`."""),
-    ("pla", "The format", """`read_pla` returns a description exactly if no line has a fault, with its shape, names, type and lists; else the first line with a
-fault and the first kind on it. The bytes may come in any pieces. It has written the echoes that are due up to there, and at most 4,096 bytes are delivered beyond the line that ends the description or has the fault. `Scan` promises the same, piece by
+    ("pla", "The format", """`read_pla` returns a description, with its shape, names, type and lists, exactly if no line has a fault, nothing is missing at its
+end, and no read fails before that; else the first line with a fault and the first kind on it, or one of the other two. The bytes may come in any pieces. It has written the echoes that are due up to there, and at most 4,096 bytes are delivered beyond the line that ends the description or has the fault. `Scan` promises the same, piece by
 piece, for every text that its state stands for. `Sets::of` keeps given lists; a computed one is the complete sum of its places where
 it is asked for, else empty. `write_pla` and `write_covers` print the text for each output type and any three lists, or a prefix of it
 if the output failed; they are refused no memory. `Reading` and `Writing` deliver and take what the reader or writer inside reports.
@@ -54,7 +54,7 @@ a list that contain a region, in row order, and `cubes_containing` those of a li
 `sum_containing` may also return none. `in_row_order` returns the same cubes in row order, each once."""),
     ("cube", "Cubes", """A `Cube` means its set of places, and so does each call: containment, disjointness, meet, join, sharp, cofactor, row order. All calls
 but `set_symbol` leave the cube as it is. A cube of up to four words is refused memory by no call but `sharp`. The law
-`complete_sum`: a set's complete sum is the one list that rises strictly in row order and whose members are its maximal cubes."""),
+`complete_sum_is_maximal_cubes`: a set's complete sum is the one list that rises strictly in row order and whose members are its maximal cubes."""),
 )
 
 # The subjects in reading order: a title, what it says, and its modules (`crate.Module`) and items of src
@@ -87,7 +87,9 @@ is 2. Apart from that, the only answer is that memory ran out.""", ("tool.Words"
 in neither. `intersect` and `sharp` print the complete sum of the places in both ON-sets, or in the first alone, under the first
 file's names.""", ("tool.Answer", "tool.Check")),
     ("Lines of a file", "", ("pla.Lines", "pla.Keywords", "pla.Symbols", "pla.Header")),
-    ("Faults, and what is passed on", """A file is read exactly where no line has a fault; else the first line that has one is reported, with the first kind on it.""",
+    ("Faults, and what is passed on", """A file is read exactly where no line has a fault, nothing is missing at its end, and no read fails before that. Else the first line that
+has a fault is reported, with the first kind on it; where no line has one, the read that failed, with the line that was being read, or
+what is missing, with the last line.""",
      ("pla::ReadKind", "pla::ReadFault", "pla.Fault", "pla::Echo", "pla.Echoes")),
     ("What a file describes", """Given lists stay as they are; a list that is left open is the complete sum of its places.""",
      ("pla.Lists", "pla.Description", "pla.Sets", "pla.Completed")),
