@@ -15,7 +15,8 @@ use crate::references::{references_to, references_to_both};
 use std::alloc::AllocError;
 
 /// Whether each place of `list` is in `other` or in `dc`. Rows that stand in `other` or `dc` too,
-/// in any order, are found and skipped in time linear in the lists.
+/// in any order, are skipped, in time linear in the lists; a few of them may be missed, which then
+/// are asked for like any other.
 ///
 /// # Errors
 ///
@@ -44,8 +45,8 @@ pub fn is_within_either(list: &Cover, other: &Cover, dc: &Cover) -> Result<bool,
 }
 
 /// Whether the lists agree outside `dc`: each place that is in no cube of `dc` is in both lists or
-/// in neither (equivalence modulo don't-cares). Rows that both lists have, in any order, are found
-/// and skipped in time linear in the lists.
+/// in neither (equivalence modulo don't-cares). Rows that both lists have, in any order, are
+/// skipped in time linear in the lists, but for a few that may be missed.
 pub fn agree_outside(list: &Cover, other: &Cover, dc: &Cover) -> Result<bool, AllocError>
     requires other { other.now.size ≡ list.now.size }
     requires dc { dc.now.size ≡ list.now.size }

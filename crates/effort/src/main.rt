@@ -1,10 +1,11 @@
 //! What a search for the least cover by primes does, in figures.
 //!
-//! Reads a description from standard input and looks for its least cover as `minimum::exact` does,
-//! under `--literals` for that with the fewest literals. Then it prints a figure a line: how many
-//! primes there are; how many rows and live columns the reduced table has; how many tables were
-//! looked at, how many questions asked and how many rounds of steps taken to find the least cover;
-//! and how many products that has. It measures, and no contract says what it prints.
+//! Reads a description from standard input, lists all its primes and solves their table, whichever
+//! way `minimum::exact` takes for such a description; under `--literals` for a cover with the
+//! fewest literals. Then it prints a figure a line: how many primes there are; how many rows and
+//! live columns the reduced table has; how many tables were looked at, how many questions asked and
+//! how many rounds of steps taken to find the least cover; and how many products that has. It
+//! measures, and no contract says what it prints.
 #![tactic(auto)]
 
 use minimum::{Choice, Effort, OfPrimes, Table, least_cover_with_effort, primes, reduce};
