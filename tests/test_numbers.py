@@ -1,0 +1,190 @@
+"""The numbers that pages name are those of the code.
+
+CONSTANTS says where the code has a number, and SENTENCES where a page names it; in both `#` stands for the number. White space counts
+as one blank. A page's number may be a word (`eight`), and has commas or none; the code's may be `1 << 18`.
+To add one: a line in CONSTANTS, unless it is there, and a line in SENTENCES for each page. A number of a page in COVERED that no sentence
+matches, and that is not in MEASURED, fails too.
+"""
+import glob
+import os
+import re
+import unittest
+
+TOP = os.path.dirname(os.path.dirname(os.path.abspath(__file__)))
+WORDS = {word: n for n, word in enumerate("zero one two three four five six seven eight nine ten eleven twelve".split())}
+
+# A name; a file or a folder, from the top; the text there, which stands in it once.
+CONSTANTS = {
+    "inputs": ("crates/cube/src", "const INPUTS: usize = #;"),
+    "outputs": ("crates/cube/src", "const OUTPUTS: usize = #;"),
+    "line bytes": ("crates/cube/src", "const LINE_BYTES: usize = #;"),
+    "lines": ("crates/cube/src", "const LINES: u64 = #;"),
+    "older inputs": ("crates/pla/specs", "older_limits = record { inputs = #; outputs"),
+    "older line bytes": ("crates/pla/specs", "older_limits = record { inputs = 256; outputs = 256; line_bytes = #;"),
+    "piece": ("crates/pla/specs", "piece_bytes = #"),
+    "print buffer": ("crates/pla/src", "const BUFFER_BYTES: usize = #;"),
+    "many inputs": ("crates/minimum/src", "fn uses_points(shape: Shape) -> bool { shape.inputs() > #"),
+    "very many inputs": ("crates/minimum/src", "fn uses_points_of_primes(sets: &Sets) -> bool { sets.on().shape().inputs() > #"),
+    "outside of an output": ("crates/minimum/src", "const MOST_OF_AN_OUTPUT: usize = #;"),
+    "outside": ("crates/minimum/src", "const MOST_OUTSIDE: usize = #;"),
+    "rounds": ("crates/minimum/src", "const MOST_ROUNDS: usize = #;"),
+    "few primes": ("crates/minimum/src", "const MOST_PRIMES: [usize; 3] = [#, 4_000, 30_000];"),
+    "most primes": ("crates/minimum/src", "const MOST_PRIMES: [usize; 3] = [500, 4_000, #];"),
+    "inputs of a list": ("crates/minimum/src", "if inputs <= # { return rows < 100;"),
+    "rows of a list": ("crates/minimum/src", "if inputs <= 12 { return rows < #;"),
+    "rows of growth": ("crates/minimum/src", "if inputs > 40 { 100_000 } else { # }"),
+    "rows of wide growth": ("crates/minimum/src", "if inputs > 40 { # } else"),
+    "wide": ("crates/minimum/src", "if inputs > # { 100_000 }"),
+    "batch": ("crates/covering/src", "const BATCH_TABLES: u64 = #;"),
+    "first drop": ("crates/sat_search/src", "const FIRST_DROP: (u64, u64) = (#, 2000);"),
+    "last first drop": ("crates/sat_search/src", "const FIRST_DROP: (u64, u64) = (100, #);"),
+    "kept numbers": ("crates", "const SIZE: usize = #;"),
+    "proof memory": ("tools/build", "MEMORY = # * 10 ** 9"),
+    "gate": (".ci/run", "minutes=$((# - SECONDS / 60))"),
+    "stack": ("tests/test_costs.py", "limit(resource.RLIMIT_STACK, # << 20)"),
+}
+
+# A page; a sentence; for each number the constant that it is.
+SENTENCES = (
+    ("README.md", "A file has up to # inputs and # outputs", "inputs", "outputs"),
+    ("docs/espresso.1", "up to # binary inputs and # outputs", "inputs", "outputs"),
+    ("docs/espresso.1", ".It # inputs, at least 0", "inputs"),
+    ("docs/espresso.1", ".It # outputs, at least 1", "outputs"),
+    ("docs/espresso.1", ".It # bytes of a line", "line bytes"),
+    ("docs/espresso.1", ".It # lines of a file", "lines"),
+    ("docs/espresso.1", "-width # -compact", "lines"),
+    ("docs/espresso.1", "made with up to # inputs and at least # rows of the ON list", "inputs of a list", "rows of a list"),
+    ("docs/espresso.1", "more than # rows (# with more than # inputs)", "rows of growth", "rows of wide growth", "wide"),
+    ("docs/espresso.1", "several outputs and more than # inputs", "many inputs"),
+    ("docs/espresso.1", "up to # inputs, or one output unless fr", "many inputs"),
+    ("docs/espresso.1", "one output or up to # inputs", "many inputs"),
+    ("docs/espresso.1", "If so, with more than # inputs or under fr", "very many inputs"),
+    ("docs/espresso.1", "the primes that hold one place: at most # are made", "most primes"),
+    ("docs/espresso.1", "at most # an output on average and # in all are made", "outside of an output", "outside"),
+    ("docs/espresso.1", "a SAT search, which may need # GB more", "kept numbers"),
+    ("docs/FORMAT.md", "| inputs | 0 to # |", "inputs"),
+    ("docs/FORMAT.md", "| outputs | 1 to # |", "outputs"),
+    ("docs/FORMAT.md", "| bytes of a line, without its line feed | # |", "line bytes"),
+    ("docs/FORMAT.md", "| lines up to the end | # |", "lines"),
+    ("docs/FORMAT.md", "| `.i` | one number, 0 to # |", "inputs"),
+    ("docs/FORMAT.md", "| `.o` | one number, 1 to # |", "outputs"),
+    ("docs/FORMAT.md", "`more than # lines`", "lines"),
+    ("docs/FORMAT.md", "`line longer than # bytes`", "line bytes"),
+    ("docs/ARCHITECTURE.md", "several outputs and more than # inputs, `outside`", "many inputs"),
+    ("docs/ARCHITECTURE.md", "places with more than # primes wait", "few primes"),
+    ("docs/ARCHITECTURE.md", "(# cubes an output on average and # in all, # primes of a point, # rounds)",
+     "outside of an output", "outside", "most primes", "rounds"),
+    ("docs/ARCHITECTURE.md", "with up to # inputs, and where no place", "many inputs"),
+    ("docs/ARCHITECTURE.md", "Then, with more than # inputs, points are picked by these primes", "very many inputs"),
+    ("docs/ARCHITECTURE.md", "With more than # inputs, also with one output", "many inputs"),
+    ("docs/DECISIONS.md", "puts its text together in # bytes", "print buffer"),
+    ("docs/DECISIONS.md", "but not before # and not after #.", "first drop", "last first drop"),
+    ("docs/DECISIONS.md", "first those with at most # are added", "few primes"),
+    ("docs/DECISIONS.md", "is given up after # tables", "batch"),
+    ("docs/DECISIONS.md", "Each gets # GB", "proof memory"),
+    ("docs/DECISIONS.md", "a chain of # inputs did not end", "inputs"),
+    ("docs/DECISIONS.md", "in one check**, within # minutes", "gate"),
+    ("docs/TRUSTED.md", "beyond the bound of # bytes", "piece"),
+    ("docs/TRUSTED.md", "A chain of # inputs and # outputs runs in # MB of stack", "inputs", "outputs", "stack"),
+    ("docs/statement.py", "at most # bytes are delivered beyond the line that ends the description", "piece"),
+    ("docs/statement.py", "at most # bytes are delivered beyond the line that ends a description", "piece"),
+    ("docs/statement.py", "a text has at most # lines", "lines"),
+    ("docs/statement.py", "# inputs and outputs and lines of # bytes", "older inputs", "older line bytes"),
+    ("mutants/run", "processors and # GB of memory for each", "proof memory"),
+    ("crates/cover/src/lib.rt", "before it takes # GB", "kept numbers"),
+)
+
+# What a page names where the code has another unit: a list that grows takes its old and its new place, of four bytes a number.
+UNITS = {"kept numbers": lambda numbers: 3 * 4 * numbers / 2 ** 30}
+
+# The pages of which each number of two digits or more is looked for, and what is measured there, or is no number of the code.
+COVERED = {
+    "docs/espresso.1": ("November 28, 2026", "(166 to 170 rows)", "Sangiovanni-Vincentelli 1993)", ".%D 1984", ".%D 1993"),
+    "docs/TRUSTED.md": (),
+    "docs/FORMAT.md": (),
+    "docs/ARCHITECTURE.md": (),
+    "README.md": ("128 inputs, 60 outputs, 600 rows, 4 · 10¹⁵ primes | `exact`: 575 products | 0.12", "300,000 random cubes", "| 0.21 |",
+                  "9 to 10 minutes on four processors", "26 to 40 minutes on two processors", "Python 3.9", "`rattle-kit-13f`"),
+}
+
+
+def read(path):
+    with open(os.path.join(TOP, path), encoding="utf-8") as file:
+        return " ".join(file.read().split())
+
+
+def prose(page):
+    """A page's text without its examples, which are indented."""
+    with open(os.path.join(TOP, page), encoding="utf-8") as file:
+        return " ".join(" ".join(line for line in file if not line.startswith("    ")).split())
+
+
+def code(place):
+    """The text of a file, or of the files of a folder of the crates."""
+    if os.path.isfile(os.path.join(TOP, place)):
+        return read(place)
+    paths = glob.glob(os.path.join(TOP, place, "**", "*"), recursive=True)
+    return " ".join(read(path) for path in sorted(paths) if path.endswith((".rt", ".antt")))
+
+
+def pattern(text, number):
+    return number.join(re.escape(part) for part in " ".join(text.split()).split("#"))
+
+
+def constant(name):
+    """The number of a constant, in the pages' unit."""
+    place, text = CONSTANTS[name]
+    found = re.findall(pattern(text, r"(\d[\d_]*(?: << \d+)?)"), code(place))
+    assert len(found) == 1, f"{name}: {place} has `{text}` {len(found)} times"
+    base, _, shift = found[0].replace("_", "").partition(" << ")
+    return UNITS.get(name, float)(int(base) << int(shift or 0))
+
+
+SHOWN = r"(?<![\w.,])(\d[\d,]*(?:\.\d+)?|" + "|".join(WORDS) + r")(?!\w)"
+
+
+def shown(number):
+    return WORDS[number] if number in WORDS else float(number.replace(",", "").rstrip("."))
+
+
+class Numbers(unittest.TestCase):
+    def test_each_number_of_a_page_is_that_of_the_code(self):
+        for page, text, *names in SENTENCES:
+            with self.subTest(page=page, text=text):
+                self.assertEqual(text.count("#"), len(names))
+                found = re.findall(pattern(text, SHOWN), read(page))
+                self.assertTrue(found, f"{page} has no such sentence")
+                for numbers in found:
+                    numbers = [numbers] if len(names) == 1 else numbers
+                    self.assertEqual([shown(number) for number in numbers], [constant(name) for name in names])
+
+    def test_each_number_of_a_covered_page_has_a_sentence(self):
+        for page, measured in COVERED.items():
+            with self.subTest(page):
+                rest = prose(page)
+                for text in measured:
+                    self.assertIn(text, rest)
+                    rest = rest.replace(text, "")
+                for sentence in (sentence for of, sentence, *_ in SENTENCES if of == page):
+                    rest = re.sub(pattern(sentence, SHOWN), " ", rest)
+                self.assertEqual(re.findall(r"(?<![\w.,])[1-9][\d,.]*\d", rest), [])
+
+    def test_each_constant_is_named(self):
+        self.assertEqual(set(CONSTANTS) - {name for _, _, *names in SENTENCES for name in names}, set())
+
+
+class Readme(unittest.TestCase):
+    def test_its_decoder_is_the_example_with_its_answer(self):
+        with open(os.path.join(TOP, "README.md"), encoding="utf-8") as file:
+            rows = [line[4:].rstrip().split("   ") for line in file if re.match(r"    [01-]{4} [01-]{7}", line)]
+        for name, column in (("bcd7seg.pla", [row[0] for row in rows]), ("bcd7seg.exact.out", [row[-1].strip() for row in rows if len(row) > 1])):
+            with open(os.path.join(TOP, "examples", name), encoding="utf-8") as file:
+                self.assertEqual(column, re.findall(r"^[01-]+ [01-]+$", file.read(), re.M))
+
+    def test_it_is_short(self):
+        with open(os.path.join(TOP, "README.md"), encoding="utf-8") as file:
+            self.assertLessEqual(len(file.readlines()), 90)
+
+
+if __name__ == "__main__":
+    unittest.main()
