@@ -11,9 +11,10 @@ import re
 import unittest
 
 TOP = os.path.dirname(os.path.dirname(os.path.abspath(__file__)))
-WORDS = {word: n for n, word in enumerate("zero one two three four five six seven eight nine ten eleven twelve".split())}
+WORDS = {word: n for n, word in enumerate("zero one two three four five six seven eight nine ten eleven twelve thirteen fourteen "
+                                            "fifteen sixteen seventeen eighteen nineteen twenty".split())}
 
-# A name; a file or a folder, from the top; the text there, which stands in it once.
+# A name; a file or a folder, from the top; the text there, which stands in it once. Without a text it is how many files there are.
 CONSTANTS = {
     "inputs": ("crates/cube/src", "const INPUTS: usize = #;"),
     "outputs": ("crates/cube/src", "const OUTPUTS: usize = #;"),
@@ -27,8 +28,10 @@ CONSTANTS = {
     "very many inputs": ("crates/minimum/src", "fn uses_points_of_primes(sets: &Sets) -> bool { sets.on().shape().inputs() > #"),
     "outside of an output": ("crates/minimum/src", "const MOST_OF_AN_OUTPUT: usize = #;"),
     "outside": ("crates/minimum/src", "const MOST_OUTSIDE: usize = #;"),
+    "outside of a row": ("crates/minimum/src", "const MOST_OF_OFF: usize = #;"),
     "rounds": ("crates/minimum/src", "const MOST_ROUNDS: usize = #;"),
     "few primes": ("crates/minimum/src", "const MOST_PRIMES: [usize; 3] = [#, 4_000, 30_000];"),
+    "more primes": ("crates/minimum/src", "const MOST_PRIMES: [usize; 3] = [500, #, 30_000];"),
     "most primes": ("crates/minimum/src", "const MOST_PRIMES: [usize; 3] = [500, 4_000, #];"),
     "inputs of a list": ("crates/minimum/src", "if inputs <= # { return rows < 100;"),
     "rows of a list": ("crates/minimum/src", "if inputs <= 12 { return rows < #;"),
@@ -41,6 +44,7 @@ CONSTANTS = {
     "kept numbers": ("crates", "const SIZE: usize = #;"),
     "proof memory": ("tools/build", "MEMORY = # * 10 ** 9"),
     "gate": (".ci/run", "minutes=$((# - SECONDS / 60))"),
+    "wrong searches": ("tests/wrong_searches/*.edit", ""),
     "stack": ("tests/test_costs.py", "limit(resource.RLIMIT_STACK, # << 20)"),
 }
 
@@ -59,7 +63,10 @@ SENTENCES = (
     ("docs/espresso.1", "up to # inputs, or one output unless fr", "many inputs"),
     ("docs/espresso.1", "one output or up to # inputs", "many inputs"),
     ("docs/espresso.1", "If so, with more than # inputs or under fr", "very many inputs"),
-    ("docs/espresso.1", "the primes that hold one place: at most # are made", "most primes"),
+    ("docs/espresso.1", "places with more than # wait until there are no others, then those with more than #, and none with more than # is taken",
+     "few primes", "more primes", "most primes"),
+    ("docs/espresso.1", "the rounds in which places are picked: at most # are made", "rounds"),
+    ("docs/espresso.1", "at most # cubes of one row", "outside of a row"),
     ("docs/espresso.1", "at most # an output on average and # in all are made", "outside of an output", "outside"),
     ("docs/espresso.1", "a SAT search, which may need # GB more", "kept numbers"),
     ("docs/FORMAT.md", "| inputs | 0 to # |", "inputs"),
@@ -84,6 +91,7 @@ SENTENCES = (
     ("docs/DECISIONS.md", "Each gets # GB", "proof memory"),
     ("docs/DECISIONS.md", "a chain of # inputs did not end", "inputs"),
     ("docs/DECISIONS.md", "in one check**, within # minutes", "gate"),
+    ("docs/TRUSTED.md", "tries # on the program as plain Rust", "wrong searches"),
     ("docs/TRUSTED.md", "beyond the bound of # bytes", "piece"),
     ("docs/TRUSTED.md", "A chain of # inputs and # outputs runs in # MB of stack", "inputs", "outputs", "stack"),
     ("docs/statement.py", "at most # bytes are delivered beyond the line that ends the description", "piece"),
@@ -134,6 +142,8 @@ def pattern(text, number):
 def constant(name):
     """The number of a constant, in the pages' unit."""
     place, text = CONSTANTS[name]
+    if not text:
+        return float(len(glob.glob(os.path.join(TOP, place))))
     found = re.findall(pattern(text, r"(\d[\d_]*(?: << \d+)?)"), code(place))
     assert len(found) == 1, f"{name}: {place} has `{text}` {len(found)} times"
     base, _, shift = found[0].replace("_", "").partition(" << ")
