@@ -15,6 +15,7 @@ THEIRS = ("#d55e00", "square")
 COMMANDS = {"primes": THEIRS, "literals": ("#56b4e9", "triangle"), "exact": ("#0072b2", "circle"),
             "essen": ("#009e73", "circle")}
 PACKAGES = {"berkeley-abc": "berkeley-abc", "minisat": "minisat", "cbc": "coinor-cbc"}
+SHORTLY_ASKED = ("exact", "essen")  # the commands of which the largest sizes stand at the head
 SAME = 1.25                        # ratios up to this count as the same time
 NOTED = 0.005                      # seconds from which on it is noted that another tool is faster
 
@@ -102,6 +103,18 @@ def summary(found):
             yield [comparison.name, result.family.name, largest(result, main_tool(tools)),
                    other.label if other else "left out", largest(result, other),
                    "".join(row.label for row in both), "".join(ratio(ratio_at(row, tools)) for row in both)]
+
+
+def logic_summary(logic):
+    """For each family of functions of many outputs the largest size that each command answered, and its seconds."""
+    _, tools, results = logic
+    for result in results:
+        yield [capital(result.family.name), *(part for tool in tools if tool.label in SHORTLY_ASKED for part in largest_with_time(result, tool))]
+
+
+def largest_with_time(result, tool):
+    row = next((row for row in reversed(result.rows) if time_of(row, tool) is not None), None)
+    return [f"{row.label}, {row.rows} rows", figure(time_of(row, tool))] if row else ["none", ""]
 
 
 def faster_there(rows, tools):
@@ -251,7 +264,7 @@ One command writes this page, its pictures and the tables:
 It took {minutes:.0f} minutes. PROGRAM is the built program, `crates/espresso/out/espresso`; the files come from fixed
 seeds and are written to `bench/data`. `--only WORD` runs the families with the word in their names, and `--quick` sets a limit of two
 seconds. `bench/bench.py PROGRAM` times single functions, memory and long files. `--only "control logic" --write` measures
-and writes the section on control logic alone.
+and writes the sections on control logic alone.
 """
 
 HOW = """## How it was measured
@@ -267,7 +280,13 @@ ratio is the other tool's time divided by this one's, in bold where the other is
 longer is less than 1.25 times the other. Wherever two tools answered, their answers were compared: {agreed}.
 """
 
-SHORTLY = """## In short
+LOGIC_SHORTLY = """## In short: functions of many outputs
+
+The largest size of each family that each command answered, in inputs / outputs and rows, and the seconds that it took. A family also
+ends where no larger size was tried.
+"""
+
+SHORTLY = """## In short: beside other tools
 
 The largest size of each family that each tool answered, and the ratio at the largest size that both answered. A family also ends
 where no larger size was tried. For one output, *here* is `exact`.
@@ -332,17 +351,23 @@ def logic_section(logic, limit):
     return LOGIC.format(title=capital(comparison.title), told=textwrap.fill(told, 120), picture=picture_name(comparison))
 
 
+def logic_shortly(logic):
+    head = [part for command in SHORTLY_ASKED for part in (f"`{command}`", "Seconds")]
+    return "\n".join([LOGIC_SHORTLY, *table(["Family", *head], logic_summary(logic))]).rstrip()
+
+
 def section_of_tables(comparison, tools, results, table_of):
     """A heading, and the table of each family."""
     found = [line for result in results for line in table_of(comparison, tools, result)]
     return "\n".join([f"## {capital(comparison.title)}", "", *found]).rstrip()
 
 
-def lines(found, limit, jobs, minutes):
+def lines(found, logic, limit, jobs, minutes):
     options = ("" if limit == 60 else f" --limit {limit:g}") + ("" if jobs == 1 else f" --jobs {jobs}")
     yield HEAD.format(options=options, minutes=minutes)
     yield how(found, limit, jobs)
     yield from tools_table(found)
+    yield logic_shortly(logic) + "\n"
     yield SHORTLY
     yield from table(["Compared", "Family", "Largest here", "Other", "Its largest", "Both", "Ratio"], summary(found), left=6)
     yield LOSSES.format(noted=NOTED * 1000)
@@ -370,11 +395,19 @@ def put_last(name, section):
     put(name, f"{before.rstrip()}\n\n{section}\n")
 
 
+def put_in_place(name, section):
+    """Puts a section in place of the one with its heading."""
+    before, heading, rest = read(name).partition(section.split("\n")[0] + "\n")
+    if heading:
+        put(name, f"{before}{section}\n\n## {rest.partition(chr(10) + '## ')[2]}")
+
+
 def write_logic(logic, limit):
-    """Puts the sections of `logic`, what ran by itself, at the ends of the page and of the tables; and its picture."""
+    """Puts the sections of `logic`, what ran by itself, in their places on the page and in the tables; and its picture."""
     comparison, tools, results = logic
     os.makedirs(os.path.join(DOCS, "performance"), exist_ok=True)
     put(f"performance/{picture_name(comparison)}", logic_drawn(comparison, results, limit))
+    put_in_place("PERFORMANCE.md", logic_shortly(logic))
     put_last("PERFORMANCE.md", logic_section(logic, limit))
     put_last("performance/tables.md", section_of_tables(comparison, tools, results, logic_table))
 
@@ -384,6 +417,6 @@ def write(found, logic, limit, jobs, minutes):
     os.makedirs(os.path.join(DOCS, "performance"), exist_ok=True)
     for comparison, tools, results in found:
         put(f"performance/{picture_name(comparison)}", drawn(comparison, tools, results, limit))
-    put("PERFORMANCE.md", "\n".join(lines(found, limit, jobs, minutes)))
+    put("PERFORMANCE.md", "\n".join(lines(found, logic, limit, jobs, minutes)))
     put("performance/tables.md", "\n\n".join([TABLES.rstrip(), *(section_of_tables(*compared, family_table) for compared in found)]))
     write_logic(logic, limit)
