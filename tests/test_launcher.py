@@ -3,6 +3,7 @@ import importlib.machinery
 import importlib.util
 import os
 import shutil
+import signal
 import subprocess
 import time
 import unittest
@@ -61,6 +62,15 @@ def sides():
     module = importlib.util.module_from_spec(importlib.util.spec_from_loader("build", loader))
     loader.exec_module(module)
     return module.most_at_once()
+
+
+def runs(process):
+    """Whether there is a process of this number that has not ended."""
+    try:
+        with open(f"/proc/{process}/stat") as file:
+            return file.read().rpartition(") ")[2][0] != "Z"
+    except (FileNotFoundError, ProcessLookupError):
+        return False
 
 
 class Launcher(unittest.TestCase):
@@ -203,6 +213,23 @@ class Launcher(unittest.TestCase):
         self.assertEqual((found, call.returncode), (b"program first\n", 1), said)
         self.assertIn("built in", self.called("second"))
         self.assertEqual(self.called("third"), "")
+
+    def test_a_signal_ends_the_proofs(self):
+        self.write(b"#!/bin/sh\necho $$ > ../../pid.new\nmv ../../pid.new ../../pid\nexec sleep 60\n", "kit", "bin", "rattle")
+        for number, status in ((signal.SIGTERM, 2), (signal.SIGINT, 130)):
+            with self.subTest(number):
+                call = self.started("-Decho")
+                while not os.path.exists(self.path("pid")):
+                    time.sleep(0.01)
+                with open(self.path("pid")) as file:
+                    proof = int(file.read())
+                os.remove(self.path("pid"))
+                call.send_signal(number)
+                self.assertEqual(call.communicate(timeout=support.SECONDS)[0], b"")
+                self.assertEqual(call.returncode, status)
+                while runs(proof):
+                    time.sleep(0.01)
+                self.assertEqual(os.listdir(self.path("crates", "espresso", "out")), [])
 
     def test_building_alone(self):
         said = self.called(status=0, output=b"", script=BUILD)
