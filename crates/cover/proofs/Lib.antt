@@ -11,6 +11,7 @@ pub mod Regions
 pub mod LiteralCounting
 pub mod Reasons
 pub mod Halves
+pub mod LeftOut
 pub mod EqualRows
 pub mod Everywhere
 pub mod ContainmentLemmas

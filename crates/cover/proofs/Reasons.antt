@@ -19,11 +19,14 @@ use Rattle.cube.proofs.MeetLemmas.{decide_outputs}
 use Rattle.cube.proofs.Members.{Contains-here, Contains-nil, Contains-cases, Contains-filter_cases}
 use Rattle.cover.specs.Places.{places, is_disjoint, meeting, behind}
 use Rattle.cover.specs.Splits.{dashes}
-use Rattle.cover.specs.Reason.{IsReason, Explains, Joins, IsClosed, Leads, Share, AreAmong, set_bits, extent}
+use Rattle.cover.specs.LeftOut.{IsLeftOut}
+use Rattle.cover.specs.Reason.{IsReason, Joins, IsClosed, Leads, Share, AreAmong, set_bits, extent}
 use Rattle.cover.specs.declared.region.Step.TheVariants.{Row}
+use Rattle.cover.specs.declared.region.Stop.{Stop}
+use Rattle.cover.specs.declared.region.Stop.TheVariants.{Memory, Spent, LeftOut}
 use Rattle.cover.proofs.Inputs.{matches-set_bit, matches-own}
 use Rattle.cover.proofs.Lists.{list_any_from, list_any_witness, length-behind, behind_at, behind_member, behind_all, all_behind}
-use Rattle.cover.proofs.Regions.{zero_literal, one_literal, place_at, held_by_none, narrowed, narrowed_at, bit_for, inputs_hold, held_lent, fewer_dashes, lent_meets}
+use Rattle.cover.proofs.Regions.{zero_literal, one_literal, place_at, narrowed, narrowed_at, bit_for, inputs_hold, place_lent, fewer_dashes, lent_meets}
 
 -- ---- a cube without its literal at an input
 
@@ -183,10 +186,9 @@ pub reason_of_more : (rows : List Cube) (part region c : Cube) → SameSize part
 reason_of_more rows part region c s r h = record { size = SameSize-part c part region r.size s; above = h; within = r.within }
 
 -- a cube that is found for two that the rows hold
-pub reason_joined : (rows : List Cube) (region one other : Cube) → IsSubset (holds one) (places rows) → IsSubset (holds other) (places rows)
-    → (found : Option Cube) → Joins region one other found → Explains region rows found
-reason_joined rows region one other in_one in_other None h = absurd h
-reason_joined rows region one other in_one in_other (Some c) h = record {
+pub reason_joined : (rows : List Cube) (region one other c : Cube) → IsSubset (holds one) (places rows) → IsSubset (holds other) (places rows)
+    → Joins region one other (Some c) → IsReason region rows c
+reason_joined rows region one other c in_one in_other h = record {
   size = h.0;
   above = h.1.0;
   within = λ p in_c. elim (or_cases (holds one p) (holds other p) (h.1.1 p in_c)) [ inl a ↦ in_one p a | inr b ↦ in_other p b ];
@@ -204,11 +206,20 @@ reason_of_row rows region row c member size e sub = subst (λ x. IsReason region
   within = within_rows rows row member;
 })
 
-pub unexplained_half : (rows : List Cube) (region half : Cube) (i : ℕ) (t : Symbol) → slice_get region.symbols i ≡ Some Dash → half ≡ with_symbol region i t
-    → (IsSubset (holds half) (places rows) → ⊥) → IsSubset (holds region) (places rows) → ⊥
-unexplained_half rows region half i t dash e h all =
-    h (λ p in_half. all p (narrowed region i t (slice_get_within region.symbols i Dash dash) (get_or_from_slice_get region.symbols i Dash Dash dash) p
-    (ap (λ x. holds x p) (sym e) ∙ in_half)))
+-- what is left out of a part is left out of the whole
+pub left_out_of_more : (rows : List Cube) (part region c : Cube) → SameSize part region → IsSubset (holds part) (holds region)
+    → IsLeftOut (size_of part) rows part c → IsLeftOut (size_of region) rows region c
+left_out_of_more rows part region c size sub h = record {
+  is_cube = record { has_size = SameSize-part c part region h.is_cube.has_size size; some_output = h.is_cube.some_output };
+  within = λ p in_c. sub p (h.within p in_c);
+  outside = h.outside;
+}
+
+pub half_within : (region half : Cube) (i : ℕ) (t : Symbol) → slice_get region.symbols i ≡ Some Dash → half ≡ with_symbol region i t
+    → IsSubset (holds half) (holds region)
+half_within region half i t dash e p in_half =
+    narrowed region i t (slice_get_within region.symbols i Dash dash) (get_or_from_slice_get region.symbols i Dash Dash dash) p
+    (ap (λ x. holds x p) (sym e) ∙ in_half)
 
 pub extent_half : (region half : Cube) (i : ℕ) (t : Symbol) → slice_get region.symbols i ≡ Some Dash → (t ≡ Dash → ⊥) → half ≡ with_symbol region i t
     → extent half < extent region
@@ -288,12 +299,12 @@ module _ (rows : List Cube) (region row rest : Cube) (size : SameSize row region
     output_rest : (j : ℕ) → get_or rest.outputs j false ≡ (get_or region.outputs j false && not (get_or row.outputs j false))
     output_rest j = ap (λ x. get_or x.outputs j false) e ∙ get_or-minus region.outputs row.outputs j (sym size.1)
 
-    pub unexplained_rest : (IsSubset (holds rest) (places rows) → ⊥) → IsSubset (holds region) (places rows) → ⊥
-    unexplained_rest h all = h (λ p in_rest.
+    pub rest_within : IsSubset (holds rest) (holds region)
+    rest_within p in_rest =
         let parts = and_parts (matches rest.symbols p.point) (get_or rest.outputs p.output false) in_rest in
-        all p (and_from (matches region.symbols p.point) (get_or region.outputs p.output false)
+        and_from (matches region.symbols p.point) (get_or region.outputs p.output false)
         (ap (λ x. matches x.symbols p.point) (sym e) ∙ parts.0)
-        (and_parts (get_or region.outputs p.output false) (not (get_or row.outputs p.output false)) (sym (output_rest p.output) ∙ parts.1)).0))
+        (and_parts (get_or region.outputs p.output false) (not (get_or row.outputs p.output false)) (sym (output_rest p.output) ∙ parts.1)).0
 
     module _ (other : Cube) (sub : IsSubset (holds rest) (holds other)) where
       pub other_inputs : IsTrue (list_any (λ b. b) (minus region.outputs row.outputs))
@@ -382,11 +393,10 @@ some_left (x ∷ xs) n b len e off = omega arith
 
 -- ---- the rows that meet the region
 
--- an answer for them is one for all rows
-pub explains_lent : (rows references_to : List (Bor Cube)) (region : Cube) → All (λ d. SameSize d.now region) rows
-    → behind references_to ≡ meeting (size_of region) region (behind rows) → (found : Option Cube) → Explains region (behind references_to) found → Explains region (behind rows) found
-explains_lent rows references_to region sizes inside None h = λ all. h ((held_lent rows references_to region sizes inside).0 all)
-explains_lent rows references_to region sizes inside (Some c) h = record {
+-- a reason for them is one for all rows
+pub reason_lent : (rows references_to : List (Bor Cube)) (region : Cube)
+    → behind references_to ≡ meeting (size_of region) region (behind rows) → (c : Cube) → IsReason region (behind references_to) c → IsReason region (behind rows) c
+reason_lent rows references_to region inside c h = record {
   size = h.size;
   above = h.above;
   within = λ p in_c.
@@ -395,13 +405,35 @@ explains_lent rows references_to region sizes inside (Some c) h = record {
       (Contains-filter_cases (λ d. not (is_disjoint (size_of region) (holds d) (holds region))) (behind rows) w.0 (subst (λ l. Contains l w.0) inside w.1)).0 w.2;
 }
 
--- without such rows nothing is held
-pub unexplained_none : (rows references_to : List (Bor Cube)) (region : Cube) → All (λ d. SameSize d.now region) rows
+-- and what is left out of them is left out of all rows
+pub left_out_lent : (rows references_to : List (Bor Cube)) (region c : Cube) → All (λ d. SameSize d.now region) rows
+    → behind references_to ≡ meeting (size_of region) region (behind rows) → IsLeftOut (size_of region) (behind references_to) region c
+    → IsLeftOut (size_of region) (behind rows) region c
+left_out_lent rows references_to region c sizes inside h = record {
+  is_cube = h.is_cube;
+  within = h.within;
+  outside = λ p in_c in_rows. h.outside p in_c (place_lent rows references_to region sizes inside p (h.within p in_c) in_rows);
+}
+
+part_of : Cube → Stop → Cube
+part_of c Memory = c
+part_of c Spent = c
+part_of c (LeftOut part) = part
+
+pub same_part : (c part : Cube) → LeftOut c ≡ LeftOut part → c ≡ part
+unfolding part_of
+same_part c part e = ap (part_of c) e
+
+-- without such rows the whole region is left out
+pub left_out_whole : (rows references_to : List (Bor Cube)) (region c : Cube) → All (λ d. SameSize d.now region) rows
     → behind references_to ≡ meeting (size_of region) region (behind rows) → IsTrue (list_any (λ b. b) region.outputs) → behind references_to ≡ []
-    → IsSubset (holds region) (places (behind rows)) → ⊥
-unexplained_none rows references_to region sizes inside some none' all =
-    let on = some_true region.outputs some in
-    held_by_none region on.0 on.1 (subst (λ l. IsSubset (holds region) (places l)) none' ((held_lent rows references_to region sizes inside).0 all))
+    → c ≡ region → IsLeftOut (size_of region) (behind rows) region c
+left_out_whole rows references_to region c sizes inside some none' e = subst (λ x. IsLeftOut (size_of region) (behind rows) region x) (sym e) (record {
+  is_cube = record { has_size = (refl, refl); some_output = some };
+  within = λ p h. h;
+  outside = λ p in_region in_rows.
+      false≢true (subst (λ l. places l p ≡ true) none' (place_lent rows references_to region sizes inside p in_region in_rows));
+})
 
 -- a near row without an open literal is a next step
 pub closed_leads : (near : List (Bor Cube)) (region : Cube) (k : ℕ) (row : Bor Cube) → k < length near → row ≡ get_or near k row → IsClosed region row.now

@@ -1,5 +1,5 @@
 -- Whether the cubes of a list hold a region.
-use Rattle.std.proofs.Common.{◌≡◌, ℕ, zero, suc, ◌<◌, Bool, true, false, not, ◌&&◌, List, [], ◌∷◌, length, map, get_or, set, slice_get, Some, All, refl, ap, sym, subst, ◌∙◌, arith, inl, inr, ◌⊎◌, ◌↔◌}
+use Rattle.std.proofs.Common.{◌≡◌, ℕ, zero, suc, ◌<◌, Bool, true, false, not, ◌&&◌, List, [], ◌∷◌, length, map, get_or, set, slice_get, Some, All, refl, ap, sym, subst, ◌∙◌, arith, inl, inr, ◌⊎◌}
 use Rattle.std.specs.List.{Contains}
 use Rattle.std.proofs.lemmas.Bool.{cases_Bool, false≢true, not-true, not_from_false, and_parts, and_from}
 use Rattle.std.specs.Borrow.{Bor}
@@ -20,25 +20,17 @@ use Rattle.cover.proofs.Meeting.{is_disjoint-from_fact, IsDisjoint-from_test}
 pub place_at : (region : Cube) (j : ℕ) → get_or region.outputs j false ≡ true → holds region (record { point = map pick region.symbols; output = j }) ≡ true
 place_at region j on = and_from (matches region.symbols (map pick region.symbols)) (get_or region.outputs j false) (matches-map_pick region.symbols) on
 
-pub held_by_none : (region : Cube) (j : ℕ) → get_or region.outputs j false ≡ true → IsSubset (holds region) (places []) → ⊥
-held_by_none region j on h = false≢true (h (record { point = map pick region.symbols; output = j }) (place_at region j on))
-
--- the cubes without a place in the region don't count
-pub held_inside : (rows : List Cube) (region : Cube) → ((d : Cube) → Contains rows d → SameSize d region)
-    → IsSubset (holds region) (places rows) ↔ IsSubset (holds region) (places (meeting (size_of region) region rows))
-held_inside rows region sizes =
-    let meets : Cube → Bool = λ d. not (is_disjoint (size_of region) (holds d) (holds region)) in (
-      λ h p in_region.
-          let w = list_any_witness (λ d. holds d p) rows (h p in_region) in
-          let met : meets w.0 ≡ true = elim (cases_Bool (is_disjoint (size_of region) (holds w.0) (holds region))) [
-            | inl apart ↦ absurd (IsDisjoint-from_test (size_of region) w.0 (holds region) (sizes w.0 w.1) apart p w.2 in_region)
-            | inr off ↦ not_from_false (is_disjoint (size_of region) (holds w.0) (holds region)) off
-          ] in
-          list_any_from (λ d. holds d p) (meeting (size_of region) region rows) w.0 (Contains-filter meets rows w.0 w.1 met) w.2,
-      λ h p in_region.
-          let w = list_any_witness (λ d. holds d p) (meeting (size_of region) region rows) (h p in_region) in
-          list_any_from (λ d. holds d p) rows w.0 (Contains-filter_cases meets rows w.0 w.1).0 w.2,
-    )
+-- a place of the region in a list is in one of its cubes that meet the region
+pub place_inside : (rows : List Cube) (region : Cube) → ((d : Cube) → Contains rows d → SameSize d region) → (p : Place)
+    → holds region p ≡ true → places rows p ≡ true → places (meeting (size_of region) region rows) p ≡ true
+place_inside rows region sizes p in_region in_rows =
+    let meets : Cube → Bool = λ d. not (is_disjoint (size_of region) (holds d) (holds region)) in
+    let w = list_any_witness (λ d. holds d p) rows in_rows in
+    let met : meets w.0 ≡ true = elim (cases_Bool (is_disjoint (size_of region) (holds w.0) (holds region))) [
+      | inl apart ↦ absurd (IsDisjoint-from_test (size_of region) w.0 (holds region) (sizes w.0 w.1) apart p w.2 in_region)
+      | inr off ↦ not_from_false (is_disjoint (size_of region) (holds w.0) (holds region)) off
+    ] in
+    list_any_from (λ d. holds d p) (meeting (size_of region) region rows) w.0 (Contains-filter meets rows w.0 w.1 met) w.2
 
 -- a region with a symbol in place of a dash lies within the region
 pub narrowed : (region : Cube) (i : ℕ) (t : Symbol) → i < length region.symbols → get_or region.symbols i Dash ≡ Dash
@@ -138,10 +130,9 @@ module _ (rows references_to : List (Bor Cube)) (region : Cube) (sizes : All (λ
       (subst (λ l. Contains l d) inside h)).1)
       ∙ is_disjoint-from_fact (size_of region) (holds d) (holds region) apart)
 
-  pub held_lent : IsSubset (holds region) (places (behind rows)) ↔ IsSubset (holds region) (places (behind references_to))
-  held_lent =
-      subst (λ l. IsSubset (holds region) (places (behind rows)) ↔ IsSubset (holds region) (places l)) (sym inside)
-      (held_inside (behind rows) region sizes_behind)
+  pub place_lent : (p : Place) → holds region p ≡ true → places (behind rows) p ≡ true → places (behind references_to) p ≡ true
+  place_lent p in_region in_rows =
+      subst (λ l. places l p ≡ true) (sym inside) (place_inside (behind rows) region sizes_behind p in_region in_rows)
 
 dashes-set : (ss : List Symbol) (i : ℕ) (t : Symbol) → i < length ss → get_or ss i Dash ≡ Dash → free t ≡ 0 → dashes (set ss i t) < dashes ss
 dashes-set [] i t lt dash lit = absurd (omega arith)

@@ -10,6 +10,7 @@ pub mod Complete
 pub mod Parts
 pub mod Reduced
 pub mod Sides
+pub mod LeftOut
 pub mod Reason
 pub mod Apart
 pub mod Keys

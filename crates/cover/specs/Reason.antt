@@ -1,5 +1,5 @@
 -- Why the cubes of a list hold a region. No public clause cites this module.
-use Rattle.std.specs.Prelude.{◌≡◌, ◌≢◌, ℕ, ◌<◌, ◌+◌, Bool, true, ◌||◌, Option, Some, None, List, [], length, slice_get, slice_index_or, cond, ◌∷◌, All}
+use Rattle.std.specs.Prelude.{⊤, ◌≡◌, ◌≢◌, ℕ, ◌<◌, ◌+◌, Bool, true, ◌||◌, Option, Some, None, List, [], length, slice_get, slice_index_or, cond, ◌∷◌, All}
 use Rattle.cube.specs.declared.symbol.Symbol.{Symbol}
 use Rattle.cube.specs.declared.symbol.Symbol.TheVariants.{Dash}
 use Rattle.cube.specs.Pattern.{agrees}
@@ -9,8 +9,11 @@ use Rattle.std.specs.List.{Contains}
 use Rattle.std.specs.Borrow.{Bor}
 use Rattle.cover.specs.Places.{places, behind}
 use Rattle.cover.specs.Splits.{dashes}
+use Rattle.cover.specs.LeftOut.{IsLeftOut}
 use Rattle.cover.specs.declared.region.Step.{Step}
 use Rattle.cover.specs.declared.region.Step.TheVariants.{Row, Split}
+use Rattle.cover.specs.declared.region.learned.Shown.{Shown}
+use Rattle.cover.specs.declared.region.learned.Shown.TheVariants.{Held, LeftOut, Nothing}
 
 -- a cube that holds the region, and whose places are all in the list
 pub record IsReason (region : Cube) (rows : List Cube) (c : Cube) : Type 0 where
@@ -18,10 +21,11 @@ pub record IsReason (region : Cube) (rows : List Cube) (c : Cube) : Type 0 where
   pub above : IsSubset (holds region) (holds c)
   pub within : IsSubset (holds c) (places rows)
 
--- such a cube, or none if some place of the region is in no cube of the list
-abbrev pub Explains : Cube → List Cube → Option Cube → Type 0
-Explains region rows None = IsSubset (holds region) (places rows) → ⊥
-Explains region rows (Some c) = IsReason region rows c
+-- what the answer of a search shows
+abbrev pub Shows : Size → List Cube → Cube → Shown → Type 0
+Shows size rows region Held = IsSubset (holds region) (places rows)
+Shows size rows region (LeftOut part) = IsLeftOut size rows region part
+Shows size rows region Nothing = ⊤
 
 -- a cube is found that holds the region, and of which one of the two holds each place
 abbrev pub Joins : Cube → Cube → Cube → Option Cube → Type 0

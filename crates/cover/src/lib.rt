@@ -7,6 +7,8 @@
 //! - [`Cover::push`], [`Cover::get`] and [`Cover::as_slice`] for the list itself;
 //! - [`Cover::cofactor`], the list inside a cube, and [`Cover::holds_cube`], [`Cover::holds_cubes`]
 //!   and [`Cover::tautology`], which ask whether a cube, each of some or everything is held;
+//! - [`Cover::part_left_out`] and [`Cover::parts_left_out`], a part of a cube, or of each of some,
+//!   that is not held;
 //! - [`contain`], the list without the cubes that lie in others of it;
 //! - [`Cover::intersects`], [`is_within_either`] and [`agree_outside`], which compare lists by
 //!   their places, and [`are_meets_within_either`], which does so within a third list alone;
@@ -22,15 +24,15 @@
 //! `contain` leaves `1- 1` and `0- 1`; the cofactor by `1- 1` has the rows `-1 1`, `-- 1` and
 //! `-- 1`.
 //!
-//! No call lists points. `cofactor` looks at each cube once. `tautology`, `holds_cube(s)` and
-//! [`agree_outside`] split at inputs, each half answered by an implicant that says why it is held:
-//! so a split that has no part in the answer is undone at once. They take time in the number of
-//! cubes times that of the splits, which may be exponential in the inputs at worst. Where splits
-//! get many, a SAT search is asked (`sat_search`), and each clause that its answer needs is
-//! checked; the search ends unanswered before it takes 1.5 GB. `contain` looks at far fewer than
-//! all pairs of cubes if these have literals at many inputs, and at worst at all of them. Each
-//! takes memory for indices or references; `cofactor`, `contain` and `try_clone` also for the cubes
-//! of their answer.
+//! No call lists points. `cofactor` looks at each cube once. `tautology`, `holds_cube(s)`,
+//! `part(s)_left_out` and [`agree_outside`] split at inputs, each half answered by an implicant
+//! that says why it is held: so a split that has no part in the answer is undone at once. They take
+//! time in the number of cubes times that of the splits, which may be exponential in the inputs at
+//! worst. Where splits get many, a SAT search is asked (`sat_search`), and each clause that its
+//! answer needs is checked; the search ends unanswered before it takes 1.5 GB. `contain` looks at
+//! far fewer than all pairs of cubes if these have literals at many inputs, and at worst at all of
+//! them. Each takes memory for indices or references; `cofactor`, `contain` and `try_clone` also
+//! for the cubes of their answer.
 #![tactic(auto)]
 
 mod cofactor;

@@ -1,5 +1,5 @@
 //! Whether a list holds a region, with the reason: an implicant of the list that contains the
-//! region.
+//! region, or a part of the region that meets no row.
 //!
 //! A region is a cube. A row that contains it is such an implicant. Else the region is split at an
 //! input, and each half is asked for by itself. If the cube for one half has no literal at that
@@ -13,8 +13,8 @@
 //! Each question looks at the rows once. The halves of a region look first at the rows alone that
 //! had fewest open literals in it, and at all rows that meet the region once those have more.
 //!
-//! Splits may look at a limited number of rows. Once that is spent, `holds_by_splits_or_search`
-//! asks a search that learns (`learned`).
+//! Splits may look at a limited number of rows. Once that is spent,
+//! `part_left_out_by_splits_or_search` asks a search that learns (`learned`).
 pub(crate) mod learned;
 pub(crate) mod nearest_first;
 pub(crate) mod nearest_rows;
@@ -26,9 +26,10 @@ ghost use Rattle.std.specs.Prelude.{◌≡◌, ◌≢◌, ◌↔◌, ℕ, ◌≤
 ghost use Rattle.std.specs.List.{list_any};
 ghost use Rattle.cube.specs.Cube.{Cube as Row, SameSize, IsSubset, IsDisjoint, holds, with_symbol, size_of};
 ghost use Rattle.cover.specs.Places.{places, meeting as meeting_of, behind};
-ghost use Rattle.cover.specs.Reason.{IsReason, Explains, Joins, IsClosed, Leads, Share, AreAmong, AreKnown};
+ghost use Rattle.cover.specs.LeftOut.{IsLeftOut, LeavesOut};
+ghost use Rattle.cover.specs.Reason.{IsReason, Joins, IsClosed, Leads, Share, AreAmong, AreKnown};
 
-use crate::region::learned::{Learned, holds_by_search};
+use crate::region::learned::{Learned, Shown, shown_by_search};
 use crate::region::open_literals::count_open_literals;
 use crate::region::step_hint::{Hint, next_step_hint};
 use crate::symbols::opposite;
@@ -184,13 +185,15 @@ fn consensus(i: usize, one: &Cube, other: &Cube) -> Result<Option<Cube>, AllocEr
     low.meet(&high)
 }
 
-/// Why splits gave no answer.
+/// Why splits found no reason.
 #[derive(Drop)]
 pub(crate) enum Stop {
     /// A growth of memory was refused.
     Memory,
     /// They would look at more rows than they may.
     Spent,
+    /// The rows hold no place of this part of the region.
+    LeftOut(Cube),
 }
 
 impl From<AllocError> for Stop {
@@ -213,7 +216,8 @@ pub(crate) struct Allowance {
 
 // Takes `rows` from the rows that may still be looked at; `Spent` if they are limited and too few.
 fn spend(allowance: Allowance, row_budget: &mut u64, rows: usize) -> Result<(), Stop>
-    ensures { IfErr result (λ _. IsTrue allowance.limited) }
+    ensures spent { IfErr result (λ stop. stop ≡ Stop.Spent) }
+    ensures limited { IfErr result (λ _. IsTrue allowance.limited) }
 {
     match row_budget.checked_sub(rows as u64) {
         Some(left) => {
@@ -230,9 +234,9 @@ fn spend(allowance: Allowance, row_budget: &mut u64, rows: usize) -> Result<(), 
     }
 }
 
-// An implicant of the rows that contains the region, or `None` if they lack a place of it. The rows
-// `near`, which are some of the rows, are looked at alone while one of them has at most `bound`
-// open literals.
+// An implicant of the rows that contains the region, or a part of it of which they hold no place.
+// The rows `near`, which are some of the rows, are looked at alone while one of them has at most
+// `bound` open literals.
 #[cycle(reason)]
 pub(crate) fn reason(
     allowance: Allowance,
@@ -241,10 +245,12 @@ pub(crate) fn reason(
     bound: u32,
     region: &Cube,
     row_budget: &mut u64,
-) -> Result<Option<Cube>, Stop>
+) -> Result<Cube, Stop>
     requires sizes { All (λ d. SameSize d.now region.now) rows.now }
     requires near { AreAmong near.now rows.now }
-    ensures found { IfOk result (λ found. Explains region.now (behind rows.now) found) }
+    ensures found { IfOk result (IsReason region.now (behind rows.now)) }
+    ensures left_out { IfErr result (λ stop. (part : Row) → stop ≡ Stop.LeftOut part
+        → IsLeftOut (size_of region.now) (behind rows.now) region.now part) }
     ensures spent { IfErr result (λ stop. stop ≡ Stop.Spent → IsTrue allowance.limited) }
 {
     spend(allowance, row_budget, near.len())?;
@@ -255,7 +261,7 @@ pub(crate) fn reason(
         fewest,
     } = survey_rows(allowance.alloc, near, region)?;
     if let Some(cube) = found {
-        return Ok(Some(cube));
+        return Ok(cube);
     }
     if fewest <= bound && !meeting.is_empty() {
         let rest = fewest.min(bound.saturating_sub(1));
@@ -271,9 +277,11 @@ fn reason_by_all_rows(
     rows: &[&Cube],
     region: &Cube,
     row_budget: &mut u64,
-) -> Result<Option<Cube>, Stop>
+) -> Result<Cube, Stop>
     requires { All (λ d. SameSize d.now region.now) rows.now }
-    ensures found { IfOk result (λ found. Explains region.now (behind rows.now) found) }
+    ensures found { IfOk result (IsReason region.now (behind rows.now)) }
+    ensures left_out { IfErr result (λ stop. (part : Row) → stop ≡ Stop.LeftOut part
+        → IsLeftOut (size_of region.now) (behind rows.now) region.now part) }
     ensures spent { IfErr result (λ stop. stop ≡ Stop.Spent → IsTrue allowance.limited) }
 {
     spend(allowance, row_budget, rows.len())?;
@@ -284,10 +292,10 @@ fn reason_by_all_rows(
         fewest,
     } = survey_rows(allowance.alloc, rows, region)?;
     if let Some(cube) = found {
-        return Ok(Some(cube));
+        return Ok(cube);
     }
     if meeting.is_empty() {
-        return Ok(None);
+        return Err(Stop::LeftOut(region.try_clone()?));
     }
     reason_by_step(
         allowance, &meeting, &nearest, fewest, fewest, region, row_budget,
@@ -304,13 +312,15 @@ fn reason_by_step(
     bound: u32,
     region: &Cube,
     row_budget: &mut u64,
-) -> Result<Option<Cube>, Stop>
+) -> Result<Cube, Stop>
     requires output { IsTrue (list_any (λ b. b) region.now.outputs) }
     requires sizes { All (λ d. SameSize d.now region.now) rows.now }
     requires near { AreAmong near.now rows.now }
     requires meets { All (λ d. IsDisjoint (holds d.now) (holds region.now) → ⊥) near.now }
     requires some { 1 ≤ length near.now }
-    ensures found { IfOk result (λ found. Explains region.now (behind rows.now) found) }
+    ensures found { IfOk result (IsReason region.now (behind rows.now)) }
+    ensures left_out { IfErr result (λ stop. (part : Row) → stop ≡ Stop.LeftOut part
+        → IsLeftOut (size_of region.now) (behind rows.now) region.now part) }
     ensures spent { IfErr result (λ stop. stop ≡ Stop.Spent → IsTrue allowance.limited) }
 {
     match next_step(rows, near, fewest, region) {
@@ -340,30 +350,32 @@ fn reason_by_outputs(
     region: &Cube,
     row_budget: &mut u64,
     row: &Cube,
-) -> Result<Option<Cube>, Stop>
+) -> Result<Cube, Stop>
     requires sizes { All (λ d. SameSize d.now region.now) rows.now }
     requires near { AreAmong near.now rows.now }
     requires size { SameSize row.now region.now }
     requires member { Contains (behind rows.now) row.now }
     requires meets { IsDisjoint (holds row.now) (holds region.now) → ⊥ }
     requires closed { IsClosed region.now row.now }
-    ensures found { IfOk result (λ found. Explains region.now (behind rows.now) found) }
+    ensures found { IfOk result (IsReason region.now (behind rows.now)) }
+    ensures left_out { IfErr result (λ stop. (part : Row) → stop ≡ Stop.LeftOut part
+        → IsLeftOut (size_of region.now) (behind rows.now) region.now part) }
     ensures spent { IfErr result (λ stop. stop ≡ Stop.Spent → IsTrue allowance.limited) }
 {
     if !region.has_outputs_beyond(row) {
-        return Ok(Some(row.try_clone()?));
+        return Ok(row.try_clone()?);
     }
-    let found = {
+    let other = {
         let rest = region.without_outputs(row)?;
         reason(allowance, rows, near, bound, &rest, row_budget)?
     };
-    let Some(other) = found else {
-        return Ok(None);
-    };
     if other.contains(region) {
-        return Ok(Some(other));
+        return Ok(other);
     }
-    Ok(row.output_consensus(&other)?)
+    match row.output_consensus(&other)? {
+        Some(cube) => Ok(cube),
+        None => unreachable!(),
+    }
 }
 
 // The reason, found by the two halves of the region at an input, first that with the literal.
@@ -376,25 +388,24 @@ fn reason_by_split(
     region: &Cube,
     row_budget: &mut u64,
     at: (usize, Symbol),
-) -> Result<Option<Cube>, Stop>
+) -> Result<Cube, Stop>
     requires output { IsTrue (list_any (λ b. b) region.now.outputs) }
     requires sizes { All (λ d. SameSize d.now region.now) rows.now }
     requires near { AreAmong near.now rows.now }
     requires dash { slice_get region.now.symbols at.0 ≡ Some Symbol.Dash }
     requires literal { at.1 ≢ Symbol.Dash }
-    ensures found { IfOk result (λ found. Explains region.now (behind rows.now) found) }
+    ensures found { IfOk result (IsReason region.now (behind rows.now)) }
+    ensures left_out { IfErr result (λ stop. (part : Row) → stop ≡ Stop.LeftOut part
+        → IsLeftOut (size_of region.now) (behind rows.now) region.now part) }
     ensures spent { IfErr result (λ stop. stop ≡ Stop.Spent → IsTrue allowance.limited) }
 {
     let (i, literal) = at;
-    let found = {
+    let one = {
         let first = region.with_symbol(i, literal)?;
         reason(allowance, rows, near, bound, &first, row_budget)?
     };
-    let Some(one) = found else {
-        return Ok(None);
-    };
     if one.contains(region) {
-        return Ok(Some(one));
+        return Ok(one);
     }
     reason_by_other_half(allowance, rows, near, bound, region, row_budget, at, &one)
 }
@@ -411,7 +422,7 @@ fn reason_by_other_half(
     row_budget: &mut u64,
     at: (usize, Symbol),
     one: &Cube,
-) -> Result<Option<Cube>, Stop>
+) -> Result<Cube, Stop>
     requires output { IsTrue (list_any (λ b. b) region.now.outputs) }
     requires sizes { All (λ d. SameSize d.now region.now) rows.now }
     requires near { AreAmong near.now rows.now }
@@ -419,31 +430,36 @@ fn reason_by_other_half(
     requires literal { at.1 ≢ Symbol.Dash }
     requires one_size { SameSize one.now region.now }
     requires one { IsReason (with_symbol region.now at.0 at.1) (behind rows.now) one.now }
-    ensures found { IfOk result (λ found. Explains region.now (behind rows.now) found) }
+    ensures found { IfOk result (IsReason region.now (behind rows.now)) }
+    ensures left_out { IfErr result (λ stop. (part : Row) → stop ≡ Stop.LeftOut part
+        → IsLeftOut (size_of region.now) (behind rows.now) region.now part) }
     ensures spent { IfErr result (λ stop. stop ≡ Stop.Spent → IsTrue allowance.limited) }
 {
     let (i, literal) = at;
-    let found = {
+    let other = {
         let second = region.with_symbol(i, opposite(literal))?;
         reason(allowance, rows, near, bound, &second, row_budget)?
     };
-    let Some(other) = found else {
-        return Ok(None);
-    };
     if other.contains(region) {
-        return Ok(Some(other));
+        return Ok(other);
     }
-    Ok(consensus(i, one, &other)?)
+    match consensus(i, one, &other)? {
+        Some(cube) => Ok(cube),
+        None => unreachable!(),
+    }
 }
 
-/// Whether the rows hold each place of the region.
-pub(crate) fn holds_region(alloc: Global, rows: &[&Cube], region: &Cube) -> Result<bool, AllocError>
+/// A part of the region of which the rows hold no place, or `None` if they hold the region.
+pub(crate) fn part_left_out(
+    alloc: Global,
+    rows: &[&Cube],
+    region: &Cube,
+) -> Result<Option<Cube>, AllocError>
     requires { All (λ d. SameSize d.now region.now) rows.now }
-    ensures { IfOk result
-        (λ held. IsTrue held ↔ IsSubset (holds region.now) (places (behind rows.now))) }
+    ensures { IfOk result (LeavesOut (size_of region.now) (behind rows.now) region.now) }
 {
     let mut learned = Learned::new(alloc);
-    holds_by_splits_or_search(alloc, rows, &[], 0, region, &mut learned)
+    part_left_out_by_splits_or_search(alloc, rows, &[], 0, region, &mut learned)
 }
 
 /// Whether splits that look at no more than `row_budget` rows show that the rows hold each place of
@@ -464,24 +480,25 @@ pub(crate) fn is_seen_to_hold(
     };
     let mut left = row_budget as u64;
     match reason(allowance, rows, &[], 0, region, &mut left) {
-        Ok(found) => Ok(found.is_some()),
+        Ok(_) => Ok(true),
         Err(Stop::Memory) => Err(AllocError),
         Err(Stop::Spent) => Ok(false),
+        Err(Stop::LeftOut(_)) => Ok(false),
     }
 }
 
-// Whether the rows hold each place of the region, by as many splits as it takes.
-fn holds_by_unlimited_splits(
+// A part of the region of which the rows hold no place, if there is one, by as many splits as it
+// takes.
+fn part_left_out_by_unlimited_splits(
     alloc: Global,
     rows: &[&Cube],
     near: &[&Cube],
     bound: u32,
     region: &Cube,
-) -> Result<bool, AllocError>
+) -> Result<Option<Cube>, AllocError>
     requires sizes { All (λ d. SameSize d.now region.now) rows.now }
     requires near { AreAmong near.now rows.now }
-    ensures { IfOk result
-        (λ held. IsTrue held ↔ IsSubset (holds region.now) (places (behind rows.now))) }
+    ensures { IfOk result (LeavesOut (size_of region.now) (behind rows.now) region.now) }
 {
     let allowance = Allowance {
         alloc,
@@ -489,34 +506,34 @@ fn holds_by_unlimited_splits(
     };
     let mut row_budget = 0;
     match reason(allowance, rows, near, bound, region, &mut row_budget) {
-        Ok(found) => Ok(found.is_some()),
+        Ok(_) => Ok(None),
+        Err(Stop::LeftOut(part)) => Ok(Some(part)),
         Err(Stop::Memory) => Err(AllocError),
         Err(Stop::Spent) => unreachable!(),
     }
 }
 
-/// Whether the rows hold each place of the region. The rows `near` are looked at alone while one of
-/// them has at most `bound` open literals.
+/// A part of the region of which the rows hold no place, or `None` if they hold the region. The
+/// rows `near` are looked at alone while one of them has at most `bound` open literals.
 ///
 /// Most questions are answered by splits. Once the splits of all questions about the rows have
 /// spent the row budget of `learned`, a search is asked, and what it learns of the rows is kept. If
 /// it finds no answer within its limits, or one that fails the check, splits begin again without
 /// limit.
-pub(crate) fn holds_by_splits_or_search(
+pub(crate) fn part_left_out_by_splits_or_search(
     alloc: Global,
     rows: &[&Cube],
     near: &[&Cube],
     bound: u32,
     region: &Cube,
     learned: &mut Learned,
-) -> Result<bool, AllocError>
+) -> Result<Option<Cube>, AllocError>
     requires sizes { All (λ d. SameSize d.now region.now) rows.now }
     requires near { AreAmong near.now rows.now }
     requires known { AreKnown (size_of region.now) learned.old.known.items (behind rows.now) }
     ensures known { OnOk result
         (AreKnown (size_of region.now) learned.new.known.items (behind rows.now)) }
-    ensures held { IfOk result
-        (λ held. IsTrue held ↔ IsSubset (holds region.now) (places (behind rows.now))) }
+    ensures part { IfOk result (LeavesOut (size_of region.now) (behind rows.now) region.now) }
 {
     learned.raise_row_budget(rows);
     let allowance = Allowance {
@@ -531,12 +548,14 @@ pub(crate) fn holds_by_splits_or_search(
         region,
         &mut learned.row_budget,
     ) {
-        Ok(found) => return Ok(found.is_some()),
+        Ok(_) => return Ok(None),
+        Err(Stop::LeftOut(part)) => return Ok(Some(part)),
         Err(Stop::Memory) => return Err(AllocError),
         Err(Stop::Spent) => (),
     }
-    if let Some(held) = holds_by_search(alloc, rows, learned, region)? {
-        return Ok(held);
+    match shown_by_search(alloc, rows, learned, region)? {
+        Shown::Held => Ok(None),
+        Shown::LeftOut(part) => Ok(Some(part)),
+        Shown::Nothing => part_left_out_by_unlimited_splits(alloc, rows, near, bound, region),
     }
-    holds_by_unlimited_splits(alloc, rows, near, bound, region)
 }

@@ -7,7 +7,7 @@ ghost use Rattle.std.specs.Prelude.{◌≡◌};
 
 use crate::covers::{Operation, Question, answer, result_of};
 use crate::places;
-use crate::rows::{cube_of_bytes, same_shape};
+use crate::rows::{cube_of_bytes, held_of, same_shape};
 use crate::rules::{Rows, Rule, are_rows, cube_of_rule, has_rows, is_row, list_of};
 use cube::{Cube, Shape};
 use std::alloc::Global;
@@ -130,6 +130,33 @@ fn long_and_wide_lists_answer(rt: HostRuntime) -> Result<(), Fail> {
     }
     for case in &WIDE_ANSWERS {
         assert!(rt; answers(rt.alloc(), 1024, 1024, case)?);
+    }
+    Ok(())
+}
+
+// Inputs, outputs, a list, another of one cube, and whether the list holds that.
+type Held = (usize, usize, Rows, Rows, bool);
+
+const HELD: [Held; 4] = [
+    (16, 1, LONG_HALF, HALF, true),
+    (16, 1, LONG_HALF, UNIVERSE, false),
+    (1024, 1024, WIDE_HALF, HALF, true),
+    (1024, 1024, WIDE_HALF, UNIVERSE, false),
+];
+
+// Whether the list holds the cube of the case, or leaves out a part of it.
+fn is_held(alloc: Global, case: &Held) -> Result<bool, Fail> {
+    let (inputs, outputs, rows, cube, yes) = *case;
+    let shape = Shape::new(inputs, outputs).ok_or("limits")?;
+    let list = list_of(alloc, shape, rows)?;
+    let held = held_of(&list, &list_of(alloc, shape, cube)?)?;
+    Ok(held.first().copied() == Some(yes))
+}
+
+#[test]
+fn long_and_wide_lists_leave_out_parts(rt: HostRuntime) -> Result<(), Fail> {
+    for case in &HELD {
+        assert!(rt; is_held(rt.alloc(), case)?);
     }
     Ok(())
 }

@@ -82,21 +82,50 @@ pub(crate) fn push(list: &mut Cover, row: Cube) -> Result<(), Fail> {
     Ok(list.push(row).ok().ok_or("memory")?)
 }
 
-// Whether the list holds the cube.
+// Whether the part lies in the cube and meets no cube of the list.
+fn is_left_out(list: &Cover, cube: &Cube, part: &Cube) -> Result<bool, Fail> {
+    same_shape(cube.shape(), part.shape())?;
+    for row in list.as_slice() {
+        same_shape(row.shape(), part.shape())?;
+        if !part.disjoint(row) {
+            return Ok(false);
+        }
+    }
+    Ok(cube.contains(part))
+}
+
+// Fails unless a part of the cube is left out, or none is left out of a cube that is held.
+fn fits(list: &Cover, cube: &Cube, held: bool, part: &Option<Cube>) -> Result<(), Fail> {
+    let is_fit = match part {
+        Some(part) => !held && is_left_out(list, cube, part)?,
+        None => held,
+    };
+    if !is_fit {
+        return Err("another part")?;
+    }
+    Ok(())
+}
+
+// Whether the list holds the cube. Fails where it leaves out another part.
 pub(crate) fn holds(list: &Cover, cube: &Cube) -> Result<bool, Fail> {
     same_shape(list.shape(), cube.shape())?;
-    Ok(list.holds_cube(cube)?)
+    let held = list.holds_cube(cube)?;
+    fits(list, cube, held, &list.part_left_out(cube)?)?;
+    Ok(held)
 }
 
 // Which of the cubes the list holds, in one call. Fails where calls for each of them answer
-// otherwise.
+// otherwise, or where the list leaves out another part of one.
 pub(crate) fn held_of(list: &Cover, cubes: &Cover) -> Result<Vec<bool>, Fail> {
     same_shape(list.shape(), cubes.shape())?;
     let held = list.holds_cubes(cubes.as_slice())?;
+    let parts = list.parts_left_out(cubes.as_slice())?;
     for (k, cube) in cubes.as_slice().iter().enumerate() {
-        if *held.get(k).ok_or("too few answers")? != holds(list, cube)? {
+        let is_held = *held.get(k).ok_or("too few answers")?;
+        if is_held != holds(list, cube)? {
             return Err("another answer")?;
         }
+        fits(list, cube, is_held, parts.get(k).ok_or("too few parts")?)?;
     }
     Ok(held)
 }

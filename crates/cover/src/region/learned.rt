@@ -10,7 +10,7 @@ ghost use Rattle.std.specs.Prelude.{◌≡◌, ◌↔◌, ◌<◌, ◌||◌, [],
 ghost use Rattle.std.specs.List.{list_any};
 ghost use Rattle.cube.specs.Cube.{HasSize, Place, SameSize, IsSubset, holds, size_of};
 ghost use Rattle.cover.specs.Places.{places, behind};
-ghost use Rattle.cover.specs.Reason.{AreKnown};
+ghost use Rattle.cover.specs.Reason.{AreKnown, Shows};
 
 use crate::compare::pairwise::is_disjoint_from_all;
 use crate::cubes::cube_of_output;
@@ -145,22 +145,35 @@ fn known_cube_contains(known: &[Cube], index: usize, region: &Cube) -> bool
     }
 }
 
-// Whether the point with these literals lies in the region and in no row.
-fn is_point_outside(
+/// What the checked answer of a search shows of a region.
+#[derive(Drop)]
+pub(crate) enum Shown {
+    /// The rows hold it.
+    Held,
+    /// The rows hold no place of this part of it.
+    LeftOut(Cube),
+    /// Nothing.
+    Nothing,
+}
+
+// The point with these literals, as a cube of this output, if it lies in the region and in no row.
+fn point_outside(
     alloc: Global,
     rows: &[&Cube],
     region: &Cube,
     output: usize,
     literals: &[u32],
-) -> Result<bool, AllocError>
+) -> Result<Shown, AllocError>
     requires { All (λ d. SameSize d.now region.now) rows.now }
-    ensures { IfOk result (λ out. IsTrue out
-        → IsSubset (holds region.now) (places (behind rows.now)) → ⊥) }
+    ensures { IfOk result (Shows (size_of region.now) (behind rows.now) region.now) }
 {
     let Some(point) = cube_of_literals(alloc, region.shape(), output, literals)? else {
-        return Ok(false);
+        return Ok(Shown::Nothing);
     };
-    Ok(region.contains(&point) && is_disjoint_from_all(&point, rows))
+    if region.contains(&point) && is_disjoint_from_all(&point, rows) {
+        return Ok(Shown::LeftOut(point));
+    }
+    Ok(Shown::Nothing)
 }
 
 /// What was learned of some rows.
@@ -345,62 +358,52 @@ fn build_search_if_none(
     Ok(())
 }
 
-// Whether the rows hold the region, by the answer of a search, which is checked; `None` if it is no
-// answer or is not shown.
-fn check_answer(
+// What the answer of a search shows of the region, once it is checked.
+fn shown_by_answer(
     alloc: Global,
     rows: &[&Cube],
     known: &mut Vec<Cube>,
     output: usize,
     region: &Cube,
     answer: &Answer,
-) -> Result<Option<bool>, AllocError>
+) -> Result<Shown, AllocError>
     requires sizes { All (λ d. SameSize d.now region.now) rows.now }
     requires known { AreKnown (size_of region.now) known.old.items (behind rows.now) }
     ensures known { OnOk result (AreKnown (size_of region.now) known.new.items (behind rows.now)) }
-    ensures held { IfOk result (λ found. IfSome found (λ held. IsTrue held
-        ↔ IsSubset (holds region.now) (places (behind rows.now)))) }
+    ensures shown { IfOk result (Shows (size_of region.now) (behind rows.now) region.now) }
 {
     match answer {
-        Answer::Unknown => Ok(None),
-        Answer::Point(point) => {
-            if is_point_outside(alloc, rows, region, output, point)? {
-                Ok(Some(false))
-            } else {
-                Ok(None)
-            }
-        }
+        Answer::Unknown => Ok(Shown::Nothing),
+        Answer::Point(point) => point_outside(alloc, rows, region, output, point),
         Answer::Refutation(refutation) => {
             if accept_refutation(alloc, region.shape(), output, known, refutation)?
                 && known_cube_contains(known, refutation.last() as usize, region)
             {
-                Ok(Some(true))
+                Ok(Shown::Held)
             } else {
-                Ok(None)
+                Ok(Shown::Nothing)
             }
         }
     }
 }
 
-// Whether the rows hold each place of the region, whose only output is this one; `None` if the
-// search gives no answer, or one that fails the check.
-fn holds_by_search_at(
+// What a search shows of the region, whose only output is this one.
+fn shown_by_search_at(
     alloc: Global,
     rows: &[&Cube],
     learned: &mut Learned,
     output: usize,
     region: &Cube,
-) -> Result<Option<bool>, AllocError>
+) -> Result<Shown, AllocError>
     requires sizes { All (λ d. SameSize d.now region.now) rows.now }
     requires known { AreKnown (size_of region.now) learned.old.known.items (behind rows.now) }
     ensures known { OnOk result
         (AreKnown (size_of region.now) learned.new.known.items (behind rows.now)) }
-    ensures held { IfOk result (λ found. IfSome found (λ held. IsTrue held
-        ↔ IsSubset (holds region.now) (places (behind rows.now)))) }
+    ensures shown { IfOk result (Shows (size_of region.now) (behind rows.now) region.now) }
 {
     learned.prepare_search(alloc, rows, output, region.shape())?;
     let answer = learned.ask_search(alloc, output, region)?;
-    check_answer(alloc, rows, &mut learned.known, output, region, &answer)
+    shown_by_answer(alloc, rows, &mut learned.known, output, region, &answer)
 }
 
 // The places of a region with this output, as a cube, if the region has the output.
@@ -422,30 +425,28 @@ fn part_at_output(alloc: Global, region: &Cube, output: usize) -> Result<Option<
     region.meet(&all)
 }
 
-/// Whether the rows hold each place of the region, if searches answer that, output by output.
-pub(crate) fn holds_by_search(
+/// What searches show of the region, output by output.
+pub(crate) fn shown_by_search(
     alloc: Global,
     rows: &[&Cube],
     learned: &mut Learned,
     region: &Cube,
-) -> Result<Option<bool>, AllocError>
+) -> Result<Shown, AllocError>
     requires sizes { All (λ d. SameSize d.now region.now) rows.now }
     requires known { AreKnown (size_of region.now) learned.old.known.items (behind rows.now) }
     ensures known { OnOk result
         (AreKnown (size_of region.now) learned.new.known.items (behind rows.now)) }
-    ensures held { IfOk result (λ found. IfSome found (λ held. IsTrue held
-        ↔ IsSubset (holds region.now) (places (behind rows.now)))) }
+    ensures shown { IfOk result (Shows (size_of region.now) (behind rows.now) region.now) }
 {
     for output in 0..region.shape().outputs() {
         let Some(part) = part_at_output(alloc, region, output)? else {
             continue;
         };
-        let Some(held) = holds_by_search_at(alloc, rows, learned, output, &part)? else {
-            return Ok(None);
-        };
-        if !held {
-            return Ok(Some(false));
+        match shown_by_search_at(alloc, rows, learned, output, &part)? {
+            Shown::Held => (),
+            Shown::LeftOut(point) => return Ok(Shown::LeftOut(point)),
+            Shown::Nothing => return Ok(Shown::Nothing),
         }
     }
-    Ok(Some(true))
+    Ok(Shown::Held)
 }

@@ -1,17 +1,18 @@
-//! Whether a list holds each of many regions.
+//! Whether a list holds each of many regions, and what it leaves out of them.
 //!
 //! What a search learns of the list is kept from one region to the next. If there are many rows and
 //! many regions, the rows nearest to a region are asked first, and then of all rows those that
 //! share a literal with it are looked at before the others.
-ghost use Rattle.std.specs.Prelude.{◌≡◌, ◌↔◌, IsTrue, IfOk, OnOk, All, map};
+ghost use Rattle.std.specs.Prelude.{◌≡◌, ◌↔◌, IsTrue, IfOk, OnOk, All};
+ghost use Rattle.std.specs.List.{AllZip};
 ghost use Rattle.cube.specs.Cube.{HasSize, SameSize, IsSubset, holds, size_of};
-ghost use Rattle.cube.specs.Sum.{is_subset};
 ghost use Rattle.cover.specs.Places.{places, behind};
+ghost use Rattle.cover.specs.LeftOut.{LeavesOut};
 ghost use Rattle.cover.specs.Reason.{AreAmong, AreKnown};
 
 use crate::region::learned::Learned;
 use crate::region::nearest_rows::RowBits;
-use crate::region::{holds_by_splits_or_search, is_seen_to_hold};
+use crate::region::{is_seen_to_hold, part_left_out_by_splits_or_search};
 use cube::{Cube, Shape};
 use std::alloc::{AllocError, Global};
 
@@ -81,33 +82,33 @@ fn bits_if_both_long(
     Ok(None)
 }
 
-// Whether the rows hold the region. With bits, the rows nearest to the region are asked first,
-// since they often hold it alone; if they do not, the rows that share a literal with it are looked
-// at before the others.
-fn holds_region_nearest_first(
+// A part of the region of which the rows hold no place, or `None` if they hold the region. With
+// bits, the rows nearest to the region are asked first, since they often hold it alone; if they do
+// not, the rows that share a literal with it are looked at before the others.
+fn part_left_out_nearest_first(
     alloc: Global,
     shape: Shape,
     rows: &[&Cube],
     bits: &Option<RowBits>,
     region: &Cube,
     learned: &mut Learned,
-) -> Result<bool, AllocError>
+) -> Result<Option<Cube>, AllocError>
     requires sizes { All (λ d. SameSize d.now region.now) rows.now }
     requires known { AreKnown (size_of region.now) learned.old.known.items (behind rows.now) }
     ensures known { OnOk result
         (AreKnown (size_of region.now) learned.new.known.items (behind rows.now)) }
-    ensures held { IfOk result
-        (λ held. IsTrue held ↔ IsSubset (holds region.now) (places (behind rows.now))) }
+    ensures part { IfOk result (LeavesOut (size_of region.now) (behind rows.now) region.now) }
 {
     let Some(bits) = bits else {
-        return holds_by_splits_or_search(alloc, rows, &[], 0, region, learned);
+        return part_left_out_by_splits_or_search(alloc, rows, &[], 0, region, learned);
     };
     let nearest = bits.nearest(alloc, rows, region)?;
     if is_seen_to_hold(alloc, &nearest, region, rows.len())? {
-        return Ok(true);
+        return Ok(None);
     }
     let near = rows_sharing_literal(alloc, shape, rows, region)?;
-    holds_by_splits_or_search(alloc, rows, &near, bits.fewest_literals(), region, learned)
+    let bound = bits.fewest_literals();
+    part_left_out_by_splits_or_search(alloc, rows, &near, bound, region, learned)
 }
 
 /// Whether the others hold each row, by a question for each.
@@ -125,32 +126,32 @@ pub(crate) fn are_held_one_by_one(
     let bits = bits_if_both_long(alloc, shape, rows.len(), others)?;
     let mut learned = Learned::new(alloc);
     for row in rows {
-        if !holds_region_nearest_first(alloc, shape, others, &bits, row, &mut learned)? {
+        if part_left_out_nearest_first(alloc, shape, others, &bits, row, &mut learned)?.is_some() {
             return Ok(false);
         }
     }
     Ok(true)
 }
 
-/// For each region whether the rows hold it. What a search learns of the rows is kept for the next
-/// regions.
-pub(crate) fn holds_each_region(
+/// For each region a part of it of which the rows hold no place, or `None` if they hold the region.
+/// What a search learns of the rows is kept for the next regions.
+pub(crate) fn part_left_out_of_each(
     alloc: Global,
     shape: Shape,
     rows: &[&Cube],
     regions: &[Cube],
-) -> Result<Vec<bool>, AllocError>
+) -> Result<Vec<Option<Cube>>, AllocError>
     requires rows { All (λ d. HasSize d.now shape) rows.now }
     requires regions { All (λ d. HasSize d shape) regions.now }
-    ensures { IfOk result (λ held. held.items
-        ≡ map (λ d. is_subset shape (holds d) (places (behind rows.now))) regions.now) }
+    ensures { IfOk result
+        (λ parts. AllZip (LeavesOut shape (behind rows.now)) regions.now parts.items) }
 {
-    let mut held = Vec::with_capacity(alloc, regions.len())?;
+    let mut parts = Vec::with_capacity(alloc, regions.len())?;
     let bits = bits_if_both_long(alloc, shape, regions.len(), rows)?;
     let mut learned = Learned::new(alloc);
     for region in regions {
-        let answer = holds_region_nearest_first(alloc, shape, rows, &bits, region, &mut learned)?;
-        held.push(answer)?;
+        let part = part_left_out_nearest_first(alloc, shape, rows, &bits, region, &mut learned)?;
+        parts.push(part)?;
     }
-    Ok(held)
+    Ok(parts)
 }

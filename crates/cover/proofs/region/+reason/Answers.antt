@@ -1,14 +1,14 @@
 use Rattle.std.proofs.Common.{◌≡◌, ◌≤◌, ◌∙◌, All, IfNone, IfSome, length, ap, sym, subst, refl, arith}
 use Rattle.std.specs.Prelude.{vec_len}
-use Rattle.std.proofs.lemmas.Result.{IfOk-weaker, MatchResult-at_ok}
+use Rattle.std.proofs.lemmas.Result.{IfOk-weaker, IfErr-weaker, MatchResult-at_ok, err_from_is_err_and}
 use Rattle.std.proofs.lemmas.Option.{slice_get_within}
 use Rattle.cube.specs.declared.symbol.Symbol.TheVariants.{Dash}
 use Rattle.cube.specs.Cube.{SameSize, IsDisjoint, holds, with_symbol, size_of}
 use Rattle.cover.specs.Places.{behind, meeting}
-use Rattle.cover.specs.Reason.{IsReason, Explains, Leads, AreAmong}
+use Rattle.cover.specs.Reason.{IsReason, Joins, Leads, AreAmong}
 use Rattle.cover.specs.declared.region.Step.TheVariants.{Row}
 use Rattle.cover.proofs.Lists.{length-behind}
-use Rattle.cover.proofs.Reasons.{freed_half, share_sides, opposite_literal, sizes_part, SameSize-part, reason_of_more, reason_joined, within_rows, reason_of_row, unexplained_half, extent_half, row_inputs, row_above, size_rest, extent_rest, unexplained_rest, joined_stack, other_inputs, either_output, explains_lent, unexplained_none, row_leads, reason_of_some, sizes_among, meets_among, among_lent, none_left, some_left}
+use Rattle.cover.proofs.Reasons.{freed_half, share_sides, opposite_literal, sizes_part, SameSize-part, reason_of_more, reason_joined, within_rows, reason_of_row, extent_half, row_inputs, row_above, size_rest, extent_rest, joined_stack, other_inputs, either_output, reason_lent, left_out_lent, left_out_whole, same_part, half_within, rest_within, left_out_of_more, row_leads, reason_of_some, sizes_among, meets_among, among_lent, none_left, some_left}
 use Rattle.cover.proofs.region.+reason.Goals as goal
 
 pub reason_by_split-reason-requires : goal.reason_by_split-reason-requires
@@ -16,20 +16,11 @@ reason_by_split-reason-requires t c =
     let less = extent_half c.args.region.now c.in_ok-first.first c.args.at.0 c.args.at.1 c.requires.dash c.requires.literal c.in_ok-first.ensures.value in
     (omega (arith, less), (sizes_part c.args.rows.now c.args.region.now c.in_ok-first.first c.requires.sizes c.in_ok-first.ensures.size, c.requires.near))
 
-pub reason_by_split-returns-in_default : goal.reason_by_split-returns-in_default
-reason_by_split-returns-in_default t c =
-    record {
-      found = unexplained_half (behind c.args.rows.now) c.args.region.now c.in_ok-first.first c.args.at.0 c.args.at.1 c.requires.dash c.in_ok-first.ensures.value
-          (subst (λ o. Explains c.in_ok-first.first (behind c.args.rows.now) o) c.in_default.is c.in_ok-found.ensures.found);
-      spent = tt;
-    }
-
 pub reason_by_split-reason_by_other_half-requires : goal.reason_by_split-reason_by_other_half-requires
 reason_by_split-reason_by_other_half-requires t c =
-    let r : IsReason c.in_ok-first.first (behind c.args.rows.now) c.in-Some.one =
-    subst (λ o. Explains c.in_ok-first.first (behind c.args.rows.now) o) c.in-Some.is c.in_ok-found.ensures.found in
-    let size = SameSize-part c.in-Some.one c.in_ok-first.first c.args.region.now r.size c.in_ok-first.ensures.size in
-    let half = subst (λ h. IsReason h (behind c.args.rows.now) c.in-Some.one) c.in_ok-first.ensures.value r in
+    let r = c.in_ok-one.ensures.found in
+    let size = SameSize-part c.in_ok-one.one c.in_ok-first.first c.args.region.now r.size c.in_ok-first.ensures.size in
+    let half = subst (λ h. IsReason h (behind c.args.rows.now) c.in_ok-one.one) c.in_ok-first.ensures.value r in
     (omega arith, (c.requires.output, (c.requires.sizes, (c.requires.near, (c.requires.dash, (c.requires.literal, (size, half)))))))
 
 pub reason_by_other_half-reason-requires : goal.reason_by_other_half-reason-requires
@@ -38,14 +29,6 @@ reason_by_other_half-reason-requires t c =
     (subst (λ s. s ≡ Dash → ⊥) (sym c.opposite.ensures) (opposite_literal c.args.at.1 c.requires.literal)) c.in_ok-second.ensures.value in
     (omega (arith, less), (sizes_part c.args.rows.now c.args.region.now c.in_ok-second.second c.requires.sizes c.in_ok-second.ensures.size, c.requires.near))
 
-pub reason_by_other_half-returns-in_default : goal.reason_by_other_half-returns-in_default
-reason_by_other_half-returns-in_default t c =
-    record {
-      found = unexplained_half (behind c.args.rows.now) c.args.region.now c.in_ok-second.second c.args.at.0 c.opposite.result c.requires.dash c.in_ok-second.ensures.value
-          (subst (λ o. Explains c.in_ok-second.second (behind c.args.rows.now) o) c.in_default.is c.in_ok-found.ensures.found);
-      spent = tt;
-    }
-
 pub reason_by_other_half-consensus-requires-clause-input : goal.reason_by_other_half-consensus-requires-clause-input
 reason_by_other_half-consensus-requires-clause-input t c =
     let lt = slice_get_within c.args.region.now.symbols c.args.at.0 Dash c.requires.dash in
@@ -53,16 +36,14 @@ reason_by_other_half-consensus-requires-clause-input t c =
 
 pub reason_by_other_half-consensus-requires-clause-size : goal.reason_by_other_half-consensus-requires-clause-size
 reason_by_other_half-consensus-requires-clause-size t c =
-    let r : IsReason c.in_ok-second.second (behind c.args.rows.now) c.in-Some.other =
-    subst (λ o. Explains c.in_ok-second.second (behind c.args.rows.now) o) c.in-Some.is c.in_ok-found.ensures.found in
-    let size = SameSize-part c.in-Some.other c.in_ok-second.second c.args.region.now r.size c.in_ok-second.ensures.size in
+    let r = c.in_ok-other.ensures.found in
+    let size = SameSize-part c.in_ok-other.other c.in_ok-second.second c.args.region.now r.size c.in_ok-second.ensures.size in
     (size.0 ∙ sym c.requires.one_size.0, size.1 ∙ sym c.requires.one_size.1)
 
 pub reason_by_other_half-consensus-requires-clause-sides : goal.reason_by_other_half-consensus-requires-clause-sides
 reason_by_other_half-consensus-requires-clause-sides t c =
-    let q : IsReason c.in_ok-second.second (behind c.args.rows.now) c.in-Some.other =
-    subst (λ o. Explains c.in_ok-second.second (behind c.args.rows.now) o) c.in-Some.is c.in_ok-found.ensures.found in
-    share_sides c.args.region.now (with_symbol c.args.region.now c.args.at.0 c.args.at.1) c.in_ok-second.second c.args.one.now c.in-Some.other c.args.at.0 c.args.at.1
+    let q = c.in_ok-other.ensures.found in
+    share_sides c.args.region.now (with_symbol c.args.region.now c.args.at.0 c.args.at.1) c.in_ok-second.second c.args.one.now c.in_ok-other.other c.args.at.0 c.args.at.1
     c.requires.output c.requires.dash refl
     (c.in_ok-second.ensures.value ∙ ap (λ s. with_symbol c.args.region.now c.args.at.0 s) c.opposite.ensures) c.requires.one.size q.size c.requires.one.above q.above
 
@@ -71,17 +52,18 @@ reason_by_other_half-returns t c =
     let rows = behind c.args.rows.now in
     let region = c.args.region.now in
     let one = c.args.one.now in
-    let other = c.in-Some.other in
+    let other = c.in_ok-other.other in
     let second = c.in_ok-second.second in
     let at = c.args.at.0 in
-    let r : IsReason second rows other = subst (λ o. Explains second rows o) c.in-Some.is c.in_ok-found.ensures.found in
+    let r = c.in_ok-other.ensures.found in
     let size = SameSize-part other second region r.size c.in_ok-second.ensures.size in
     let mine = freed_half region (with_symbol region at c.args.at.1) one at c.args.at.1 c.requires.dash c.requires.literal c.requires.one_size refl c.requires.one.above in
     let theirs = freed_half region second other at c.opposite.result c.requires.dash
     (subst (λ s. s ≡ Dash → ⊥) (sym c.opposite.ensures) (opposite_literal c.args.at.1 c.requires.literal)) size c.in_ok-second.ensures.value r.above in
     record {
-      found = reason_joined rows region one other c.requires.one.within r.within
-          c.in_ok-consensus.field-0 (c.in_ok-consensus.ensures region c.requires.output c.requires.one_size mine theirs);
+      found = reason_joined rows region one other c.in-Some.cube c.requires.one.within r.within
+          (subst (Joins region one other) c.in-Some.is (c.in_ok-cube.ensures region c.requires.output c.requires.one_size mine theirs));
+      left_out = tt;
       spent = tt;
     }
 
@@ -91,6 +73,7 @@ reason_by_outputs-returns-then-not-has_outputs_beyond t c =
       found = reason_of_row (behind c.args.rows.now) c.args.region.now c.args.row.now c.in_ok-try_clone.field-0 c.requires.member c.requires.size c.in_ok-try_clone.ensures.value
           (row_above (behind c.args.rows.now) c.args.region.now c.args.row.now c.args.row.now c.requires.size c.requires.meets c.requires.closed
           c.has_outputs_beyond.result c.has_outputs_beyond.ensures c.if-not-has_outputs_beyond.true);
+      left_out = tt;
       spent = tt;
     }
 
@@ -105,37 +88,27 @@ reason_by_outputs-reason-requires t c =
       ),
     )
 
-pub reason_by_outputs-returns-in_default : goal.reason_by_outputs-returns-in_default
-reason_by_outputs-returns-in_default t c =
-    record {
-      found = unexplained_rest (behind c.args.rows.now) c.args.region.now c.args.row.now c.in_ok-rest.rest c.requires.size c.requires.meets c.requires.closed c.in_ok-rest.ensures.value
-          (subst (λ o. Explains c.in_ok-rest.rest (behind c.args.rows.now) o) c.in_default.is c.in_ok-found.ensures.found);
-      spent = tt;
-    }
-
 pub reason_by_outputs-contains-requires : goal.reason_by_outputs-contains-requires
 reason_by_outputs-contains-requires t c =
-    let r : IsReason c.in_ok-rest.rest (behind c.args.rows.now) c.in-Some.other =
-    subst (λ o. Explains c.in_ok-rest.rest (behind c.args.rows.now) o) c.in-Some.is c.in_ok-found.ensures.found in
-    SameSize-part c.in-Some.other c.in_ok-rest.rest c.args.region.now r.size
+    let r = c.in_ok-other.ensures.found in
+    SameSize-part c.in_ok-other.other c.in_ok-rest.rest c.args.region.now r.size
     (size_rest (behind c.args.rows.now) c.args.region.now c.args.row.now c.in_ok-rest.rest c.requires.size c.requires.meets c.requires.closed c.in_ok-rest.ensures.value)
 
 pub reason_by_outputs-returns-then-contains : goal.reason_by_outputs-returns-then-contains
 reason_by_outputs-returns-then-contains t c =
-    let r : IsReason c.in_ok-rest.rest (behind c.args.rows.now) c.in-Some.other =
-    subst (λ o. Explains c.in_ok-rest.rest (behind c.args.rows.now) o) c.in-Some.is c.in_ok-found.ensures.found in
+    let r = c.in_ok-other.ensures.found in
     record {
-      found = reason_of_more (behind c.args.rows.now) c.in_ok-rest.rest c.args.region.now c.in-Some.other
+      found = reason_of_more (behind c.args.rows.now) c.in_ok-rest.rest c.args.region.now c.in_ok-other.other
           (size_rest (behind c.args.rows.now) c.args.region.now c.args.row.now c.in_ok-rest.rest c.requires.size c.requires.meets c.requires.closed c.in_ok-rest.ensures.value)
           r (c.contains.ensures.0 c.if-contains.true);
+      left_out = tt;
       spent = tt;
     }
 
 pub reason_by_outputs-output_consensus-requires : goal.reason_by_outputs-output_consensus-requires
 reason_by_outputs-output_consensus-requires t c =
-    let r : IsReason c.in_ok-rest.rest (behind c.args.rows.now) c.in-Some.other =
-    subst (λ o. Explains c.in_ok-rest.rest (behind c.args.rows.now) o) c.in-Some.is c.in_ok-found.ensures.found in
-    let size = SameSize-part c.in-Some.other c.in_ok-rest.rest c.args.region.now r.size
+    let r = c.in_ok-other.ensures.found in
+    let size = SameSize-part c.in_ok-other.other c.in_ok-rest.rest c.args.region.now r.size
     (size_rest (behind c.args.rows.now) c.args.region.now c.args.row.now c.in_ok-rest.rest c.requires.size c.requires.meets c.requires.closed c.in_ok-rest.ensures.value) in
     (c.requires.size.0 ∙ sym size.0, c.requires.size.1 ∙ sym size.1)
 
@@ -145,15 +118,17 @@ reason_by_outputs-returns t c =
     let region = c.args.region.now in
     let row = c.args.row.now in
     let rest = c.in_ok-rest.rest in
-    let other = c.in-Some.other in
-    let r : IsReason rest rows other = subst (λ o. Explains rest rows o) c.in-Some.is c.in_ok-found.ensures.found in
+    let other = c.in_ok-other.other in
+    let r = c.in_ok-other.ensures.found in
     let joins = joined_stack region row other c.requires.size (row_inputs rows region row rest c.requires.size c.requires.meets c.requires.closed)
     (other_inputs rows region row rest c.requires.size c.requires.meets c.requires.closed c.in_ok-rest.ensures.value other r.above (c.has_outputs_beyond.ensures.0 c.if-not-has_outputs_beyond.false))
     (either_output rows region row rest c.requires.size c.requires.meets c.requires.closed c.in_ok-rest.ensures.value other r.above)
     c.output_consensus.result c.output_consensus.ensures.none c.output_consensus.ensures.size c.output_consensus.ensures.places in
     record {
-      found = reason_joined rows region row other (within_rows rows row c.requires.member) r.within
-          c.in_ok-output_consensus.field-0 (MatchResult-at_ok _ _ c.in_ok-output_consensus.field-0 c.in_ok-output_consensus.was joins);
+      found = reason_joined rows region row other c.in-Some.cube (within_rows rows row c.requires.member) r.within
+          (subst (Joins region row other) c.in-Some.is
+          (MatchResult-at_ok _ _ c.in_ok-cube.field-0 c.in_ok-cube.was joins));
+      left_out = tt;
       spent = tt;
     }
 
@@ -175,6 +150,7 @@ reason-returns-in-Some t c =
     record {
       found = reason_of_some c.args.near.now c.args.rows.now c.args.region.now c.in-Some.cube c.requires.near
           (subst (λ o. IfSome o (λ d. IsReason c.args.region.now (behind c.args.near.now) d)) c.in-Some.is c.in_ok-found.ensures.found);
+      left_out = tt;
       spent = tt;
     }
 
@@ -201,20 +177,6 @@ reason-reason_by_step-requires t c =
         ),
       ),
     )
-
-pub reason_by_all_rows-returns-then-is_empty : goal.reason_by_all_rows-returns-then-is_empty
-reason_by_all_rows-returns-then-is_empty t c =
-    let region = c.args.region.now in
-    let rows = c.args.rows.now in
-    let met = c.in_ok-found.field-0.meeting.items in
-    let inside : behind met ≡ meeting (size_of region) region (behind rows) =
-    subst (λ o. IfNone o (behind met ≡ meeting (size_of region) region (behind rows))) c.in_default.is
-    c.in_ok-found.ensures.meeting in
-    record {
-      found = unexplained_none rows met region c.requires inside c.in_ok-found.ensures.output
-          (ap behind (none_left met (vec_len c.in_ok-found.field-0.meeting) c.is_empty.result c.in_ok-found.field-0.meeting.ok.0 c.is_empty.ensures c.if-is_empty.true));
-      spent = tt;
-    }
 
 pub reason_by_all_rows-reason_by_step-requires : goal.reason_by_all_rows-reason_by_step-requires
 reason_by_all_rows-reason_by_step-requires t c =
@@ -249,10 +211,12 @@ reason_by_all_rows-returns t c =
     let inside : behind met ≡ meeting (size_of region) region (behind rows) =
     subst (λ o. IfNone o (behind met ≡ meeting (size_of region) region (behind rows))) c.in_default.is
     c.in_ok-found.ensures.meeting in
+    let lent = ap behind c.deref.ensures.value ∙ inside in
     record {
-      found = IfOk-weaker c.reason_by_step.result _ _
-          (explains_lent rows c.deref.result.now region c.requires (ap behind c.deref.ensures.value ∙ inside))
-          c.reason_by_step.ensures.found;
+      found = IfOk-weaker c.reason_by_step.result _ _ (reason_lent rows c.deref.result.now region lent) c.reason_by_step.ensures.found;
+      left_out = IfErr-weaker c.reason_by_step.result _ _
+          (λ stop h part e. left_out_lent rows c.deref.result.now region part c.requires lent (h part e))
+          c.reason_by_step.ensures.left_out;
       spent = c.reason_by_step.ensures.spent;
     }
 
@@ -268,3 +232,73 @@ reason_by_step-bounds-near-k t c =
     subst (Leads c.args.region.now (behind c.args.near.now)) c.in-Row.is c.next_step.ensures in
     let lt = h.0 in
     omega (arith, lt, length-behind c.args.near.now)
+
+pub reason_by_outputs-unreachable-requires : goal.reason_by_outputs-unreachable-requires
+reason_by_outputs-unreachable-requires t c =
+    let rows = behind c.args.rows.now in
+    let region = c.args.region.now in
+    let row = c.args.row.now in
+    let rest = c.in_ok-rest.rest in
+    let other = c.in_ok-other.other in
+    let r = c.in_ok-other.ensures.found in
+    let joins = joined_stack region row other c.requires.size (row_inputs rows region row rest c.requires.size c.requires.meets c.requires.closed)
+    (other_inputs rows region row rest c.requires.size c.requires.meets c.requires.closed c.in_ok-rest.ensures.value other r.above (c.has_outputs_beyond.ensures.0 c.if-not-has_outputs_beyond.false))
+    (either_output rows region row rest c.requires.size c.requires.meets c.requires.closed c.in_ok-rest.ensures.value other r.above)
+    c.output_consensus.result c.output_consensus.ensures.none c.output_consensus.ensures.size c.output_consensus.ensures.places in
+    subst (Joins region row other) c.in-None.is
+    (MatchResult-at_ok _ _ c.in_ok-cube.field-0 c.in_ok-cube.was joins)
+
+pub reason_by_other_half-unreachable-requires : goal.reason_by_other_half-unreachable-requires
+reason_by_other_half-unreachable-requires t c =
+    let region = c.args.region.now in
+    let one = c.args.one.now in
+    let other = c.in_ok-other.other in
+    let second = c.in_ok-second.second in
+    let at = c.args.at.0 in
+    let r = c.in_ok-other.ensures.found in
+    let size = SameSize-part other second region r.size c.in_ok-second.ensures.size in
+    let mine = freed_half region (with_symbol region at c.args.at.1) one at c.args.at.1 c.requires.dash c.requires.literal c.requires.one_size refl c.requires.one.above in
+    let theirs = freed_half region second other at c.opposite.result c.requires.dash
+    (subst (λ s. s ≡ Dash → ⊥) (sym c.opposite.ensures) (opposite_literal c.args.at.1 c.requires.literal)) size c.in_ok-second.ensures.value r.above in
+    subst (Joins region one other) c.in-None.is (c.in_ok-cube.ensures region c.requires.output c.requires.one_size mine theirs)
+
+pub reason_by_split-returns-in_err-one-clause-left_out : goal.reason_by_split-returns-in_err-one-clause-left_out
+reason_by_split-returns-in_err-one-clause-left_out t c =
+    let p = err_from_is_err_and c.from_residual-in_err-one.result c.from_residual-in_err-one.ensures.1 in
+    rw (p.1, p.2) (λ part e.
+    left_out_of_more (behind c.args.rows.now) c.in_ok-first.first c.args.region.now part c.in_ok-first.ensures.size
+    (half_within c.args.region.now c.in_ok-first.first c.args.at.0 c.args.at.1 c.requires.dash c.in_ok-first.ensures.value)
+    (c.in_err-one.ensures.left_out part e))
+
+pub reason_by_other_half-returns-in_err-other-clause-left_out : goal.reason_by_other_half-returns-in_err-other-clause-left_out
+reason_by_other_half-returns-in_err-other-clause-left_out t c =
+    let p = err_from_is_err_and c.from_residual-in_err-other.result c.from_residual-in_err-other.ensures.1 in
+    rw (p.1, p.2) (λ part e.
+    left_out_of_more (behind c.args.rows.now) c.in_ok-second.second c.args.region.now part c.in_ok-second.ensures.size
+    (half_within c.args.region.now c.in_ok-second.second c.args.at.0 c.opposite.result c.requires.dash c.in_ok-second.ensures.value)
+    (c.in_err-other.ensures.left_out part e))
+
+pub reason_by_outputs-returns-in_err-other-clause-left_out : goal.reason_by_outputs-returns-in_err-other-clause-left_out
+reason_by_outputs-returns-in_err-other-clause-left_out t c =
+    let p = err_from_is_err_and c.from_residual-in_err-other.result c.from_residual-in_err-other.ensures.1 in
+    let rows = behind c.args.rows.now in
+    let region = c.args.region.now in
+    let row = c.args.row.now in
+    let rest = c.in_ok-rest.rest in
+    rw (p.1, p.2) (λ part e.
+    left_out_of_more rows rest region part
+    (size_rest rows region row rest c.requires.size c.requires.meets c.requires.closed c.in_ok-rest.ensures.value)
+    (rest_within rows region row rest c.requires.size c.requires.meets c.requires.closed c.in_ok-rest.ensures.value)
+    (c.in_err-other.ensures.left_out part e))
+
+pub reason_by_all_rows-returns-then-is_empty-clause-left_out : goal.reason_by_all_rows-returns-then-is_empty-clause-left_out
+reason_by_all_rows-returns-then-is_empty-clause-left_out t c = λ part e.
+    let region = c.args.region.now in
+    let rows = c.args.rows.now in
+    let met = c.in_ok-found.field-0.meeting.items in
+    let inside : behind met ≡ meeting (size_of region) region (behind rows) =
+    subst (λ o. IfNone o (behind met ≡ meeting (size_of region) region (behind rows))) c.in_default.is
+    c.in_ok-found.ensures.meeting in
+    left_out_whole rows met region part c.requires inside c.in_ok-found.ensures.output
+    (ap behind (none_left met (vec_len c.in_ok-found.field-0.meeting) c.is_empty.result c.in_ok-found.field-0.meeting.ok.0 c.is_empty.ensures c.if-is_empty.true))
+    (sym (same_part c.in_ok-try_clone.field-0 part e) ∙ c.in_ok-try_clone.ensures.value)

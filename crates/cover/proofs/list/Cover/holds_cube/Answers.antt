@@ -1,23 +1,18 @@
-use Rattle.std.proofs.Common.{◌≡◌, ◌∙◌, ap, subst, ◌↔◌, IsTrue}
-use Rattle.std.proofs.lemmas.Result.{IfOk-weaker}
-use Rattle.cube.specs.Cube.{holds, IsSubset}
+use Rattle.std.proofs.Common.{◌∙◌, is_none}
+use Rattle.cube.specs.Cube.{holds}
 use Rattle.cube.specs.Sum.{is_subset}
-use Rattle.cover.specs.Cubes.{AreCubes}
-use Rattle.cover.specs.Places.{places, behind}
+use Rattle.cover.specs.Places.{places}
 use Rattle.cover.proofs.Everywhere.{same_test, is_subset-iff}
-use Rattle.cover.proofs.Lists.{sizes_of_cubes}
+use Rattle.cover.proofs.LeftOut.{none_if_held, none_if_not_some}
 use Rattle.cover.proofs.list.Cover.holds_cube.Goals as goal
-
-pub holds_region-requires : goal.holds_region-requires
-holds_region-requires c =
-    sizes_of_cubes c.args.self.now.size c.args.self.now.cubes (subst (λ l. AreCubes c.args.self.now.size l) c.as_slice.ensures.value c.as_slice.ensures.cubes) c.deref.result.now
-    (ap behind c.deref.ensures.value ∙ c.in_ok-rows.ensures ∙ c.as_slice.ensures.value) c.args.cube.now c.requires
 
 pub returns : goal.returns
 returns c =
-    let same : behind c.deref.result.now ≡ c.args.self.now.cubes = ap behind c.deref.ensures.value ∙ c.in_ok-rows.ensures ∙ c.as_slice.ensures.value in
-    IfOk-weaker c.holds_region.result _ _
-    (λ held h. same_test held (is_subset c.args.self.now.size (holds c.args.cube.now) (places c.args.self.now.cubes))
-    (subst (λ l. IsTrue held ↔ IsSubset (holds c.args.cube.now) (places l)) same h)
-    (is_subset-iff c.args.self.now.size c.args.cube.now (places c.args.self.now.cubes) c.requires))
-    c.holds_region.ensures
+    let size = c.args.self.now.size in
+    let rows = c.args.self.now.cubes in
+    let cube = c.args.cube.now in
+    let found = c.in_ok-part_left_out.field-0 in
+    none_if_not_some found c.is_none.result c.is_none.ensures
+    ∙ same_test (is_none found) (is_subset size (holds cube) (places rows))
+    (none_if_held size rows cube found c.in_ok-part_left_out.ensures.held c.in_ok-part_left_out.ensures.left_out)
+    (is_subset-iff size cube (places rows) c.requires)

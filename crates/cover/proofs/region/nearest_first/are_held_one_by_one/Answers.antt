@@ -1,4 +1,4 @@
-use Rattle.std.proofs.Common.{◌∙◌, sym, subst, refl, All, arith}
+use Rattle.std.proofs.Common.{◌∙◌, sym, subst, refl, true, false, All, arith}
 use Rattle.std.specs.Borrow.{Bor}
 use Rattle.std.proofs.lemmas.Bool.{false≢true}
 use Rattle.std.proofs.lemmas.List.{take_all}
@@ -6,13 +6,15 @@ use Rattle.std.proofs.lemmas.List.Elements.{All-more}
 use Rattle.cube.specs.Cube.{Cube, HasSize, IsSubset, holds, size_of}
 use Rattle.cover.specs.Places.{places, behind}
 use Rattle.cover.proofs.Halves.{known_at}
+use Rattle.cover.proofs.LeftOut.{held_if_none}
 use Rattle.cover.proofs.Agreement.{IsSubset-row, IsSubset-rows}
 use Rattle.cover.proofs.region.nearest_first.are_held_one_by_one.Goals as goal
 
-pub returns-then-not-branch : goal.returns-then-not-branch
-returns-then-not-branch c = (
+pub returns-then-is_some : goal.returns-then-is_some
+returns-then-is_some c = (
   λ on. absurd (false≢true on),
-  λ h. absurd (false≢true (sym c.if-not-branch.true ∙ c.in_ok-holds_region_nearest_first.ensures.held.1
+  λ h. absurd (false≢true ((held_if_none (size_of c.row-item.result.now) (behind c.args.others.now) c.row-item.result.now
+      c.in_ok-part_left_out_nearest_first.field-0 false (sym c.is_some.ensures ∙ c.if-is_some.true) c.in_ok-part_left_out_nearest_first.ensures.part).1
       (IsSubset-row (places (behind c.args.others.now)) c.args.rows.now c.loop-row.row-index c.row-item.result c.loop-row-test.true c.row-item.is h))),
 )
 
@@ -21,9 +23,10 @@ loop-row-preserved c =
     let P : Bor Cube → Type 0 = λ d. IsSubset (holds d.now) (places (behind c.args.others.now)) in
     let size = subst (λ d. HasSize d.now c.args.shape) (sym c.row-item.is) (c.requires.rows c.loop-row.row-index c.row-item.result c.loop-row-test.true) in (
       All-more P c.args.rows.now c.loop-row.row-index c.row-item.result c.loop-row-test.true c.loop-row.invariant.0
-          (subst P c.row-item.is (c.in_ok-holds_region_nearest_first.ensures.held.0 c.if-not-branch.false)),
-      known_at (size_of c.row-item.result.now) c.args.shape c.holds_region_nearest_first.new.learned.known.items (behind c.args.others.now)
-          size.0 size.1 c.in_ok-holds_region_nearest_first.ensures.known,
+          (subst P c.row-item.is ((held_if_none (size_of c.row-item.result.now) (behind c.args.others.now) c.row-item.result.now
+          c.in_ok-part_left_out_nearest_first.field-0 true (sym c.is_some.ensures ∙ c.if-is_some.false) c.in_ok-part_left_out_nearest_first.ensures.part).0 refl)),
+      known_at (size_of c.row-item.result.now) c.args.shape c.part_left_out_nearest_first.new.learned.known.items (behind c.args.others.now)
+          size.0 size.1 c.in_ok-part_left_out_nearest_first.ensures.known,
     )
 
 pub returns : goal.returns
