@@ -7,13 +7,17 @@ pub mod PrimeRows
 pub mod RowsByCube
 pub mod PrimeTables
 pub mod LeastPrimes
+pub mod Exchanges
 pub mod PointTables
 pub mod PickedPoints
+pub mod Joins
+pub mod Dominating
 pub mod PrimeSources
 pub mod EssentialPrimes
 pub mod NonCandidates
 pub mod OfPla
 pub mod Growth
+pub mod FirstPrimes
 pub mod Neighbours
 pub mod EssentialByNeighbours
 pub mod Blocking

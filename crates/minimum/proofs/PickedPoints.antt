@@ -26,11 +26,13 @@ use Rattle.cover.proofs.Lists.{all_members, members_all, list_any_from, list_any
 use Rattle.cover.proofs.OverRegion.{within_from_fact}
 use Rattle.cover.proofs.Regions.{place_at}
 use Rattle.pla.specs.Sets.{SetLists}
+use Rattle.covering.specs.declared.choice.Choice.{Choice}
+use Rattle.covering.specs.declared.choice.Choice.TheVariants.{First, Literals}
 use Rattle.minimum.specs.Primes.{care_on, primes_of}
 use Rattle.minimum.specs.PrimeRows.{contains_region, has_output, with_output, HasOneOutput}
 use Rattle.minimum.specs.declared.points.source.Source.{Source}
 use Rattle.minimum.specs.declared.points.picked_points.PickedPoints.{PickedPoints}
-use Rattle.minimum.specs.Points.{Function, function_of, function_by, source_size, source_primes, IsSource, StandsFor, IsFound, IsPointAt, IsWantedPoint, AreHolders, holders, IsOnePoint}
+use Rattle.minimum.specs.Points.{Function, function_of, function_by, source_size, source_primes, IsSource, StandsFor, IsFound, IsPointAt, IsWantedPoint, AreHolders, AreDominating, IsAsGood, holders, IsOnePoint}
 use Rattle.minimum.proofs.PrimeRows.{spans_holds}
 
 -- ---- one point
@@ -95,7 +97,7 @@ all_held size cubes held flags are e all p inside =
 
 -- ---- a point more
 
-Contains-one : (x y : Cube) → Contains (x ∷ []) y → x ≡ y
+pub Contains-one : (x y : Cube) → Contains (x ∷ []) y → x ≡ y
 Contains-one x y h = elim (Contains-cases x [] y h) [ inl e ↦ e | inr none' ↦ absurd (Contains-nil y none') ]
 
 module _ (sets : SetLists) (source : Source) where
@@ -141,8 +143,8 @@ module _ (sets : SetLists) (source : Source) where
       }
 
 -- the columns are of the size of each point
-pub holder_sizes : (sets : SetLists) (points columns : List Cube) → AreHolders (function_of sets) points columns → (x : Cube) → Contains points x → All (λ d. SameSize d x) columns
-holder_sizes sets points columns h x there =
+pub dominating_sizes : (choice : Choice) (sets : SetLists) (points columns : List Cube) → AreDominating choice (function_of sets) points columns → (x : Cube) → Contains points x → All (λ d. SameSize d x) columns
+dominating_sizes choice sets points columns h x there =
     sizes_for sets.size columns x
     (members_all (IsCube sets.size) columns (λ c k. ((Contains-complete_sum sets.size (λ p. places sets.on p || places sets.dc p) c).0 (h.primes c k)).is_cube)) (h.wanted x there).is_cube
 
@@ -170,11 +172,23 @@ holders_with_output columns x j on =
     (spans_holds columns x k h (record { point = map pick x.symbols; output = j }) (place_at x j on))).1)
 
 -- the columns in another order
-pub holders_sorted : (f : Function) (points columns sorted : List Cube) → HasSameCubes columns sorted → AreHolders f points columns → AreHolders f points sorted
-holders_sorted f points columns sorted same h = record {
+pub dominating_sorted : (choice : Choice) (f : Function) (points columns sorted : List Cube) → HasSameCubes columns sorted → AreDominating choice f points columns → AreDominating choice f points sorted
+dominating_sorted choice f points columns sorted same h = record {
   wanted = h.wanted;
-  all = λ x c k member sub. (same c).0 (h.all x c k member sub);
+  dominated = λ x c k member sub. let d = h.dominated x c k member sub in record { column = d.column; member = (same d.column).0 d.member; dominates = d.dominates };
   primes = λ c k. h.primes c ((same c).1 k);
+}
+
+-- all primes that contain a point dominate themselves
+pub as_good_itself : (choice : Choice) (c : Cube) → IsAsGood choice c c
+as_good_itself First c = inl refl
+as_good_itself Literals c = inr (refl, inl refl)
+
+pub holders_dominate : (choice : Choice) (f : Function) (points columns : List Cube) → AreHolders f points columns → AreDominating choice f points columns
+holders_dominate choice f points columns h = record {
+  wanted = h.wanted;
+  dominated = λ x c k member sub. record { column = c; member = h.all x c k member sub; dominates = record { over = λ y there inside. inside; good = as_good_itself choice c } };
+  primes = h.primes;
 }
 
 -- ---- the function of other lists
@@ -193,9 +207,9 @@ module _ (sets given : SetLists) (source : Source) (on_cubes : AreCubes sets.siz
   given_prime : (c : Cube) → Contains (primes_of sets) c → Contains (source_primes source) c
   given_prime c h = subst (λ l. Contains l c) (sym same.primes) h
 
-  pub holders_same : (points columns : List Cube) → AreHolders (function_by given source) points columns → AreHolders (function_of sets) points columns
-  holders_same points columns h = record {
+  pub dominating_same : (choice : Choice) (points columns : List Cube) → AreDominating choice (function_by given source) points columns → AreDominating choice (function_of sets) points columns
+  dominating_same choice points columns h = record {
     wanted = λ x k. let w = h.wanted x k in record { is_cube = subst (λ z. IsCube z x) same.size w.is_cube; place = w.place; at = w.at; wanted = wanted_sets w.place w.wanted };
-    all = λ x c k member sub. h.all x c k (given_prime c member) sub;
+    dominated = λ x c k member sub. h.dominated x c k (given_prime c member) sub;
     primes = λ c k. subst (λ l. Contains l c) same.primes (h.primes c k);
   }

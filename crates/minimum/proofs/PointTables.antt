@@ -1,10 +1,9 @@
 -- The table of some points has the least cover by primes.
-use Rattle.std.proofs.Common.{◌≡◌, ◌≢◌, ℕ, zero, suc, ◌<◌, ◌≤◌, Bool, true, false, cond, ◌||◌, List, [], ◌∷◌, length, map, slice_index_or, slice_get, Some, refl, ap, sym, subst, ◌∙◌, arith, inl, inr, ◌⊎◌}
-use Rattle.std.specs.Prelude.{filter}
-use Rattle.std.specs.List.{Contains, AllByRecursion, cons_option, range_with_len}
+use Rattle.std.proofs.Common.{◌≡◌, ◌≢◌, ℕ, zero, suc, ◌<◌, true, false, ◌||◌, List, [], ◌∷◌, length, map, slice_index_or, slice_get, Some, refl, ap, sym, subst, ◌∙◌, arith, inl, inr}
+use Rattle.std.specs.List.{Contains, AllByRecursion, list_any, cons_option, range_with_len}
 use Rattle.std.specs.List.Sorted.{IsStrictlySortedBy}
 use Rattle.std.specs.declared.cmp.Ordering.TheVariants.{Less}
-use Rattle.std.proofs.lemmas.Bool.{true≢false}
+use Rattle.std.proofs.lemmas.Bool.{cases_Bool, cases_order, both_ways, or_parts, true≢false}
 use Rattle.std.proofs.lemmas.List.{length-map, get_or_default}
 use Rattle.std.proofs.lemmas.Option.{slice_get-get_or}
 use Rattle.cube.specs.Cube.{Cube, holds, literals, IsSubset, size_of}
@@ -14,25 +13,30 @@ use Rattle.cube.proofs.SumLemmas.{is_subset-from_fact, row_asymmetric, sorted-co
 use Rattle.cover.specs.Cubes.{AreCubes}
 use Rattle.cover.specs.Places.{places}
 use Rattle.cover.specs.Marks.{cube_at}
+use Rattle.cover.proofs.Lists.{list_any_witness}
 use Rattle.cover.proofs.SumOrder.{rising-head, rising-tail}
 use Rattle.pla.specs.Sets.{SetLists}
 use Rattle.covering.specs.declared.choice.Choice.{Choice}
-use Rattle.covering.specs.Table.{Table, has, RisesFrom, IsWithin, IsTable, AreRows, fresh, table_of}
+use Rattle.covering.specs.Table.{Table, has, RisesFrom, IsWithin, IsTable, AreRows, table_of}
 use Rattle.covering.specs.Cover.{meets, IsCover, IsLeast, Precedes, counted}
+use Rattle.covering.specs.Steps.{IsPreferred}
+use Rattle.covering.specs.declared.choice.Choice.TheVariants.{First, Literals}
+use Rattle.covering.proofs.Order.{Precedes-trans}
 use Rattle.covering.specs.Choices.{union_of}
 use Rattle.covering.specs.Parts.{pick}
 use Rattle.minimum.specs.Primes.{primes_of, care_on, chosen, least_prime_cover, exact_of}
 use Rattle.minimum.specs.PrimeRows.{contains_region, IsDemand}
 use Rattle.minimum.specs.PrimeTable.{IsPrimeCover}
-use Rattle.minimum.specs.Points.{function_of, IsWantedPoint, AreHolders, holders, point_table, PointsAreEnough}
-use Rattle.covering.proofs.Sets.{has_here, has_later, has_cases, filter_parts, filter_keeps, filter_rises, filter_length, meets_at, meets_from}
+use Rattle.minimum.specs.Points.{function_of, IsWantedPoint, AreDominating, IsUpTo, IsAsGood, holders, point_table, PointsAreEnough}
+use Rattle.covering.proofs.Sets.{has_here, has_later, has_cases, filter_parts, filter_keeps, filter_rises, meets_at, meets_from}
 use Rattle.covering.proofs.Subsets.{same_list, union_rises, union_right, union_only}
-use Rattle.covering.proofs.Rising.{range_rises, range_has, range_below}
+use Rattle.covering.proofs.Rising.{range_rises, range_has, range_below, fresh_table}
 use Rattle.minimum.proofs.Numbers.{holds_at-below, cube_at-member}
 use Rattle.minimum.proofs.PrimeRows.{spans_holds}
-use Rattle.minimum.proofs.PrimeTables.{enough_for, demands_met}
+use Rattle.minimum.proofs.PrimeTables.{enough_for, demands_met, are_rows}
 use Rattle.minimum.proofs.LeastPrimes.{least_among}
-use Rattle.covering.proofs.Renumbered.{pick_has, map_keeps, map_only, map_rises, renumbered}
+use Rattle.minimum.proofs.Exchanges.{IsServed, reached}
+use Rattle.covering.proofs.Renumbered.{pick_has, place_of, map_keeps, map_only, map_rises, renumbered}
 
 -- ---- a part of a list that rises, by the numbers of its cubes
 
@@ -130,73 +134,33 @@ some_mapped : (f : ℕ → ℕ) (row : List ℕ) → row ≢ [] → map f row �
 some_mapped f [] h e = h refl
 some_mapped f (x ∷ xs) h e = cc
 
--- all pass the test, or there are fewer that do
-fewer : (test : ℕ → Bool) (xs : List ℕ) → (filter test xs ≡ xs) ⊎ (length (filter test xs) < length xs)
-fewer test [] = inl refl
-fewer test (x ∷ xs) = go (test x) (fewer test xs) (filter_length test xs)
-  where
-    go : (b : Bool) → (filter test xs ≡ xs) ⊎ (length (filter test xs) < length xs) → length (filter test xs) ≤ length xs
-        → (cond b (x ∷ filter test xs) (filter test xs) ≡ x ∷ xs) ⊎ (length (cond b (x ∷ filter test xs) (filter test xs)) < length (x ∷ xs))
-    go true (inl e) l = inl (ap (λ ys. x ∷ ys) e)
-    go true (inr h) l = inr (omega arith)
-    go false h l = inr (omega arith)
+-- ---- numbers and row order
 
--- ---- a table whose columns are some of those of another one
+numbers_rise : (ds : List Cube) (i j : ℕ) → IsStrictlySortedBy row_cmp ds → i < j → j < length ds → row_cmp (cube_at ds i) (cube_at ds j) ≡ Less
+numbers_rise [] i j r h k = absurd (omega arith)
+numbers_rise (d ∷ ds) i zero r h k = absurd (omega arith)
+numbers_rise (d ∷ ds) zero (suc j) r h k = rising-head d ds (cube_at ds j) r (cube_at-member ds j (omega arith))
+numbers_rise (d ∷ ds) (suc i) (suc j) r h k = numbers_rise ds i j (rising-tail d ds r) (omega arith) (omega arith)
 
-module _ (choice : Choice) (n : ℕ) (live : List ℕ) (rows : List (List ℕ)) (weights : List ℕ) (below : (c : ℕ) → has c live ≡ true → c < length weights)
-    (within : AllByRecursion (λ row. IsWithin row live) rows) where
-  abbrev part : Table
-  part = table_of n [] live rows weights
+-- another cube that comes no later has a lower number
+lower_number : (ds : List Cube) (b a : ℕ) → IsStrictlySortedBy row_cmp ds → b < length ds → a < length ds → b ≢ a → IsUpTo (cube_at ds a) (cube_at ds b) → b < a
+lower_number ds b a r lb la apart (inl e) = absurd (apart (one_number ds b a r lb la e))
+lower_number ds b a r lb la apart (inr e) = elim (cases_order b a) [
+  | inl f ↦ absurd (apart f)
+  | inr (inl f) ↦ f
+  | inr (inr f) ↦ absurd (row_asymmetric (cube_at ds b) (cube_at ds a) e (numbers_rise ds a b r f lb))
+]
 
-  abbrev whole : Table
-  whole = fresh rows weights
-
-  part_whole : (s : List ℕ) → IsCover part s → IsCover whole s
-  part_whole s h = record {
-    rises = h.rises;
-    taken = λ c k. absurd (true≢false (sym k));
-    only = λ c k. range_has c 0 (length weights) (omega arith) (let l = below c (h.only c k) in omega arith);
-    rows = h.rows;
-  }
-
-  abbrev left : List ℕ → List ℕ
-  left x = filter (λ c. has c live) x
-
-  left_rows : (x : List ℕ) (rs : List (List ℕ)) → AllByRecursion (λ row. IsWithin row live) rs → AllByRecursion (λ row. meets x row ≡ true) rs → AllByRecursion (λ row. meets (left x) row ≡ true) rs
-  left_rows x [] w h = tt
-  left_rows x (r ∷ rs) w h = (
-    (let m = meets_at x r h.0 in meets_from m.0 (left x) r (filter_keeps (λ c. has c live) m.0 x m.1 (w.0 m.0 m.2)) m.2),
-    left_rows x rs w.1 h.1,
-  )
-
-  whole_part : (x : List ℕ) → IsCover whole x → IsCover part (left x)
-  whole_part x h = record {
-    rises = filter_rises (λ c. has c live) 0 x h.rises;
-    taken = λ c k. absurd (true≢false (sym k));
-    only = λ c k. (filter_parts (λ c. has c live) c x k).1;
-    rows = left_rows x rows within h.rows;
-  }
-
-  part_least : (s : List ℕ) → IsLeast choice part s → IsLeast choice whole s
-  part_least s h = record {
-    cover = part_whole s h.cover;
-    first = λ x k. elim (fewer (λ c. has c live) x) [
-      | inl e ↦ subst (λ y. (s ≡ y) ⊎ Precedes (counted choice weights) s y) e (h.first (left x) (whole_part x k))
-      | inr l ↦ inr (inl (elim (h.first (left x) (whole_part x k)) [
-        | inl e ↦ (let same = ap length e in omega arith)
-        | inr p ↦ (let m = no_longer s (left x) p in omega arith)
-      ]))
-    ];
-  }
-    where
-      no_longer : (s x : List ℕ) → Precedes (counted choice weights) s x → length s ≤ length x
-      no_longer s x (inl l) = omega arith
-      no_longer s x (inr h) = let e = h.0 in omega arith
+preferred_number : (choice : Choice) (ds : List Cube) (b a : ℕ) → IsStrictlySortedBy row_cmp ds → b < length ds → a < length ds → b ≢ a → IsAsGood choice (cube_at ds a) (cube_at ds b)
+    → IsPreferred (counted choice (map literals ds)) b a
+preferred_number First ds b a r lb la apart good = inr (refl, lower_number ds b a r lb la apart good)
+preferred_number Literals ds b a r lb la apart (inl less) = let l = literals_at ds a in let m = literals_at ds b in inl (omega arith)
+preferred_number Literals ds b a r lb la apart (inr good) = inr (sym (literals_at ds b) ∙ good.0 ∙ literals_at ds a, lower_number ds b a r lb la apart good.1)
 
 -- ---- the table of the points
 
-module _ (sets : SetLists) (points columns : List Cube) (on_cubes : AreCubes sets.size sets.on) (rising : IsStrictlySortedBy row_cmp columns)
-    (h : AreHolders (function_of sets) points columns) where
+module _ (choice : Choice) (sets : SetLists) (points columns : List Cube) (on_cubes : AreCubes sets.size sets.on) (rising : IsStrictlySortedBy row_cmp columns)
+    (h : AreDominating choice (function_of sets) points columns) where
   abbrev primes : List Cube
   primes = primes_of sets
 
@@ -230,12 +194,10 @@ module _ (sets : SetLists) (points columns : List Cube) (on_cubes : AreCubes set
       let f = filter_parts (contains_region columns x) k (range_with_len 0 (length columns)) e in
       ((let l = range_below k 0 (length columns) f.0 in omega arith), spans_holds columns x k f.1)
 
-  -- a prime that holds the place of a point is in its row
-  in_row : (x c : Cube) (w : IsWantedPoint (function_of sets) x) → Contains points x → Contains primes c → holds c w.place ≡ true → (k : ℕ) × (k < length columns) × (has k (holders columns x) ≡ true) × (cube_at columns k ≡ c)
-  in_row x c w there member held =
-      let sub : IsSubset (holds x) (holds c) = λ q e. ap (holds c) (w.at.alone q e) ∙ held in
-      let m = h.all x c there member sub in
-      let at : cube_at columns m.0 ≡ c = get_or_default columns m.0 (record { symbols = []; outputs = [] }) c m.1 ∙ m.2 in (
+  -- a column that contains a point is in its row
+  in_row : (x d : Cube) → Contains columns d → IsSubset (holds x) (holds d) → (k : ℕ) × (k < length columns) × (has k (holders columns x) ≡ true) × (cube_at columns k ≡ d)
+  in_row x d m sub =
+      let at : cube_at columns m.0 ≡ d = get_or_default columns m.0 (record { symbols = []; outputs = [] }) d m.1 ∙ m.2 in (
         m.0,
         m.1,
         filter_keeps (contains_region columns x) m.0 (range_with_len 0 (length columns)) (range_has m.0 0 (length columns) (omega arith) (let l = m.1 in omega arith))
@@ -243,11 +205,17 @@ module _ (sets : SetLists) (points columns : List Cube) (on_cubes : AreCubes set
         at,
       )
 
+  contained : (x c : Cube) (w : IsWantedPoint (function_of sets) x) → holds c w.place ≡ true → IsSubset (holds x) (holds c)
+  contained x c w held q e = ap (holds c) (w.at.alone q e) ∙ held
+
   some_holder : (x : Cube) → Contains points x → holders columns x ≢ []
   some_holder x there e =
       let w = h.wanted x there in
       let i = enough_for sets primes sets.on sets.dc refl refl refl on_cubes w.place w.wanted in
-      let k = in_row x (cube_at primes i.0) w there (cube_at-member primes i.0 (holds_at-below primes i.0 w.place i.1)) i.1 in
+      let c = cube_at primes i.0 in
+      let sub = contained x c w i.1 in
+      let d = h.dominated x c there (cube_at-member primes i.0 (holds_at-below primes i.0 w.place i.1)) sub in
+      let k = in_row x d.column d.member (d.dominates.over x there sub) in
       true≢false (sym k.2 ∙ ap (has k.0) e)
 
   row_rises : (x : Cube) → RisesFrom 0 (holders columns x)
@@ -274,25 +242,8 @@ module _ (sets : SetLists) (points columns : List Cube) (on_cubes : AreCubes set
   far_within : (x : Cube) → IsWithin (far x) live
   far_within x n e = let p = far_parts x n e in subst (λ m. has m live ≡ true) p.2 (pick_has live p.0 (let l = p.1 in let m = long in omega arith))
 
-  far_demand : (x : Cube) → Contains points x → IsDemand primes sets.on sets.dc (far x)
-  far_demand x there = record {
-    some = some_mapped (pick live) (holders columns x) (some_holder x there);
-    rises = far_rises x;
-    below = λ n e. is.below n (far_within x n e);
-    met = λ s holding.
-        let w = h.wanted x there in
-        let i = holding w.place w.wanted in
-        let lt = holds_at-below primes i.0 w.place i.2 in
-        let k = in_row x (cube_at primes i.0) w there (cube_at-member primes i.0 lt) i.2 in
-        let number : pick live k.0 ≡ i.0 = one_number primes (pick live k.0) i.0 primes_rise (pick_below k.0 k.1) lt (same_cube k.0 k.1 ∙ k.3) in
-        meets_from i.0 s (far x) i.1 (subst (λ m. has m (far x) ≡ true) number (map_keeps (pick live) k.0 (holders columns x) k.2));
-  }
-
   abbrev rows : List (List ℕ)
   rows = map (map (pick live)) (map (holders columns) points)
-
-  demands : AllByRecursion (IsDemand primes sets.on sets.dc) rows
-  demands = all_mapped_twice (IsDemand primes sets.on sets.dc) (map (pick live)) (holders columns) points far_demand
 
   abbrev weights : List ℕ
   weights = map literals primes
@@ -318,9 +269,144 @@ module _ (sets : SetLists) (points columns : List Cube) (on_cubes : AreCubes set
   same_weights : map literals columns ≡ map (λ c. slice_index_or weights c 0) live
   same_weights = ap (map literals) (sym is.cubes) ∙ weights_at primes live
 
+  -- ---- the table with a column for each prime
+
+  all_parts : (x : Cube) (n : ℕ) → has n (holders primes x) ≡ true → (n < length primes) × IsSubset (holds x) (holds (cube_at primes n))
+  all_parts x n e =
+      let f = filter_parts (contains_region primes x) n (range_with_len 0 (length primes)) e in
+      ((let l = range_below n 0 (length primes) f.0 in omega arith), spans_holds primes x n f.1)
+
+  all_keep : (x : Cube) (n : ℕ) → n < length primes → IsSubset (holds x) (holds (cube_at primes n)) → has n (holders primes x) ≡ true
+  all_keep x n lt sub = filter_keeps (contains_region primes x) n (range_with_len 0 (length primes)) (range_has n 0 (length primes) (omega arith) (omega arith)) (is_subset-from_fact (size_of x) (holds x) (holds (cube_at primes n)) sub)
+
+  abbrev whole : Table
+  whole = point_table points primes
+
+  whole_demand : (x : Cube) → Contains points x → IsDemand primes sets.on sets.dc (holders primes x)
+  whole_demand x there =
+      let w = h.wanted x there in
+      record {
+        some = λ e.
+            let i = enough_for sets primes sets.on sets.dc refl refl refl on_cubes w.place w.wanted in
+            true≢false (sym (all_keep x i.0 (holds_at-below primes i.0 w.place i.1) (contained x (cube_at primes i.0) w i.1)) ∙ ap (has i.0) e);
+        rises = filter_rises (contains_region primes x) 0 (range_with_len 0 (length primes)) (range_rises 0 (length primes));
+        below = λ n e. (all_parts x n e).0;
+        met = λ s holding.
+            let i = holding w.place w.wanted in
+            meets_from i.0 s (holders primes x) i.1 (all_keep x i.0 (holds_at-below primes i.0 w.place i.2) (contained x (cube_at primes i.0) w i.2));
+      }
+
+  whole_demands : AllByRecursion (IsDemand primes sets.on sets.dc) (map (holders primes) points)
+  whole_demands = all_mapped (IsDemand primes sets.on sets.dc) (holders primes) points whole_demand
+
+  whole_table : IsTable whole
+  whole_table = fresh_table (map (holders primes) points) weights (are_rows sets on_cubes (map (holders primes) points) (length weights) long_weights whole_demands)
+
+  -- a number among the columns is in the row of the whole table and in that of the columns
+  to_whole : (x : Cube) (n : ℕ) → has n (far x) ≡ true → has n (holders primes x) ≡ true
+  to_whole x n e =
+      let p = far_parts x n e in
+      let at : cube_at primes n ≡ cube_at columns p.0 = ap (cube_at primes) (sym p.2) ∙ same_cube p.0 p.1 in
+      all_keep x n (is.below n (far_within x n e)) (λ q k. ap (λ d. holds d q) at ∙ p.3 q k)
+
+  to_far : (x : Cube) (n : ℕ) → has n live ≡ true → has n (holders primes x) ≡ true → has n (far x) ≡ true
+  to_far x n in_live e =
+      let p = place_of n live in_live in
+      let lt : p.0 < length columns = (let l = p.1 in let m = long in omega arith) in
+      let at : cube_at columns p.0 ≡ cube_at primes n = sym (same_cube p.0 lt) ∙ ap (cube_at primes) p.2 in
+      let sub = (all_parts x n e).1 in
+      let row : has p.0 (holders columns x) ≡ true = filter_keeps (contains_region columns x) p.0 (range_with_len 0 (length columns)) (range_has p.0 0 (length columns) (omega arith) (omega arith))
+      (is_subset-from_fact (size_of x) (holds x) (holds (cube_at columns p.0)) (λ q f. ap (λ d. holds d q) at ∙ sub q f)) in
+      subst (λ m. has m (far x) ≡ true) p.2 (map_keeps (pick live) p.0 (holders columns x) row)
+
+  -- ---- covers of the one table and of the other
+
+  middle_rows : (s : List ℕ) (xs : List Cube) → AllByRecursion (λ row. meets s row ≡ true) (map (map (pick live)) (map (holders columns) xs)) → AllByRecursion (λ row. meets s row ≡ true) (map (holders primes) xs)
+  middle_rows s [] e = tt
+  middle_rows s (x ∷ xs) e = ((let m = meets_at s (far x) e.0 in meets_from m.0 s (holders primes x) m.1 (to_whole x m.0 m.2)), middle_rows s xs e.1)
+
+  whole_rows : (s : List ℕ) (xs : List Cube) → ((n : ℕ) → has n s ≡ true → has n live ≡ true) → AllByRecursion (λ row. meets s row ≡ true) (map (holders primes) xs) → AllByRecursion (λ row. meets s row ≡ true) (map (map (pick live)) (map (holders columns) xs))
+  whole_rows s [] within e = tt
+  whole_rows s (x ∷ xs) within e = ((let m = meets_at s (holders primes x) e.0 in meets_from m.0 s (far x) m.1 (to_far x m.0 (within m.0 m.1) m.2)), whole_rows s xs within e.1)
+
+  middle_whole : (s : List ℕ) → IsCover middle s → IsCover whole s
+  middle_whole s k = record {
+    rises = k.rises;
+    taken = λ c e. absurd (true≢false (sym e));
+    only = λ c e. range_has c 0 (length weights) (omega arith) (let l = is.below c (k.only c e) in let m = long_weights in omega arith);
+    rows = middle_rows s points k.rows;
+  }
+
+  whole_middle : (s : List ℕ) → IsCover whole s → ((n : ℕ) → has n s ≡ true → has n live ≡ true) → IsCover middle s
+  whole_middle s k within = record {
+    rises = k.rises;
+    taken = λ c e. absurd (true≢false (sym e));
+    only = within;
+    rows = whole_rows s points within k.rows;
+  }
+
+  -- ---- a prime that is no column
+
+  stands_with : (a b : ℕ) (xs : List Cube) → b < length primes → ((x : Cube) → Contains xs x → IsSubset (holds x) (holds (cube_at primes a)) → IsSubset (holds x) (holds (cube_at primes b)))
+      → AllByRecursion (λ row. has a row ≡ true → has b row ≡ true) (map (holders primes) xs)
+  stands_with a b [] lt over = tt
+  stands_with a b (x ∷ xs) lt over = (
+    (λ e. all_keep x b lt (over x (Contains-here x xs) (all_parts x a e).1)),
+    stands_with a b xs lt (λ y k. over y (Contains-there x xs y k)),
+  )
+
+  no_row : (a : ℕ) (xs : List Cube) → list_any (λ x. contains_region primes x a) xs ≡ false → AllByRecursion (λ row. has a row ≡ false) (map (holders primes) xs)
+  no_row a [] e = tt
+  no_row a (x ∷ xs) e = (
+    elim (cases_Bool (has a (holders primes x))) [
+      | inr f ↦ f
+      | inl f ↦ absurd (true≢false (sym (filter_parts (contains_region primes x) a (range_with_len 0 (length primes)) f).1 ∙ (or_parts (contains_region primes x a) _ e).0))
+    ],
+    no_row a xs (or_parts (contains_region primes x a) _ e).1,
+  )
+
+  served : (a : ℕ) → has a whole.live ≡ true → has a live ≡ false → IsServed (counted choice weights) whole live a
+  served a la out = elim (cases_Bool (list_any (λ x. contains_region primes x a) points)) [
+    | inr e ↦ inr (no_row a points e)
+    | inl e ↦ (
+        let lt : a < length primes = (let l = range_below a 0 (length weights) la in let m = long_weights in omega arith) in
+        let x = list_any_witness (λ x. contains_region primes x a) points e in
+        let d = h.dominated x.0 (cube_at primes a) x.1 (cube_at-member primes a lt) (spans_holds primes x.0 a x.2) in
+        let k = d.member in
+        let at : cube_at columns k.0 ≡ d.column = get_or_default columns k.0 (record { symbols = []; outputs = [] }) d.column k.1 ∙ k.2 in
+        let b = pick live k.0 in
+        let is_b : cube_at primes b ≡ d.column = same_cube k.0 k.1 ∙ at in
+        let lb : b < length primes = pick_below k.0 k.1 in
+        let kept : has b live ≡ true = pick_has live k.0 (let l = k.1 in let m = long in omega arith) in
+        inl (
+          b,
+          record {
+            kept = kept;
+            live = range_has b 0 (length weights) (omega arith) (let m = long_weights in omega arith);
+            preferred = preferred_number choice primes b a primes_rise lb lt (λ f. both_ways _ out (subst (λ m. has m live ≡ true) f kept)) (subst (λ z. IsAsGood choice (cube_at primes a) z) (sym is_b) d.dominates.good);
+            stands = stands_with a b points lb (λ y there sub q f. ap (λ z. holds z q) is_b ∙ d.dominates.over y there sub q f);
+          },
+        ))
+  ]
+
+  whole_least : (s : List ℕ) → IsLeast choice middle s → IsLeast choice whole s
+  whole_least s k = record {
+    cover = middle_whole s k.cover;
+    first = λ x e.
+        let y = reached (counted choice weights) whole live whole_table served whole.live x (λ n f. f) e in
+        let within : (n : ℕ) → has n y.0 ≡ true → has n live ≡ true = λ n f. y.1.kept n (y.1.cover.only n f) f in
+        elim (k.first y.0 (whole_middle y.0 y.1.cover within)) [
+          | inl f ↦ elim y.1.first [ inl g ↦ inl (f ∙ g) | inr g ↦ inr (subst (λ z. Precedes (counted choice weights) z x) (sym f) g) ]
+          | inr f ↦ elim y.1.first [
+            | inl g ↦ inr (subst (Precedes (counted choice weights) s) g f)
+            | inr g ↦ inr (Precedes-trans (counted choice weights) s y.0 x f g)
+          ]
+        ];
+  }
+
   -- ---- the least covers
 
-  module _ (choice : Choice) (s : List ℕ) (least : IsLeast choice (point_table points columns) s) (held : IsSubset (care_on sets) (places (chosen columns s))) where
+  module _ (s : List ℕ) (least : IsLeast choice (point_table points columns) s) (held : IsSubset (care_on sets) (places (chosen columns s))) where
     s_below : (i : ℕ) → has i s ≡ true → i < length columns
     s_below i e = let l = range_below i 0 (length (map literals columns)) (least.cover.only i e) in let m = length-map columns literals in omega arith
 
@@ -353,12 +439,10 @@ module _ (sets : SetLists) (points columns : List Cube) (on_cubes : AreCubes set
 
     is_least_cover : map (pick live) s ≡ least_prime_cover choice sets
     is_least_cover =
-        least_among choice sets (fresh rows weights) (map (pick live) s)
+        least_among choice sets whole (map (pick live) s)
         (record { columns = long_weights; taken = refl; live = ap (range_with_len 0) long_weights; weights = refl })
-        (demands_met sets on_cubes rows weights long_weights demands) holds_wanted
-        (part_least choice (length primes) live rows weights (λ c e. let l = is.below c e in let m = long_weights in omega arith)
-        (all_mapped_twice (λ row. IsWithin row live) (map (pick live)) (holders columns) points (λ x there. far_within x))
-        (map (pick live) s) (subst (IsLeast choice middle) joined in_middle))
+        (demands_met sets on_cubes (map (holders primes) points) weights long_weights whole_demands) holds_wanted
+        (whole_least (map (pick live) s) (subst (IsLeast choice middle) joined in_middle))
 
     pub exact_from : chosen columns s ≡ exact_of choice sets
     exact_from = sym (same_chosen s s_below) ∙ ap (chosen primes) is_least_cover
@@ -366,4 +450,4 @@ module _ (sets : SetLists) (points columns : List Cube) (on_cubes : AreCubes set
 -- the least cover of a table of points that holds all wanted places
 pub points_are_enough : PointsAreEnough
 points_are_enough choice sets points list on_cubes least held =
-    least.cubes ∙ exact_from sets points least.columns on_cubes least.rising least.are_holders choice least.numbers least.least (subst (λ l. IsSubset (care_on sets) (places l)) least.cubes held)
+    least.cubes ∙ exact_from choice sets points least.columns on_cubes least.rising least.are_dominating least.numbers least.least (subst (λ l. IsSubset (care_on sets) (places l)) least.cubes held)

@@ -1,5 +1,6 @@
 -- A table of the primes that hold some wanted places.
-use Rattle.std.specs.Prelude.{◌≡◌, ◌≢◌, ℕ, ◌<◌, Bool, true, not, List, Contains, filter, length, map, slice_index_or}
+use Rattle.std.specs.Prelude.{◌≡◌, ◌≢◌, ℕ, ◌<◌, ◌⊎◌, Bool, true, not, List, Contains, filter, length, map, slice_index_or}
+use Rattle.std.specs.declared.cmp.Ordering.TheVariants.{Less}
 use Rattle.std.specs.List.{range_with_len}
 use Rattle.std.specs.List.Sorted.{IsStrictlySortedBy}
 use Rattle.cube.specs.declared.symbol.Symbol.TheVariants.{Dash}
@@ -11,6 +12,7 @@ use Rattle.cover.specs.Cubes.{AreCubes}
 use Rattle.cover.specs.Places.{places}
 use Rattle.pla.specs.Sets.{SetLists}
 use Rattle.covering.specs.declared.choice.Choice.{Choice}
+use Rattle.covering.specs.declared.choice.Choice.TheVariants.{First, Literals}
 use Rattle.minimum.specs.declared.points.source.Source.{Source}
 use Rattle.minimum.specs.declared.points.source.Source.TheVariants.{Outside, Primes}
 use Rattle.minimum.specs.declared.points.picked_points.PickedPoints.{PickedPoints}
@@ -67,19 +69,49 @@ pub record AreHolders (f : Function) (points columns : List Cube) : Type 0 where
       → Contains columns c
   pub primes : (c : Cube) → Contains columns c → Contains f.primes c
 
+-- d is c, or comes before it in row order
+abbrev pub IsUpTo : Cube → Cube → Type 0
+IsUpTo c d = (d ≡ c) ⊎ (row_cmp d c ≡ Less)
+
+-- d is as good as c under a choice: c, or before it in row order, where literals count with as
+-- many of them; or it has fewer
+abbrev pub IsAsGood : Choice → Cube → Cube → Type 0
+IsAsGood First c d = IsUpTo c d
+IsAsGood Literals c d = (literals d < literals c) ⊎ ((literals d ≡ literals c) × IsUpTo c d)
+
+-- d dominates c: it contains each of the points that c contains, and is as good
+pub record Dominates (choice : Choice) (points : List Cube) (c d : Cube) : Type 0 where
+  pub over : (x : Cube) → Contains points x → IsSubset (holds x) (holds c)
+      → IsSubset (holds x) (holds d)
+  pub good : IsAsGood choice c d
+
+-- a column dominates the cube
+pub record IsDominated (choice : Choice) (points columns : List Cube) (c : Cube) : Type 0 where
+  pub column : Cube
+  pub member : Contains columns column
+  pub dominates : Dominates choice points c column
+
+-- wanted points, and primes that dominate all primes that contain one of them
+pub record AreDominating (choice : Choice) (f : Function) (points columns : List Cube) : Type 0 where
+  pub wanted : (x : Cube) → Contains points x → IsWantedPoint f x
+  pub dominated : (x c : Cube) → Contains points x → Contains f.primes c
+      → IsSubset (holds x) (holds c) → IsDominated choice points columns c
+  pub primes : (c : Cube) → Contains columns c → Contains f.primes c
+
 -- the numbers of the columns that contain the point
 abbrev pub holders : List Cube → Cube → List ℕ
 holders columns x = filter (contains_region columns x) (range_with_len 0 (length columns))
 
--- a row for each point, and a column for each of the primes that contain one
+-- a row for each point, and some columns
 abbrev pub point_table : List Cube → List Cube → Table
 point_table points columns = fresh (map (holders columns) points) (map literals columns)
 
--- the least cover of the table of some points: its cubes, among the primes that contain a point
+-- the least cover of the table of some points: its cubes, among primes that dominate those that
+-- contain a point
 pub record IsLeastOfPoints (choice : Choice) (f : Function) (points list : List Cube) : Type 0 where
   pub columns : List Cube
   pub rising : IsStrictlySortedBy row_cmp columns
-  pub are_holders : AreHolders f points columns
+  pub are_dominating : AreDominating choice f points columns
   pub numbers : List ℕ
   pub least : IsLeast choice (point_table points columns) numbers
   pub cubes : list ≡ chosen columns numbers
