@@ -20,7 +20,7 @@ use Rattle.minimum.specs.Points.{IsWantedPoint, IsDominated, AreDominating}
 use Rattle.minimum.specs.Dominating.{primes_outside, IsImplicant, function_outside, ArePoints, HoldsExcluded, IsOpenPrime, AreServed, AddsColumns, IsFirstPrime, IsJoin, NeedsNoJoin}
 use Rattle.minimum.proofs.Growth.{grown_maximal}
 use Rattle.minimum.proofs.FirstPrimes.{first_of_all}
-use Rattle.minimum.proofs.PickedPoints.{Contains-one}
+use Rattle.minimum.proofs.PickedPoints.{Contains-one, columns_apart}
 
 -- ---- the first prime
 
@@ -213,6 +213,11 @@ points_more sets off old new point e wanted implicant h = record {
   ];
 }
 
-pub points_dominated : (sets : SetLists) (off : Cubes) (points columns : List Cube) → ArePoints sets off points → ((c : Cube) → Contains columns c → Contains (primes_outside off) c)
+pub points_dominated : (sets : SetLists) (off : Cubes) (points columns : List Cube) → off.size ≡ sets.size → ArePoints sets off points → ((c : Cube) → Contains columns c → Contains (primes_outside off) c)
     → ((x c : Cube) → Contains points x → Contains (primes_outside off) c → IsSubset (holds x) (holds c) → IsDominated First points columns c) → AreDominating First (function_outside sets off) points columns
-points_dominated sets off points columns h primes dominated = record { wanted = h.wanted; dominated = dominated; primes = primes }
+points_dominated sets off points columns sized h primes dominated = record {
+  wanted = h.wanted;
+  cubes = λ c k. subst (λ z. IsCube z c) sized (prime_parts off c (primes c k)).is_cube;
+  apart = columns_apart off.size off.cubes columns primes;
+  dominated = dominated;
+}

@@ -16,6 +16,7 @@ use Rattle.cube.specs.Sum.{IsMaximal}
 use Rattle.cube.proofs.HoldsLemmas.{IsSubset-from_Covers}
 use Rattle.cube.proofs.SharpLemmas.{true_some}
 use Rattle.cube.proofs.SumLemmas.{symbol_same}
+use Rattle.cube.proofs.SymbolOrder.{symbols_same, symbols_less}
 use Rattle.cover.proofs.SumSplit.{same_cube}
 use Rattle.minimum.specs.Neighbours.{IsGrown, IsSettledInput, IsFreedAt, IsFirstInput, IsFreed, AreFirst}
 use Rattle.minimum.specs.Points.{IsUpTo}
@@ -120,40 +121,6 @@ module _ (size : Size) (s : Place → Bool) (e q c : Cube) (cube : IsCube size e
   q_cube : IsCube size q
   q_cube = grown.grows.is_cube
 
-  q_maximal : IsMaximal size s q
-  q_maximal = grown_maximal size s e q grown within
-
-  -- the cube with an output more lies within s too
-  module _ (same : q.symbols ≡ c.symbols) where
-    inside_first : IsSubset (holds c) (holds q)
-    inside_first p h =
-        let parts = and_parts (matches c.symbols p.point) (get_or c.outputs p.output false) h in
-        let j = p.output in
-        elim (cases_lt j size.outputs) [
-          | inr past ↦ absurd (false≢true (sym (get_or_past c.outputs j false (let long = maximal.is_cube.has_size.1 in omega (arith, long, past))) ∙ parts.1))
-          | inl lt ↦ (
-              let long = q_cube.has_size.1 in
-              let wide : Cube = record { symbols = q.symbols; outputs = set q.outputs j true } in
-              let on : get_or wide.outputs j false ≡ true = get_or-set_same q.outputs j true false (omega (arith, long, lt)) in
-              let wide_cube : IsCube size wide = record { has_size = (q_cube.has_size.0, length-set q.outputs j true ∙ long); some_output = true_some wide.outputs j on } in
-              let over : IsSubset (holds q) (holds wide) = λ r k. (
-              let own = and_parts (matches q.symbols r.point) (get_or q.outputs r.output false) k in
-              and_from (matches q.symbols r.point) (get_or wide.outputs r.output false) own.0 (elim (cases_eq r.output j) [
-                | inl f ↦ ap (λ n. get_or wide.outputs n false) f ∙ on
-                | inr f ↦ get_or-set_other q.outputs j r.output true false f ∙ own.1
-              ])) in
-              let in_s : IsSubset (holds wide) s = λ r k. (
-              let own = and_parts (matches q.symbols r.point) (get_or wide.outputs r.output false) k in
-              elim (cases_eq r.output j) [
-                | inl f ↦ maximal.within r (and_from (matches c.symbols r.point) (get_or c.outputs r.output false) (ap (λ l. matches l r.point) (sym same) ∙ own.0) (ap (λ n. get_or c.outputs n false) f ∙ parts.1))
-                | inr f ↦ q_maximal.within r (and_from (matches q.symbols r.point) (get_or q.outputs r.output false) own.0 (sym (get_or-set_other q.outputs j r.output true false f) ∙ own.1))
-              ]) in
-              and_from (matches q.symbols p.point) (get_or q.outputs j false) (ap (λ l. matches l p.point) same ∙ parts.0) (grown.outputs j lt wide wide_cube over in_s on))
-        ]
-
-    same_prime : q ≡ c
-    same_prime = same_cube size q c q_cube maximal.is_cube (maximal.largest q q_cube q_maximal.within inside_first) inside_first
-
   pub first_of_all : IsUpTo c q
   first_of_all =
       let over_q = covering size e q cube q_cube grown.grows.over in
@@ -164,6 +131,6 @@ module _ (size : Size) (s : Place → Bool) (e q c : Cube) (cube : IsCube size e
         | inr past ↦ get_or_past q.symbols k Dash (let long = q_cube.has_size.0 in omega (arith, long, past))
       ])
       (λ k. both_over (get_or e.symbols k Dash) (get_or q.symbols k Dash) (get_or c.symbols k Dash) (over_q.inputs k) (over_c.inputs k))) [
-        | inl same ↦ inl (same_prime same)
-        | inr less ↦ inr (ap (λ o. ordering_then o (slice_cmp bool_cmp q.outputs c.outputs)) less)
+        | inl same ↦ symbols_same q.symbols c.symbols same
+        | inr less ↦ symbols_less q.symbols c.symbols less
       ]

@@ -7,7 +7,6 @@ pub mod PrimeRows
 pub mod RowsByCube
 pub mod PrimeTables
 pub mod LeastPrimes
-pub mod Exchanges
 pub mod PointTables
 pub mod PickedPoints
 pub mod Joins

@@ -12,7 +12,8 @@
 //! cubes that are left out.
 
 ghost use Rattle.std.specs.Prelude.{◌≡◌, ◌<◌, ◌||◌, [], IfOk, IfSome, not};
-ghost use Rattle.cube.specs.Cube.{IsPlace, IsSubset, Place};
+ghost use Rattle.std.specs.List.{Contains};
+ghost use Rattle.cube.specs.Cube.{Cube as Row, IsPlace, IsSubset, Place};
 ghost use Rattle.cube.specs.Limits.{IsWithinLimits, format_limits};
 ghost use Rattle.cover.specs.Cubes.{AreCubes};
 ghost use Rattle.cover.specs.Places.{places};
@@ -123,7 +124,8 @@ fn least_of_points(
     requires size { columns.now.size ≡ sets.size }
     requires limits { IsWithinLimits format_limits sets.size }
     ensures size { IfOk result (λ list. list.size ≡ sets.size) }
-    ensures least { IfOk result (λ list. IsLeastOfPoints choice (function_of sets) points.now list.cubes) }
+    ensures least { IfOk result (λ list. IsLeastOfPoints choice (function_of sets) [] points.now list.cubes) }
+    ensures columns { IfOk result (λ list. (c : Row) → Contains list.cubes c → Contains columns.now.cubes c) }
 {
     let columns = in_row_order(columns)?;
     let table = point_table(alloc, points, &columns)?;

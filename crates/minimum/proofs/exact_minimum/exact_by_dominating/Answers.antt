@@ -14,7 +14,7 @@ use Rattle.minimum.specs.Primes.{care_on, exact_of}
 use Rattle.minimum.specs.Dominating.{ArePoints, function_outside, primes_outside}
 use Rattle.minimum.proofs.Dominating.{points_dominated}
 use Rattle.minimum.proofs.PickedPoints.{dominating_same, wanted_given}
-use Rattle.minimum.proofs.PointTables.{points_are_enough}
+use Rattle.minimum.proofs.PointTables.{points_alone}
 use Rattle.minimum.proofs.exact_minimum.exact_by_dominating.Goals as goal
 
 pub dominating_columns-requires-clause-points : goal.dominating_columns-requires-clause-points
@@ -41,7 +41,7 @@ least_of_points-requires g c =
     let size : columns.size ≡ off.size = rw c.in-Some.is at c.in_ok-columns.ensures.size in
     let primes : (c' : Cube) → Contains columns.cubes c' → Contains (primes_outside off) c' = rw c.in-Some.is at c.in_ok-columns.ensures.primes in
     let dominated : (x c' : Cube) → Contains c.deref-in-loop.result.now x → Contains (primes_outside off) c' → IsSubset (holds x) (holds c') → IsDominated First c.deref-in-loop.result.now columns.cubes c' = rw c.in-Some.is at c.in_ok-columns.ensures.dominated in
-    let own : AreDominating First (function_outside given off) points columns.cubes = points_dominated given off points columns.cubes are primes
+    let own : AreDominating First (function_outside given off) points columns.cubes = points_dominated given off points columns.cubes c.requires.0.sized are primes
     (subst (λ l. (x c' : Cube) → Contains l x → Contains (primes_outside off) c' → IsSubset (holds x) (holds c') → IsDominated First l columns.cubes c') (c.deref-in-loop.ensures.value ∙ sym c.deref-in-loop-2.ensures.value) dominated) in
     (on, (dominating_same sets given (Outside off) on given_on same First points columns.cubes own, (size ∙ c.requires.0.sized ∙ same.size, subst (IsWithinLimits format_limits) same.size c.requires.1.1)))
 
@@ -54,7 +54,9 @@ returns-then-is_empty g c =
     let given_on = subst (AreCubes given.size) (ap (λ l. l.cubes) c.on.ensures) (subst (λ z. AreCubes z c.on.result.now.cubes) (c.shape.ensures.size ∙ ap (λ l. l.size) c.on.ensures) c.shape.ensures.cubes) in
     let on : AreCubes sets.size sets.on = subst (λ z. AreCubes z sets.on) same.size (subst (AreCubes given.size) (sym same.on) given_on) in
     let empty : c.in_ok-missed.missed.cubes ≡ [] = nothing_left c.in_ok-missed.missed.cubes (eqb-true (length c.in_ok-missed.missed.cubes) 0 (sym c.is_empty.ensures ∙ c.if-is_empty.true)) in
+    let primes : (c' : Cube) → Contains c.in-Some.columns.cubes c' → Contains (primes_outside c.args.off.now) c' = rw c.in-Some.is at c.in_ok-columns.ensures.primes in
     let held : IsSubset (care_on sets) (places list.cubes) = λ p want. c.in_ok-missed.ensures empty p (wanted_given sets given (Outside c.args.off.now) on given_on same p want) in
-    let cubes : list.cubes ≡ exact_of First sets = points_are_enough First sets c.deref-in-loop-2.result.now list.cubes on c.in_ok-list.ensures.least held in
+    let cubes : list.cubes ≡ exact_of First sets = points_alone First sets c.deref-in-loop-2.result.now list.cubes on c.in_ok-list.ensures.least
+    (λ d h. subst (λ l. Contains l d) same.primes (primes d (c.in_ok-list.ensures.columns d h))) held in
     let size : list.size ≡ given.size = c.in_ok-list.ensures.size ∙ sym same.size in
     λ i. record { size = size i; cubes = cubes i }

@@ -1,10 +1,12 @@
 use Rattle.std.proofs.Common.{◌∙◌, ap, sym, subst}
+use Rattle.std.specs.List.{Contains}
 use Rattle.std.proofs.lemmas.Result.{IfOk-weaker}
 use Rattle.cube.specs.Limits.{IsWithinLimits, format_limits}
+use Rattle.cube.proofs.Members.{Contains-nil}
 use Rattle.covering.specs.Cover.{IsLeast}
 use Rattle.minimum.specs.Points.{function_of, point_table}
 use Rattle.minimum.proofs.PickedPoints.{dominating_sorted, dominating_sizes}
-use Rattle.minimum.proofs.PointTables.{are_point_rows}
+use Rattle.minimum.proofs.PointTables.{are_point_rows, chosen_member}
 use Rattle.minimum.proofs.exact_minimum.least_of_points.Goals as goal
 
 pub point_table-requires-clause-sizes : goal.point_table-requires-clause-sizes
@@ -36,6 +38,7 @@ returns-clause-least g c =
       columns = sorted;
       rising = c.in_ok-columns.ensures.rising;
       are_dominating = dominating_sorted c.args.choice (function_of g.sets) points c.args.columns.now.cubes sorted c.in_ok-columns.ensures.cubes c.requires.1.0;
+      outside = λ d x none' there. absurd (Contains-nil d none');
       numbers = numbers;
       least = subst (IsLeast c.args.choice (point_table points sorted)) (sym c.deref.ensures.value) (subst (λ t. IsLeast c.args.choice t c.in_ok-least.least.items) c.in_ok-table.ensures first);
       cubes = ap (λ l. l.cubes) h;
@@ -44,3 +47,9 @@ returns-clause-least g c =
 
 pub point_table-requires-clause-limits : goal.point_table-requires-clause-limits
 point_table-requires-clause-limits g c = subst (IsWithinLimits format_limits) (sym (c.in_ok-columns.ensures.size ∙ c.requires.1.1.0)) c.requires.1.1.1
+
+pub returns-clause-columns : goal.returns-clause-columns
+returns-clause-columns g c =
+    IfOk-weaker c.cubes_at.result _ _
+    (λ list h d member. (c.in_ok-columns.ensures.cubes d).1 (chosen_member c.in_ok-columns.columns.cubes c.deref.result.now d (subst (λ l. Contains l d) (ap (λ l. l.cubes) h) member)))
+    c.cubes_at.ensures
