@@ -1,26 +1,24 @@
 -- A cube freed of its literals in order is the first of the primes that contain it.
-use Rattle.std.proofs.Common.{◌≡◌, ℕ, Bool, zero, suc, ◌+◌, ◌<◌, ◌⊎◌, inl, inr, true, false, List, [], ◌∷◌, length, get_or, set, refl, ap, ap₂, sym, subst, ◌∙◌, arith}
+use Rattle.std.proofs.Common.{◌≡◌, ℕ, Bool, zero, suc, ◌+◌, ◌<◌, ◌⊎◌, inl, inr, true, false, List, [], ◌∷◌, length, get_or, refl, ap, ap₂, sym, subst, ◌∙◌, arith}
 use Rattle.std.specs.Ordering.{ordering_then}
 use Rattle.std.specs.Cmp.Lexicographic.{slice_cmp}
 use Rattle.std.specs.declared.cmp.Ordering.TheVariants.{Less}
-use Rattle.std.proofs.lemmas.Bool.{cases_eq, cases_lt, false≢true, and_parts, and_from}
-use Rattle.std.proofs.lemmas.List.{get_or-set_same, get_or-set_other, get_or_past, length-set}
+use Rattle.std.proofs.lemmas.Bool.{cases_eq, cases_lt, false≢true}
+use Rattle.std.proofs.lemmas.List.{get_or-set_same, get_or-set_other, get_or_past}
 use Rattle.cube.specs.declared.symbol.Symbol.{Symbol}
 use Rattle.cube.specs.declared.symbol.Symbol.TheVariants.{Dash, Zero, One}
 use Rattle.cube.specs.Size.{Size}
-use Rattle.cube.specs.Pattern.{agrees, matches}
+use Rattle.cube.specs.Pattern.{agrees}
 use Rattle.cube.specs.Cube.{Cube, Place, holds, IsCube, IsSubset}
-use Rattle.std.specs.Ordering.{bool_cmp}
+use Rattle.std.specs.Ordering.{ordering_then}
 use Rattle.cube.specs.Order.{symbol_cmp}
 use Rattle.cube.specs.Sum.{IsMaximal}
 use Rattle.cube.proofs.HoldsLemmas.{IsSubset-from_Covers}
-use Rattle.cube.proofs.SharpLemmas.{true_some}
 use Rattle.cube.proofs.SumLemmas.{symbol_same}
 use Rattle.cube.proofs.SymbolOrder.{symbols_same, symbols_less}
-use Rattle.cover.proofs.SumSplit.{same_cube}
 use Rattle.minimum.specs.Neighbours.{IsGrown, IsSettledInput, IsFreedAt, IsFirstInput, IsFreed, AreFirst}
 use Rattle.minimum.specs.Points.{IsUpTo}
-use Rattle.minimum.proofs.Growth.{same_sizes, covering, grown_maximal}
+use Rattle.minimum.proofs.Growth.{same_sizes, covering}
 
 -- ---- one literal after the other
 
