@@ -24,3 +24,4 @@ pub mod Reduced
 pub mod WeakDominance
 pub mod Chosen
 pub mod Partials
+pub mod Compared

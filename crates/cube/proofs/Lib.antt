@@ -19,3 +19,4 @@ pub mod StackLemmas
 mod LaneLemmas
 pub mod ShiftLemmas
 pub mod LiteralMarks
+pub mod SymbolOrder

@@ -16,7 +16,7 @@ use Rattle.cover.specs.Places.{places}
 use Rattle.cover.proofs.Everywhere.{is_subset-iff}
 use Rattle.cover.proofs.Found.{output_of_place}
 use Rattle.cover.proofs.Inputs.{matches-set_symbol, matches-own}
-use Rattle.cover.proofs.SumSplit.{IsCube-with_symbol}
+use Rattle.cover.proofs.SumSplit.{IsCube-with_symbol, same_cube}
 use Rattle.minimum.specs.declared.essential_by_neighbours.growth.Side.{Side}
 use Rattle.minimum.specs.declared.essential_by_neighbours.growth.Side.TheVariants.{Inside}
 use Rattle.minimum.specs.Neighbours.{on_side, Grows, IsGrown, IsSettledInput, IsSettledOutput, IsBeside}
@@ -184,6 +184,19 @@ module _ {size : Size} {c : Cube} {j : ℕ} {u wide : Cube} (w : IsWidened size 
 
   pub beside_wide : (p : Place) → IsBeside wide p → IsBeside c p
   beside_wide p beside = beside_point beside.place (wide_parts beside.place beside.held).0 beside.input beside.bit p beside.same
+
+  -- the cube has its symbols still
+  pub widened_symbols : wide.symbols ≡ c.symbols
+  widened_symbols =
+      let mixed : Cube = record { symbols = c.symbols; outputs = wide.outputs } in
+      let mixed_cube : IsCube size mixed = record { has_size = (w.cube.has_size.0, wide_cube.has_size.1); some_output = wide_cube.some_output } in
+      ap (λ k. k.symbols) (same_cube size wide mixed wide_cube mixed_cube
+      (λ p h. and_from (matches c.symbols p.point) (get_or wide.outputs p.output false) (wide_parts p h).0 (and_parts (matches wide.symbols p.point) (get_or wide.outputs p.output false) h).1)
+      (λ p h.
+      let parts = and_parts (matches c.symbols p.point) (get_or wide.outputs p.output false) h in
+      let q : Place = record { point = map pick wide.symbols; output = p.output } in
+      let held : holds wide q ≡ true = and_from (matches wide.symbols q.point) (get_or wide.outputs q.output false) (matches-map_pick wide.symbols) parts.1 in
+      wide_from p parts.0 (wide_parts q held).1))
 
   long : length wide.outputs ≡ length c.outputs
   long = w.same.1

@@ -9,11 +9,14 @@ pub mod PrimeTables
 pub mod LeastPrimes
 pub mod PointTables
 pub mod PickedPoints
+pub mod Joins
+pub mod Dominating
 pub mod PrimeSources
 pub mod EssentialPrimes
 pub mod NonCandidates
 pub mod OfPla
 pub mod Growth
+pub mod FirstPrimes
 pub mod Neighbours
 pub mod EssentialByNeighbours
 pub mod Blocking

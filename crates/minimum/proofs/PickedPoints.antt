@@ -2,7 +2,7 @@
 use Rattle.std.proofs.Common.{◌≡◌, ◌≢◌, ℕ, suc, ◌<◌, Bool, true, false, cond, not, ◌||◌, List, [], ◌∷◌, ◌++◌, length, map, get_or, All, refl, ap, ap₂, sym, subst, ◌∙◌, arith, inl, inr}
 use Rattle.std.specs.Prelude.{filter}
 use Rattle.std.specs.List.{Contains, range_with_len}
-use Rattle.std.proofs.lemmas.Bool.{false≢true, and_parts, not-true, both_ways}
+use Rattle.std.proofs.lemmas.Bool.{cases_Bool, false≢true, and_parts, not-true, both_ways}
 use Rattle.std.proofs.lemmas.List.{get_or-map}
 use Rattle.std.proofs.lemmas.List.FromFn.{get_or-map-range_with_len}
 use Rattle.std.proofs.lemmas.List.Elements.{All-filter, Contains-append_left, Contains-append_right, Contains-append_cases}
@@ -14,8 +14,9 @@ use Rattle.cube.specs.Cube.{Cube, Place, holds, SameSize, IsCube, IsPlace, IsSub
 use Rattle.cube.proofs.HoldsLemmas.{pick}
 use Rattle.cube.proofs.Members.{Contains-nil, Contains-cases, Contains-filter, Contains-filter_cases}
 use Rattle.cube.proofs.SharpLemmas.{some_true}
-use Rattle.cube.specs.Sum.{is_subset}
+use Rattle.cube.specs.Sum.{is_subset, complete_sum}
 use Rattle.cube.proofs.SumLemmas.{Contains-complete_sum, IsPlace-from_holds, implied_at}
+use Rattle.cube.proofs.SymbolOrder.{symbols_same, same_symbols_in_sum, maximal_in_part}
 use Rattle.cover.specs.Cubes.{AreCubes, Cubes}
 use Rattle.cover.specs.Places.{places}
 use Rattle.cover.specs.Contained.{is_within}
@@ -26,11 +27,13 @@ use Rattle.cover.proofs.Lists.{all_members, members_all, list_any_from, list_any
 use Rattle.cover.proofs.OverRegion.{within_from_fact}
 use Rattle.cover.proofs.Regions.{place_at}
 use Rattle.pla.specs.Sets.{SetLists}
+use Rattle.covering.specs.declared.choice.Choice.{Choice}
+use Rattle.covering.specs.declared.choice.Choice.TheVariants.{First, Literals}
 use Rattle.minimum.specs.Primes.{care_on, primes_of}
 use Rattle.minimum.specs.PrimeRows.{contains_region, has_output, with_output, HasOneOutput}
 use Rattle.minimum.specs.declared.points.source.Source.{Source}
 use Rattle.minimum.specs.declared.points.picked_points.PickedPoints.{PickedPoints}
-use Rattle.minimum.specs.Points.{Function, function_of, function_by, source_size, source_primes, IsSource, StandsFor, IsFound, IsPointAt, IsWantedPoint, AreHolders, holders, IsOnePoint}
+use Rattle.minimum.specs.Points.{Function, function_of, function_by, source_size, source_primes, IsSource, StandsFor, IsFound, IsPointAt, IsWantedPoint, AreHolders, AreDominating, IsAsGood, holders, IsOnePoint}
 use Rattle.minimum.proofs.PrimeRows.{spans_holds}
 
 -- ---- one point
@@ -95,7 +98,7 @@ all_held size cubes held flags are e all p inside =
 
 -- ---- a point more
 
-Contains-one : (x y : Cube) → Contains (x ∷ []) y → x ≡ y
+pub Contains-one : (x y : Cube) → Contains (x ∷ []) y → x ≡ y
 Contains-one x y h = elim (Contains-cases x [] y h) [ inl e ↦ e | inr none' ↦ absurd (Contains-nil y none') ]
 
 module _ (sets : SetLists) (source : Source) where
@@ -141,10 +144,9 @@ module _ (sets : SetLists) (source : Source) where
       }
 
 -- the columns are of the size of each point
-pub holder_sizes : (sets : SetLists) (points columns : List Cube) → AreHolders (function_of sets) points columns → (x : Cube) → Contains points x → All (λ d. SameSize d x) columns
-holder_sizes sets points columns h x there =
-    sizes_for sets.size columns x
-    (members_all (IsCube sets.size) columns (λ c k. ((Contains-complete_sum sets.size (λ p. places sets.on p || places sets.dc p) c).0 (h.primes c k)).is_cube)) (h.wanted x there).is_cube
+pub dominating_sizes : (choice : Choice) (sets : SetLists) (points columns : List Cube) → AreDominating choice (function_of sets) points columns → (x : Cube) → Contains points x → All (λ d. SameSize d x) columns
+dominating_sizes choice sets points columns h x there =
+    sizes_for sets.size columns x (members_all (IsCube sets.size) columns h.cubes) (h.wanted x there).is_cube
 
 -- ---- the columns that contain a point, by output
 
@@ -170,12 +172,44 @@ holders_with_output columns x j on =
     (spans_holds columns x k h (record { point = map pick x.symbols; output = j }) (place_at x j on))).1)
 
 -- the columns in another order
-pub holders_sorted : (f : Function) (points columns sorted : List Cube) → HasSameCubes columns sorted → AreHolders f points columns → AreHolders f points sorted
-holders_sorted f points columns sorted same h = record {
+pub dominating_sorted : (choice : Choice) (f : Function) (points columns sorted : List Cube) → HasSameCubes columns sorted → AreDominating choice f points columns → AreDominating choice f points sorted
+dominating_sorted choice f points columns sorted same h = record {
   wanted = h.wanted;
-  all = λ x c k member sub. (same c).0 (h.all x c k member sub);
-  primes = λ c k. h.primes c ((same c).1 k);
+  cubes = λ c k. h.cubes c ((same c).1 k);
+  apart = λ c d k l. h.apart c d ((same c).1 k) ((same d).1 l);
+  dominated = λ x c k member sub. let d = h.dominated x c k member sub in record { column = d.column; member = (same d.column).0 d.member; dominates = d.dominates };
 }
+
+-- all primes that contain a point dominate themselves
+pub as_good_itself : (choice : Choice) (c : Cube) → IsAsGood choice c c
+as_good_itself First c = symbols_same c.symbols c.symbols refl
+as_good_itself Literals c = inr (refl, symbols_same c.symbols c.symbols refl)
+
+pub holders_dominate : (choice : Choice) (f : Function) (s : Place → Bool) (points columns : List Cube) → f.primes ≡ complete_sum f.size s → AreHolders f points columns → AreDominating choice f points columns
+holders_dominate choice f s points columns e h = record {
+  wanted = h.wanted;
+  cubes = λ c k. ((Contains-complete_sum f.size s c).0 (member c k)).is_cube;
+  apart = λ c d k l. same_symbols_in_sum f.size s c d (member c k) (member d l);
+  dominated = λ x c k member sub. record { column = c; member = h.all x c k member sub; dominates = record { over = λ y there inside. inside; good = as_good_itself choice c } };
+}
+  where
+    member : (c : Cube) → Contains columns c → Contains (complete_sum f.size s) c
+    member c k = subst (λ l. Contains l c) e (h.primes c k)
+
+-- ---- columns that are maximal outside a list of places outside
+
+-- they differ in their literals
+pub columns_apart : (size : Size) (known columns : List Cube) → ((c : Cube) → Contains columns c → Contains (complete_sum size (λ p. not (places known p))) c) → (c d : Cube) → Contains columns c → Contains columns d → c.symbols ≡ d.symbols → c ≡ d
+columns_apart size known columns maximal c d k l = same_symbols_in_sum size (λ p. not (places known p)) c d (maximal c k) (maximal d l)
+
+-- one that is an implicant is a prime
+pub implicant_prime : (sets : SetLists) (known : List Cube) (c : Cube) → ((p : Place) → IsPlace sets.size p → places known p ≡ true → (places sets.on p || places sets.dc p) ≡ false) → Contains (complete_sum sets.size (λ p. not (places known p))) c
+    → IsSubset (holds c) (λ p. places sets.on p || places sets.dc p) → Contains (primes_of sets) c
+implicant_prime sets known c out maximal within =
+    (Contains-complete_sum sets.size (λ p. places sets.on p || places sets.dc p) c).1
+    (maximal_in_part sets.size (λ p. not (places known p)) (λ p. places sets.on p || places sets.dc p) c
+    (λ p place inside. elim (cases_Bool (places known p)) [ inr e ↦ ap not e | inl e ↦ absurd (both_ways _ (out p place e) inside) ])
+    ((Contains-complete_sum sets.size (λ p. not (places known p)) c).0 maximal) within)
 
 -- ---- the function of other lists
 
@@ -193,9 +227,20 @@ module _ (sets given : SetLists) (source : Source) (on_cubes : AreCubes sets.siz
   given_prime : (c : Cube) → Contains (primes_of sets) c → Contains (source_primes source) c
   given_prime c h = subst (λ l. Contains l c) (sym same.primes) h
 
+  wanted_same : (x : Cube) → IsWantedPoint (function_by given source) x → IsWantedPoint (function_of sets) x
+  wanted_same x w = record { is_cube = subst (λ z. IsCube z x) same.size w.is_cube; place = w.place; at = w.at; wanted = wanted_sets w.place w.wanted }
+
+  pub dominating_same : (choice : Choice) (points columns : List Cube) → AreDominating choice (function_by given source) points columns → AreDominating choice (function_of sets) points columns
+  dominating_same choice points columns h = record {
+    wanted = λ x k. wanted_same x (h.wanted x k);
+    cubes = λ c k. subst (λ z. IsCube z c) same.size (h.cubes c k);
+    apart = h.apart;
+    dominated = λ x c k member sub. h.dominated x c k (given_prime c member) sub;
+  }
+
   pub holders_same : (points columns : List Cube) → AreHolders (function_by given source) points columns → AreHolders (function_of sets) points columns
   holders_same points columns h = record {
-    wanted = λ x k. let w = h.wanted x k in record { is_cube = subst (λ z. IsCube z x) same.size w.is_cube; place = w.place; at = w.at; wanted = wanted_sets w.place w.wanted };
+    wanted = λ x k. wanted_same x (h.wanted x k);
     all = λ x c k member sub. h.all x c k (given_prime c member) sub;
     primes = λ c k. subst (λ l. Contains l c) same.primes (h.primes c k);
   }

@@ -71,7 +71,7 @@ module _ (sets : SetLists) (on_cubes : AreCubes sets.size sets.on) where
       let w = list_any_witness (λ c. holds c p) sets.on (care_on_parts sets.on sets.dc p want).0 in
       IsPlace-from_holds sets.size w.0 p (all_members (IsCube sets.size) sets.on on_cubes w.0 w.1).has_size w.2
 
-  holding_from : (s : List ℕ) → is_prime_cover sets s ≡ true → IsHolding (primes_of sets) sets.on sets.dc s
+  pub holding_from : (s : List ℕ) → is_prime_cover sets s ≡ true → IsHolding (primes_of sets) sets.on sets.dc s
   holding_from s test p want =
       let held = implied_at sets.size (care_on sets) (places (chosen (primes_of sets) s)) test p (place_of p want) want in
       let w = list_any_witness (λ i. holds_at (primes_of sets) i p) s (sym (places_chosen (primes_of sets) s p) ∙ held) in

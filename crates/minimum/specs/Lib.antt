@@ -3,5 +3,6 @@ pub mod PrimeTable
 pub mod PrimeRows
 pub mod EssentialPrimes
 pub mod Points
+pub mod Dominating
 pub mod Neighbours
 pub mod Blocking

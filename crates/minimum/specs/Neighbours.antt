@@ -1,10 +1,11 @@
 -- Growth of a cube to a prime, and the places beside a prime. No public clause cites this module.
-use Rattle.std.specs.Prelude.{◌≡◌, ◌≢◌, ℕ, ◌<◌, Bool, true, false, not, List, [], ◌∷◌, ◌++◌, Option, None, Some, length, slice_index_or, slice_set, Contains}
+use Rattle.std.specs.Prelude.{◌≡◌, ◌≢◌, ℕ, ◌<◌, ◌≤◌, ◌⊎◌, Bool, true, false, not, List, [], ◌∷◌, ◌++◌, Option, None, Some, length, slice_index_or, slice_set, Contains}
 use Rattle.std.specs.List.{filter}
+use Rattle.cube.specs.declared.symbol.Symbol.{Symbol}
 use Rattle.cube.specs.declared.symbol.Symbol.TheVariants.{Dash}
 use Rattle.cube.specs.Size.{Size}
 use Rattle.cube.specs.Pattern.{matches}
-use Rattle.cube.specs.Cube.{Cube, Place, holds, intersection, IsCube, SameSize, IsSubset, size_of}
+use Rattle.cube.specs.Cube.{Cube, Place, holds, intersection, with_symbol, IsCube, SameSize, IsSubset, size_of}
 use Rattle.cube.specs.Sharp.{opposite}
 use Rattle.cube.specs.Sum.{complete_sum, is_subset}
 use Rattle.cover.specs.Cubes.{Cubes, AreCubes}
@@ -42,6 +43,29 @@ pub record IsGrown (size : Size) (s : Place → Bool) (old new : Cube) (n m : �
   pub grows : Grows size s old new
   pub inputs : (k : ℕ) → k < n → IsSettledInput size s new k
   pub outputs : (k : ℕ) → k < m → IsSettledOutput size s new k
+
+-- the cube, maybe with a dash at the input
+abbrev pub IsFreedAt : ℕ → Cube → Cube → Type 0
+IsFreedAt i old new = (new ≡ old) ⊎ (new ≡ with_symbol old i Dash)
+
+-- among the cubes within s that contain `old` and have these symbols before input i, one has a dash
+-- there only if these symbols do
+abbrev pub IsFirstInput : Size → (Place → Bool) → Cube → List Symbol → ℕ → Type 0
+IsFirstInput size s old symbols i = (d : Cube) → IsCube size d → IsSubset (holds old) (holds d)
+    → IsSubset (holds d) s
+    → ((k : ℕ) → k < i → slice_index_or d.symbols k Dash ≡ slice_index_or symbols k Dash)
+    → slice_index_or d.symbols i Dash ≡ Dash → slice_index_or symbols i Dash ≡ Dash
+
+-- the same of each input
+abbrev pub AreFirst : Size → (Place → Bool) → Cube → List Symbol → Type 0
+AreFirst size s old symbols = (i : ℕ) → i < size.inputs → IsFirstInput size s old symbols i
+
+-- a cube that was freed of literals in order, at the first n inputs
+pub record IsFreed (size : Size) (s : Place → Bool) (old new : Cube) (n : ℕ) : Type 0 where
+  pub first : (i : ℕ) → i < n → IsFirstInput size s old new.symbols i
+  pub rest : (i : ℕ) → n ≤ i
+      → slice_index_or new.symbols i Dash ≡ slice_index_or old.symbols i Dash
+  pub outputs : new.outputs ≡ old.outputs
 
 -- the place with the other value at input i
 abbrev pub flip : ℕ → Place → Place

@@ -1,22 +1,26 @@
 -- A table of the primes that hold some wanted places.
-use Rattle.std.specs.Prelude.{◌≡◌, ◌≢◌, ℕ, ◌<◌, Bool, true, not, List, Contains, filter, length, map, slice_index_or}
+use Rattle.std.specs.Prelude.{◌≡◌, ◌≢◌, ℕ, ◌<◌, ◌⊎◌, Bool, true, not, List, ◌++◌, Contains, filter, length, map, slice_index_or}
+use Rattle.std.specs.Cmp.Lexicographic.{slice_cmp}
+use Rattle.std.specs.declared.cmp.Ordering.TheVariants.{Greater}
 use Rattle.std.specs.List.{range_with_len}
 use Rattle.std.specs.List.Sorted.{IsStrictlySortedBy}
 use Rattle.cube.specs.declared.symbol.Symbol.TheVariants.{Dash}
 use Rattle.cube.specs.Size.{Size}
 use Rattle.cube.specs.Cube.{Cube, Place, holds, literals, IsCube, IsPlace, IsSubset}
-use Rattle.cube.specs.Order.{row_cmp}
+use Rattle.cube.specs.Order.{symbol_cmp, row_cmp}
 use Rattle.cube.specs.Sum.{complete_sum}
 use Rattle.cover.specs.Cubes.{AreCubes}
 use Rattle.cover.specs.Places.{places}
+use Rattle.cover.specs.Reduced.{HasSameCubes}
 use Rattle.pla.specs.Sets.{SetLists}
 use Rattle.covering.specs.declared.choice.Choice.{Choice}
+use Rattle.covering.specs.declared.choice.Choice.TheVariants.{First, Literals}
 use Rattle.minimum.specs.declared.points.source.Source.{Source}
 use Rattle.minimum.specs.declared.points.source.Source.TheVariants.{Outside, Primes}
 use Rattle.minimum.specs.declared.points.picked_points.PickedPoints.{PickedPoints}
 use Rattle.covering.specs.Table.{Table, fresh}
 use Rattle.covering.specs.Cover.{IsLeast}
-use Rattle.minimum.specs.Primes.{primes_of, care_on, chosen, exact_of}
+use Rattle.minimum.specs.Primes.{primes_of, care_on, chosen, essential_of, exact_of}
 use Rattle.minimum.specs.PrimeRows.{contains_region}
 
 -- a function as minimisation sees it: its primes, and the places that a cover has to hold
@@ -67,28 +71,69 @@ pub record AreHolders (f : Function) (points columns : List Cube) : Type 0 where
       → Contains columns c
   pub primes : (c : Cube) → Contains columns c → Contains f.primes c
 
+-- the literals of d come no later than those of c
+abbrev pub IsUpTo : Cube → Cube → Type 0
+IsUpTo c d = slice_cmp symbol_cmp d.symbols c.symbols ≢ Greater
+
+-- d is as good as c under a choice: its literals come no later, where literals count with as many
+-- of them; or it has fewer
+abbrev pub IsAsGood : Choice → Cube → Cube → Type 0
+IsAsGood First c d = IsUpTo c d
+IsAsGood Literals c d = (literals d < literals c) ⊎ ((literals d ≡ literals c) × IsUpTo c d)
+
+-- d dominates c: it contains each of the points that c contains, and is as good
+pub record Dominates (choice : Choice) (points : List Cube) (c d : Cube) : Type 0 where
+  pub over : (x : Cube) → Contains points x → IsSubset (holds x) (holds c)
+      → IsSubset (holds x) (holds d)
+  pub good : IsAsGood choice c d
+
+-- a column dominates the cube
+pub record IsDominated (choice : Choice) (points columns : List Cube) (c : Cube) : Type 0 where
+  pub column : Cube
+  pub member : Contains columns column
+  pub dominates : Dominates choice points c column
+
+-- wanted points, and cubes that dominate all primes that contain one of them
+pub record AreDominating (choice : Choice) (f : Function) (points columns : List Cube) : Type 0 where
+  pub wanted : (x : Cube) → Contains points x → IsWantedPoint f x
+  pub cubes : (c : Cube) → Contains columns c → IsCube f.size c
+  pub apart : (c d : Cube) → Contains columns c → Contains columns d → c.symbols ≡ d.symbols
+      → c ≡ d
+  pub dominated : (x c : Cube) → Contains points x → Contains f.primes c
+      → IsSubset (holds x) (holds c) → IsDominated choice points columns c
+
 -- the numbers of the columns that contain the point
 abbrev pub holders : List Cube → Cube → List ℕ
 holders columns x = filter (contains_region columns x) (range_with_len 0 (length columns))
 
--- a row for each point, and a column for each of the primes that contain one
+-- a row for each point, and some columns
 abbrev pub point_table : List Cube → List Cube → Table
 point_table points columns = fresh (map (holders columns) points) (map literals columns)
 
--- the least cover of the table of some points: its cubes, among the primes that contain a point
-pub record IsLeastOfPoints (choice : Choice) (f : Function) (points list : List Cube) : Type 0 where
+-- the least cover of the table of some points that some essential primes do not contain: its cubes,
+-- among cubes that dominate the primes that contain a point
+pub record IsLeastOfPoints (choice : Choice) (f : Function) (essential points list : List Cube)
+    : Type 0 where
   pub columns : List Cube
   pub rising : IsStrictlySortedBy row_cmp columns
-  pub are_holders : AreHolders f points columns
+  pub are_dominating : AreDominating choice f points columns
+  pub outside : (c x : Cube) → Contains essential c → Contains points x
+      → IsSubset (holds x) (holds c) → ⊥
   pub numbers : List ℕ
   pub least : IsLeast choice (point_table points columns) numbers
   pub cubes : list ≡ chosen columns numbers
 
--- if it holds all wanted places, it is the least cover by primes
+-- if its cubes are primes, and with these essential primes hold all wanted places, all of them, in
+-- row order, are the least cover by primes
 abbrev pub PointsAreEnough : Type 0
-PointsAreEnough = (choice : Choice) (sets : SetLists) (points list : List Cube)
-    → AreCubes sets.size sets.on → IsLeastOfPoints choice (function_of sets) points list
-    → IsSubset (care_on sets) (places list) → list ≡ exact_of choice sets
+PointsAreEnough = (choice : Choice) (sets : SetLists) (essential points list answer : List Cube)
+    → AreCubes sets.size sets.on
+    → ((c : Cube) → Contains essential c → Contains (essential_of sets (primes_of sets)) c)
+    → IsLeastOfPoints choice (function_of sets) essential points list
+    → ((c : Cube) → Contains list c → Contains (primes_of sets) c)
+    → IsSubset (care_on sets) (places (essential ++ list))
+    → IsStrictlySortedBy row_cmp answer → HasSameCubes (essential ++ list) answer
+    → answer ≡ exact_of choice sets
 
 -- lists and a source that stand for the same function as others: the same places are wanted, and
 -- the source tells the primes; the ON lists are the same

@@ -12,26 +12,28 @@
 //! cubes that are left out.
 
 ghost use Rattle.std.specs.Prelude.{◌≡◌, ◌<◌, ◌||◌, [], IfOk, IfSome, not};
-ghost use Rattle.cube.specs.Cube.{IsPlace, IsSubset, Place};
+ghost use Rattle.std.specs.List.{Contains};
+ghost use Rattle.cube.specs.Cube.{Cube as Row, IsPlace, IsSubset, Place};
 ghost use Rattle.cube.specs.Limits.{IsWithinLimits, format_limits};
 ghost use Rattle.cover.specs.Cubes.{AreCubes};
 ghost use Rattle.cover.specs.Places.{places};
 ghost use Rattle.pla.specs.Sets.{SetLists};
-ghost use Rattle.minimum.specs.Points.{AreHolders, IsFound, function_by, function_of, IsLeastOfPoints, IsSource, StandsFor};
+ghost use Rattle.minimum.specs.Points.{AreDominating, IsFound, function_by, function_of, IsLeastOfPoints, IsSource, StandsFor};
 ghost use Rattle.minimum.specs.Primes.{care_on, chosen, exact_of, primes_of};
 
 use crate::cubes::add_copy;
+use crate::points::dominating::dominating_columns;
 use crate::points::picked_points::PickedPoints;
 use crate::points::proposals::{
     first_places, places_left_out, proposer_by_off, proposer_by_primes,
 };
 use crate::points::source::Source;
-use crate::points::{add_places, point_table};
+use crate::points::{add_places, add_wanted_points, point_table};
 use crate::prime_implicants::{on_and_dc, primes};
 use crate::prime_table::OfPrimes;
 use cover::{Budget, Cover, in_row_order, outside};
 use covering::{Choice, Table, least_cover, reduce};
-use cube::Shape;
+use cube::{Cube, Shape};
 use pla::Sets;
 use signature_search::Proposer;
 use std::alloc::{AllocError, Global};
@@ -110,17 +112,23 @@ fn off_of(sets: &Sets) -> Result<Option<Cover>, AllocError>
 const MOST_ROUNDS: usize = 200;
 
 /// The least cover of the table of the points.
-fn least_of_points(alloc: Global, found: &PickedPoints, choice: Choice) -> Result<Cover, AllocError>
+fn least_of_points(
+    alloc: Global,
+    points: &[Cube],
+    columns: &Cover,
+    choice: Choice,
+) -> Result<Cover, AllocError>
     ghost sets: { SetLists }
     requires on { AreCubes sets.size sets.on }
-    requires holders { AreHolders (function_of sets) found.now.points.items found.now.columns.cubes }
-    requires size { found.now.columns.size ≡ sets.size }
+    requires dominating { AreDominating choice (function_of sets) points.now columns.now.cubes }
+    requires size { columns.now.size ≡ sets.size }
     requires limits { IsWithinLimits format_limits sets.size }
     ensures size { IfOk result (λ list. list.size ≡ sets.size) }
-    ensures least { IfOk result (λ list. IsLeastOfPoints choice (function_of sets) found.now.points.items list.cubes) }
+    ensures least { IfOk result (λ list. IsLeastOfPoints choice (function_of sets) [] points.now list.cubes) }
+    ensures columns { IfOk result (λ list. (c : Row) → Contains list.cubes c → Contains columns.now.cubes c) }
 {
-    let columns = in_row_order(&found.columns)?;
-    let table = point_table(alloc, &found.points, &columns)?;
+    let columns = in_row_order(columns)?;
+    let table = point_table(alloc, points, &columns)?;
     let table = reduce(table, choice)?;
     let least = least_cover(&table, choice)?;
     cubes_at(alloc, &columns, &least)
@@ -164,7 +172,7 @@ fn exact_in_rounds(
         { size = given.now.size; cubes = exact_of choice sets })) }
 {
     for _ in 0..MOST_ROUNDS {
-        let list = least_of_points(alloc, found, choice)?;
+        let list = least_of_points(alloc, &found.points, &found.columns, choice)?;
         let left = left_out(alloc, given, &list)?;
         if left.is_empty() {
             return Ok(Some(list));
@@ -175,6 +183,78 @@ fn exact_in_rounds(
         }
     }
     Ok(None)
+}
+
+// At most this many looks at a row outside are meant to be taken for the columns of a round, each
+// grown cube taking one of each row for each input and for each point: at most some seconds.
+const MOST_LOOKS: usize = 4_000_000_000;
+
+/// How many cubes may be grown for the columns of a round.
+fn most_grown(off: &Cover, inputs: usize, points: usize) -> usize {
+    let looks = inputs.saturating_add(points).saturating_mul(off.len());
+    MOST_LOOKS / looks.saturating_add(1)
+}
+
+/// The least cover by columns that dominate the primes of points, in rounds, or none where that is
+/// too much.
+fn exact_by_dominating(
+    alloc: Global,
+    given: &Sets,
+    off: &Cover,
+    proposer: &Proposer,
+) -> Result<Option<Cover>, AllocError>
+    ghost sets: { SetLists }
+    requires source { IsSource given.now.size (Source.Outside off.now) }
+    requires same { StandsFor sets given.now (Source.Outside off.now) }
+    requires limits { IsWithinLimits format_limits given.now.size }
+    ensures { IfOk result (λ o. IfSome o (λ list. list ≡ record
+        { size = given.now.size; cubes = exact_of Choice.First sets })) }
+{
+    let inputs = given.on().shape().inputs();
+    let mut points = Vec::new(alloc);
+    let mut places = first_places(alloc, proposer, given.on())?;
+    for _ in 0..MOST_ROUNDS {
+        let count = points.len();
+        add_wanted_points(alloc, given, off, &places, &mut points)?;
+        if points.len() == count {
+            return Ok(None);
+        }
+        let most = most_grown(off, inputs, points.len());
+        let Some(columns) = dominating_columns(alloc, off, &points, most)? else {
+            return Ok(None);
+        };
+        let list = least_of_points(alloc, &points, &columns, Choice::First)?;
+        let missed = left_out(alloc, given, &list)?;
+        if missed.is_empty() {
+            return Ok(Some(list));
+        }
+        places = places_left_out(alloc, proposer, &missed, &list)?;
+    }
+    Ok(None)
+}
+
+/// The same, if the primes lie outside a list and literals do not count.
+fn exact_by_columns(
+    alloc: Global,
+    given: &Sets,
+    source: &Source,
+    proposer: &Proposer,
+    choice: Choice,
+) -> Result<Option<Cover>, AllocError>
+    ghost sets: { SetLists }
+    requires source { IsSource given.now.size source.now }
+    requires same { StandsFor sets given.now source.now }
+    requires limits { IsWithinLimits format_limits given.now.size }
+    ensures { IfOk result (λ o. IfSome o (λ list. list ≡ record
+        { size = given.now.size; cubes = exact_of choice sets })) }
+{
+    let Choice::First = choice else {
+        return Ok(None);
+    };
+    match source {
+        Source::Outside(off) => exact_by_dominating(alloc, given, off, proposer),
+        Source::Primes(_) => Ok(None),
+    }
 }
 
 /// The least cover by the primes of points, or none where the points that are proposed are not
@@ -197,6 +277,28 @@ pub(crate) fn exact_by_points(
     let places = first_places(alloc, proposer, given.on())?;
     add_places(alloc, given, source, &places, &mut found)?;
     exact_in_rounds(alloc, given, source, proposer, choice, &mut found)
+}
+
+/// The same where most places are don't-cares: by columns that dominate the primes of points, and
+/// where that is too much by all of them.
+pub(crate) fn exact_by_columns_or_points(
+    alloc: Global,
+    given: &Sets,
+    source: &Source,
+    proposer: &Proposer,
+    choice: Choice,
+) -> Result<Option<Cover>, AllocError>
+    ghost sets: { SetLists }
+    requires source { IsSource given.now.size source.now }
+    requires same { StandsFor sets given.now source.now }
+    requires limits { IsWithinLimits format_limits given.now.size }
+    ensures { IfOk result (λ o. IfSome o (λ list. list ≡ record
+        { size = given.now.size; cubes = exact_of choice sets })) }
+{
+    if let Some(list) = exact_by_columns(alloc, given, source, proposer, choice)? {
+        return Ok(Some(list));
+    }
+    exact_by_points(alloc, given, source, proposer, choice)
 }
 
 /// The least cover by the primes of points outside these cubes.

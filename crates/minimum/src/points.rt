@@ -15,15 +15,17 @@ ghost use Rattle.cube.specs.Limits.{IsWithinLimits, format_limits};
 ghost use Rattle.covering.specs.Table.{AreRows, items_of};
 ghost use Rattle.minimum.specs.Primes.{care_on};
 ghost use Rattle.minimum.specs.PrimeRows.{HasOneOutput, with_output};
-ghost use Rattle.minimum.specs.Points.{IsSource, IsOnePoint, function_by, holders, IsFound, point_table as point_table_of};
+ghost use Rattle.minimum.specs.Points.{IsSource, IsOnePoint, IsWantedPoint, function_by, holders, IsFound, point_table as point_table_of};
+ghost use Rattle.minimum.specs.Dominating.{ArePoints, IsImplicant, function_outside};
 
+pub(crate) mod dominating;
 pub(crate) mod picked_points;
 pub(crate) mod proposals;
 pub(crate) mod source;
 
 use crate::cubes::{are_apart, lies_in_one_of};
 use crate::numbered_cubes::{numbers_by_output, numbers_containing};
-use crate::points::picked_points::{PickedPoints, add_point};
+use crate::points::picked_points::{PickedPoints, add_point, push_cube};
 use crate::points::source::{Source, primes_containing};
 use crate::prime_table::weights;
 use cover::Cover;
@@ -77,6 +79,48 @@ fn is_wanted(sets: &Sets, point: &Cube) -> bool
     ensures { result ≡ true → (p : Place) → holds point.now p ≡ true → care_on sets.now p ≡ true }
 {
     lies_in_one_of(point, sets.on().as_slice()) && are_apart(sets.dc().as_slice(), point)
+}
+
+/// The proposed place as a point, if it is wanted and outside these cubes.
+fn wanted_point(
+    alloc: Global,
+    sets: &Sets,
+    off: &Cover,
+    place: &ProposedPlace,
+) -> Result<Option<Cube>, AllocError>
+    requires { off.now.size ≡ sets.now.size }
+    ensures wanted { IfOk result (λ o. IfSome o
+        (IsWantedPoint (function_outside sets.now off.now))) }
+    ensures implicant { IfOk result (λ o. IfSome o (IsImplicant off.now)) }
+{
+    let Some(point) = point_of_place(alloc, sets.on().shape(), place)? else {
+        return Ok(None);
+    };
+    if is_wanted(sets, &point) && are_apart(off.as_slice(), &point) {
+        return Ok(Some(point));
+    }
+    Ok(None)
+}
+
+/// Adds the proposed places that are wanted as points.
+pub(crate) fn add_wanted_points(
+    alloc: Global,
+    sets: &Sets,
+    off: &Cover,
+    places: &[ProposedPlace],
+    points: &mut Vec<Cube>,
+) -> Result<(), AllocError>
+    requires size { off.now.size ≡ sets.now.size }
+    requires points { ArePoints sets.now off.now points.old.items }
+    ensures { OnOk result (ArePoints sets.now off.now points.new.items) }
+{
+    for place in places {
+        let Some(point) = wanted_point(alloc, sets, off, place)? else {
+            continue;
+        };
+        push_cube(points, point)?;
+    }
+    Ok(())
 }
 
 /// Adds the proposed place, if it is wanted and has at most so many primes.

@@ -6,9 +6,9 @@
 //! these are looked for again. Most outputs are refused by what the rows reach in a part of the
 //! cube.
 
-ghost use Rattle.std.specs.Prelude.{◌<◌, ◌↔◌, IsTrue, IfOk, OnOk};
+ghost use Rattle.std.specs.Prelude.{◌≡◌, ◌<◌, ◌↔◌, IsTrue, IfOk, OnOk};
 ghost use Rattle.cube.specs.Cube.{HasSize, IsCube, IsSubset, holds};
-ghost use Rattle.minimum.specs.Neighbours.{on_side, Grows, IsGrown, IsSettledInput, IsSettledOutput, AreNear, AreReached, near_or};
+ghost use Rattle.minimum.specs.Neighbours.{on_side, Grows, IsGrown, IsSettledInput, IsSettledOutput, IsFreedAt, AreFirst, AreNear, AreReached, near_or};
 
 use crate::cubes::{are_apart, one_output, opposite};
 use crate::essential_by_neighbours::near_rows::{rows_near, rows_to_ask};
@@ -64,6 +64,7 @@ fn without_literal(
         (AreNear growth.new.cube rows.now (near_or rows.now growth.new.near)) }
     ensures settled { OnOk result
         (IsSettledInput rows.now.size (on_side side rows.now.cubes) growth.new.cube i) }
+    ensures freed { OnOk result (IsFreedAt i growth.old.cube growth.new.cube) }
 {
     let literal = growth.cube.symbol(i);
     if literal == Symbol::Dash {
@@ -101,6 +102,7 @@ fn with_output(
         (AreNear growth.new.cube rows.now (near_or rows.now growth.new.near)) }
     ensures settled { OnOk result
         (IsSettledOutput rows.now.size (on_side side rows.now.cubes) growth.new.cube j) }
+    ensures symbols { OnOk result (growth.new.cube.symbols ≡ growth.old.cube.symbols) }
 {
     if growth.cube.output(j) {
         return Ok(());
@@ -132,6 +134,8 @@ fn grow_at_inputs(
         (λ g. IsGrown rows.now.size (on_side side rows.now.cubes) cube.now g.cube
         rows.now.size.inputs 0) }
     ensures near { IfOk result (λ g. AreNear g.cube rows.now (near_or rows.now g.near)) }
+    ensures first { IfOk result
+        (λ g. AreFirst rows.now.size (on_side side rows.now.cubes) cube.now g.cube.symbols) }
 {
     let near = rows_near(alloc, rows, cube)?;
     let mut growth = Growth {
@@ -144,7 +148,8 @@ fn grow_at_inputs(
     Ok(growth)
 }
 
-/// A prime that contains the cube, if the cube is an implicant, with the rows near the prime.
+/// A prime that contains the cube, if the cube is an implicant, with the rows near the prime: the
+/// first in row order, as each literal is taken away that can be, from the first on.
 ///
 /// It costs a look at all rows, and one more for each literal that is freed; what else is asked for
 /// is asked of the rows near the cube, and of these for few outputs.
@@ -159,6 +164,8 @@ pub(crate) fn grow(
         (λ g. IsGrown rows.now.size (on_side side rows.now.cubes) cube.now g.cube
         rows.now.size.inputs rows.now.size.outputs) }
     ensures near { IfOk result (λ g. AreNear g.cube rows.now (near_or rows.now g.near)) }
+    ensures first { IfOk result
+        (λ g. AreFirst rows.now.size (on_side side rows.now.cubes) cube.now g.cube.symbols) }
 {
     let mut growth = grow_at_inputs(alloc, side, rows, cube)?;
     let part = part_of(side, &growth.cube)?;

@@ -30,7 +30,7 @@ impl PickedPoints {
 }
 
 /// Adds the cube.
-fn push_cube(list: &mut Vec<Cube>, cube: Cube) -> Result<(), AllocError>
+pub(crate) fn push_cube(list: &mut Vec<Cube>, cube: Cube) -> Result<(), AllocError>
     ensures { OnOk result (list.new.items ≡ list.old.items ++ cube ∷ []) }
 {
     list.push(cube)?;

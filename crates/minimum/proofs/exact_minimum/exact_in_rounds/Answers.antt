@@ -1,13 +1,15 @@
-use Rattle.std.proofs.Common.{◌≡◌, ◌∙◌, [], length, sym, subst}
+use Rattle.std.proofs.Common.{◌≡◌, ◌∙◌, ◌||◌, [], length, refl, sym, subst}
+use Rattle.std.specs.List.{Contains}
 use Rattle.std.proofs.lemmas.Bool.{eqb-true}
 use Rattle.cube.specs.Cube.{IsSubset}
 use Rattle.cube.specs.Limits.{IsWithinLimits, format_limits}
 use Rattle.cover.specs.Cubes.{AreCubes}
 use Rattle.cover.specs.Places.{places}
 use Rattle.cover.proofs.SumRows.{nothing_left}
+use Rattle.minimum.specs.Points.{function_of, AreDominating}
 use Rattle.minimum.specs.Primes.{care_on, exact_of}
-use Rattle.minimum.proofs.PickedPoints.{holders_same, wanted_given}
-use Rattle.minimum.proofs.PointTables.{points_are_enough}
+use Rattle.minimum.proofs.PickedPoints.{holders_same, holders_dominate, wanted_given}
+use Rattle.minimum.proofs.PointTables.{points_alone}
 use Rattle.minimum.proofs.exact_minimum.exact_in_rounds.Goals as goal
 
 pub least_of_points-requires : goal.least_of_points-requires
@@ -16,9 +18,13 @@ least_of_points-requires g c =
     let given = c.args.given.now in
     let same = c.requires.1.0 in
     let found = c.loop.found in
+    let points = c.deref.result.now in
     let given_on = c.requires.1.1.1.0 in
     let on : AreCubes sets.size sets.on = subst (λ z. AreCubes z sets.on) same.size (subst (AreCubes given.size) (sym same.on) given_on) in
-    (on, (holders_same sets given c.args.source.now on given_on same found.points.items found.columns.cubes c.loop.invariant.are_holders, (c.loop.invariant.size ∙ same.size, subst (IsWithinLimits format_limits) same.size c.requires.1.1.0)))
+    let holders = holders_same sets given c.args.source.now on given_on same found.points.items found.columns.cubes c.loop.invariant.are_holders in
+    let dominating : AreDominating c.args.choice (function_of sets) points found.columns.cubes = subst (λ l. AreDominating c.args.choice (function_of sets) l found.columns.cubes) (sym c.deref.ensures.value)
+    (holders_dominate c.args.choice (function_of sets) (λ p. places sets.on p || places sets.dc p) found.points.items found.columns.cubes refl holders) in
+    (on, (dominating, (c.loop.invariant.size ∙ same.size, subst (IsWithinLimits format_limits) same.size c.requires.1.1.0)))
 
 pub returns-then-is_empty : goal.returns-then-is_empty
 returns-then-is_empty g c =
@@ -30,7 +36,8 @@ returns-then-is_empty g c =
     let on : AreCubes sets.size sets.on = subst (λ z. AreCubes z sets.on) same.size (subst (AreCubes given.size) (sym same.on) given_on) in
     let empty : c.in_ok-left.left.cubes ≡ [] = nothing_left c.in_ok-left.left.cubes (eqb-true (length c.in_ok-left.left.cubes) 0 (sym c.is_empty.ensures ∙ c.if-is_empty.true)) in
     let held : IsSubset (care_on sets) (places list.cubes) = λ p want. c.in_ok-left.ensures empty p (wanted_given sets given c.args.source.now on given_on same p want) in
-    let cubes : list.cubes ≡ exact_of c.args.choice sets = points_are_enough c.args.choice sets c.loop.found.points.items list.cubes on c.in_ok-list.ensures.least held in
+    let cubes : list.cubes ≡ exact_of c.args.choice sets = points_alone c.args.choice sets c.deref.result.now list.cubes on c.in_ok-list.ensures.least
+    (λ d h. subst (λ l. Contains l d) same.primes (c.loop.invariant.are_holders.primes d (c.in_ok-list.ensures.columns d h))) held in
     let size : list.size ≡ given.size = c.in_ok-list.ensures.size ∙ sym same.size in
     λ i. record { size = size i; cubes = cubes i }
 

@@ -1,5 +1,5 @@
-use Rattle.std.proofs.Common.{◌≡◌, ap, sym, subst, ◌∙◌, arith}
-use Rattle.minimum.specs.Neighbours.{AreNear, IsGrown, on_side}
+use Rattle.std.proofs.Common.{◌≡◌, refl, ap, sym, subst, ◌∙◌, arith}
+use Rattle.minimum.specs.Neighbours.{AreNear, AreFirst, IsGrown, on_side}
 use Rattle.minimum.proofs.Growth.{grown_output, grows_none, grows_both}
 use Rattle.minimum.proofs.Reached.{reached_grown, reached_near}
 use Rattle.minimum.proofs.essential_by_neighbours.growth.grow.Goals as goal
@@ -17,6 +17,7 @@ loop-j-init c =
     record {
       grown = c.in_ok-growth.ensures.grown;
       near = c.in_ok-growth.ensures.near;
+      symbols = refl;
       since = grows_none rows.size (on_side c.args.side rows.cubes) c.in_ok-growth.growth.cube c.in_ok-growth.ensures.grown.grows.is_cube;
     }
 
@@ -36,6 +37,7 @@ loop-j-preserved c =
       grown = grown_output rows.size s c.args.cube.now c.loop-j.growth.cube c.with_output.new.growth.cube rows.size.inputs c.loop-j.j c.loop-j.invariant.grown
           c.in_ok-with_output.ensures.grows c.in_ok-with_output.ensures.settled;
       near = c.in_ok-with_output.ensures.near;
+      symbols = c.in_ok-with_output.ensures.symbols ∙ c.loop-j.invariant.symbols;
       since = grows_both rows.size s c.in_ok-growth.growth.cube c.loop-j.growth.cube c.with_output.new.growth.cube c.loop-j.invariant.since c.in_ok-with_output.ensures.grows;
     }
 
@@ -50,3 +52,8 @@ returns-clause-grown c =
     let rows = c.args.rows.now in
     let all : c.loop-j.j ≡ rows.size.outputs = omega (arith, c.loop-j-test.false, c.loop-j.auto.j-end, c.outputs-j-end.ensures.value, ap (λ z. z.outputs) c.shape.ensures.size) in
     subst (IsGrown rows.size (on_side c.args.side rows.cubes) c.args.cube.now c.loop-j.growth.cube rows.size.inputs) all c.loop-j.invariant.grown
+
+pub returns-clause-first : goal.returns-clause-first
+returns-clause-first c =
+    let rows = c.args.rows.now in
+    subst (λ z. AreFirst rows.size (on_side c.args.side rows.cubes) c.args.cube.now z) (sym c.loop-j.invariant.symbols) c.in_ok-growth.ensures.first

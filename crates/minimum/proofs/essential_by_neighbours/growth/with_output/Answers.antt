@@ -1,4 +1,4 @@
-use Rattle.std.proofs.Common.{◌↔◌, IsTrue, Bool, false, true, not, arith, length, replicate, ap, sym, subst, ◌∙◌}
+use Rattle.std.proofs.Common.{◌↔◌, IsTrue, Bool, false, true, not, arith, refl, length, replicate, ap, sym, subst, ◌∙◌}
 use Rattle.std.proofs.lemmas.Bool.{false≢true}
 use Rattle.std.proofs.lemmas.List.{length-set, length-replicate}
 use Rattle.std.proofs.lemmas.Option.{get_or_from_slice_get}
@@ -6,7 +6,7 @@ use Rattle.cube.specs.declared.symbol.Symbol.TheVariants.{Dash}
 use Rattle.cube.specs.Cube.{holds, HasSize, IsSubset}
 use Rattle.cube.proofs.SharpLemmas.{length-minus}
 use Rattle.minimum.specs.Neighbours.{on_side, near_or}
-use Rattle.minimum.proofs.Growth.{IsWidened, all_with, grows_none, not_apart, rest_output, beside_wide, beside_rest, widened_grows, widened_settles, unwidened_settles}
+use Rattle.minimum.proofs.Growth.{IsWidened, all_with, grows_none, not_apart, rest_output, beside_wide, beside_rest, widened_grows, widened_settles, widened_symbols, unwidened_settles}
 use Rattle.minimum.proofs.Reached.{off_settles}
 use Rattle.minimum.proofs.Near.{answer_for_all, near_fewer}
 use Rattle.minimum.proofs.essential_by_neighbours.growth.with_output.Goals as goal
@@ -121,3 +121,17 @@ returns-then-not-branch-clause-grows c = grows_none c.args.rows.now.size (on_sid
 
 pub returns-then-not-branch-clause-near : goal.returns-then-not-branch-clause-near
 returns-then-not-branch-clause-near c = c.requires.near
+
+-- ---- the symbols
+
+pub returns-clause-symbols : goal.returns-clause-symbols
+returns-clause-symbols c = widened_symbols (widened (goal.at.returns-clause-symbols c).In-Some)
+
+pub returns-then-not-branch-clause-symbols : goal.returns-then-not-branch-clause-symbols
+returns-then-not-branch-clause-symbols c = refl
+
+pub returns-then-is_refused-clause-symbols : goal.returns-then-is_refused-clause-symbols
+returns-then-is_refused-clause-symbols c = refl
+
+pub returns-then-output-clause-symbols : goal.returns-then-output-clause-symbols
+returns-then-output-clause-symbols c = refl

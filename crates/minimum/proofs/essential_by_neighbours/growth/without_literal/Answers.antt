@@ -1,5 +1,5 @@
 use denote.Enum.Bare.{same_true}
-use Rattle.std.proofs.Common.{rules, ◌<◌, ◌↔◌, IsTrue, ◌≡◌, Bool, not, length, get_or, ap, sym, ◌∙◌, arith}
+use Rattle.std.proofs.Common.{rules, refl, inl, inr, ◌<◌, ◌↔◌, IsTrue, ◌≡◌, Bool, not, length, get_or, ap, sym, ◌∙◌, arith}
 use Rattle.std.proofs.lemmas.Bool.{false≢true}
 use Rattle.std.proofs.lemmas.Option.{get_or_from_slice_get}
 use Rattle.cube.specs.declared.symbol.Symbol.TheVariants.{Dash}
@@ -92,3 +92,17 @@ with_symbol-requires c = let long = c.requires.is_cube.has_size.0 in let lt = c.
 
 pub set_symbol-requires : goal.set_symbol-requires
 set_symbol-requires c = let long = c.requires.is_cube.has_size.0 in let lt = c.requires.input in omega (arith, long, lt)
+
+-- ---- what was freed
+
+pub returns-clause-freed : goal.returns-clause-freed
+returns-clause-freed c = inr c.set_symbol.ensures
+
+pub returns-then-is_none-clause-freed : goal.returns-then-is_none-clause-freed
+returns-then-is_none-clause-freed c = inr c.set_symbol.ensures
+
+pub returns-then-not-branch-clause-freed : goal.returns-then-not-branch-clause-freed
+returns-then-not-branch-clause-freed c = inl refl
+
+pub returns-then-eq-clause-freed : goal.returns-then-eq-clause-freed
+returns-then-eq-clause-freed c = inl refl
