@@ -19,6 +19,7 @@ pub mod Made
 pub mod Budgets
 pub mod TransposeSteps
 pub mod Dominance
+pub mod Signatures
 pub mod Putting
 pub mod Reduced
 pub mod WeakDominance

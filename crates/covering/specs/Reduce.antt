@@ -1,5 +1,5 @@
 -- What the passes of a reduction work with.
-use Rattle.std.specs.Prelude.{◌≡◌, ◌≢◌, ℕ, ◌<◌, ◌+◌, Bool, true, false, cond, not, ◌==◌, ◌&&◌, ◌||◌, nat_le, nat_lt, eqb, List, [], ◌∷◌, ◌++◌, length, filter, slice_index_or}
+use Rattle.std.specs.Prelude.{◌≡◌, ◌≢◌, ℕ, ◌<◌, ◌+◌, ◌^◌, ◌%◌, bit_or, fold, Bool, true, false, cond, not, ◌==◌, ◌&&◌, ◌||◌, nat_le, nat_lt, eqb, List, [], ◌∷◌, ◌++◌, length, filter, slice_index_or}
 use Rattle.std.specs.List.{AllByRecursion, list_all, list_any, range_with_len}
 use Rattle.covering.specs.declared.choice.Choice.{Choice}
 use Rattle.covering.specs.declared.column_dominance.Preference.{Preference}
@@ -64,6 +64,18 @@ pub record MarksInessentialColumns (columns : ℕ) (rows : List (List ℕ))
 -- whether each number of a is in b
 abbrev pub holds_all : List ℕ → List ℕ → Bool
 holds_all b a = list_all (λ n. has n b) a
+
+-- the bit of a row in a signature, which has 64
+abbrev pub bit_of : ℕ → ℕ
+bit_of row = 2 ^ (row % 64)
+
+-- the bits of all these rows
+abbrev pub signature_of : List ℕ → ℕ
+signature_of rows = fold (λ bits row. bit_or bits (bit_of row)) 0 rows
+
+-- whether the first number has all bits of the second
+abbrev pub has_bits : ℕ → ℕ → Bool
+has_bits bits others = bit_or others bits == bits
 
 -- whether b counts less than a, or as much and has a smaller number
 abbrev pub prefers : (ℕ → ℕ) → ℕ → ℕ → Bool

@@ -2,20 +2,63 @@
 //!
 //! In a reduction the other one costs less, or as much and has a smaller number. In a search within
 //! a budget, which asks for any cover, it costs no more. It is in each row of the dropped column,
-//! so candidates are looked for in a shortest one.
+//! so candidates are looked for in a shortest one. Most of these are ruled out by one word: the
+//! signature of a column has the bits of its rows, and a column that is in all rows of another has
+//! all bits of that one's.
 
-ghost use Rattle.std.specs.Prelude.{◌≡◌, ◌<◌, ◌==◌, ◌&&◌, ◌||◌, ℕ, [], IfOk, MatchBool, MatchOption, length, true};
+ghost use Rattle.std.specs.Prelude.{◌≡◌, ◌<◌, ◌==◌, ◌&&◌, ◌||◌, ℕ, [], IfOk, MatchBool, MatchOption, length, map, slice_index_or, true};
 ghost use Rattle.std.specs.List.{list_any};
 ghost use Rattle.covering.specs.Table.{IsWithin, RisesFrom, items_of, has};
 ghost use Rattle.covering.specs.Cover.{counted};
 ghost use Rattle.covering.specs.Search.{IsWeakStep};
-ghost use Rattle.covering.specs.Reduce.{row_at, IsTranspose, LeavesNoDominatedColumn, is_preferred, dominates, HasNoDominatedColumn, Shrinks};
+ghost use Rattle.covering.specs.Reduce.{row_at, IsTranspose, LeavesNoDominatedColumn, bit_of, signature_of, has_bits, is_preferred, dominates, HasNoDominatedColumn, Shrinks};
 
 use crate::choice::{Choice, cost};
 use crate::columns::{entry, is_rising_within};
 use crate::marks::{all_kept, all_marked, is_marked, retain_marked, retain_marked_in_rows, unmark};
 use crate::table::Table;
 use std::alloc::{AllocError, Global};
+
+/// The bit of a row in a signature, which has 64.
+fn bit_of(row: usize) -> u64
+    ensures { result ≡ bit_of row }
+{
+    1 << (row % 64)
+}
+
+/// The signature of some rows: the bits of all of them.
+fn signature_of(rows: &[usize]) -> u64
+    ensures { result ≡ signature_of rows.now }
+{
+    let mut signature: u64 = 0;
+    for row in rows {
+        signature = signature | bit_of(*row);
+    }
+    signature
+}
+
+/// The signature of each column's rows.
+fn signatures_of(alloc: Global, transpose: &[Vec<usize>]) -> Result<Vec<u64>, AllocError>
+    ensures { IfOk result (λ v. v.items ≡ map signature_of (items_of transpose.now)) }
+{
+    let mut signatures = Vec::with_capacity(alloc, transpose.len())?;
+    for rows in transpose {
+        signatures.push(signature_of(rows))?;
+    }
+    Ok(signatures)
+}
+
+/// Whether the signature of the column has all bits of the other one.
+fn has_bits(signatures: &[u64], column: usize, signature: u64) -> bool
+    ensures { result ≡ has_bits (slice_index_or signatures.now column 0) signature }
+{
+    let bits = if column < signatures.len() {
+        signatures[column]
+    } else {
+        0
+    };
+    signature | bits == bits
+}
 
 /// Which columns may replace another one.
 #[derive(Clone, Copy)]
@@ -67,15 +110,20 @@ fn any_dominates(
     literals: &[u32],
     transpose: &[Vec<usize>],
     keep: &[bool],
+    signatures: &[u64],
     a: usize,
     among: &[usize],
 ) -> bool
-    requires { (c : ℕ) → RisesFrom 0 (row_at (items_of transpose.now) c) }
+    requires rises { (c : ℕ) → RisesFrom 0 (row_at (items_of transpose.now) c) }
+    requires signatures { signatures.now ≡ map signature_of (items_of transpose.now) }
     ensures { result ≡ list_any (dominates (is_preferred preference (counted choice literals.now))
         (items_of transpose.now) keep.now a) among.now }
 {
+    let signature = signature_of(entry(transpose, a));
     for b in among {
-        if is_dominated_by(preference, choice, literals, transpose, keep, a, *b) {
+        if has_bits(signatures, *b, signature)
+            && is_dominated_by(preference, choice, literals, transpose, keep, a, *b)
+        {
             return true;
         }
     }
@@ -109,17 +157,21 @@ fn is_dominated(
     rows: &[Vec<usize>],
     transpose: &[Vec<usize>],
     keep: &[bool],
+    signatures: &[u64],
     a: usize,
 ) -> bool
     requires transpose { IsTranspose (length transpose.now) (items_of rows.now)
         (items_of transpose.now) }
+    requires signatures { signatures.now ≡ map signature_of (items_of transpose.now) }
     requires within { (i : ℕ) → IsWithin (row_at (items_of rows.now) i) live.now }
     requires below { (c : ℕ) → has c live.now ≡ true → c < length transpose.now }
     ensures { result ≡ list_any (dominates (is_preferred preference (counted choice literals.now))
         (items_of transpose.now) keep.now a) live.now }
 {
     match shortest_row(rows, entry(transpose, a)) {
-        None => any_dominates(preference, choice, literals, transpose, keep, a, live),
+        None => any_dominates(
+            preference, choice, literals, transpose, keep, signatures, a, live,
+        ),
         Some(number) => {
             any_dominates(
                 preference,
@@ -127,6 +179,7 @@ fn is_dominated(
                 literals,
                 transpose,
                 keep,
+                signatures,
                 a,
                 entry(rows, number),
             )
@@ -154,10 +207,19 @@ fn column_dominance(
         (is_preferred preference (counted choice literals.now)) live.now (items_of transpose.now)
         v.items) }
 {
+    let signatures = signatures_of(alloc, transpose)?;
     let mut keep = all_marked(alloc, transpose.len())?;
     for column in live {
         if is_dominated(
-            preference, choice, literals, live, rows, transpose, &keep, *column,
+            preference,
+            choice,
+            literals,
+            live,
+            rows,
+            transpose,
+            &keep,
+            &signatures,
+            *column,
         ) {
             unmark(&mut keep, *column);
         }

@@ -412,9 +412,8 @@ impl Table {
             columns: i64::try_from(others).unwrap_or(0),
             cost: 0,
         };
-        let all = self.all_columns(alloc)?;
         match self.find_by_local_search(alloc, choice, budget, goal, &[], steps)? {
-            None => Ok(all),
+            None => self.all_columns(alloc),
             Some(cover) => Ok(cover),
         }
     }

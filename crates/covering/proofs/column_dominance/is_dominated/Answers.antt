@@ -18,7 +18,7 @@ returns-in-Some c =
     (subst (λ row. has c.in-Some.number row ≡ true) c.entry.ensures c.in-Some.ensures)
 
 pub any_dominates-requires : goal.any_dominates-requires
-any_dominates-requires c = c.requires.transpose.rises
+any_dominates-requires c = record { rises = c.requires.transpose.rises; signatures = c.requires.signatures }
 
 pub any_dominates-requires-in-Some : goal.any_dominates-requires-in-Some
-any_dominates-requires-in-Some c = c.requires.transpose.rises
+any_dominates-requires-in-Some c = record { rises = c.requires.transpose.rises; signatures = c.requires.signatures }
