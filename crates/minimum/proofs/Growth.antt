@@ -38,12 +38,12 @@ dash_from One h = absurd (false≢true (h false))
 -- ---- what was settled stays so
 
 module _ (size : Size) (s : Place → Bool) (c d : Cube) (one : IsCube size c) (other : IsCube size d) (sub : IsSubset (holds c) (holds d)) where
-  settled_input_more : (k : ℕ) → IsSettledInput size s c k → IsSettledInput size s d k
+  pub settled_input_more : (k : ℕ) → IsSettledInput size s c k → IsSettledInput size s d k
   settled_input_more k settled e e_cube above within dash =
       let was : get_or c.symbols k Dash ≡ Dash = settled e e_cube (λ p h. above p (sub p h)) within dash in
       dash_from (get_or d.symbols k Dash) (λ bit. (covering size c d one other sub).inputs k bit (ap (λ t. agrees t bit) was))
 
-  settled_output_more : (k : ℕ) → IsSettledOutput size s c k → IsSettledOutput size s d k
+  pub settled_output_more : (k : ℕ) → IsSettledOutput size s c k → IsSettledOutput size s d k
   settled_output_more k settled e e_cube above within on = (covering size c d one other sub).outputs k (settled e e_cube (λ p h. above p (sub p h)) within on)
 
 -- ---- a literal less

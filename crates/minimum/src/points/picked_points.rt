@@ -1,17 +1,21 @@
-//! The points that were picked so far, with the primes that contain them.
+//! The points that were picked so far, with primes that dominate all that contain one of them.
 
 ghost use Rattle.std.specs.Prelude.{◌≡◌, ◌∷◌, ◌++◌, [], OnOk};
+ghost use Rattle.pla.specs.Sets.{SetLists};
+ghost use Rattle.minimum.specs.Points.{function_by, IsFound, IsSource, IsWantedPoint};
 
+use crate::points::source::{Source, columns_for};
 use cover::Cover;
+use covering::Choice;
 use cube::{Cube, Shape};
 use std::alloc::{AllocError, Global};
 
-/// Points, and the primes that contain them.
+/// Points, and columns for their table.
 #[derive(Drop)]
 pub(crate) struct PickedPoints {
     /// Wanted points.
     pub(crate) points: Vec<Cube>,
-    /// All primes that contain one of them; some may stand twice.
+    /// Primes that dominate all that contain one of the points; some may stand twice.
     pub(crate) columns: Cover,
 }
 
@@ -30,24 +34,35 @@ impl PickedPoints {
 }
 
 /// Adds the cube.
-pub(crate) fn push_cube(list: &mut Vec<Cube>, cube: Cube) -> Result<(), AllocError>
+fn push_cube(list: &mut Vec<Cube>, cube: Cube) -> Result<(), AllocError>
     ensures { OnOk result (list.new.items ≡ list.old.items ++ cube ∷ []) }
 {
     list.push(cube)?;
     Ok(())
 }
 
-/// Adds a point, and the primes that contain it.
+/// Adds a point with its columns, if these are found within the budget.
 pub(crate) fn add_point(
+    alloc: Global,
+    source: &Source,
     point: Cube,
-    row: &Cover,
+    choice: Choice,
+    most: usize,
     found: &mut PickedPoints,
 ) -> Result<(), AllocError>
-    requires { row.now.size ≡ found.old.columns.size }
-    ensures points { OnOk result (found.new.points.items ≡ found.old.points.items ++ point ∷ []) }
-    ensures size { OnOk result (found.new.columns.size ≡ found.old.columns.size) }
-    ensures columns { OnOk result (found.new.columns.cubes ≡ found.old.columns.cubes ++ row.now.cubes) }
+    ghost sets: { SetLists }
+    requires source { IsSource sets.size source.now }
+    requires wanted { IsWantedPoint (function_by sets source.now) point }
+    requires found { IsFound choice (function_by sets source.now) found.old }
+    ensures { OnOk result (IsFound choice (function_by sets source.now) found.new) }
 {
-    found.columns.append(row)?;
-    push_cube(&mut found.points, point)
+    let number = found.points.len();
+    push_cube(&mut found.points, point)?;
+    match columns_for(alloc, source, &found.points, number, choice, most)? {
+        Some(row) => found.columns.append(&row)?,
+        None => {
+            found.points.pop();
+        }
+    }
+    Ok(())
 }
