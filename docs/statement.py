@@ -30,9 +30,11 @@ two lists (`IsSampled`), for all three sets whose ON-set outside the DC-set is t
 DC-set is the places outside the second. `exact` is the first of the smallest covers by primes, or of those of fewest literals; no
 contract says which primes are listed on the way. `primes_of_pla`, `essential_of_pla` and `exact_of_pla` return the same of a description of any type. The covers of a table that `Table::build` makes are exactly the covers by primes.
 
-The law `points_are_enough`: given are three sets with an ON list of cubes of their size; points, each a cube of one wanted place; and
-columns, primes that rise strictly in row order, with all primes that contain one of the points among them. The least cover of the
-table with a row for each point is the least cover by primes if its primes hold each wanted place, for either choice of what is least."""),
+The law `points_are_enough`: given are three sets with an ON list of cubes of their size; some essential primes; points, each a cube
+of one wanted place that none of these holds; and columns, cubes that rise strictly in row order, no two with the same literals. Each
+prime that contains a point is dominated by a column: it contains each point that the prime contains, and its literals come no later
+or, where literals count, are fewer. If the cubes of the least cover of the table with a row for each point are primes, and with the
+essential primes hold each wanted place, then all these together are the least cover by primes, for either choice of what is least."""),
     ("covering", "The covering problem", """`least_cover`, `least_cover_with_effort` and `least_cover_plain` return the first by list order of the shortest covers of a table, or of
 those with the fewest literals: for every table, and there is one (`least_is_unique`). Lists of one length compare by the least
 number in which they differ (`least_difference_decides`). A reduced table comes from the old one by steps that drop a row, choose a

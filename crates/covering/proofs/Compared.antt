@@ -1,16 +1,16 @@
 -- Rising lists of numbers compared by their parts, and lists of numbers of two kinds.
-use Rattle.std.proofs.Common.{◌≡◌, ◌≢◌, ℕ, zero, suc, ◌+◌, ◌<◌, ◌≤◌, ◌⊎◌, inl, inr, Bool, true, false, cond, not, eqb, ltb, List, [], ◌∷◌, length, refl, sym, ap, ap₂, subst, ◌∙◌, arith}
+use Rattle.std.proofs.Common.{◌≡◌, ℕ, suc, ◌+◌, ◌<◌, ◌≤◌, ◌⊎◌, inl, inr, Bool, true, false, cond, not, eqb, ltb, List, [], ◌∷◌, length, refl, sym, ap, ap₂, subst, ◌∙◌, arith}
 use Rattle.std.specs.Prelude.{filter}
 use Rattle.std.specs.Cmp.{nat_cmp_is, both_ways as same_bool}
 use Rattle.std.specs.Cmp.Lexicographic.{slice_cmp}
 use Rattle.std.specs.Ordering.{nat_cmp, ordering_then}
 use Rattle.std.specs.declared.cmp.Ordering.{Ordering}
 use Rattle.std.specs.declared.cmp.Ordering.TheVariants.{Less, Equal, Greater}
-use Rattle.std.proofs.lemmas.Bool.{cases_Bool, cases_lt, cases_order, both_ways, or_parts, true≢false, eqb-true, ltb-true, ltb-false, eqb-false}
+use Rattle.std.proofs.lemmas.Bool.{cases_Bool, cases_lt, cases_order, both_ways, or_parts, true≢false, ltb-false, eqb-false}
 use Rattle.covering.specs.Table.{has, RisesFrom}
 use Rattle.covering.specs.Cover.{sum_over, Precedes}
 use Rattle.covering.specs.Steps.{put}
-use Rattle.covering.proofs.Sets.{has_here, has_later, has_cases, lacks_below, filter_parts, filter_keeps, filter_rises, put_has, put_only, put_rises, put_keeps, put_length, sum_put, first_by_sets}
+use Rattle.covering.proofs.Sets.{has_here, has_later, has_cases, lacks_below, filter_parts, filter_keeps, filter_rises, put_only, put_rises, put_keeps, put_length, sum_put, first_by_sets}
 use Rattle.covering.proofs.Subsets.{same_list, minus, minus_keeps, minus_length}
 
 -- ---- a rising list within another

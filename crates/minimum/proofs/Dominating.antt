@@ -14,12 +14,11 @@ use Rattle.cover.specs.Cubes.{Cubes}
 use Rattle.cover.specs.Places.{places}
 use Rattle.cover.specs.Marks.{cube_at}
 use Rattle.covering.specs.declared.choice.Choice.{Choice}
-use Rattle.pla.specs.Sets.{SetLists}
 use Rattle.minimum.specs.declared.essential_by_neighbours.growth.Side.TheVariants.{Outside}
 use Rattle.minimum.specs.declared.points.dominating.open_points.OpenPoints.{OpenPoints}
 use Rattle.minimum.specs.Neighbours.{on_side}
-use Rattle.minimum.specs.Points.{IsWantedPoint, IsDominated, AreDominating}
-use Rattle.minimum.specs.Dominating.{primes_outside, IsImplicant, function_outside, ArePoints, HoldsOneOf, IsOpen, AreServed, AreCandidates, AddsColumns, IsBest, NeedsNoJoin, AreSorted}
+use Rattle.minimum.specs.Points.{IsDominated}
+use Rattle.minimum.specs.Dominating.{primes_outside, IsImplicant, HoldsOneOf, IsOpen, AreServed, AreCandidates, AddsColumns, IsBest, NeedsNoJoin, AreSorted}
 use Rattle.minimum.proofs.Joins.{wide_over, wide_with_point, least}
 
 pub prime_parts : (off : Cubes) (c : Cube) → Contains (primes_outside off) c → IsMaximal off.size (on_side Outside off.cubes) c
@@ -64,6 +63,10 @@ around_number xs at lt j h = elim (Contains-append_cases (take (at + 1) xs) (dro
   | inl before ↦ elim (next_taken xs at lt j before) [ inl low ↦ inl low | inr here ↦ inr (inl here) ]
   | inr after ↦ inr (inr after)
 ]
+
+-- what holds of the numbers before one and of it holds of those up to it
+pub rest_more : (P : ℕ → Type 0) (xs : List ℕ) (at x : ℕ) → at < length xs → get_or xs at 0 ≡ x → ((j : ℕ) → Contains (take at xs) j → P j) → P x → (j : ℕ) → Contains (take (at + 1) xs) j → P j
+rest_more P xs at x lt e before here j h = elim (next_taken xs at lt j h) [ inl low ↦ before j low | inr same ↦ subst P (sym e ∙ same) here ]
 
 -- what a list begins with is taken with more of it
 pub start_taken : (start xs : List ℕ) (at : ℕ) → take (length start) xs ≡ start → length start ≤ at → (j : ℕ) → Contains start j → Contains (take at xs) j
@@ -232,28 +235,3 @@ module _ (choice : Choice) (off : Cubes) (points : List Cube) (numbers : List �
       inside = subst (λ z. IsSubset (holds z) (holds c)) (sym (cube_at-member points x there)) sub;
     }))
   ]
-
--- ---- points of a function
-
-pub points_none : (sets : SetLists) (off : Cubes) (points : List Cube) → points ≡ [] → ArePoints sets off points
-points_none sets off points e = subst (ArePoints sets off) (sym e) (record { wanted = λ x h. absurd (Contains-nil x h); implicants = λ x h. absurd (Contains-nil x h) })
-
-pub points_more : (sets : SetLists) (off : Cubes) (old new : List Cube) (point : Cube) → new ≡ old ++ point ∷ [] → IsWantedPoint (function_outside sets off) point → IsImplicant off point → ArePoints sets off old → ArePoints sets off new
-points_more sets off old new point e wanted implicant h = record {
-  wanted = λ x k. elim (Contains-push_cases old point x (subst (λ l. Contains l x) e k)) [
-    | inl m ↦ h.wanted x m
-    | inr same ↦ subst (IsWantedPoint (function_outside sets off)) same wanted
-  ];
-  implicants = λ x k. elim (Contains-push_cases old point x (subst (λ l. Contains l x) e k)) [
-    | inl m ↦ h.implicants x m
-    | inr same ↦ subst (IsImplicant off) same implicant
-  ];
-}
-
-pub points_dominated : (choice : Choice) (sets : SetLists) (off : Cubes) (points columns : List Cube) → ArePoints sets off points → ((c : Cube) → Contains columns c → Contains (primes_outside off) c)
-    → ((x c : Cube) → Contains points x → IsCube off.size c → IsImplicant off c → IsSubset (holds x) (holds c) → IsDominated choice points columns c) → AreDominating choice (function_outside sets off) points columns
-points_dominated choice sets off points columns h primes dominated = record {
-  wanted = h.wanted;
-  dominated = λ x c there member. (let is = prime_parts off c member in dominated x c there is.is_cube is.within);
-  primes = primes;
-}

@@ -1,10 +1,12 @@
 -- A cube freed of its literals in order is the first of those that contain it and meet no cube of a list.
-use Rattle.std.proofs.Common.{◌≡◌, ℕ, Bool, zero, suc, ◌≢◌, ◌+◌, ◌<◌, ◌⊎◌, inl, inr, true, false, not, List, [], ◌∷◌, length, get_or, set, refl, ap, ap₂, sym, subst, ◌∙◌, arith, count_by}
+use Rattle.std.proofs.Common.{◌≡◌, ℕ, Bool, zero, suc, ◌≢◌, ◌+◌, ◌<◌, ◌⊎◌, inl, inr, true, false, not, List, [], ◌∷◌, length, get_or, set, refl, ap, ap₂, sym, subst, ◌∙◌, arith, count_by, slice_get, Option, None, Some, is_some, IfNone}
 use Rattle.std.specs.List.{Contains}
 use Rattle.std.specs.Ordering.{ordering_then}
 use Rattle.std.specs.Cmp.Lexicographic.{slice_cmp}
 use Rattle.std.specs.declared.cmp.Ordering.TheVariants.{Less, Equal, Greater}
 use Rattle.std.proofs.lemmas.Bool.{cases_eq, cases_lt, false≢true, and_parts, and_from, not-true}
+use Rattle.std.proofs.lemmas.List.Elements.{Contains-get_or}
+use Rattle.std.proofs.lemmas.Option.{get_or_from_slice_get, slice_get_within}
 use Rattle.std.proofs.lemmas.List.{get_or-set_same, get_or-set_other, get_or_past}
 use Rattle.cube.specs.declared.symbol.Symbol.{Symbol}
 use Rattle.cube.specs.declared.symbol.Symbol.TheVariants.{Dash, Zero, One}
@@ -177,6 +179,15 @@ module _ (size : Size) (s : Place → Bool) (old mid new : Cube) (n m : ℕ) (so
   }
 
 -- ---- rows that refuse a step
+
+-- what a number gives is in the list
+pub member_at : {X : Type 0} (xs : List X) (i : ℕ) (x : X) → slice_get xs i ≡ Some x → Contains xs x
+member_at xs i x e = subst (Contains xs) (get_or_from_slice_get xs i x x e) (Contains-get_or xs i x (slice_get_within xs i x e))
+
+-- what holds if there is nothing
+pub from_none : {X : Type 0} (o : Option X) (P : Type 0) → IfNone o P → is_some o ≡ false → P
+from_none None P h e = h
+from_none (Some x) P h e = absurd (false≢true (sym e))
 
 -- a cube that meets no row meets this one neither
 pub within_apart : (off : Cubes) (row c : Cube) → Contains off.cubes row → IsImplicant off c → IsDisjoint (holds row) (holds c)

@@ -167,7 +167,7 @@ module _ {size : Size} {c : Cube} {j : ℕ} {u wide : Cube} (w : IsWidened size 
   pub widened_settles : {s : Place → Bool} → IsSettledOutput size s wide j
   widened_settles d _ _ _ _ = wide_output
 
-  in_wide : (p : Place) → holds c p ≡ true → holds wide p ≡ true
+  pub in_wide : (p : Place) → holds c p ≡ true → holds wide p ≡ true
   in_wide p h =
       let parts = and_parts (matches c.symbols p.point) (get_or c.outputs p.output false) h in
       wide_from p parts.0 (or_left (get_or c.outputs p.output false) (get_or u.outputs p.output false) parts.1)

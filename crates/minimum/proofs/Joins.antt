@@ -1,6 +1,5 @@
 -- The join of two cubes.
 use Rattle.std.proofs.Common.{◌≡◌, ℕ, zero, suc, Bool, true, false, ◌||◌, List, [], ◌∷◌, length, get_or, refl, ap, sym, ◌∙◌, arith, inl, inr}
-use Rattle.std.specs.List.{Contains}
 use Rattle.std.specs.Simd.Lanes.{zip2}
 use Rattle.std.proofs.lemmas.Bool.{cases_Bool, false≢true, or_cases, or_left, or_right, not-true, not_from_false}
 use Rattle.cube.specs.declared.symbol.Symbol.{Symbol}
@@ -15,7 +14,6 @@ use Rattle.cover.specs.Cubes.{Cubes}
 use Rattle.cover.specs.Places.{places}
 use Rattle.minimum.specs.Dominating.{IsImplicant, NeedsNoJoin}
 use Rattle.minimum.proofs.Growth.{same_sizes, covering}
-use Rattle.minimum.proofs.FirstPrimes.{within_apart}
 
 length-zip2 : {A : Type 0} (f : A → A → A) (xs ys : List A) → length xs ≡ length ys → length (zip2 f xs ys) ≡ length xs
 length-zip2 f [] ys e = refl
@@ -89,8 +87,8 @@ module _ (off : Cubes) (cube point wide : Cube) (is_cube : IsCube off.size cube)
     outputs = λ k on. output_of k ∙ or_right (get_or cube.outputs k false) (get_or point.outputs k false) on;
   })
 
-  pub needs_no_join : (row : Cube) → Contains off.cubes row → (IsDisjoint (holds row) (holds wide) → ⊥) → NeedsNoJoin off cube point
-  needs_no_join row member meets c c_cube within one two = absurd (meets (within_apart off row wide member (λ p h. within p (least c c_cube one two p h))))
+  pub needs_no_join : (IsImplicant off wide → ⊥) → NeedsNoJoin off cube point
+  needs_no_join refused c c_cube within one two = absurd (refused (λ p h. within p (least c c_cube one two p h)))
 
 -- an implicant avoids the list
 pub avoids : (off : Cubes) (c : Cube) → IsDisjoint (holds c) (places off.cubes) → IsImplicant off c

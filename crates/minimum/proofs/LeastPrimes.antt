@@ -16,7 +16,7 @@ use Rattle.cube.proofs.Members.{Contains-here, Contains-there, Contains-nil, Con
 use Rattle.pla.specs.Sets.{SetLists}
 use Rattle.covering.specs.declared.choice.Choice.{Choice}
 use Rattle.covering.specs.Table.{Table, has, RisesFrom}
-use Rattle.covering.specs.Cover.{IsCover, IsLeast, Precedes, counted, sum_over}
+use Rattle.covering.specs.Cover.{IsLeast, Precedes, counted, sum_over}
 use Rattle.minimum.specs.Primes.{primes_of, sublists, is_prime_cover, prime_covers, cover_cmp, prime_count, least_prime_cover, chosen}
 use Rattle.minimum.specs.PrimeTable.{IsPrimeCover, HasPrimeCovers, HasPrimeColumns}
 use Rattle.covering.proofs.Sets.{has_here, has_later, has_cases, rises_above, rises_lower}

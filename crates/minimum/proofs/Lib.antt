@@ -17,7 +17,6 @@ pub mod NonCandidates
 pub mod OfPla
 pub mod Growth
 pub mod FirstPrimes
-pub mod Fewest
 pub mod Neighbours
 pub mod EssentialByNeighbours
 pub mod Blocking

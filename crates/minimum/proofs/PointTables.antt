@@ -10,11 +10,10 @@ use Rattle.std.specs.declared.cmp.Ordering.TheVariants.{Less, Equal, Greater}
 use Rattle.std.proofs.lemmas.Bool.{cases_Bool, cases_lt, cases_order, and_parts, both_ways, true≢false}
 use Rattle.std.proofs.lemmas.Cmp.{tied_itself}
 use Rattle.std.proofs.lemmas.List.{length-map, get_or_default}
-use Rattle.std.proofs.lemmas.List.Elements.{Contains-append_left, Contains-append_right, Contains-append_cases}
+use Rattle.std.proofs.lemmas.List.Elements.{Contains-append_left, Contains-append_cases}
 use Rattle.std.proofs.lemmas.Option.{slice_get-get_or, slice_get_within, get_or_from_slice_get}
-use Rattle.cube.specs.Cube.{Cube, Place, holds, literals, intersection, IsSubset, size_of}
+use Rattle.cube.specs.Cube.{Cube, holds, literals, intersection, IsSubset, size_of}
 use Rattle.cube.specs.Order.{symbol_cmp, row_cmp}
-use Rattle.cube.specs.Sum.{is_subset}
 use Rattle.cube.proofs.Members.{Contains-here, Contains-there, Contains-nil, Contains-cases, Contains-map, Contains-map_cases, Contains-filter, Contains-filter_cases, list_any_none}
 use Rattle.cube.proofs.SumLemmas.{is_subset-from_fact, row_asymmetric, row_total, sorted-complete_sum}
 use Rattle.cube.proofs.SymbolOrder.{symbols_asymmetric, symbols_irreflexive, symbols_less, symbols_before, symbols_behind, row_by_symbols, same_symbols_in_sum}
@@ -35,8 +34,8 @@ use Rattle.covering.proofs.Subsets.{same_list}
 use Rattle.covering.proofs.Rising.{range_rises, range_has, range_below}
 use Rattle.covering.proofs.Renumbered.{map_only}
 use Rattle.covering.proofs.Compared.{ArePaired, IsNotAfter, not_longer, not_after_put, precedes_other, by_rests, same_or_shorter}
-use Rattle.minimum.specs.Primes.{primes_of, care_on, chosen, others, is_essential, essential_of, least_prime_cover, exact_of}
-use Rattle.minimum.specs.PrimeRows.{contains_region, holds_at, IsHolding}
+use Rattle.minimum.specs.Primes.{primes_of, care_on, chosen, others, is_essential, essential_of, exact_of}
+use Rattle.minimum.specs.PrimeRows.{contains_region}
 use Rattle.minimum.specs.PrimeTable.{IsPrimeCover}
 use Rattle.minimum.specs.Points.{Function, function_of, IsWantedPoint, AreDominating, IsUpTo, IsAsGood, IsLeastOfPoints, holders, point_table, PointsAreEnough}
 use Rattle.minimum.proofs.Numbers.{has_member, member_has, holds_at-below, cube_at-member}

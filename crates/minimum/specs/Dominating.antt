@@ -12,10 +12,8 @@ use Rattle.covering.specs.declared.choice.Choice.{Choice}
 use Rattle.covering.specs.declared.choice.Choice.TheVariants.{Literals}
 use Rattle.minimum.specs.declared.essential_by_neighbours.growth.Side.TheVariants.{Outside}
 use Rattle.minimum.specs.Neighbours.{on_side, IsSettledInput, IsSettledOutput}
-use Rattle.pla.specs.Sets.{SetLists}
-use Rattle.minimum.specs.declared.points.source.Source.TheVariants.{Outside as by_outside}
 use Rattle.minimum.specs.declared.points.dominating.open_points.OpenPoints.{OpenPoints}
-use Rattle.minimum.specs.Points.{Function, function_by, IsWantedPoint, IsAsGood, IsDominated}
+use Rattle.minimum.specs.Points.{IsAsGood, IsDominated}
 
 -- the maximal cubes that meet no cube of a list
 abbrev pub primes_outside : Cubes → List Cube
@@ -24,16 +22,6 @@ primes_outside off = complete_sum off.size (λ p. not (places off.cubes p))
 -- the cube meets no cube of the list
 abbrev pub IsImplicant : Cubes → Cube → Type 0
 IsImplicant off c = IsSubset (holds c) (on_side Outside off.cubes)
-
--- the function that wants what is in the ON list and not in the DC list, with the primes outside
--- a list
-abbrev pub function_outside : SetLists → Cubes → Function
-function_outside sets off = function_by sets (by_outside off)
-
--- wanted points that are implicants
-pub record ArePoints (sets : SetLists) (off : Cubes) (points : List Cube) : Type 0 where
-  pub wanted : (x : Cube) → Contains points x → IsWantedPoint (function_outside sets off) x
-  pub implicants : (x : Cube) → Contains points x → IsImplicant off x
 
 -- the cube contains one of the points with these numbers
 pub record HoldsOneOf (points : List Cube) (numbers : List ℕ) (c : Cube) : Type 0 where

@@ -103,8 +103,8 @@ holders columns x = filter (contains_region columns x) (range_with_len 0 (length
 abbrev pub point_table : List Cube → List Cube → Table
 point_table points columns = fresh (map (holders columns) points) (map literals columns)
 
--- the least cover of the table of some points, in none of some other cubes: its cubes, among such
--- that dominate the primes that contain a point
+-- the least cover of the table of some points that some essential primes do not contain: its cubes,
+-- among cubes that dominate the primes that contain a point
 pub record IsLeastOfPoints (choice : Choice) (f : Function) (essential points list : List Cube)
     : Type 0 where
   pub columns : List Cube
@@ -116,8 +116,8 @@ pub record IsLeastOfPoints (choice : Choice) (f : Function) (essential points li
   pub least : IsLeast choice (point_table points columns) numbers
   pub cubes : list ≡ chosen columns numbers
 
--- if its cubes are primes, and with some essential primes hold all wanted places, they and these
--- are the least cover by primes
+-- if its cubes are primes, and with these essential primes hold all wanted places, all of them, in
+-- row order, are the least cover by primes
 abbrev pub PointsAreEnough : Type 0
 PointsAreEnough = (choice : Choice) (sets : SetLists) (essential points list answer : List Cube)
     → AreCubes sets.size sets.on

@@ -29,7 +29,6 @@ use cube::Cube;
 use std::alloc::{AllocError, Global};
 
 pub(crate) mod best_cube;
-pub(crate) mod fewest_literals;
 pub(crate) mod open_points;
 pub(crate) mod refusing_rows;
 
@@ -95,14 +94,12 @@ fn add_best(
     requires size { found.old.primes.size ≡ off.now.size }
     ensures adds { OnOk result (AddsColumns off.now found.old.primes.cubes found.new.primes.cubes) }
     ensures size { OnOk result (found.new.primes.size ≡ off.now.size) }
-    ensures left { OnOk result (found.new.left ≤ found.old.left) }
+    ensures left { OnOk result (found.new.left ≡ found.old.left) }
     ensures refusing { OnOk result (found.new.refusing ≡ found.old.refusing) }
     ensures best { IfOk result (λ o. IfSome o (IsBest choice off.now cube.now)) }
     ensures member { IfOk result (λ o. IfSome o (Contains found.new.primes.cubes)) }
 {
-    let rows = &mut found.rows;
-    let left = &mut found.left;
-    let Some(best) = best_cube(alloc, off, cube, choice, rows, left)? else {
+    let Some(best) = best_cube(alloc, off, cube, choice, &mut found.rows)? else {
         return Ok(None);
     };
     add_copy(&mut found.primes, &best)?;

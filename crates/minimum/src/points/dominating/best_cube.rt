@@ -1,18 +1,16 @@
 //! The best of the cubes that contain a cube and meet none of a list.
 //!
-//! Each literal is taken away that can be, from the first input on, or as many as can be; then each
-//! output is added that can be. What can not is told by a row of the list that refuses it: the rows
-//! are a hint, and each is looked at. So a step costs a look at one row, and the cube one at all
-//! rows.
+//! Each literal is taken away that can be, from the first input on; then each output is added that
+//! can be. What can not is told by a row of the list that refuses it: the rows are a hint, and each
+//! is looked at. So a step costs a look at one row, and the cube one at all rows.
 
-ghost use Rattle.std.specs.Prelude.{◌≡◌, ◌<◌, ◌≤◌, true, IfOk, IfSome, OnOk};
+ghost use Rattle.std.specs.Prelude.{◌≡◌, ◌<◌, true, IfOk, IfSome, OnOk};
 ghost use Rattle.cube.specs.Cube.{IsCube, IsSubset, holds};
 ghost use Rattle.minimum.specs.declared.essential_by_neighbours.growth.Side.TheVariants.{Outside};
 ghost use Rattle.minimum.specs.Neighbours.{on_side, IsFreedAt, IsSettledInput, IsSettledOutput, AreFirst};
 ghost use Rattle.minimum.specs.Dominating.{IsBest, IsBestFreed, IsSettledUpTo};
 
 use crate::cubes::{are_apart, one_output, opposite};
-use crate::points::dominating::fewest_literals::fewest_literals;
 use crate::points::dominating::refusing_rows::RefusingRows;
 use cover::Cover;
 use covering::Choice;
@@ -134,50 +132,40 @@ fn with_outputs(
     Ok(Some(grown))
 }
 
-/// The cube freed of literals, as the choice wants it: from the first input on, or of as many as can
-/// be; or `None` where a hint is wrong or the budget is spent.
+/// The cube freed of literals from the first input on; or `None` where a hint is wrong, or literals
+/// count.
 fn freed_cube(
     off: &Cover,
     cube: &Cube,
     choice: Choice,
     refusing: &[Option<usize>],
-    left: &mut usize,
 ) -> Result<Option<Cube>, AllocError>
     requires { IsCube off.now.size cube.now }
-    ensures left { OnOk result (left.new ≤ left.old) }
-    ensures freed { IfOk result (λ o. IfSome o (IsBestFreed choice off.now cube.now)) }
+    ensures { IfOk result (λ o. IfSome o (IsBestFreed choice off.now cube.now)) }
 {
+    let Choice::First = choice else {
+        return Ok(None);
+    };
     let Some(first) = first_at_inputs(off, cube, refusing)? else {
         return Ok(None);
     };
-    let Choice::Literals = choice else {
-        return Ok(Some(first));
-    };
-    if !are_apart(off.as_slice(), &first) {
-        return Ok(None);
-    }
-    fewest_literals(off, cube, first, left)
+    Ok(Some(first))
 }
 
 /// The best of the cubes that contain the cube and meet none of the list, or `None` if the cube meets
-/// one, or the budget for looks at them is spent (or a hint is wrong).
-///
-/// Without literals it costs some looks at each of the list. With them it is the covering problem of
-/// [`fewest_literals`], and only what that takes is taken from the budget.
+/// one, or literals count (or a hint is wrong). It costs some looks at each of the list.
 pub(crate) fn best_cube(
     alloc: Global,
     off: &Cover,
     cube: &Cube,
     choice: Choice,
     refusing: &mut RefusingRows,
-    left: &mut usize,
 ) -> Result<Option<Cube>, AllocError>
     requires { IsCube off.now.size cube.now }
-    ensures left { OnOk result (left.new ≤ left.old) }
-    ensures best { IfOk result (λ o. IfSome o (IsBest choice off.now cube.now)) }
+    ensures { IfOk result (λ o. IfSome o (IsBest choice off.now cube.now)) }
 {
     refusing.find_at_inputs(off, cube);
-    let Some(freed) = freed_cube(off, cube, choice, &refusing.inputs, left)? else {
+    let Some(freed) = freed_cube(off, cube, choice, &refusing.inputs)? else {
         return Ok(None);
     };
     refusing.find_at_outputs(off, &freed);

@@ -3,9 +3,8 @@
 ghost use Rattle.std.specs.Prelude.{◌≡◌, ◌<◌, IfOk, OnOk, All, length, true};
 ghost use Rattle.cube.specs.Cube.{IsCube, SameSize};
 ghost use Rattle.cover.specs.Cubes.{AreCubes};
-ghost use Rattle.minimum.specs.Dominating.{AreSorted, NeedsNoJoin, HoldsOneOf};
+ghost use Rattle.minimum.specs.Dominating.{AreSorted, IsImplicant, NeedsNoJoin, HoldsOneOf};
 
-use crate::cubes::are_apart;
 use cover::Cover;
 use cube::Cube;
 use std::alloc::{AllocError, Global};
@@ -33,6 +32,17 @@ pub(crate) fn holds_one_of(points: &[Cube], numbers: &[usize], cube: &Cube) -> b
     false
 }
 
+/// Whether the cube meets the row with this number.
+fn meets_row(off: &Cover, r: usize, cube: &Cube) -> bool
+    requires { IsCube off.now.size cube.now }
+    ensures { result ≡ true → IsImplicant off.now cube.now → ⊥ }
+{
+    let Some(row) = off.get(r) else {
+        return false;
+    };
+    !row.disjoint(cube)
+}
+
 /// Whether the cube can not be joined with a point: the join meets the list. The row that the last
 /// such join with the point met is looked at first.
 fn is_refused(
@@ -49,13 +59,11 @@ fn is_refused(
     ensures long { OnOk result (length refusing.new.items ≡ length refusing.old.items) }
 {
     let wide = cube.join(point)?;
-    let rows = off.as_slice();
-    let last = refusing[k];
-    if last < rows.len() && !rows[last].disjoint(&wide) {
+    if meets_row(off, refusing[k], &wide) {
         return Ok(true);
     }
-    for r in 0..rows.len() {
-        if !rows[r].disjoint(&wide) {
+    for r in 0..off.len() {
+        if meets_row(off, r, &wide) {
             refusing[k] = r;
             return Ok(true);
         }
@@ -91,13 +99,17 @@ pub(crate) fn sort_points(
     let mut inside = Vec::new(alloc);
     for k in candidates {
         let point = &points[*k];
-        if best.contains(point) {
-            if !cube.contains(point) {
-                inside.push(*k)?;
-            }
-        } else if !is_refused(off, cube, point, *k, refusing)? {
-            numbers.push(*k)?;
+        if cube.contains(point) {
+            continue;
         }
+        if best.contains(point) {
+            inside.push(*k)?;
+            continue;
+        }
+        if is_refused(off, cube, point, *k, refusing)? {
+            continue;
+        }
+        numbers.push(*k)?;
     }
     let held = numbers.len();
     numbers.extend_from_slice(&inside)?;

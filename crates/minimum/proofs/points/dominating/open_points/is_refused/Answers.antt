@@ -7,4 +7,4 @@ returns-then-meets_row-clause-refused c _ =
 
 pub returns-then-meets_row-2-clause-refused : goal.returns-then-meets_row-2-clause-refused
 returns-then-meets_row-2-clause-refused c _ =
-    needs_no_join c.args.off.now c.args.cube.now c.args.point.now c.in_ok-wide.wide c.requires.cube c.requires.point c.in_ok-wide.ensures.value (c.meets_row-2.ensures c.if-meets_row-2.true)
+    needs_no_join c.args.off.now c.args.cube.now c.args.point.now c.in_ok-wide.wide c.requires.cube c.requires.point c.in_ok-wide.ensures.value (c.meets_row-in-loop-r.ensures c.if-meets_row-2.true)
