@@ -1,9 +1,10 @@
 -- Columns that dominate the cubes that contain a cube.
 use Rattle.std.proofs.Common.{◌≡◌, ℕ, ◌+◌, ◌-◌, ◌<◌, ◌≤◌, ◌⊎◌, inl, inr, true, not, List, [], ◌∷◌, ◌++◌, length, take, drop, get_or, refl, ap, sym, subst, ◌∙◌, arith}
-use Rattle.std.specs.List.{Contains, All}
+use Rattle.std.specs.List.{Contains, All, range_with_len}
 use Rattle.std.proofs.Math.Seq.{take-append-add}
 use Rattle.std.proofs.lemmas.Bool.{cases_Bool, both_ways}
 use Rattle.std.proofs.lemmas.List.{get_or_default, take_more, take_all, take-append-drop}
+use Rattle.std.proofs.lemmas.List.FromFn.{get_or-range_with_len, length-range_with_len}
 use Rattle.std.proofs.lemmas.List.Elements.{All-contains, Contains-append_left, Contains-append_right, Contains-append_cases, Contains-get_or, Contains-push_cases}
 use Rattle.cube.specs.Cube.{Cube, holds, IsCube, IsSubset, size_of}
 use Rattle.cube.specs.Join.{supercube}
@@ -186,52 +187,10 @@ module _ (choice : Choice) (off : Cubes) (points : List Cube) (excluded candidat
     }
   ]
 
--- ---- all points
+-- ---- a point, with all of the others
 
--- an implicant
-pub record IsCubeApart (off : Cubes) (c : Cube) : Type 0 where
-  pub is_cube : IsCube off.size c
-  pub within : IsImplicant off c
+range_has : (n k : ℕ) → k < n → Contains (range_with_len 0 n) k
+range_has n k lt = subst (Contains (range_with_len 0 n)) (get_or-range_with_len 0 n k 0 lt ∙ (omega arith)) (Contains-get_or (range_with_len 0 n) k 0 (let e = length-range_with_len 0 n in omega (arith, lt, e)))
 
--- the numbers of all points, in their order
-pub record AreNumbers (numbers : List ℕ) (n : ℕ) : Type 0 where
-  pub long : length numbers ≡ n
-  pub each : (k : ℕ) → k < n → get_or numbers k 0 ≡ k
-
-module _ (choice : Choice) (off : Cubes) (points : List Cube) (numbers : List ℕ) (are : AreNumbers numbers (length points)) where
-  has : (k : ℕ) → k < length points → Contains numbers k
-  has k lt = subst (Contains numbers) (are.each k lt) (Contains-get_or numbers k 0 (let e = are.long in omega (arith, lt, e)))
-
-  pub all_start : (columns : List Cube) → AreSettled choice points (IsCubeApart off) (take 0 numbers) columns
-  all_start columns = record { each = λ c o. inr (λ h. absurd (Contains-nil h.number h.member)) }
-
-  module _ (at : ℕ) (lt : at < length points) (point : Cube) (is_point : cube_at points at ≡ point) where
-    below : at < length numbers
-    below = let e = are.long in omega (arith, lt, e)
-
-    pub point_candidates : AreCandidates off points (take at numbers) (drop (at + 1) numbers) point
-    point_candidates c o k low sub = elim (around_number numbers at below k (has k low)) [
-      | inl before ↦ absurd (o.none (record { number = k; member = before; inside = sub }))
-      | inr (inl here) ↦ inr (λ p h. subst (λ z. holds z p ≡ true) (ap (cube_at points) (sym here ∙ are.each at lt) ∙ is_point) h)
-      | inr (inr after) ↦ inl after
-    ]
-
-    pub point_served : (old new : List Cube) → AddsColumns off old new → AreServed choice off points (take at numbers) point new → AreSettled choice points (IsCubeApart off) (take at numbers) old → AreSettled choice points (IsCubeApart off) (take (at + 1) numbers) new
-    point_served old new adds served = settled_more choice off points (IsCubeApart off) (take at numbers) (take (at + 1) numbers) old new (get_or numbers at 0) adds (next_taken numbers at below)
-        (λ c o none sub. served c (record {
-          is_cube = o.is_cube;
-          within = o.within;
-          over = subst (λ z. IsSubset (holds z) (holds c)) (ap (cube_at points) (are.each at lt) ∙ is_point) sub;
-          none = none;
-        }))
-
-  pub all_end : (columns : List Cube) (at : ℕ) → length points ≤ at → AreSettled choice points (IsCubeApart off) (take at numbers) columns
-      → (x c : Cube) → Contains points x → IsCube off.size c → IsImplicant off c → IsSubset (holds x) (holds c) → IsDominated choice points columns c
-  all_end columns at past so x c there is_cube within sub = elim (so.each c (record { is_cube = is_cube; within = within })) [
-    | inl d ↦ d
-    | inr none ↦ absurd (none (record {
-      number = there.0;
-      member = subst (λ l. Contains l there.0) (sym (take_all at numbers (let e = are.long in omega (arith, past, e)))) (has there.0 there.1);
-      inside = subst (λ z. IsSubset (holds z) (holds c)) (sym (cube_at-member points x there)) sub;
-    }))
-  ]
+pub all_candidates : (off : Cubes) (points : List Cube) (excluded candidates : List ℕ) (cube : Cube) → candidates ≡ range_with_len 0 (length points) → AreCandidates off points excluded candidates cube
+all_candidates off points excluded candidates cube e c o k lt sub = inl (subst (λ l. Contains l k) (sym e) (range_has (length points) k lt))

@@ -191,10 +191,14 @@ pub as_good_itself : (choice : Choice) (c : Cube) → IsAsGood choice c c
 as_good_itself First c = symbols_same c.symbols c.symbols refl
 as_good_itself Literals c = inr (refl, symbols_same c.symbols c.symbols refl)
 
-pub columns_of_all : (choice : Choice) (primes points row : List Cube) (point : Cube) → ((c : Cube) → Contains row c → Contains primes c) → ((c : Cube) → Contains primes c → IsSubset (holds point) (holds c) → Contains row c) → AreColumnsOf choice primes points point row
-columns_of_all choice primes points row point own all = record {
-  primes = own;
-  dominated = λ c member sub. record { column = c; member = all c member sub; dominates = record { over = λ y there inside. inside; good = as_good_itself choice c } };
+pub columns_of_filter : (choice : Choice) (size : Size) (all points row : List Cube) (point : Cube) → row ≡ filter (is_within size point) all → AreColumnsOf choice all points point row
+columns_of_filter choice size all points row point e = record {
+  primes = λ c h. (Contains-filter_cases (is_within size point) all c (subst (λ l. Contains l c) e h)).0;
+  dominated = λ c member sub. record {
+    column = c;
+    member = subst (λ l. Contains l c) (sym e) (Contains-filter (is_within size point) all c member (within_from_fact size point c sub));
+    dominates = record { over = λ y there inside. inside; good = as_good_itself choice c };
+  };
 }
 
 -- those of the points that were found dominate

@@ -26,8 +26,8 @@ pub(crate) mod source;
 
 use crate::cubes::{are_apart, lies_in_one_of};
 use crate::numbered_cubes::{numbers_by_output, numbers_containing};
-use crate::points::picked_points::{PickedPoints, add_point};
-use crate::points::source::Source;
+use crate::points::picked_points::{PickedPoints, push_cube};
+use crate::points::source::{Source, columns_for};
 use crate::prime_table::weights;
 use cover::Cover;
 use covering::{Choice, Table, numbers};
@@ -102,7 +102,15 @@ fn add_place(
     if !is_wanted(sets, &point) {
         return Ok(());
     }
-    add_point(alloc, source, point, choice, most, found)
+    let number = found.points.len();
+    push_cube(&mut found.points, point)?;
+    match columns_for(alloc, source, &found.points, number, choice, most)? {
+        Some(row) => found.columns.append(&row)?,
+        None => {
+            found.points.pop();
+        }
+    }
+    Ok(())
 }
 
 /// Adds the proposed places that are wanted and whose columns are found within the budget.

@@ -1,12 +1,8 @@
 //! The points that were picked so far, with primes that dominate all that contain one of them.
 
 ghost use Rattle.std.specs.Prelude.{◌≡◌, ◌∷◌, ◌++◌, [], OnOk};
-ghost use Rattle.pla.specs.Sets.{SetLists};
-ghost use Rattle.minimum.specs.Points.{function_by, IsFound, IsSource, IsWantedPoint};
 
-use crate::points::source::{Source, columns_for};
 use cover::Cover;
-use covering::Choice;
 use cube::{Cube, Shape};
 use std::alloc::{AllocError, Global};
 
@@ -34,35 +30,9 @@ impl PickedPoints {
 }
 
 /// Adds the cube.
-fn push_cube(list: &mut Vec<Cube>, cube: Cube) -> Result<(), AllocError>
+pub(crate) fn push_cube(list: &mut Vec<Cube>, cube: Cube) -> Result<(), AllocError>
     ensures { OnOk result (list.new.items ≡ list.old.items ++ cube ∷ []) }
 {
     list.push(cube)?;
-    Ok(())
-}
-
-/// Adds a point with its columns, if these are found within the budget.
-pub(crate) fn add_point(
-    alloc: Global,
-    source: &Source,
-    point: Cube,
-    choice: Choice,
-    most: usize,
-    found: &mut PickedPoints,
-) -> Result<(), AllocError>
-    ghost sets: { SetLists }
-    requires source { IsSource sets.size source.now }
-    requires wanted { IsWantedPoint (function_by sets source.now) point }
-    requires found { IsFound choice (function_by sets source.now) found.old }
-    ensures { OnOk result (IsFound choice (function_by sets source.now) found.new) }
-{
-    let number = found.points.len();
-    push_cube(&mut found.points, point)?;
-    match columns_for(alloc, source, &found.points, number, choice, most)? {
-        Some(row) => found.columns.append(&row)?,
-        None => {
-            found.points.pop();
-        }
-    }
     Ok(())
 }

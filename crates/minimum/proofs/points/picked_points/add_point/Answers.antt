@@ -1,1 +1,0 @@
-use Rattle.minimum.proofs.points.picked_points.add_point.Goals as goal
