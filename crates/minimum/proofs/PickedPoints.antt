@@ -110,6 +110,13 @@ module _ (sets : SetLists) (source : Source) where
       let p = point_at sets.size point is_cube literals one in
       record { is_cube = is_cube; place = p.0; at = p.1; wanted = want p.0 p.1.held }
 
+  -- the points with one more are cubes
+  pub points_with : (choice : Choice) (point : Cube) (old : PickedPoints) (points : List Cube) → IsWantedPoint function point → points ≡ old.points.items ++ point ∷ [] → IsFound choice function old → AreCubes sets.size points
+  points_with choice point old points wanted e was = members_all (IsCube sets.size) points (λ x h. elim (Contains-append_cases old.points.items (point ∷ []) x (subst (λ l. Contains l x) e h)) [
+    | inl k ↦ (was.wanted x k).is_cube
+    | inr k ↦ subst (IsCube sets.size) (Contains-one point x k) wanted.is_cube
+  ])
+
   -- a point more, with its columns
   module _ (choice : Choice) (point : Cube) (wanted : IsWantedPoint function point) (old new : PickedPoints) (row : List Cube) (points : new.points.items ≡ old.points.items ++ point ∷ []) (columns : new.columns.cubes ≡ old.columns.cubes ++ row)
       (of_point : AreColumnsOf choice function.primes (old.points.items ++ point ∷ []) point row) (was : IsFound choice function old) where

@@ -106,9 +106,7 @@ fn add_place(
     push_cube(&mut found.points, point)?;
     match columns_for(alloc, source, &found.points, number, choice, most)? {
         Some(row) => found.columns.append(&row)?,
-        None => {
-            found.points.pop();
-        }
+        None => found.points.truncate(number),
     }
     Ok(())
 }
