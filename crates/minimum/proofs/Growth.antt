@@ -38,12 +38,12 @@ dash_from One h = absurd (false≢true (h false))
 -- ---- what was settled stays so
 
 module _ (size : Size) (s : Place → Bool) (c d : Cube) (one : IsCube size c) (other : IsCube size d) (sub : IsSubset (holds c) (holds d)) where
-  settled_input_more : (k : ℕ) → IsSettledInput size s c k → IsSettledInput size s d k
+  pub settled_input_more : (k : ℕ) → IsSettledInput size s c k → IsSettledInput size s d k
   settled_input_more k settled e e_cube above within dash =
       let was : get_or c.symbols k Dash ≡ Dash = settled e e_cube (λ p h. above p (sub p h)) within dash in
       dash_from (get_or d.symbols k Dash) (λ bit. (covering size c d one other sub).inputs k bit (ap (λ t. agrees t bit) was))
 
-  settled_output_more : (k : ℕ) → IsSettledOutput size s c k → IsSettledOutput size s d k
+  pub settled_output_more : (k : ℕ) → IsSettledOutput size s c k → IsSettledOutput size s d k
   settled_output_more k settled e e_cube above within on = (covering size c d one other sub).outputs k (settled e e_cube (λ p h. above p (sub p h)) within on)
 
 -- ---- a literal less
@@ -167,7 +167,7 @@ module _ {size : Size} {c : Cube} {j : ℕ} {u wide : Cube} (w : IsWidened size 
   pub widened_settles : {s : Place → Bool} → IsSettledOutput size s wide j
   widened_settles d _ _ _ _ = wide_output
 
-  in_wide : (p : Place) → holds c p ≡ true → holds wide p ≡ true
+  pub in_wide : (p : Place) → holds c p ≡ true → holds wide p ≡ true
   in_wide p h =
       let parts = and_parts (matches c.symbols p.point) (get_or c.outputs p.output false) h in
       wide_from p parts.0 (or_left (get_or c.outputs p.output false) (get_or u.outputs p.output false) parts.1)

@@ -1,17 +1,18 @@
 -- The join of two cubes.
 use Rattle.std.proofs.Common.{◌≡◌, ℕ, zero, suc, Bool, true, false, ◌||◌, List, [], ◌∷◌, length, get_or, refl, ap, sym, ◌∙◌, arith, inl, inr}
 use Rattle.std.specs.Simd.Lanes.{zip2}
-use Rattle.std.proofs.lemmas.Bool.{cases_Bool, false≢true, or_cases, or_left, not-true, not_from_false}
+use Rattle.std.proofs.lemmas.Bool.{cases_Bool, false≢true, or_cases, or_left, or_right, not-true, not_from_false}
 use Rattle.cube.specs.declared.symbol.Symbol.{Symbol}
 use Rattle.cube.specs.declared.symbol.Symbol.TheVariants.{Dash, Zero, One}
 use Rattle.cube.specs.Pattern.{agrees}
 use Rattle.cube.specs.Cube.{Cube, holds, SameSize, IsCube, IsSubset, IsDisjoint}
 use Rattle.cube.specs.Join.{supercube, supercube_symbol}
 use Rattle.cube.proofs.HoldsLemmas.{IsSubset-from_Covers}
+use Rattle.cube.proofs.JoinLemmas.{agrees-supercube_symbol}
 use Rattle.cube.proofs.SharpLemmas.{some_true, true_some}
 use Rattle.cover.specs.Cubes.{Cubes}
 use Rattle.cover.specs.Places.{places}
-use Rattle.minimum.specs.Dominating.{IsImplicant, IsJoin, NeedsNoJoin}
+use Rattle.minimum.specs.Dominating.{IsImplicant, NeedsNoJoin}
 use Rattle.minimum.proofs.Growth.{same_sizes, covering}
 
 length-zip2 : {A : Type 0} (f : A → A → A) (xs ys : List A) → length xs ≡ length ys → length (zip2 f xs ys) ≡ length xs
@@ -48,7 +49,7 @@ module _ (off : Cubes) (cube point wide : Cube) (is_cube : IsCube off.size cube)
   symbol_of : (k : ℕ) → get_or wide.symbols k Dash ≡ supercube_symbol (get_or cube.symbols k Dash) (get_or point.symbols k Dash)
   symbol_of k = ap (λ c. get_or c.symbols k Dash) is ∙ get_or-zip2 supercube_symbol Dash cube.symbols point.symbols k refl same.0
 
-  wide_cube : IsCube off.size wide
+  pub wide_cube : IsCube off.size wide
   wide_cube = record {
     has_size = (
       ap (λ c. length c.symbols) is ∙ length-zip2 supercube_symbol cube.symbols point.symbols same.0 ∙ is_cube.has_size.0,
@@ -59,7 +60,7 @@ module _ (off : Cubes) (cube point wide : Cube) (is_cube : IsCube off.size cube)
         true_some wide.outputs some.0 (output_of some.0 ∙ or_left (get_or cube.outputs some.0 false) (get_or point.outputs some.0 false) some.1));
   }
 
-  least : (c : Cube) → IsCube off.size c → IsSubset (holds cube) (holds c) → IsSubset (holds point) (holds c) → IsSubset (holds wide) (holds c)
+  pub least : (c : Cube) → IsCube off.size c → IsSubset (holds cube) (holds c) → IsSubset (holds point) (holds c) → IsSubset (holds wide) (holds c)
   least c c_cube one two =
       let over_one = covering off.size cube c is_cube c_cube one in
       let over_two = covering off.size point c is_point c_cube two in
@@ -71,11 +72,23 @@ module _ (off : Cubes) (cube point wide : Cube) (is_cube : IsCube off.size cube)
         ];
       })
 
-  pub is_join : IsImplicant off wide → IsJoin off cube point wide
-  is_join implicant = record { is_cube = wide_cube; implicant = implicant; least = least }
+  -- each contains what it joins
+  pub wide_over : IsSubset (holds cube) (holds wide)
+  wide_over = IsSubset-from_Covers wide cube (same_sizes off.size cube wide is_cube wide_cube) (record {
+    inputs = λ k bit ok. ap (λ t. agrees t bit) (symbol_of k) ∙ agrees-supercube_symbol (get_or cube.symbols k Dash) (get_or point.symbols k Dash) bit
+        ∙ or_left (agrees (get_or cube.symbols k Dash) bit) (agrees (get_or point.symbols k Dash) bit) ok;
+    outputs = λ k on. output_of k ∙ or_left (get_or cube.outputs k false) (get_or point.outputs k false) on;
+  })
 
-  pub needs_no_join : (prime : Cube) → (IsImplicant off wide → ⊥) → NeedsNoJoin off cube prime point
-  needs_no_join prime refused c c_cube one two within = absurd (refused (λ p h. within p (least c c_cube one two p h)))
+  pub wide_with_point : IsSubset (holds point) (holds wide)
+  wide_with_point = IsSubset-from_Covers wide point (same_sizes off.size point wide is_point wide_cube) (record {
+    inputs = λ k bit ok. ap (λ t. agrees t bit) (symbol_of k) ∙ agrees-supercube_symbol (get_or cube.symbols k Dash) (get_or point.symbols k Dash) bit
+        ∙ or_right (agrees (get_or cube.symbols k Dash) bit) (agrees (get_or point.symbols k Dash) bit) ok;
+    outputs = λ k on. output_of k ∙ or_right (get_or cube.outputs k false) (get_or point.outputs k false) on;
+  })
+
+  pub needs_no_join : (IsImplicant off wide → ⊥) → NeedsNoJoin off cube point
+  needs_no_join refused c c_cube within one two = absurd (refused (λ p h. within p (least c c_cube one two p h)))
 
 -- an implicant avoids the list
 pub avoids : (off : Cubes) (c : Cube) → IsDisjoint (holds c) (places off.cubes) → IsImplicant off c

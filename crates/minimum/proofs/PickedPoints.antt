@@ -1,5 +1,5 @@
 -- Points that are picked, and the primes that contain them.
-use Rattle.std.proofs.Common.{◌≡◌, ◌≢◌, ℕ, suc, ◌<◌, Bool, true, false, cond, not, ◌||◌, List, [], ◌∷◌, ◌++◌, length, map, get_or, All, refl, ap, ap₂, sym, subst, ◌∙◌, arith, inl, inr}
+use Rattle.std.proofs.Common.{◌≡◌, ◌≢◌, ℕ, suc, ◌<◌, Bool, true, false, cond, not, ◌||◌, List, [], ◌∷◌, ◌++◌, length, map, get_or, All, refl, ap, ap₂, sym, subst, ◌∙◌, ◌⊎◌, arith, inl, inr}
 use Rattle.std.specs.Prelude.{filter}
 use Rattle.std.specs.List.{Contains, range_with_len}
 use Rattle.std.proofs.lemmas.Bool.{cases_Bool, false≢true, and_parts, not-true, both_ways}
@@ -10,12 +10,12 @@ use Rattle.cube.specs.Size.{Size}
 use Rattle.cube.specs.declared.symbol.Symbol.{Symbol}
 use Rattle.cube.specs.declared.symbol.Symbol.TheVariants.{Dash, Zero, One}
 use Rattle.cube.specs.Pattern.{agrees, matches}
-use Rattle.cube.specs.Cube.{Cube, Place, holds, SameSize, IsCube, IsPlace, IsSubset}
+use Rattle.cube.specs.Cube.{Cube, Place, holds, SameSize, IsCube, IsPlace, IsSubset, size_of}
 use Rattle.cube.proofs.HoldsLemmas.{pick}
 use Rattle.cube.proofs.Members.{Contains-nil, Contains-cases, Contains-filter, Contains-filter_cases}
 use Rattle.cube.proofs.SharpLemmas.{some_true}
 use Rattle.cube.specs.Sum.{is_subset, complete_sum}
-use Rattle.cube.proofs.SumLemmas.{Contains-complete_sum, IsPlace-from_holds, implied_at}
+use Rattle.cube.proofs.SumLemmas.{Contains-complete_sum, IsPlace-from_holds, IsSubset-from_test, implied_at, is_subset-from_fact}
 use Rattle.cube.proofs.SymbolOrder.{symbols_same, same_symbols_in_sum, maximal_in_part}
 use Rattle.cover.specs.Cubes.{AreCubes, Cubes}
 use Rattle.cover.specs.Places.{places}
@@ -33,7 +33,7 @@ use Rattle.minimum.specs.Primes.{care_on, primes_of}
 use Rattle.minimum.specs.PrimeRows.{contains_region, has_output, with_output, HasOneOutput}
 use Rattle.minimum.specs.declared.points.source.Source.{Source}
 use Rattle.minimum.specs.declared.points.picked_points.PickedPoints.{PickedPoints}
-use Rattle.minimum.specs.Points.{Function, function_of, function_by, source_size, source_primes, IsSource, StandsFor, IsFound, IsPointAt, IsWantedPoint, AreHolders, AreDominating, IsAsGood, holders, IsOnePoint}
+use Rattle.minimum.specs.Points.{Function, function_of, function_by, source_size, source_primes, IsSource, StandsFor, IsFound, IsPointAt, IsWantedPoint, AreDominating, IsDominated, AreColumnsOf, IsAsGood, holders, IsOnePoint}
 use Rattle.minimum.proofs.PrimeRows.{spans_holds}
 
 -- ---- one point
@@ -110,38 +110,51 @@ module _ (sets : SetLists) (source : Source) where
       let p = point_at sets.size point is_cube literals one in
       record { is_cube = is_cube; place = p.0; at = p.1; wanted = want p.0 p.1.held }
 
-  module _ (point : Cube) (wanted : IsWantedPoint function point) (row : List Cube) (row_is : row ≡ filter (is_within sets.size point) function.primes) (points columns : List Cube) (was : AreHolders function points columns) where
-    in_row : (c : Cube) → Contains function.primes c → IsSubset (holds point) (holds c) → Contains row c
-    in_row c member sub = subst (λ l. Contains l c) (sym row_is) (Contains-filter (is_within sets.size point) function.primes c member (within_from_fact sets.size point c sub))
+  -- the points with one more are cubes
+  pub points_with : (choice : Choice) (point : Cube) (old : PickedPoints) (points : List Cube) → IsWantedPoint function point → points ≡ old.points.items ++ point ∷ [] → IsFound choice function old → AreCubes sets.size points
+  points_with choice point old points wanted e was = members_all (IsCube sets.size) points (λ x h. elim (Contains-append_cases old.points.items (point ∷ []) x (subst (λ l. Contains l x) e h)) [
+    | inl k ↦ (was.wanted x k).is_cube
+    | inr k ↦ subst (IsCube sets.size) (Contains-one point x k) wanted.is_cube
+  ])
 
-    row_prime : (c : Cube) → Contains row c → Contains function.primes c
-    row_prime c h = (Contains-filter_cases (is_within sets.size point) function.primes c (subst (λ l. Contains l c) row_is h)).0
+  -- a point more, with its columns
+  module _ (choice : Choice) (point : Cube) (wanted : IsWantedPoint function point) (old new : PickedPoints) (row : List Cube) (points : new.points.items ≡ old.points.items ++ point ∷ []) (columns : new.columns.cubes ≡ old.columns.cubes ++ row)
+      (of_point : AreColumnsOf choice function.primes (old.points.items ++ point ∷ []) point row) (was : IsFound choice function old) where
+    old_or_new : (x : Cube) → Contains new.points.items x → Contains old.points.items x ⊎ (point ≡ x)
+    old_or_new x h = elim (Contains-append_cases old.points.items (point ∷ []) x (subst (λ l. Contains l x) points h)) [ inl k ↦ inl k | inr k ↦ inr (Contains-one point x k) ]
 
-    pub more_holders : AreHolders function (points ++ point ∷ []) (columns ++ row)
-    more_holders = record {
-      wanted = λ x h. elim (Contains-append_cases points (point ∷ []) x h) [
-        | inl k ↦ was.wanted x k
-        | inr k ↦ subst (IsWantedPoint function) (Contains-one point x k) wanted
-      ];
-      all = λ x c h member sub. elim (Contains-append_cases points (point ∷ []) x h) [
-        | inl k ↦ Contains-append_left columns row c (was.all x c k member sub)
-        | inr k ↦ Contains-append_right columns row c (in_row c member (λ p held. sub p (ap (λ d. holds d p) (sym (Contains-one point x k)) ∙ held)))
-      ];
-      primes = λ c h. elim (Contains-append_cases columns row c h) [
-        | inl k ↦ was.primes c k
-        | inr k ↦ row_prime c k
-      ];
+    in_columns : (c : Cube) → IsDominated choice (old.points.items ++ point ∷ []) row c → IsDominated choice new.points.items new.columns.cubes c
+    in_columns c d = record {
+      column = d.column;
+      member = subst (λ l. Contains l d.column) (sym columns) (Contains-append_right old.columns.cubes row d.column d.member);
+      dominates = record { over = λ x h. d.dominates.over x (subst (λ l. Contains l x) points h); good = d.dominates.good };
     }
 
-  pub found_more : (is_source : IsSource sets.size source) (point : Cube) → IsWantedPoint function point → (row : Cubes) → row ≡ record { size = source_size source; cubes = filter (is_within (source_size source) point) function.primes } → (old new : PickedPoints)
-      → new.points.items ≡ old.points.items ++ point ∷ [] → new.columns.size ≡ old.columns.size → new.columns.cubes ≡ old.columns.cubes ++ row.cubes → IsFound function old → IsFound function new
-  found_more is_source point wanted row row_is old new points size columns found =
-      let filtered = ap (λ l. l.cubes) row_is ∙ ap (λ z. filter (is_within z point) function.primes) is_source.sized in
-      let more = more_holders point wanted row.cubes filtered old.points.items old.columns.cubes found.are_holders in
-      record {
-        are_holders = subst (λ l. AreHolders function l new.columns.cubes) (sym points) (subst (λ l. AreHolders function (old.points.items ++ point ∷ []) l) (sym columns) more);
-        size = size ∙ found.size;
-      }
+    still : (c : Cube) → (IsSubset (holds point) (holds c) → ⊥) → IsDominated choice old.points.items old.columns.cubes c → IsDominated choice new.points.items new.columns.cubes c
+    still c lacks d = record {
+      column = d.column;
+      member = subst (λ l. Contains l d.column) (sym columns) (Contains-append_left old.columns.cubes row d.column d.member);
+      dominates = record {
+        over = λ x h sub. elim (old_or_new x h) [ inl k ↦ d.dominates.over x k sub | inr e ↦ absurd (lacks (subst (λ y. IsSubset (holds y) (holds c)) (sym e) sub)) ];
+        good = d.dominates.good;
+      };
+    }
+
+    more_dominated : (x c : Cube) → Contains new.points.items x → Contains function.primes c → IsSubset (holds x) (holds c) → IsDominated choice new.points.items new.columns.cubes c
+    more_dominated x c h member sub = elim (cases_Bool (is_subset (size_of point) (holds point) (holds c))) [
+      | inl e ↦ in_columns c (of_point.dominated c member (IsSubset-from_test (size_of point) point (holds c) (refl, refl) e))
+      | inr e ↦ (
+          let lacks : IsSubset (holds point) (holds c) → ⊥ = λ inside. both_ways _ e (is_subset-from_fact (size_of point) (holds point) (holds c) inside) in
+          still c lacks (elim (old_or_new x h) [ inl k ↦ was.dominated x c k member sub | inr f ↦ absurd (lacks (subst (λ y. IsSubset (holds y) (holds c)) (sym f) sub)) ]))
+    ]
+
+    pub found_more : new.columns.size ≡ old.columns.size → IsFound choice function new
+    found_more size = record {
+      wanted = λ x h. elim (old_or_new x h) [ inl k ↦ was.wanted x k | inr e ↦ subst (IsWantedPoint function) e wanted ];
+      primes = λ c h. elim (Contains-append_cases old.columns.cubes row c (subst (λ l. Contains l c) columns h)) [ inl k ↦ was.primes c k | inr k ↦ of_point.primes c k ];
+      dominated = more_dominated;
+      size = size ∙ was.size;
+    }
 
 -- the columns are of the size of each point
 pub dominating_sizes : (choice : Choice) (sets : SetLists) (points columns : List Cube) → AreDominating choice (function_of sets) points columns → (x : Cube) → Contains points x → All (λ d. SameSize d x) columns
@@ -185,15 +198,26 @@ pub as_good_itself : (choice : Choice) (c : Cube) → IsAsGood choice c c
 as_good_itself First c = symbols_same c.symbols c.symbols refl
 as_good_itself Literals c = inr (refl, symbols_same c.symbols c.symbols refl)
 
-pub holders_dominate : (choice : Choice) (f : Function) (s : Place → Bool) (points columns : List Cube) → f.primes ≡ complete_sum f.size s → AreHolders f points columns → AreDominating choice f points columns
-holders_dominate choice f s points columns e h = record {
+pub columns_of_filter : (choice : Choice) (size : Size) (all points row : List Cube) (point : Cube) → row ≡ filter (is_within size point) all → AreColumnsOf choice all points point row
+columns_of_filter choice size all points row point e = record {
+  primes = λ c h. (Contains-filter_cases (is_within size point) all c (subst (λ l. Contains l c) e h)).0;
+  dominated = λ c member sub. record {
+    column = c;
+    member = subst (λ l. Contains l c) (sym e) (Contains-filter (is_within size point) all c member (within_from_fact size point c sub));
+    dominates = record { over = λ y there inside. inside; good = as_good_itself choice c };
+  };
+}
+
+-- those of the points that were found dominate
+pub found_dominate : (choice : Choice) (f : Function) (s : Place → Bool) (found : PickedPoints) → f.primes ≡ complete_sum f.size s → IsFound choice f found → AreDominating choice f found.points.items found.columns.cubes
+found_dominate choice f s found e h = record {
   wanted = h.wanted;
   cubes = λ c k. ((Contains-complete_sum f.size s c).0 (member c k)).is_cube;
   apart = λ c d k l. same_symbols_in_sum f.size s c d (member c k) (member d l);
-  dominated = λ x c k member sub. record { column = c; member = h.all x c k member sub; dominates = record { over = λ y there inside. inside; good = as_good_itself choice c } };
+  dominated = h.dominated;
 }
   where
-    member : (c : Cube) → Contains columns c → Contains (complete_sum f.size s) c
+    member : (c : Cube) → Contains found.columns.cubes c → Contains (complete_sum f.size s) c
     member c k = subst (λ l. Contains l c) e (h.primes c k)
 
 -- ---- columns that are maximal outside a list of places outside
@@ -238,9 +262,10 @@ module _ (sets given : SetLists) (source : Source) (on_cubes : AreCubes sets.siz
     dominated = λ x c k member sub. h.dominated x c k (given_prime c member) sub;
   }
 
-  pub holders_same : (points columns : List Cube) → AreHolders (function_by given source) points columns → AreHolders (function_of sets) points columns
-  holders_same points columns h = record {
+  pub found_same : (choice : Choice) (found : PickedPoints) → IsFound choice (function_by given source) found → IsFound choice (function_of sets) found
+  found_same choice found h = record {
     wanted = λ x k. wanted_same x (h.wanted x k);
-    all = λ x c k member sub. h.all x c k (given_prime c member) sub;
     primes = λ c k. subst (λ l. Contains l c) same.primes (h.primes c k);
+    dominated = λ x c k member sub. h.dominated x c k (given_prime c member) sub;
+    size = h.size ∙ same.size;
   }

@@ -1,54 +1,51 @@
--- Columns that dominate the primes of some points. No public clause cites this module.
-use Rattle.std.specs.Prelude.{◌≡◌, ℕ, ◌<◌, Bool, true, not, List, length, Contains}
-use Rattle.cube.specs.Cube.{Cube, holds, IsCube, IsSubset}
+-- Columns that dominate the cubes that contain some points and meet no cube of a list. No public
+-- clause cites this module.
+use Rattle.std.specs.Prelude.{◌≡◌, ℕ, ◌≢◌, ◌<◌, ◌≤◌, ◌⊎◌, Bool, not, List, length, take, drop, slice_index_or, Contains, All}
+use Rattle.cube.specs.declared.symbol.Symbol.TheVariants.{Dash}
+use Rattle.cube.specs.Size.{Size}
+use Rattle.cube.specs.Cube.{Cube, Place, holds, IsCube, IsSubset, IsDisjoint}
 use Rattle.cube.specs.Sum.{complete_sum}
 use Rattle.cover.specs.Cubes.{Cubes}
 use Rattle.cover.specs.Marks.{cube_at}
 use Rattle.cover.specs.Places.{places}
-use Rattle.covering.specs.declared.choice.Choice.TheVariants.{First}
-use Rattle.covering.specs.Search.{marked}
+use Rattle.covering.specs.declared.choice.Choice.{Choice}
+use Rattle.covering.specs.declared.choice.Choice.TheVariants.{Literals}
 use Rattle.minimum.specs.declared.essential_by_neighbours.growth.Side.TheVariants.{Outside}
-use Rattle.minimum.specs.Neighbours.{on_side}
-use Rattle.pla.specs.Sets.{SetLists}
-use Rattle.minimum.specs.declared.points.source.Source.TheVariants.{Outside as by_outside}
-use Rattle.minimum.specs.Points.{Function, function_by, IsWantedPoint, IsUpTo, IsDominated}
+use Rattle.minimum.specs.Neighbours.{on_side, IsSettledInput, IsSettledOutput}
+use Rattle.minimum.specs.declared.points.dominating.open_points.OpenPoints.{OpenPoints}
+use Rattle.minimum.specs.Points.{IsAsGood, IsDominated}
 
--- the primes outside a list
+-- the maximal cubes that meet no cube of a list
 abbrev pub primes_outside : Cubes → List Cube
 primes_outside off = complete_sum off.size (λ p. not (places off.cubes p))
 
--- the cube has no place of the list
+-- the cube meets no cube of the list
 abbrev pub IsImplicant : Cubes → Cube → Type 0
 IsImplicant off c = IsSubset (holds c) (on_side Outside off.cubes)
 
--- the function that wants what is in the ON list and not in the DC list, with the primes outside
--- a list
-abbrev pub function_outside : SetLists → Cubes → Function
-function_outside sets off = function_by sets (by_outside off)
-
--- wanted points that are implicants
-pub record ArePoints (sets : SetLists) (off : Cubes) (points : List Cube) : Type 0 where
-  pub wanted : (x : Cube) → Contains points x → IsWantedPoint (function_outside sets off) x
-  pub implicants : (x : Cube) → Contains points x → IsImplicant off x
-
--- the cube contains a point whose primes are no longer looked for
-pub record HoldsExcluded (points : List Cube) (excluded : List Bool) (c : Cube) : Type 0 where
+-- the cube contains one of the points with these numbers
+pub record HoldsOneOf (points : List Cube) (numbers : List ℕ) (c : Cube) : Type 0 where
   pub number : ℕ
-  pub below : number < length points
-  pub mark : marked excluded number ≡ true
+  pub member : Contains numbers number
   pub inside : IsSubset (holds (cube_at points number)) (holds c)
 
--- a prime that contains the cube, and no excluded point
-pub record IsOpenPrime (off : Cubes) (points : List Cube) (excluded : List Bool)
-    (cube c : Cube) : Type 0 where
-  pub prime : Contains (primes_outside off) c
+-- an implicant that contains the cube, and no excluded point
+pub record IsOpen (off : Cubes) (points : List Cube) (excluded : List ℕ) (cube c : Cube) : Type 0 where
+  pub is_cube : IsCube off.size c
+  pub within : IsImplicant off c
   pub over : IsSubset (holds cube) (holds c)
-  pub none : HoldsExcluded points excluded c → ⊥
+  pub none : HoldsOneOf points excluded c → ⊥
 
--- a column dominates each such prime
-abbrev pub AreServed : Cubes → List Cube → List Bool → Cube → List Cube → Type 0
-AreServed off points excluded cube columns = (c : Cube) → IsOpenPrime off points excluded cube c
-    → IsDominated First points columns c
+-- a column dominates each such implicant
+abbrev pub AreServed : Choice → Cubes → List Cube → List ℕ → Cube → List Cube → Type 0
+AreServed choice off points excluded cube columns = (c : Cube) → IsOpen off points excluded cube c
+    → IsDominated choice points columns c
+
+-- each point that such an implicant contains is a candidate, or the cube contains it
+abbrev pub AreCandidates : Cubes → List Cube → List ℕ → List ℕ → Cube → Type 0
+AreCandidates off points excluded candidates cube = (c : Cube) → IsOpen off points excluded cube c
+    → (k : ℕ) → k < length points → IsSubset (holds (cube_at points k)) (holds c)
+    → Contains candidates k ⊎ IsSubset (holds (cube_at points k)) (holds cube)
 
 -- some primes are added
 pub record AddsColumns (off : Cubes) (old new : List Cube) : Type 0 where
@@ -56,21 +53,75 @@ pub record AddsColumns (off : Cubes) (old new : List Cube) : Type 0 where
   pub primes : ((c : Cube) → Contains old c → Contains (primes_outside off) c) → (c : Cube)
       → Contains new c → Contains (primes_outside off) c
 
--- the first in row order of the primes that contain a cube
-pub record IsFirstPrime (off : Cubes) (cube prime : Cube) : Type 0 where
-  pub prime_cube : IsCube off.size prime
-  pub over : IsSubset (holds cube) (holds prime)
-  pub first : (c : Cube) → Contains (primes_outside off) c → IsSubset (holds cube) (holds c)
-      → IsUpTo c prime
+-- a prime that is as good as each implicant that contains the cube
+pub record IsBest (choice : Choice) (off : Cubes) (cube best : Cube) : Type 0 where
+  pub is_cube : IsCube off.size best
+  pub prime : Contains (primes_outside off) best
+  pub over : IsSubset (holds cube) (holds best)
+  pub good : (c : Cube) → IsCube off.size c → IsImplicant off c → IsSubset (holds cube) (holds c)
+      → IsAsGood choice c best
 
--- an implicant that lies in each cube that contains both
-pub record IsJoin (off : Cubes) (cube point wide : Cube) : Type 0 where
-  pub is_cube : IsCube off.size wide
-  pub implicant : IsImplicant off wide
-  pub least : (c : Cube) → IsCube off.size c → IsSubset (holds cube) (holds c)
-      → IsSubset (holds point) (holds c) → IsSubset (holds wide) (holds c)
+-- a cube that contains another, at the first n inputs and m outputs as large as can be
+pub record IsSettledUpTo (size : Size) (s : Place → Bool) (old new : Cube) (n m : ℕ) : Type 0 where
+  pub is_cube : IsCube size new
+  pub over : IsSubset (holds old) (holds new)
+  pub inputs : (k : ℕ) → k < n → IsSettledInput size s new k
+  pub outputs : (k : ℕ) → k < m → IsSettledOutput size s new k
 
--- no implicant contains the cube and the point, unless the prime contains the point
-abbrev pub NeedsNoJoin : Cubes → Cube → Cube → Cube → Type 0
-NeedsNoJoin off cube prime point = (c : Cube) → IsCube off.size c → IsSubset (holds cube) (holds c)
-    → IsSubset (holds point) (holds c) → IsImplicant off c → IsSubset (holds point) (holds prime)
+-- a cube that is settled at the inputs, and as good as each implicant that contains the first
+pub record IsBestFreed (choice : Choice) (off : Cubes) (cube freed : Cube) : Type 0 where
+  pub settled : IsSettledUpTo off.size (on_side Outside off.cubes) cube freed off.size.inputs 0
+  pub good : (c : Cube) → IsCube off.size c → IsImplicant off c → IsSubset (holds cube) (holds c)
+      → IsAsGood choice c freed
+
+-- each implicant that contains the cube and the point has the point from the cube
+abbrev pub NeedsNoJoin : Cubes → Cube → Cube → Type 0
+NeedsNoJoin off cube point = (c : Cube) → IsCube off.size c → IsImplicant off c
+    → IsSubset (holds cube) (holds c) → IsSubset (holds point) (holds c)
+    → IsSubset (holds point) (holds cube)
+
+-- the numbers begin with the excluded ones, and have each candidate that may be joined with the cube;
+-- from the seam on the best cube contains the points
+pub record AreSorted (off : Cubes) (points : List Cube) (excluded candidates : List ℕ) (cube best : Cube)
+    (order : OpenPoints) : Type 0 where
+  pub start : take (length excluded) order.numbers.items ≡ excluded
+  pub after : length excluded ≤ order.held
+  pub within : order.held ≤ length order.numbers.items
+  pub below : All (λ k. k < length points) order.numbers.items
+  pub inside : All (λ k. IsSubset (holds (cube_at points k)) (holds best))
+      (drop order.held order.numbers.items)
+  pub rest : (k : ℕ) → Contains candidates k
+      → Contains order.numbers.items k ⊎ NeedsNoJoin off cube (cube_at points k)
+
+-- an implicant that contains the cube
+pub record IsImplicantOver (off : Cubes) (cube c : Cube) : Type 0 where
+  pub is_cube : IsCube off.size c
+  pub within : IsImplicant off c
+  pub over : IsSubset (holds cube) (holds c)
+
+-- a row of the list that the cube meets
+pub record IsMetBy (off : Cubes) (c row : Cube) : Type 0 where
+  pub member : Contains off.cubes row
+  pub is_cube : IsCube off.size row
+  pub meets : IsDisjoint (holds row) (holds c) → ⊥
+
+-- the second cube has each literal of the first
+abbrev pub HasLiteralsOf : Cube → Cube → Type 0
+HasLiteralsOf wide c = (k : ℕ) → slice_index_or wide.symbols k Dash ≢ Dash
+    → slice_index_or c.symbols k Dash ≡ slice_index_or wide.symbols k Dash
+
+-- an implicant that contains the narrow cube and has the literals of the wide one
+pub record IsBetween (off : Cubes) (narrow wide c : Cube) : Type 0 where
+  pub implicant : IsImplicantOver off narrow c
+  pub literals : HasLiteralsOf wide c
+
+-- the cube has no literal
+abbrev pub HasNoLiteral : Cube → Type 0
+HasNoLiteral c = (k : ℕ) → slice_index_or c.symbols k Dash ≡ Dash
+
+-- a cube took the place of another, which was no better; it contains what the other contains of
+-- both the narrow cube and the wide one
+pub record Improves (off : Cubes) (narrow wide old new : Cube) : Type 0 where
+  pub good : IsAsGood Literals old new
+  pub over : (e : Cube) → IsSubset (holds e) (holds narrow) → IsSubset (holds e) (holds wide)
+      → IsImplicantOver off e old → IsImplicantOver off e new

@@ -64,13 +64,6 @@ pub record IsWantedPoint (f : Function) (c : Cube) : Type 0 where
   pub at : IsPointAt c place
   pub wanted : f.wanted place ≡ true
 
--- wanted points, and primes with all that contain one of them
-pub record AreHolders (f : Function) (points columns : List Cube) : Type 0 where
-  pub wanted : (x : Cube) → Contains points x → IsWantedPoint f x
-  pub all : (x c : Cube) → Contains points x → Contains f.primes c → IsSubset (holds x) (holds c)
-      → Contains columns c
-  pub primes : (c : Cube) → Contains columns c → Contains f.primes c
-
 -- the literals of d come no later than those of c
 abbrev pub IsUpTo : Cube → Cube → Type 0
 IsUpTo c d = slice_cmp symbol_cmp d.symbols c.symbols ≢ Greater
@@ -143,10 +136,20 @@ pub record StandsFor (sets given : SetLists) (source : Source) : Type 0 where
   pub wanted : (p : Place) → IsPlace sets.size p → care_on given p ≡ care_on sets p
   pub primes : source_primes source ≡ primes_of sets
 
--- points that were picked, and their holders
-pub record IsFound (f : Function) (found : PickedPoints) : Type 0 where
-  pub are_holders : AreHolders f found.points.items found.columns.cubes
+-- points that were picked, and primes that dominate all that contain one of them
+pub record IsFound (choice : Choice) (f : Function) (found : PickedPoints) : Type 0 where
+  pub wanted : (x : Cube) → Contains found.points.items x → IsWantedPoint f x
+  pub primes : (c : Cube) → Contains found.columns.cubes c → Contains f.primes c
+  pub dominated : (x c : Cube) → Contains found.points.items x → Contains f.primes c
+      → IsSubset (holds x) (holds c) → IsDominated choice found.points.items found.columns.cubes c
   pub size : found.columns.size ≡ f.size
+
+-- primes that dominate all that contain one of the points, whichever else they contain
+pub record AreColumnsOf (choice : Choice) (all points : List Cube) (point : Cube)
+    (row : List Cube) : Type 0 where
+  pub primes : (c : Cube) → Contains row c → Contains all c
+  pub dominated : (c : Cube) → Contains all c → IsSubset (holds point) (holds c)
+      → IsDominated choice points row c
 
 -- no literal is missing
 abbrev pub IsOnePoint : Cube → Type 0

@@ -22,13 +22,12 @@ ghost use Rattle.minimum.specs.Points.{AreDominating, IsFound, function_by, func
 ghost use Rattle.minimum.specs.Primes.{care_on, chosen, exact_of, primes_of};
 
 use crate::cubes::add_copy;
-use crate::points::dominating::dominating_columns;
 use crate::points::picked_points::PickedPoints;
 use crate::points::proposals::{
     first_places, places_left_out, proposer_by_off, proposer_by_primes,
 };
 use crate::points::source::Source;
-use crate::points::{add_places, add_wanted_points, point_table};
+use crate::points::{add_places, point_table};
 use crate::prime_implicants::{on_and_dc, primes};
 use crate::prime_table::OfPrimes;
 use cover::{Budget, Cover, in_row_order, outside};
@@ -167,7 +166,7 @@ fn exact_in_rounds(
     requires same { StandsFor sets given.now source.now }
     requires limits { IsWithinLimits format_limits given.now.size }
     requires on { AreCubes given.now.size given.now.on }
-    requires found { IsFound (function_by given.now source.now) found.old }
+    requires found { IsFound choice (function_by given.now source.now) found.old }
     ensures { IfOk result (λ o. IfSome o (λ list. list ≡ record
         { size = given.now.size; cubes = exact_of choice sets })) }
 {
@@ -178,83 +177,11 @@ fn exact_in_rounds(
             return Ok(Some(list));
         }
         let places = places_left_out(alloc, proposer, &left, &list)?;
-        if !add_places(alloc, given, source, &places, found)? {
+        if !add_places(alloc, given, source, &places, choice, found)? {
             return Ok(None);
         }
     }
     Ok(None)
-}
-
-// At most this many looks at a row outside are meant to be taken for the columns of a round, each
-// grown cube taking one of each row for each input and for each point: at most some seconds.
-const MOST_LOOKS: usize = 4_000_000_000;
-
-/// How many cubes may be grown for the columns of a round.
-fn most_grown(off: &Cover, inputs: usize, points: usize) -> usize {
-    let looks = inputs.saturating_add(points).saturating_mul(off.len());
-    MOST_LOOKS / looks.saturating_add(1)
-}
-
-/// The least cover by columns that dominate the primes of points, in rounds, or none where that is
-/// too much.
-fn exact_by_dominating(
-    alloc: Global,
-    given: &Sets,
-    off: &Cover,
-    proposer: &Proposer,
-) -> Result<Option<Cover>, AllocError>
-    ghost sets: { SetLists }
-    requires source { IsSource given.now.size (Source.Outside off.now) }
-    requires same { StandsFor sets given.now (Source.Outside off.now) }
-    requires limits { IsWithinLimits format_limits given.now.size }
-    ensures { IfOk result (λ o. IfSome o (λ list. list ≡ record
-        { size = given.now.size; cubes = exact_of Choice.First sets })) }
-{
-    let inputs = given.on().shape().inputs();
-    let mut points = Vec::new(alloc);
-    let mut places = first_places(alloc, proposer, given.on())?;
-    for _ in 0..MOST_ROUNDS {
-        let count = points.len();
-        add_wanted_points(alloc, given, off, &places, &mut points)?;
-        if points.len() == count {
-            return Ok(None);
-        }
-        let most = most_grown(off, inputs, points.len());
-        let Some(columns) = dominating_columns(alloc, off, &points, most)? else {
-            return Ok(None);
-        };
-        let list = least_of_points(alloc, &points, &columns, Choice::First)?;
-        let missed = left_out(alloc, given, &list)?;
-        if missed.is_empty() {
-            return Ok(Some(list));
-        }
-        places = places_left_out(alloc, proposer, &missed, &list)?;
-    }
-    Ok(None)
-}
-
-/// The same, if the primes lie outside a list and literals do not count.
-fn exact_by_columns(
-    alloc: Global,
-    given: &Sets,
-    source: &Source,
-    proposer: &Proposer,
-    choice: Choice,
-) -> Result<Option<Cover>, AllocError>
-    ghost sets: { SetLists }
-    requires source { IsSource given.now.size source.now }
-    requires same { StandsFor sets given.now source.now }
-    requires limits { IsWithinLimits format_limits given.now.size }
-    ensures { IfOk result (λ o. IfSome o (λ list. list ≡ record
-        { size = given.now.size; cubes = exact_of choice sets })) }
-{
-    let Choice::First = choice else {
-        return Ok(None);
-    };
-    match source {
-        Source::Outside(off) => exact_by_dominating(alloc, given, off, proposer),
-        Source::Primes(_) => Ok(None),
-    }
 }
 
 /// The least cover by the primes of points, or none where the points that are proposed are not
@@ -275,30 +202,8 @@ pub(crate) fn exact_by_points(
 {
     let mut found = PickedPoints::new(alloc, given.on().shape());
     let places = first_places(alloc, proposer, given.on())?;
-    add_places(alloc, given, source, &places, &mut found)?;
+    add_places(alloc, given, source, &places, choice, &mut found)?;
     exact_in_rounds(alloc, given, source, proposer, choice, &mut found)
-}
-
-/// The same where most places are don't-cares: by columns that dominate the primes of points, and
-/// where that is too much by all of them.
-pub(crate) fn exact_by_columns_or_points(
-    alloc: Global,
-    given: &Sets,
-    source: &Source,
-    proposer: &Proposer,
-    choice: Choice,
-) -> Result<Option<Cover>, AllocError>
-    ghost sets: { SetLists }
-    requires source { IsSource given.now.size source.now }
-    requires same { StandsFor sets given.now source.now }
-    requires limits { IsWithinLimits format_limits given.now.size }
-    ensures { IfOk result (λ o. IfSome o (λ list. list ≡ record
-        { size = given.now.size; cubes = exact_of choice sets })) }
-{
-    if let Some(list) = exact_by_columns(alloc, given, source, proposer, choice)? {
-        return Ok(Some(list));
-    }
-    exact_by_points(alloc, given, source, proposer, choice)
 }
 
 /// The least cover by the primes of points outside these cubes.

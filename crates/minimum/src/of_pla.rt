@@ -9,7 +9,7 @@ ghost use Rattle.minimum.specs.Primes.{essential_of, exact_of, primes_of};
 
 use crate::essential_by_neighbours::{find_essential, find_essential_outside};
 use crate::essential_primes::essential;
-use crate::exact_minimum::{exact, exact_by_columns_or_points, exact_by_points, uses_points};
+use crate::exact_minimum::{exact, exact_by_points, uses_points};
 use crate::points::proposals::{proposer_by_off, proposer_by_primes};
 use crate::points::source::Source;
 use crate::prime_implicants::primes;
@@ -208,7 +208,7 @@ fn exact_outside_off(
     let samples = samples_of(alloc, pla)?;
     let proposer = proposer_by_off(alloc, &samples, off, true)?;
     let source = Source::Outside(off.try_clone()?);
-    exact_by_columns_or_points(alloc, &samples, &source, &proposer, choice)
+    exact_by_points(alloc, &samples, &source, &proposer, choice)
 }
 
 // The least cover under fr by points that are picked by a list of all primes: the largest cubes

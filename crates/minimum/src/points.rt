@@ -1,9 +1,11 @@
-//! Tables of the primes that contain some wanted points.
+//! Tables of some wanted points.
 //!
-//! Each cover by primes has for each wanted point a prime that contains it. So no cover is less than
-//! the least cover of a table with a row for each of some points, and a column for each prime that
-//! contains one of them; and if that cover holds all wanted places, it is the least cover by primes.
-//! There may be few such primes where the function has far too many to list.
+//! Each cover by primes has for each wanted point a prime that contains it, and a prime that contains
+//! the points of another one and is as good serves in its place. So no cover is less than the least
+//! cover of a table with a row for each of some points, and columns that dominate the primes that
+//! contain one of them; and if that cover holds all wanted places, it is the least cover by primes.
+//! There may be few such columns where the function has far too many primes to list, and where a
+//! point has.
 //!
 //! Which points are picked is a hint, and each is looked at before it is taken.
 
@@ -15,8 +17,7 @@ ghost use Rattle.cube.specs.Limits.{IsWithinLimits, format_limits};
 ghost use Rattle.covering.specs.Table.{AreRows, items_of};
 ghost use Rattle.minimum.specs.Primes.{care_on};
 ghost use Rattle.minimum.specs.PrimeRows.{HasOneOutput, with_output};
-ghost use Rattle.minimum.specs.Points.{IsSource, IsOnePoint, IsWantedPoint, function_by, holders, IsFound, point_table as point_table_of};
-ghost use Rattle.minimum.specs.Dominating.{ArePoints, IsImplicant, function_outside};
+ghost use Rattle.minimum.specs.Points.{IsSource, IsOnePoint, function_by, holders, IsFound, point_table as point_table_of};
 
 pub(crate) mod dominating;
 pub(crate) mod picked_points;
@@ -25,11 +26,11 @@ pub(crate) mod source;
 
 use crate::cubes::{are_apart, lies_in_one_of};
 use crate::numbered_cubes::{numbers_by_output, numbers_containing};
-use crate::points::picked_points::{PickedPoints, add_point, push_cube};
-use crate::points::source::{Source, primes_containing};
+use crate::points::picked_points::{PickedPoints, push_cube};
+use crate::points::source::{Source, columns_for};
 use crate::prime_table::weights;
 use cover::Cover;
-use covering::{Table, numbers};
+use covering::{Choice, Table, numbers};
 use cube::{Cube, Shape, Symbol};
 use pla::Sets;
 use signature_search::Place as ProposedPlace;
@@ -81,112 +82,77 @@ fn is_wanted(sets: &Sets, point: &Cube) -> bool
     lies_in_one_of(point, sets.on().as_slice()) && are_apart(sets.dc().as_slice(), point)
 }
 
-/// The proposed place as a point, if it is wanted and outside these cubes.
-fn wanted_point(
-    alloc: Global,
-    sets: &Sets,
-    off: &Cover,
-    place: &ProposedPlace,
-) -> Result<Option<Cube>, AllocError>
-    requires { off.now.size ≡ sets.now.size }
-    ensures wanted { IfOk result (λ o. IfSome o
-        (IsWantedPoint (function_outside sets.now off.now))) }
-    ensures implicant { IfOk result (λ o. IfSome o (IsImplicant off.now)) }
-{
-    let Some(point) = point_of_place(alloc, sets.on().shape(), place)? else {
-        return Ok(None);
-    };
-    if is_wanted(sets, &point) && are_apart(off.as_slice(), &point) {
-        return Ok(Some(point));
-    }
-    Ok(None)
-}
-
-/// Adds the proposed places that are wanted as points.
-pub(crate) fn add_wanted_points(
-    alloc: Global,
-    sets: &Sets,
-    off: &Cover,
-    places: &[ProposedPlace],
-    points: &mut Vec<Cube>,
-) -> Result<(), AllocError>
-    requires size { off.now.size ≡ sets.now.size }
-    requires points { ArePoints sets.now off.now points.old.items }
-    ensures { OnOk result (ArePoints sets.now off.now points.new.items) }
-{
-    for place in places {
-        let Some(point) = wanted_point(alloc, sets, off, place)? else {
-            continue;
-        };
-        push_cube(points, point)?;
-    }
-    Ok(())
-}
-
-/// Adds the proposed place, if it is wanted and has at most so many primes.
+/// Adds the proposed place, if it is wanted and its columns are found within the budget.
 fn add_place(
     alloc: Global,
     sets: &Sets,
     source: &Source,
     place: &ProposedPlace,
+    choice: Choice,
     most: usize,
     found: &mut PickedPoints,
 ) -> Result<(), AllocError>
     requires source { IsSource sets.now.size source.now }
-    requires found { IsFound (function_by sets.now source.now) found.old }
-    ensures { OnOk result (IsFound (function_by sets.now source.now) found.new) }
+    requires found { IsFound choice (function_by sets.now source.now) found.old }
+    ensures { OnOk result (IsFound choice (function_by sets.now source.now) found.new) }
 {
     let Some(point) = point_of_place(alloc, sets.on().shape(), place)? else {
         return Ok(());
     };
-    if is_wanted(sets, &point) {
-        if let Some(row) = primes_containing(source, &point, most)? {
-            add_point(point, &row, found)?;
-        }
+    if !is_wanted(sets, &point) {
+        return Ok(());
+    }
+    let number = found.points.len();
+    push_cube(&mut found.points, point)?;
+    match columns_for(alloc, source, &found.points, number, choice, most)? {
+        Some(row) => found.columns.append(&row)?,
+        None => found.points.truncate(number),
     }
     Ok(())
 }
 
-/// Adds the proposed places that are wanted and have at most so many primes.
-fn add_places_of_few_primes(
+/// Adds the proposed places that are wanted and whose columns are found within the budget.
+fn add_places_within(
     alloc: Global,
     sets: &Sets,
     source: &Source,
     places: &[ProposedPlace],
+    choice: Choice,
     most: usize,
     found: &mut PickedPoints,
 ) -> Result<(), AllocError>
     requires source { IsSource sets.now.size source.now }
-    requires found { IsFound (function_by sets.now source.now) found.old }
-    ensures { OnOk result (IsFound (function_by sets.now source.now) found.new) }
+    requires found { IsFound choice (function_by sets.now source.now) found.old }
+    ensures { OnOk result (IsFound choice (function_by sets.now source.now) found.new) }
 {
     for place in places {
-        add_place(alloc, sets, source, place, most, found)?;
+        add_place(alloc, sets, source, place, choice, most, found)?;
     }
     Ok(())
 }
 
-// Places with more primes than this are put off while others are added, then those with more than
-// the next number: a place with many primes makes the table wide, and a cover of the others may hold
-// it already.
-const MOST_PRIMES: [usize; 3] = [500, 4_000, 30_000];
+// At most this many looks, at points and at cubes outside, are taken for the columns of a place.
+// Places that would take more are put off while others are added, and then may take the next number:
+// a cover of the others may hold them already.
+const MOST_LOOKS: [usize; 2] = [200_000_000, 4_000_000_000];
 
-/// Adds some of the proposed places, those with few primes, where they are wanted. Whether there is
-/// one.
+/// Adds some of the proposed places, those whose columns are found soon, where they are wanted.
+/// Whether there is one.
 pub(crate) fn add_places(
     alloc: Global,
     sets: &Sets,
     source: &Source,
     places: &[ProposedPlace],
+    choice: Choice,
     found: &mut PickedPoints,
 ) -> Result<bool, AllocError>
     requires source { IsSource sets.now.size source.now }
-    requires found { IsFound (function_by sets.now source.now) found.old }
-    ensures { OnOk result (IsFound (function_by sets.now source.now) found.new) }
+    requires found { IsFound choice (function_by sets.now source.now) found.old }
+    ensures { OnOk result (IsFound choice (function_by sets.now source.now) found.new) }
 {
     let count = found.points.len();
-    for most in &MOST_PRIMES {
-        add_places_of_few_primes(alloc, sets, source, places, *most, found)?;
+    for most in &MOST_LOOKS {
+        add_places_within(alloc, sets, source, places, choice, *most, found)?;
         if found.points.len() > count {
             return Ok(true);
         }

@@ -1,183 +1,192 @@
-//! Columns that dominate all primes that contain some points.
+//! Columns that dominate all cubes that contain some points and meet no cube of a list.
 //!
 //! Where much is a don't-care, a point lies in far too many primes to list. Yet a column does for
 //! each set of points that a prime contains: of two primes the one that contains the points of the
-//! other, and comes first in row order, serves in its place in each cover. So from a cube, at first
-//! a point, the first prime that contains it is made; and then the same from the join with each
-//! point that this prime does not contain, where that is an implicant, and no point whose primes
-//! were made before is in it. The primes that contain the cube, and none of these points, contain no
-//! more points than the first prime, or the join with one more.
+//! other, and is as good, serves in its place in each cover. So from a cube, at first a point, the
+//! best prime that contains it is made; and then the same from the join with each point that this
+//! prime does not contain, where that meets no cube of the list, and no point whose primes were made
+//! before is in it. The cubes that contain the cube, and none of these points, contain no more points
+//! than the best prime, or the join with one more.
+//!
+//! A join with one point more asks for more: a point that a cube can not be joined with is none for
+//! the cubes made from it. So each hands the points on that are left.
 
-ghost use Rattle.std.specs.Prelude.{◌≡◌, ◌<◌, ◌≤◌, true, None, [], IfOk, IfSome, OnOk, All, length};
+ghost use Rattle.std.specs.Prelude.{◌≡◌, ◌<◌, ◌≤◌, true, [], IfOk, IfSome, OnOk, All, length};
 ghost use Rattle.std.specs.List.{Contains};
-ghost use Rattle.cube.specs.Cube.{IsCube, IsSubset, SameSize, Cube as Row, holds};
+ghost use Rattle.cube.specs.Cube.{IsCube, IsSubset, Cube as Row, holds};
 ghost use Rattle.cover.specs.Cubes.{AreCubes};
-ghost use Rattle.covering.specs.declared.choice.Choice.TheVariants.{First};
+ghost use Rattle.cover.specs.Marks.{cube_at};
 ghost use Rattle.minimum.specs.Points.{IsDominated};
-ghost use Rattle.minimum.specs.Dominating.{primes_outside, IsImplicant, HoldsExcluded, IsJoin, NeedsNoJoin, IsFirstPrime, AddsColumns, AreServed};
+ghost use Rattle.minimum.specs.Dominating.{primes_outside, IsImplicant, IsBest, AddsColumns, AreCandidates, AreServed};
 
-use crate::cubes::{add_copy, are_apart};
-use crate::essential_by_neighbours::growth::{Growth, Side, grow};
+use crate::cubes::add_copy;
+use crate::points::dominating::best_cube::best_cube;
+use crate::points::dominating::open_points::{holds_one_of, sort_points};
+use crate::points::dominating::refusing_rows::RefusingRows;
 use cover::Cover;
-use cube::{Cube, Shape};
+use covering::{Choice, numbers};
+use cube::Cube;
 use std::alloc::{AllocError, Global};
 
-/// Columns that were made, and how many more may be.
+pub(crate) mod best_cube;
+pub(crate) mod open_points;
+pub(crate) mod refusing_rows;
+
+/// Columns that were made, how much more may be looked at, and what is remembered.
 #[derive(Drop)]
 pub(crate) struct Columns {
     /// Primes; some may stand twice.
     pub(crate) primes: Cover,
-    /// How many more cubes may be grown.
+    /// How many more cubes may be looked at.
     pub(crate) left: usize,
+    /// Rows that refuse steps of growth.
+    pub(crate) rows: RefusingRows,
+    /// For each point a row that refused to join it last.
+    pub(crate) refusing: Vec<usize>,
 }
 
 impl Columns {
     /// No column.
-    pub(crate) fn new(alloc: Global, shape: Shape, most: usize) -> Columns
-        ensures size { result.primes.size ≡ shape }
-        ensures none { result.primes.cubes ≡ [] }
-        ensures left { result.left ≡ most }
+    pub(crate) fn new(
+        alloc: Global,
+        off: &Cover,
+        points: usize,
+        most: usize,
+    ) -> Result<Columns, AllocError>
+        ensures size { IfOk result (λ f. f.primes.size ≡ off.now.size) }
+        ensures none { IfOk result (λ f. f.primes.cubes ≡ []) }
+        ensures refusing { IfOk result (λ f. length f.refusing.items ≡ points) }
     {
-        Columns {
-            primes: Cover::new(alloc, shape),
+        Ok(Columns {
+            primes: Cover::new(alloc, off.shape()),
             left: most,
+            rows: RefusingRows::new(alloc, off)?,
+            refusing: vec![in alloc; 0; points]?,
+        })
+    }
+
+    /// Takes some looks and one from those that are left. Whether there were as many.
+    pub(crate) fn spend(&mut self, looks: usize) -> bool
+        ensures primes { self.new.primes ≡ self.old.primes }
+        ensures refusing { self.new.refusing ≡ self.old.refusing }
+        ensures left { self.new.left ≤ self.old.left }
+        ensures spent { result ≡ true → self.new.left < self.old.left }
+    {
+        if self.left <= looks {
+            self.left = 0;
+            return false;
         }
+        self.left -= looks;
+        self.left -= 1;
+        true
     }
 }
 
-/// Whether the cube contains one of the excluded points.
-fn holds_excluded(points: &[Cube], excluded: &[bool], cube: &Cube) -> bool
-    requires points { All (λ d. SameSize cube.now d) points.now }
-    requires excluded { length excluded.now ≡ length points.now }
-    ensures { result ≡ true → HoldsExcluded points.now excluded.now cube.now }
-{
-    for k in 0..points.len() {
-        if excluded[k] && cube.contains(&points[k]) {
-            return true;
-        }
-    }
-    false
-}
-
-/// Adds the first prime that contains the cube, unless the budget is spent.
-fn add_first(
+/// Adds the best cube that contains the cube, if the cube meets none of the list.
+fn add_best(
     alloc: Global,
     off: &Cover,
     cube: &Cube,
+    choice: Choice,
     found: &mut Columns,
 ) -> Result<Option<Cube>, AllocError>
     requires cube { IsCube off.now.size cube.now }
-    requires implicant { IsImplicant off.now cube.now }
     requires size { found.old.primes.size ≡ off.now.size }
     ensures adds { OnOk result (AddsColumns off.now found.old.primes.cubes found.new.primes.cubes) }
     ensures size { OnOk result (found.new.primes.size ≡ off.now.size) }
-    ensures left { OnOk result (found.new.left ≤ found.old.left) }
-    ensures first { IfOk result (λ o. IfSome o (λ prime. IsFirstPrime off.now cube.now prime)) }
+    ensures left { OnOk result (found.new.left ≡ found.old.left) }
+    ensures refusing { OnOk result (found.new.refusing ≡ found.old.refusing) }
+    ensures best { IfOk result (λ o. IfSome o (IsBest choice off.now cube.now)) }
     ensures member { IfOk result (λ o. IfSome o (Contains found.new.primes.cubes)) }
-    ensures spent { IfOk result (λ o. IfSome o (λ _. found.new.left < found.old.left)) }
 {
-    if found.left == 0 {
+    let Some(best) = best_cube(alloc, off, cube, choice, &mut found.rows)? else {
         return Ok(None);
-    }
-    found.left -= 1;
-    let Growth {
-        cube: prime,
-        near: _,
-    } = grow(alloc, Side::Outside, off, cube)?;
-    add_copy(&mut found.primes, &prime)?;
-    Ok(Some(prime))
+    };
+    add_copy(&mut found.primes, &best)?;
+    Ok(Some(best))
 }
 
-/// The join of the cube and a point that the prime does not contain, if that is an implicant.
-fn join_with(
-    off: &Cover,
-    cube: &Cube,
-    prime: &Cube,
-    point: &Cube,
-) -> Result<Option<Cube>, AllocError>
-    requires cube { IsCube off.now.size cube.now }
-    requires prime { IsCube off.now.size prime.now }
-    requires point { IsCube off.now.size point.now }
-    ensures join { IfOk result (λ o. IfSome o (IsJoin off.now cube.now point.now)) }
-    ensures none { IfOk result (λ o. o ≡ None → NeedsNoJoin off.now cube.now prime.now point.now) }
-{
-    if prime.contains(point) {
-        return Ok(None);
-    }
-    let wide = cube.join(point)?;
-    if !are_apart(off.as_slice(), &wide) {
-        return Ok(None);
-    }
-    Ok(Some(wide))
-}
-
-/// Adds columns that dominate all primes that contain the cube and none of the excluded points.
-/// Whether that is done: the budget may be spent.
+/// Adds columns that dominate all cubes that contain the cube and none of the excluded points, and
+/// of the others only some of the candidates. Whether that is done: the budget may be spent.
 fn add_around(
     alloc: Global,
     off: &Cover,
     points: &[Cube],
-    excluded: &[bool],
+    excluded: &[usize],
+    candidates: &[usize],
     cube: &Cube,
+    choice: Choice,
     found: &mut Columns,
 ) -> Result<bool, AllocError>
     requires points { AreCubes off.now.size points.now }
-    requires excluded { length excluded.now ≡ length points.now }
+    requires excluded { All (λ k. k < length points.now) excluded.now }
+    requires below { All (λ k. k < length points.now) candidates.now }
+    requires candidates { AreCandidates off.now points.now excluded.now candidates.now cube.now }
     requires cube { IsCube off.now.size cube.now }
-    requires implicant { IsImplicant off.now cube.now }
     requires size { found.old.primes.size ≡ off.now.size }
+    requires refusing { length found.old.refusing.items ≡ length points.now }
     ensures adds { OnOk result (AddsColumns off.now found.old.primes.cubes found.new.primes.cubes) }
     ensures size { OnOk result (found.new.primes.size ≡ off.now.size) }
+    ensures refusing { OnOk result (length found.new.refusing.items ≡ length points.now) }
     ensures left { OnOk result (found.new.left ≤ found.old.left) }
     ensures served { IfOk result (λ b. b ≡ true
-        → AreServed off.now points.now excluded.now cube.now found.new.primes.cubes) }
+        → AreServed choice off.now points.now excluded.now cube.now found.new.primes.cubes) }
 {
-    if holds_excluded(points, excluded, cube) {
+    let looks = candidates.len().saturating_add(excluded.len());
+    if !found.spend(looks.saturating_add(off.len())) {
+        return Ok(false);
+    }
+    if holds_one_of(points, excluded, cube) {
         return Ok(true);
     }
-    let Some(prime) = add_first(alloc, off, cube, found)? else {
+    let Some(best) = add_best(alloc, off, cube, choice, found)? else {
         return Ok(false);
     };
-    let mut passed = excluded.to_vec(alloc)?;
-    for k in 0..points.len() {
-        if passed[k] {
-            continue;
-        }
-        let Some(wide) = join_with(off, cube, &prime, &points[k])? else {
-            continue;
-        };
-        if !add_around(alloc, off, points, &passed, &wide, found)? {
+    let refusing = &mut found.refusing;
+    let order = sort_points(
+        alloc, off, points, excluded, candidates, cube, &best, refusing,
+    )?;
+    for at in excluded.len()..order.held {
+        let wide = cube.join(&points[order.numbers[at]])?;
+        let before = &order.numbers[..at];
+        let after = &order.numbers[at + 1..];
+        if !add_around(alloc, off, points, before, after, &wide, choice, found)? {
             return Ok(false);
         }
-        passed[k] = true;
     }
     Ok(true)
 }
 
-/// Columns that dominate all primes outside these cubes that contain one of the points, unless more
-/// than so many cubes would be grown.
-pub(crate) fn dominating_columns(
+/// Columns that dominate all cubes that meet no cube of the list and contain the point with this
+/// number, whichever of the others they contain; `None` where more than so many cubes of the list and
+/// points would be looked at.
+///
+/// Each column costs a look at all cubes of the list, and for each point that may be joined with
+/// what it was grown from another one.
+pub(crate) fn columns_of_point(
     alloc: Global,
     off: &Cover,
     points: &[Cube],
+    number: usize,
+    choice: Choice,
     most: usize,
 ) -> Result<Option<Cover>, AllocError>
     requires points { AreCubes off.now.size points.now }
-    requires implicants { (x : Row) → Contains points.now x → IsImplicant off.now x }
+    requires number { number < length points.now }
     ensures size { IfOk result (λ o. IfSome o (λ list. list.size ≡ off.now.size)) }
     ensures primes { IfOk result (λ o. IfSome o (λ list. (c : Row) → Contains list.cubes c
         → Contains (primes_outside off.now) c)) }
-    ensures dominated { IfOk result (λ o. IfSome o (λ list. (x c : Row) → Contains points.now x
-        → Contains (primes_outside off.now) c → IsSubset (holds x) (holds c)
-        → IsDominated First points.now list.cubes c)) }
+    ensures dominated { IfOk result (λ o. IfSome o (λ list. (c : Row) → IsCube off.now.size c
+        → IsImplicant off.now c → IsSubset (holds (cube_at points.now number)) (holds c)
+        → IsDominated choice points.now list.cubes c)) }
 {
-    let mut found = Columns::new(alloc, off.shape(), most);
-    let mut excluded = vec![in alloc; false; points.len()]?;
-    for k in 0..points.len() {
-        if !add_around(alloc, off, points, &excluded, &points[k], &mut found)? {
-            return Ok(None);
-        }
-        excluded[k] = true;
+    let mut found = Columns::new(alloc, off, points.len(), most)?;
+    let candidates = numbers(alloc, points.len())?;
+    let point = &points[number];
+    if !add_around(
+        alloc, off, points, &[], &candidates, point, choice, &mut found,
+    )? {
+        return Ok(None);
     }
     Ok(Some(found.primes))
 }

@@ -1,4 +1,4 @@
-//! The points that were picked so far, with the primes that contain them.
+//! The points that were picked so far, with primes that dominate all that contain one of them.
 
 ghost use Rattle.std.specs.Prelude.{◌≡◌, ◌∷◌, ◌++◌, [], OnOk};
 
@@ -6,12 +6,12 @@ use cover::Cover;
 use cube::{Cube, Shape};
 use std::alloc::{AllocError, Global};
 
-/// Points, and the primes that contain them.
+/// Points, and columns for their table.
 #[derive(Drop)]
 pub(crate) struct PickedPoints {
     /// Wanted points.
     pub(crate) points: Vec<Cube>,
-    /// All primes that contain one of them; some may stand twice.
+    /// Primes that dominate all that contain one of the points; some may stand twice.
     pub(crate) columns: Cover,
 }
 
@@ -35,19 +35,4 @@ pub(crate) fn push_cube(list: &mut Vec<Cube>, cube: Cube) -> Result<(), AllocErr
 {
     list.push(cube)?;
     Ok(())
-}
-
-/// Adds a point, and the primes that contain it.
-pub(crate) fn add_point(
-    point: Cube,
-    row: &Cover,
-    found: &mut PickedPoints,
-) -> Result<(), AllocError>
-    requires { row.now.size ≡ found.old.columns.size }
-    ensures points { OnOk result (found.new.points.items ≡ found.old.points.items ++ point ∷ []) }
-    ensures size { OnOk result (found.new.columns.size ≡ found.old.columns.size) }
-    ensures columns { OnOk result (found.new.columns.cubes ≡ found.old.columns.cubes ++ row.now.cubes) }
-{
-    found.columns.append(row)?;
-    push_cube(&mut found.points, point)
 }

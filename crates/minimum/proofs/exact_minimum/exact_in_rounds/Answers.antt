@@ -8,7 +8,7 @@ use Rattle.cover.specs.Places.{places}
 use Rattle.cover.proofs.SumRows.{nothing_left}
 use Rattle.minimum.specs.Points.{function_of, AreDominating}
 use Rattle.minimum.specs.Primes.{care_on, exact_of}
-use Rattle.minimum.proofs.PickedPoints.{holders_same, holders_dominate, wanted_given}
+use Rattle.minimum.proofs.PickedPoints.{found_same, found_dominate, wanted_given}
 use Rattle.minimum.proofs.PointTables.{points_alone}
 use Rattle.minimum.proofs.exact_minimum.exact_in_rounds.Goals as goal
 
@@ -21,9 +21,8 @@ least_of_points-requires g c =
     let points = c.deref.result.now in
     let given_on = c.requires.1.1.1.0 in
     let on : AreCubes sets.size sets.on = subst (λ z. AreCubes z sets.on) same.size (subst (AreCubes given.size) (sym same.on) given_on) in
-    let holders = holders_same sets given c.args.source.now on given_on same found.points.items found.columns.cubes c.loop.invariant.are_holders in
     let dominating : AreDominating c.args.choice (function_of sets) points found.columns.cubes = subst (λ l. AreDominating c.args.choice (function_of sets) l found.columns.cubes) (sym c.deref.ensures.value)
-    (holders_dominate c.args.choice (function_of sets) (λ p. places sets.on p || places sets.dc p) found.points.items found.columns.cubes refl holders) in
+    (found_dominate c.args.choice (function_of sets) (λ p. places sets.on p || places sets.dc p) found refl (found_same sets given c.args.source.now on given_on same c.args.choice found c.loop.invariant)) in
     (on, (dominating, (c.loop.invariant.size ∙ same.size, subst (IsWithinLimits format_limits) same.size c.requires.1.1.0)))
 
 pub returns-then-is_empty : goal.returns-then-is_empty
@@ -37,7 +36,7 @@ returns-then-is_empty g c =
     let empty : c.in_ok-left.left.cubes ≡ [] = nothing_left c.in_ok-left.left.cubes (eqb-true (length c.in_ok-left.left.cubes) 0 (sym c.is_empty.ensures ∙ c.if-is_empty.true)) in
     let held : IsSubset (care_on sets) (places list.cubes) = λ p want. c.in_ok-left.ensures empty p (wanted_given sets given c.args.source.now on given_on same p want) in
     let cubes : list.cubes ≡ exact_of c.args.choice sets = points_alone c.args.choice sets c.deref.result.now list.cubes on c.in_ok-list.ensures.least
-    (λ d h. subst (λ l. Contains l d) same.primes (c.loop.invariant.are_holders.primes d (c.in_ok-list.ensures.columns d h))) held in
+    (λ d h. subst (λ l. Contains l d) same.primes (c.loop.invariant.primes d (c.in_ok-list.ensures.columns d h))) held in
     let size : list.size ≡ given.size = c.in_ok-list.ensures.size ∙ sym same.size in
     λ i. record { size = size i; cubes = cubes i }
 

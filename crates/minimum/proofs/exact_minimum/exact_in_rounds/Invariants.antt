@@ -5,4 +5,4 @@ abbrev pub ghost-least_of_points : goal.ghost-least_of_points
 ghost-least_of_points g a = g.sets
 
 abbrev pub invariant-loop : goal.invariant-loop
-invariant-loop g l = IsFound (function_by l.given l.source) l.found
+invariant-loop g l = IsFound l.choice (function_by l.given l.source) l.found

@@ -7,8 +7,8 @@ use Rattle.minimum.proofs.OfPla.{exact_of_open, stands_alone}
 use Rattle.minimum.proofs.PrimeSources.{primes_outside}
 use Rattle.minimum.proofs.of_pla.exact_outside_off.Goals as goal
 
-pub exact_by_columns_or_points-requires : goal.exact_by_columns_or_points-requires
-exact_by_columns_or_points-requires c =
+pub exact_by_points-requires : goal.exact_by_points-requires
+exact_by_points-requires c =
     let pla = c.args.pla.now in
     let given = c.in_ok-samples.samples in
     let is = c.in_ok-samples.ensures in
@@ -20,4 +20,4 @@ exact_by_columns_or_points-requires c =
     (primes_outside given off sized, (stands_alone given (ap (λ (s : SetLists). s.dc) is) off sized alone, c.in_ok-proposer.ensures))
 
 pub returns : goal.returns
-returns c = exact_of_open c.args.pla.now c.in_ok-samples.samples c.in_ok-samples.ensures c.requires.file_type c.args.choice c.exact_by_columns_or_points.result c.exact_by_columns_or_points.ensures
+returns c = exact_of_open c.args.pla.now c.in_ok-samples.samples c.in_ok-samples.ensures c.requires.file_type c.args.choice c.exact_by_points.result c.exact_by_points.ensures

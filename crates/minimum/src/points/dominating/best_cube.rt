@@ -1,0 +1,179 @@
+//! The best of the cubes that contain a cube and meet none of a list.
+//!
+//! Each literal is taken away that can be, from the first input on; then each output is added that
+//! can be. What can not is told by a row of the list that refuses it: the rows are a hint, and each
+//! is looked at. So a step costs a look at one row, and the cube one at all rows.
+
+ghost use Rattle.std.specs.Prelude.{◌≡◌, ◌<◌, true, IfOk, IfSome, OnOk};
+ghost use Rattle.cube.specs.Cube.{IsCube, IsSubset, holds};
+ghost use Rattle.minimum.specs.declared.essential_by_neighbours.growth.Side.TheVariants.{Outside};
+ghost use Rattle.minimum.specs.Neighbours.{on_side, IsFreedAt, IsSettledInput, IsSettledOutput, AreFirst};
+ghost use Rattle.minimum.specs.Dominating.{IsBest, IsBestFreed, IsSettledUpTo};
+
+use crate::cubes::{are_apart, one_output, opposite};
+use crate::points::dominating::refusing_rows::RefusingRows;
+use cover::Cover;
+use covering::Choice;
+use cube::{Cube, Symbol};
+use std::alloc::{AllocError, Global};
+
+/// Frees the cube of its literal at an input, unless a row is named that refuses it. Whether no
+/// literal there can be taken away.
+fn settle_input(
+    off: &Cover,
+    cube: &mut Cube,
+    i: usize,
+    refusing: Option<usize>,
+) -> Result<bool, AllocError>
+    requires cube { IsCube off.now.size cube.old }
+    requires input { i < off.now.size.inputs }
+    ensures freed { OnOk result (IsFreedAt i cube.old cube.new) }
+    ensures settled { IfOk result (λ b. b ≡ true
+        → IsSettledInput off.now.size (on_side Outside off.now.cubes) cube.new i) }
+{
+    let literal = cube.symbol(i);
+    if literal == Symbol::Dash {
+        return Ok(true);
+    }
+    let Some(r) = refusing else {
+        cube.set_symbol(i, Symbol::Dash);
+        return Ok(true);
+    };
+    let Some(row) = off.get(r) else {
+        return Ok(false);
+    };
+    let rest = cube.with_symbol(i, opposite(literal))?;
+    Ok(!row.disjoint(&rest))
+}
+
+/// Gives the cube an output, unless a row is named that refuses it. Whether it can have no other
+/// there.
+fn settle_output(
+    alloc: Global,
+    off: &Cover,
+    cube: &mut Cube,
+    j: usize,
+    refusing: Option<usize>,
+) -> Result<bool, AllocError>
+    requires cube { IsCube off.now.size cube.old }
+    requires output { j < off.now.size.outputs }
+    ensures cube { OnOk result (IsCube off.now.size cube.new) }
+    ensures over { OnOk result (IsSubset (holds cube.old) (holds cube.new)) }
+    ensures symbols { OnOk result (cube.new.symbols ≡ cube.old.symbols) }
+    ensures settled { IfOk result (λ b. b ≡ true
+        → IsSettledOutput off.now.size (on_side Outside off.now.cubes) cube.new j) }
+{
+    if cube.output(j) {
+        return Ok(true);
+    }
+    if let Some(r) = refusing {
+        let Some(row) = off.get(r) else {
+            return Ok(false);
+        };
+        return Ok(row.output(j) && cube.next_opposite(row, 0).is_none());
+    }
+    let output = one_output(alloc, off.shape(), j)?;
+    let Some(wide) = cube.output_consensus(&output)? else {
+        return Ok(false);
+    };
+    *cube = wide;
+    Ok(true)
+}
+
+/// The cube freed of literals from the first input on, unless a hint is wrong.
+fn first_at_inputs(
+    off: &Cover,
+    cube: &Cube,
+    refusing: &[Option<usize>],
+) -> Result<Option<Cube>, AllocError>
+    requires { IsCube off.now.size cube.now }
+    ensures settled { IfOk result (λ o. IfSome o (λ c. IsSettledUpTo off.now.size
+        (on_side Outside off.now.cubes) cube.now c off.now.size.inputs 0)) }
+    ensures first { IfOk result (λ o. IfSome o (λ c. AreFirst off.now.size
+        (on_side Outside off.now.cubes) cube.now c.symbols)) }
+{
+    let mut grown = cube.try_clone()?;
+    for i in 0..off.shape().inputs() {
+        let row = if i < refusing.len() {
+            refusing[i]
+        } else {
+            None
+        };
+        if !settle_input(off, &mut grown, i, row)? {
+            return Ok(None);
+        }
+    }
+    Ok(Some(grown))
+}
+
+/// The cube with each output that it can have, unless a hint is wrong.
+fn with_outputs(
+    alloc: Global,
+    off: &Cover,
+    cube: &Cube,
+    refusing: &[Option<usize>],
+) -> Result<Option<Cube>, AllocError>
+    requires { IsCube off.now.size cube.now }
+    ensures settled { IfOk result (λ o. IfSome o (λ c. IsSettledUpTo off.now.size
+        (on_side Outside off.now.cubes) cube.now c 0 off.now.size.outputs)) }
+    ensures symbols { IfOk result (λ o. IfSome o (λ c. c.symbols ≡ cube.now.symbols)) }
+{
+    let mut grown = cube.try_clone()?;
+    for j in 0..off.shape().outputs() {
+        let row = if j < refusing.len() {
+            refusing[j]
+        } else {
+            None
+        };
+        if !settle_output(alloc, off, &mut grown, j, row)? {
+            return Ok(None);
+        }
+    }
+    Ok(Some(grown))
+}
+
+/// The cube freed of literals from the first input on; or `None` where a hint is wrong, or literals
+/// count.
+fn freed_cube(
+    off: &Cover,
+    cube: &Cube,
+    choice: Choice,
+    refusing: &[Option<usize>],
+) -> Result<Option<Cube>, AllocError>
+    requires { IsCube off.now.size cube.now }
+    ensures { IfOk result (λ o. IfSome o (IsBestFreed choice off.now cube.now)) }
+{
+    let Choice::First = choice else {
+        return Ok(None);
+    };
+    let Some(first) = first_at_inputs(off, cube, refusing)? else {
+        return Ok(None);
+    };
+    Ok(Some(first))
+}
+
+/// The best of the cubes that contain the cube and meet none of the list, or `None` if the cube meets
+/// one, or literals count (or a hint is wrong). It costs some looks at each of the list.
+pub(crate) fn best_cube(
+    alloc: Global,
+    off: &Cover,
+    cube: &Cube,
+    choice: Choice,
+    refusing: &mut RefusingRows,
+) -> Result<Option<Cube>, AllocError>
+    requires { IsCube off.now.size cube.now }
+    ensures { IfOk result (λ o. IfSome o (IsBest choice off.now cube.now)) }
+{
+    refusing.find_at_inputs(off, cube);
+    let Some(freed) = freed_cube(off, cube, choice, &refusing.inputs)? else {
+        return Ok(None);
+    };
+    refusing.find_at_outputs(off, &freed);
+    let Some(grown) = with_outputs(alloc, off, &freed, &refusing.outputs)? else {
+        return Ok(None);
+    };
+    if !are_apart(off.as_slice(), &grown) {
+        return Ok(None);
+    }
+    Ok(Some(grown))
+}
