@@ -20,7 +20,7 @@
 ghost use Rattle.std.specs.Prelude.{◌≡◌, ◌≢◌, ◌++◌, true, [], IfOk, IfSome, OnOk, All, length};
 ghost use Rattle.std.specs.List.{Contains};
 ghost use Rattle.cube.specs.declared.symbol.Symbol.TheVariants.{Dash};
-ghost use Rattle.cube.specs.Cube.{Cube as Row, IsCube, IsDisjoint, IsSubset, holds, size_of};
+ghost use Rattle.cube.specs.Cube.{Cube as Row, HasSize, IsCube, IsSubset, size_of};
 ghost use Rattle.cube.specs.Limits.{IsWithinLimits, format_limits};
 ghost use Rattle.cover.specs.Cubes.{AreCubes};
 ghost use Rattle.cover.specs.Places.{places};
@@ -33,6 +33,7 @@ ghost use Rattle.minimum.specs.AsNeeded.{inside_of, AreOutside, AreOpenPoints, I
 use crate::as_needed::places_outside::{add_refusals, add_refusals_of_growth, parts_left_out};
 use crate::cubes::are_apart;
 use crate::essential_by_neighbours::find_essential;
+use crate::essential_by_neighbours::reached_outputs::outputs_at;
 use crate::exact_minimum::cover_of_points;
 use crate::points::picked_points::push_cube;
 use crate::points::stand_in::dominating_columns;
@@ -83,14 +84,17 @@ fn literals_in(alloc: Global, cube: &Cube) -> Result<Vec<Symbol>, AllocError>
     Ok(symbols)
 }
 
-/// A point of the cube, under its first output.
-fn point_in(alloc: Global, cube: &Cube) -> Result<Option<Cube>, AllocError>
+/// A point of the cube, under its first output, where few other outputs can be added: the cube is
+/// narrowed to rows outside that add outputs to it.
+fn point_in(alloc: Global, outside: &Cover, cube: &Cube) -> Result<Option<Cube>, AllocError>
+    requires { HasSize cube.now outside.now.size }
     ensures cube { IfOk result (λ o. IfSome o (IsCube (size_of cube.now))) }
     ensures one { IfOk result (λ o. IfSome o HasOneOutput) }
     ensures point { IfOk result (λ o. IfSome o IsOnePoint) }
 {
     let shape = cube.shape();
-    let symbols = literals_in(alloc, cube)?;
+    let narrow = outputs_at(outside, cube.try_clone()?)?;
+    let symbols = literals_in(alloc, &narrow)?;
     for j in 0..shape.outputs() {
         if cube.output(j) {
             return point_with(alloc, shape, &symbols, j);
@@ -114,7 +118,7 @@ fn add_point_in(
     requires known { IsKnown sets.now essential.now.cubes known.old }
     ensures { OnOk result (IsKnown sets.now essential.now.cubes known.new) }
 {
-    let Some(point) = point_in(alloc, part)? else {
+    let Some(point) = point_in(alloc, &known.outside, part)? else {
         return Ok(());
     };
     if !is_wanted(sets, &point) {
