@@ -23,3 +23,4 @@ pub mod Blocking
 pub mod CommonPlace
 pub mod Near
 pub mod Reached
+pub mod AsNeeded

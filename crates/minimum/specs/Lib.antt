@@ -4,5 +4,6 @@ pub mod PrimeRows
 pub mod EssentialPrimes
 pub mod Points
 pub mod Dominating
+pub mod AsNeeded
 pub mod Neighbours
 pub mod Blocking

@@ -27,7 +27,7 @@ pub(crate) mod growth;
 mod near_rows;
 mod needed_literals;
 pub(crate) mod neighbours;
-mod reached_outputs;
+pub(crate) mod reached_outputs;
 mod sampled;
 
 use crate::essential_by_neighbours::grown_primes::GrownPrimes;

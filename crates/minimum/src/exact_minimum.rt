@@ -11,12 +11,13 @@
 //! many rows as the cover has primes. A round costs what [`least_cover`] does, and a look at the ON
 //! cubes that are left out.
 
-ghost use Rattle.std.specs.Prelude.{◌≡◌, ◌<◌, ◌||◌, [], IfOk, IfSome, not};
+ghost use Rattle.std.specs.Prelude.{◌≡◌, ◌<◌, ◌||◌, [], IfOk, IfSome, not, true};
 ghost use Rattle.std.specs.List.{Contains};
 ghost use Rattle.cube.specs.Cube.{Cube as Row, IsPlace, IsSubset, Place};
 ghost use Rattle.cube.specs.Limits.{IsWithinLimits, format_limits};
 ghost use Rattle.cover.specs.Cubes.{AreCubes};
 ghost use Rattle.cover.specs.Places.{places};
+ghost use Rattle.covering.specs.Cover.{IsLeast};
 ghost use Rattle.pla.specs.Sets.{SetLists};
 ghost use Rattle.minimum.specs.Points.{AreDominating, IsFound, function_by, function_of, IsLeastOfPoints, IsSource, StandsFor};
 ghost use Rattle.minimum.specs.Primes.{care_on, chosen, exact_of, primes_of};
@@ -110,6 +111,46 @@ fn off_of(sets: &Sets) -> Result<Option<Cover>, AllocError>
 // At most this many rounds are made.
 const MOST_ROUNDS: usize = 200;
 
+/// The numbers of a cover of the fewest columns.
+fn shortest_cover(table: &Table) -> Result<Vec<usize>, AllocError> {
+    least_cover(table, Choice::First)
+}
+
+/// The numbers of a cover of the table: the least, or only a shortest.
+fn numbers_of_cover(table: &Table, choice: Choice, is_least: bool) -> Result<Vec<usize>, AllocError>
+    ensures { IfOk result (λ v. is_least ≡ true → IsLeast choice table.now v.items) }
+{
+    if is_least {
+        return least_cover(table, choice);
+    }
+    shortest_cover(table)
+}
+
+/// A cover of the table of the points: the least, or only a shortest, which is found sooner.
+pub(crate) fn cover_of_points(
+    alloc: Global,
+    points: &[Cube],
+    columns: &Cover,
+    choice: Choice,
+    is_least: bool,
+) -> Result<Cover, AllocError>
+    ghost sets: { SetLists }
+    requires on { AreCubes sets.size sets.on }
+    requires dominating { AreDominating choice (function_of sets) points.now columns.now.cubes }
+    requires size { columns.now.size ≡ sets.size }
+    requires limits { IsWithinLimits format_limits sets.size }
+    ensures size { IfOk result (λ list. list.size ≡ sets.size) }
+    ensures least { IfOk result (λ list. is_least ≡ true
+        → IsLeastOfPoints choice (function_of sets) [] points.now list.cubes) }
+    ensures columns { IfOk result (λ list. (c : Row) → Contains list.cubes c → Contains columns.now.cubes c) }
+{
+    let columns = in_row_order(columns)?;
+    let table = point_table(alloc, points, &columns)?;
+    let table = reduce(table, choice)?;
+    let numbers = numbers_of_cover(&table, choice, is_least)?;
+    cubes_at(alloc, &columns, &numbers)
+}
+
 /// The least cover of the table of the points.
 fn least_of_points(
     alloc: Global,
@@ -126,11 +167,7 @@ fn least_of_points(
     ensures least { IfOk result (λ list. IsLeastOfPoints choice (function_of sets) [] points.now list.cubes) }
     ensures columns { IfOk result (λ list. (c : Row) → Contains list.cubes c → Contains columns.now.cubes c) }
 {
-    let columns = in_row_order(columns)?;
-    let table = point_table(alloc, points, &columns)?;
-    let table = reduce(table, choice)?;
-    let least = least_cover(&table, choice)?;
-    cubes_at(alloc, &columns, &least)
+    cover_of_points(alloc, points, columns, choice, true)
 }
 
 /// The ON cubes of which the list and the DC list leave out a place.

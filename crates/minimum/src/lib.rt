@@ -34,6 +34,7 @@
 //! finds depends on the function and not on the number of its primes.
 #![tactic(auto)]
 
+mod as_needed;
 mod cubes;
 mod essential_by_neighbours;
 mod essential_primes;

@@ -23,6 +23,7 @@ pub(crate) mod dominating;
 pub(crate) mod picked_points;
 pub(crate) mod proposals;
 pub(crate) mod source;
+pub(crate) mod stand_in;
 
 use crate::cubes::{are_apart, lies_in_one_of};
 use crate::numbered_cubes::{numbers_by_output, numbers_containing};
@@ -54,6 +55,27 @@ fn literals_of(
     Ok(symbols)
 }
 
+/// The point with these literals under this output, or `None` if there is no such output.
+pub(crate) fn point_with(
+    alloc: Global,
+    shape: Shape,
+    symbols: &[Symbol],
+    j: usize,
+) -> Result<Option<Cube>, AllocError>
+    requires length { length symbols.now ≡ shape.inputs }
+    requires literals { All (λ s. s ≢ Dash) symbols.now }
+    ensures cube { IfOk result (λ o. IfSome o (IsCube shape)) }
+    ensures one { IfOk result (λ o. IfSome o HasOneOutput) }
+    ensures point { IfOk result (λ o. IfSome o IsOnePoint) }
+{
+    if j >= shape.outputs() {
+        return Ok(None);
+    }
+    let mut outputs = vec![in alloc; false; shape.outputs()]?;
+    outputs[j] = true;
+    Cube::from_symbols(alloc, shape, symbols, &outputs)
+}
+
 /// The place as a cube, or `None` if there is no such output.
 fn point_of_place(
     alloc: Global,
@@ -64,18 +86,12 @@ fn point_of_place(
     ensures one { IfOk result (λ o. IfSome o HasOneOutput) }
     ensures point { IfOk result (λ o. IfSome o IsOnePoint) }
 {
-    let j = place.output();
-    if j >= shape.outputs() {
-        return Ok(None);
-    }
     let symbols = literals_of(alloc, shape.inputs(), place)?;
-    let mut outputs = vec![in alloc; false; shape.outputs()]?;
-    outputs[j] = true;
-    Cube::from_symbols(alloc, shape, &symbols, &outputs)
+    point_with(alloc, shape, &symbols, place.output())
 }
 
 /// Whether the point is wanted: it lies in an ON cube, and in no DC cube.
-fn is_wanted(sets: &Sets, point: &Cube) -> bool
+pub(crate) fn is_wanted(sets: &Sets, point: &Cube) -> bool
     requires { IsCube sets.now.size point.now }
     ensures { result ≡ true → (p : Place) → holds point.now p ≡ true → care_on sets.now p ≡ true }
 {

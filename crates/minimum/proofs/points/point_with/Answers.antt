@@ -8,7 +8,7 @@ use Rattle.cube.specs.Cube.{Cube, IsCube}
 use Rattle.cover.proofs.Found.{made_output}
 use Rattle.minimum.specs.PrimeRows.{HasOneOutput}
 use Rattle.minimum.proofs.PrimeTables.{set_one}
-use Rattle.minimum.proofs.points.point_of_place.Goals as goal
+use Rattle.minimum.proofs.points.point_with.Goals as goal
 
 -- the cube that was made has the size, and one output
 is_cube : {E : Type 0} (size : Size) (symbols : List Symbol) (outputs : List Bool) (r : Result (Option Cube) E) → length symbols ≡ size.inputs → length outputs ≡ size.outputs
@@ -32,13 +32,12 @@ has_one n j symbols outputs (Err e) is value = tt
 pub returns-clause-cube : goal.returns-clause-cube
 returns-clause-cube c =
     let shape = c.args.shape in
-    let j = c.output-j.result in
-    let long = ap length c.deref.ensures.value ∙ c.in_ok-symbols.ensures.length ∙ c.inputs.ensures.value in
-    let e : c.deref-2.result.now ≡ slice_set (replicate shape.outputs false) j true = search rules in
+    let j = c.args.j in
+    let e : c.deref.result.now ≡ slice_set (replicate shape.outputs false) j true = search rules in
     let wide = ap length e ∙ length-set (replicate shape.outputs false) j true ∙ length-replicate shape.outputs false in
-    is_cube shape c.deref.result.now c.deref-2.result.now c.from_symbols.result long wide c.from_symbols.ensures.found c.from_symbols.ensures.value
+    is_cube shape c.args.symbols.now c.deref.result.now c.from_symbols.result c.requires.length wide c.from_symbols.ensures.found c.from_symbols.ensures.value
 
 pub returns-clause-one : goal.returns-clause-one
 returns-clause-one c =
-    let e : c.deref-2.result.now ≡ slice_set (replicate c.args.shape.outputs false) c.output-j.result true = search rules in
-    has_one c.args.shape.outputs c.output-j.result c.deref.result.now c.deref-2.result.now c.from_symbols.result e c.from_symbols.ensures.value
+    let e : c.deref.result.now ≡ slice_set (replicate c.args.shape.outputs false) c.args.j true = search rules in
+    has_one c.args.shape.outputs c.args.j c.args.symbols.now c.deref.result.now c.from_symbols.result e c.from_symbols.ensures.value

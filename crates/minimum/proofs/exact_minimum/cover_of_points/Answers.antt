@@ -7,7 +7,7 @@ use Rattle.covering.specs.Cover.{IsLeast}
 use Rattle.minimum.specs.Points.{function_of, point_table}
 use Rattle.minimum.proofs.PickedPoints.{dominating_sorted, dominating_sizes}
 use Rattle.minimum.proofs.PointTables.{are_point_rows, chosen_member}
-use Rattle.minimum.proofs.exact_minimum.least_of_points.Goals as goal
+use Rattle.minimum.proofs.exact_minimum.cover_of_points.Goals as goal
 
 pub point_table-requires-clause-sizes : goal.point_table-requires-clause-sizes
 point_table-requires-clause-sizes g c =
@@ -32,15 +32,16 @@ returns-clause-least g c =
     let points = c.args.points.now in
     let sorted = c.in_ok-columns.columns.cubes in
     let numbers = c.deref.result.now in
-    let first : IsLeast c.args.choice c.in_ok-table.table c.in_ok-least.least.items = (c.in_ok-table-2.ensures.least c.in_ok-least.least.items).1 c.in_ok-least.ensures in
+    let found = c.in_ok-numbers.numbers.items in
     IfOk-weaker c.cubes_at.result _ _
-    (λ list h. record {
+    (λ list h asked. record {
       columns = sorted;
       rising = c.in_ok-columns.ensures.rising;
       are_dominating = dominating_sorted c.args.choice (function_of g.sets) points c.args.columns.now.cubes sorted c.in_ok-columns.ensures.cubes c.requires.1.0;
       outside = λ d x none' there. absurd (Contains-nil d none');
       numbers = numbers;
-      least = subst (IsLeast c.args.choice (point_table points sorted)) (sym c.deref.ensures.value) (subst (λ t. IsLeast c.args.choice t c.in_ok-least.least.items) c.in_ok-table.ensures first);
+      least = subst (IsLeast c.args.choice (point_table points sorted)) (sym c.deref.ensures.value)
+          (subst (λ t. IsLeast c.args.choice t found) c.in_ok-table.ensures ((c.in_ok-table-2.ensures.least found).1 (c.in_ok-numbers.ensures asked)));
       cubes = ap (λ l. l.cubes) h;
     })
     c.cubes_at.ensures

@@ -1,0 +1,277 @@
+//! The least cover by primes, by places outside as they are needed.
+//!
+//! Where rows are wide and many, or where many functions are joined in one output, the places outside
+//! ON and DC take too many cubes to make, and there are too many primes to list. Neither is needed.
+//! Columns that are grown without some of the places outside, and so are no primes, make the table
+//! only easier to cover: if the cubes of its least cover are primes, it is the least cover by primes
+//! (the law `points_are_enough`).
+//!
+//! First come the essential primes, which each cover has. If they and the DC cubes hold all ON cubes,
+//! they are the answer. Else points are picked of what they leave out, in rounds. The columns of a
+//! round avoid the places outside that are known so far. A chosen cube that is no implicant shows a
+//! place outside that is not known, and the cube that this is grown to is known from then on. Where
+//! all that are chosen are implicants they are primes, and a wanted place that is left out is the
+//! next point.
+//!
+//! A round costs the columns of the points, the cover of their table, and a question for each chosen
+//! cube, or for each ON cube once all chosen ones are implicants. Seen were two to twenty cubes with
+//! places outside for a point.
+
+ghost use Rattle.std.specs.Prelude.{◌≡◌, ◌≢◌, ◌++◌, true, [], IfOk, IfSome, OnOk, All, length};
+ghost use Rattle.std.specs.List.{Contains};
+ghost use Rattle.cube.specs.declared.symbol.Symbol.TheVariants.{Dash};
+ghost use Rattle.cube.specs.Cube.{Cube as Row, HasSize, IsCube, IsSubset, size_of};
+ghost use Rattle.cube.specs.Limits.{IsWithinLimits, format_limits};
+ghost use Rattle.cover.specs.Cubes.{AreCubes};
+ghost use Rattle.cover.specs.Places.{places};
+ghost use Rattle.pla.specs.Sets.{SetLists};
+ghost use Rattle.minimum.specs.Primes.{care_on, essential_of, exact_of, primes_of};
+ghost use Rattle.minimum.specs.PrimeRows.{HasOneOutput};
+ghost use Rattle.minimum.specs.Points.{AreDominating, IsLeastOfPoints, IsOnePoint, function_of};
+ghost use Rattle.minimum.specs.AsNeeded.{inside_of, AreOutside, AreOpenPoints, IsKnown, IsChosen};
+
+use crate::as_needed::places_outside::{add_refusals, add_refusals_of_growth, parts_left_out};
+use crate::cubes::are_apart;
+use crate::essential_by_neighbours::find_essential;
+use crate::essential_by_neighbours::reached_outputs::outputs_at;
+use crate::exact_minimum::cover_of_points;
+use crate::points::picked_points::push_cube;
+use crate::points::stand_in::dominating_columns;
+use crate::points::{is_wanted, point_with};
+use crate::prime_implicants::on_and_dc;
+use cover::{Cover, in_row_order};
+use covering::Choice;
+use cube::{Cube, Shape, Symbol};
+use pla::Sets;
+use std::alloc::{AllocError, Global};
+
+mod places_outside;
+
+/// What the rounds know.
+#[derive(Drop)]
+struct Known {
+    /// Cubes none of whose places is in ON or DC.
+    outside: Cover,
+    /// Wanted points that lie in no essential prime.
+    points: Vec<Cube>,
+}
+
+impl Known {
+    /// Nothing.
+    fn new(alloc: Global, shape: Shape) -> Known
+        ensures outside { result.outside ≡ record { size = shape; cubes = [] } }
+        ensures points { result.points.items ≡ [] }
+    {
+        Known {
+            outside: Cover::new(alloc, shape),
+            points: Vec::new(alloc),
+        }
+    }
+}
+
+/// The literals of a point of the cube: inputs where it has none are 0.
+fn literals_in(alloc: Global, cube: &Cube) -> Result<Vec<Symbol>, AllocError>
+    ensures length { IfOk result (λ v. length v.items ≡ length cube.now.symbols) }
+    ensures literals { IfOk result (λ v. All (λ s. s ≢ Dash) v.items) }
+{
+    let inputs = cube.shape().inputs();
+    let mut symbols = vec![in alloc; Symbol::Zero; inputs]?;
+    for i in 0..inputs {
+        if cube.symbol(i) == Symbol::One {
+            symbols[i] = Symbol::One;
+        }
+    }
+    Ok(symbols)
+}
+
+/// A point of the cube, under its first output, where few other outputs can be added: the cube is
+/// narrowed to rows outside that add outputs to it.
+fn point_in(alloc: Global, outside: &Cover, cube: &Cube) -> Result<Option<Cube>, AllocError>
+    requires { HasSize cube.now outside.now.size }
+    ensures cube { IfOk result (λ o. IfSome o (IsCube (size_of cube.now))) }
+    ensures one { IfOk result (λ o. IfSome o HasOneOutput) }
+    ensures point { IfOk result (λ o. IfSome o IsOnePoint) }
+{
+    let shape = cube.shape();
+    let narrow = outputs_at(outside, cube.try_clone()?)?;
+    let symbols = literals_in(alloc, &narrow)?;
+    for j in 0..shape.outputs() {
+        if cube.output(j) {
+            return point_with(alloc, shape, &symbols, j);
+        }
+    }
+    Ok(None)
+}
+
+/// Adds a point of the part, if it is wanted and lies in no essential prime.
+fn add_point_in(
+    alloc: Global,
+    sets: &Sets,
+    all: &Cover,
+    essential: &Cover,
+    part: &Cube,
+    known: &mut Known,
+) -> Result<(), AllocError>
+    requires all { all.now ≡ inside_of sets.now }
+    requires essential { essential.now.size ≡ sets.now.size }
+    requires part { IsCube sets.now.size part.now }
+    requires known { IsKnown sets.now essential.now.cubes known.old }
+    ensures { OnOk result (IsKnown sets.now essential.now.cubes known.new) }
+{
+    let Some(point) = point_in(alloc, &known.outside, part)? else {
+        return Ok(());
+    };
+    if !is_wanted(sets, &point) {
+        return Ok(());
+    }
+    if !are_apart(essential.as_slice(), &point) {
+        return Ok(());
+    }
+    add_refusals_of_growth(alloc, all, &point, &mut known.outside)?;
+    push_cube(&mut known.points, point)
+}
+
+/// Adds a point of each of these parts that has such a point.
+fn add_points(
+    alloc: Global,
+    sets: &Sets,
+    all: &Cover,
+    essential: &Cover,
+    parts: &[Cube],
+    known: &mut Known,
+) -> Result<(), AllocError>
+    requires all { all.now ≡ inside_of sets.now }
+    requires essential { essential.now.size ≡ sets.now.size }
+    requires parts { (c : Row) → Contains parts.now c → IsCube sets.now.size c }
+    requires known { IsKnown sets.now essential.now.cubes known.old }
+    ensures { OnOk result (IsKnown sets.now essential.now.cubes known.new) }
+{
+    for part in parts {
+        add_point_in(alloc, sets, all, essential, part, known)?;
+    }
+    Ok(())
+}
+
+/// What the list and the DC cubes leave out of the ON cubes.
+fn wanted_left_out(alloc: Global, sets: &Sets, list: &Cover) -> Result<Vec<Cube>, AllocError>
+    requires { list.now.size ≡ sets.now.size }
+    ensures held { IfOk result (λ parts. parts.items ≡ []
+        → IsSubset (care_on sets.now) (places list.now.cubes)) }
+    ensures cubes { IfOk result (λ parts. (c : Row) → Contains parts.items c
+        → IsCube sets.now.size c) }
+{
+    let mut held = list.try_clone()?;
+    held.append(sets.dc())?;
+    parts_left_out(alloc, &held, sets.on().as_slice())
+}
+
+/// The cubes of both lists.
+fn joined(one: &Cover, other: &Cover) -> Result<Cover, AllocError>
+    requires { other.now.size ≡ one.now.size }
+    ensures { IfOk result (λ both. both ≡ record {
+      size = one.now.size;
+      cubes = one.now.cubes ++ other.now.cubes;
+    }) }
+{
+    let mut both = one.try_clone()?;
+    both.append(other)?;
+    Ok(both)
+}
+
+/// A cover by columns of the points that avoid the places known to be outside; none where the
+/// columns take more looks at rows than are left.
+fn chosen_cubes(
+    alloc: Global,
+    known: &Known,
+    choice: Choice,
+    is_least: bool,
+    looks: &mut usize,
+) -> Result<Option<Cover>, AllocError>
+    ghost sets: { SetLists }
+    requires on { AreCubes sets.size sets.on }
+    requires limits { IsWithinLimits format_limits sets.size }
+    requires outside { AreOutside (inside_of sets) known.now.outside }
+    requires points { AreOpenPoints sets [] known.now.points.items }
+    ensures { IfOk result (λ o. IfSome o (IsChosen choice sets known.now.points.items is_least)) }
+{
+    let (outside, points) = (&known.outside, &known.points);
+    let Some(columns) = dominating_columns(alloc, outside, points, choice, *looks)? else {
+        return Ok(None);
+    };
+    let of_a_column = outside.len().saturating_add(points.len());
+    *looks = looks.saturating_sub(columns.len().saturating_mul(of_a_column));
+    Ok(Some(cover_of_points(alloc, points, &columns, choice, is_least)?))
+}
+
+// At most this many rounds are made.
+const MOST_ROUNDS: usize = 2_000;
+
+// At most this many words are looked at for the columns of all rounds: some tens of seconds.
+const MOST_WORDS: usize = 4_000_000_000;
+
+/// How many looks at a cube or a point may be taken for the columns of all rounds.
+fn most_looks(shape: Shape) -> usize
+    ensures { IsWithinLimits format_limits shape }
+{
+    MOST_WORDS / (shape.inputs() / 32 + 1)
+}
+
+/// The least cover by the essential primes and columns of points, in rounds, or none where that is
+/// too much.
+fn exact_beside(
+    alloc: Global,
+    sets: &Sets,
+    all: &Cover,
+    essential: &Cover,
+    choice: Choice,
+) -> Result<Option<Cover>, AllocError>
+    ghost lists: { SetLists }
+    requires lists { sets.now ≡ lists }
+    requires all { all.now ≡ inside_of lists }
+    requires essential { essential.now ≡ record
+        { size = lists.size; cubes = essential_of lists (primes_of lists) } }
+    ensures { IfOk result (λ o. IfSome o (λ list. list ≡ record
+        { size = lists.size; cubes = exact_of choice lists })) }
+{
+    let shape = all.shape();
+    let mut looks = most_looks(shape);
+    let mut known = Known::new(alloc, shape);
+    let mut is_least = true;
+    let mut chosen = cover_of_points(alloc, &known.points, &known.outside, choice, is_least)?;
+    for _ in 0..MOST_ROUNDS {
+        let refused = parts_left_out(alloc, all, chosen.as_slice())?;
+        if refused.is_empty() {
+            let cover = joined(essential, &chosen)?;
+            let parts = wanted_left_out(alloc, sets, &cover)?;
+            if parts.is_empty() && is_least {
+                return Ok(Some(in_row_order(&cover)?));
+            }
+            is_least = parts.is_empty();
+            add_points(alloc, sets, all, essential, &parts, &mut known)?;
+        } else {
+            add_refusals(alloc, all, &refused, &mut known.outside)?;
+        }
+        match chosen_cubes(alloc, &known, choice, is_least, &mut looks)? {
+            Some(list) => chosen = list,
+            None => return Ok(None),
+        }
+    }
+    Ok(None)
+}
+
+/// The least cover by primes, or none where that is too much.
+///
+/// It costs what [`find_essential`] does, and then rounds whose number has no small bound: each adds
+/// a point that is left out, or a cube with places outside.
+pub(crate) fn exact_as_needed(
+    alloc: Global,
+    sets: &Sets,
+    choice: Choice,
+) -> Result<Option<Cover>, AllocError>
+    ensures { IfOk result (λ o. IfSome o (λ list. list ≡ record
+        { size = sets.now.size; cubes = exact_of choice sets.now })) }
+{
+    let all = on_and_dc(sets)?;
+    let essential = find_essential(alloc, sets)?;
+    exact_beside(alloc, sets, &all, &essential, choice)
+}
