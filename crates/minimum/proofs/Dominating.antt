@@ -194,3 +194,36 @@ range_has n k lt = subst (Contains (range_with_len 0 n)) (get_or-range_with_len 
 
 pub all_candidates : (off : Cubes) (points : List Cube) (excluded candidates : List ℕ) (cube : Cube) → candidates ≡ range_with_len 0 (length points) → AreCandidates off points excluded candidates cube
 all_candidates off points excluded candidates cube e c o k lt sub = inl (subst (λ l. Contains l k) (sym e) (range_has (length points) k lt))
+
+-- ---- a point more, with its columns
+
+module _ (choice : Choice) (points more columns row all : List Cube) (point : Cube) (points_is : more ≡ points ++ point ∷ []) (columns_is : all ≡ columns ++ row) where
+  old_or_new : (x : Cube) → Contains more x → Contains points x ⊎ (point ≡ x)
+  old_or_new x h = elim (Contains-push_cases points point x (subst (λ l. Contains l x) points_is h)) [ inl k ↦ inl k | inr e ↦ inr e ]
+
+  in_row : (c : Cube) → IsDominated choice more row c → IsDominated choice more all c
+  in_row c d = record {
+    column = d.column;
+    member = subst (λ l. Contains l d.column) (sym columns_is) (Contains-append_right columns row d.column d.member);
+    dominates = d.dominates;
+  }
+
+  still : (c : Cube) → (IsSubset (holds point) (holds c) → ⊥) → IsDominated choice points columns c → IsDominated choice more all c
+  still c lacks d = record {
+    column = d.column;
+    member = subst (λ l. Contains l d.column) (sym columns_is) (Contains-append_left columns row d.column d.member);
+    dominates = record {
+      over = λ x h sub. elim (old_or_new x h) [ inl k ↦ d.dominates.over x k sub | inr e ↦ absurd (lacks (subst (λ y. IsSubset (holds y) (holds c)) (sym e) sub)) ];
+      good = d.dominates.good;
+    };
+  }
+
+  -- a cube that contains the new point has a new column, and another one its old column
+  pub dominated_with : (c : Cube) → (IsSubset (holds point) (holds c) → IsDominated choice more row c) → ((x : Cube) → Contains points x → IsSubset (holds x) (holds c) → IsDominated choice points columns c)
+      → (x : Cube) → Contains more x → IsSubset (holds x) (holds c) → IsDominated choice more all c
+  dominated_with c of_new of_old x h sub = elim (cases_Bool (is_subset (size_of point) (holds point) (holds c))) [
+    | inl e ↦ in_row c (of_new (IsSubset-from_test (size_of point) point (holds c) (refl, refl) e))
+    | inr e ↦ (
+        let lacks : IsSubset (holds point) (holds c) → ⊥ = λ inside. both_ways _ e (is_subset-from_fact (size_of point) (holds point) (holds c) inside) in
+        still c lacks (elim (old_or_new x h) [ inl k ↦ of_old x k sub | inr f ↦ absurd (lacks (subst (λ y. IsSubset (holds y) (holds c)) (sym f) sub)) ]))
+  ]

@@ -34,6 +34,7 @@ use Rattle.minimum.specs.PrimeRows.{contains_region, has_output, with_output, Ha
 use Rattle.minimum.specs.declared.points.source.Source.{Source}
 use Rattle.minimum.specs.declared.points.picked_points.PickedPoints.{PickedPoints}
 use Rattle.minimum.specs.Points.{Function, function_of, function_by, source_size, source_primes, IsSource, StandsFor, IsFound, IsPointAt, IsWantedPoint, AreDominating, IsDominated, AreColumnsOf, IsAsGood, holders, IsOnePoint}
+use Rattle.minimum.proofs.Dominating.{dominated_with}
 use Rattle.minimum.proofs.PrimeRows.{spans_holds}
 
 -- ---- one point
@@ -118,43 +119,15 @@ module _ (sets : SetLists) (source : Source) where
   ])
 
   -- a point more, with its columns
-  module _ (choice : Choice) (point : Cube) (wanted : IsWantedPoint function point) (old new : PickedPoints) (row : List Cube) (points : new.points.items ≡ old.points.items ++ point ∷ []) (columns : new.columns.cubes ≡ old.columns.cubes ++ row)
-      (of_point : AreColumnsOf choice function.primes (old.points.items ++ point ∷ []) point row) (was : IsFound choice function old) where
-    old_or_new : (x : Cube) → Contains new.points.items x → Contains old.points.items x ⊎ (point ≡ x)
-    old_or_new x h = elim (Contains-append_cases old.points.items (point ∷ []) x (subst (λ l. Contains l x) points h)) [ inl k ↦ inl k | inr k ↦ inr (Contains-one point x k) ]
-
-    in_columns : (c : Cube) → IsDominated choice (old.points.items ++ point ∷ []) row c → IsDominated choice new.points.items new.columns.cubes c
-    in_columns c d = record {
-      column = d.column;
-      member = subst (λ l. Contains l d.column) (sym columns) (Contains-append_right old.columns.cubes row d.column d.member);
-      dominates = record { over = λ x h. d.dominates.over x (subst (λ l. Contains l x) points h); good = d.dominates.good };
-    }
-
-    still : (c : Cube) → (IsSubset (holds point) (holds c) → ⊥) → IsDominated choice old.points.items old.columns.cubes c → IsDominated choice new.points.items new.columns.cubes c
-    still c lacks d = record {
-      column = d.column;
-      member = subst (λ l. Contains l d.column) (sym columns) (Contains-append_left old.columns.cubes row d.column d.member);
-      dominates = record {
-        over = λ x h sub. elim (old_or_new x h) [ inl k ↦ d.dominates.over x k sub | inr e ↦ absurd (lacks (subst (λ y. IsSubset (holds y) (holds c)) (sym e) sub)) ];
-        good = d.dominates.good;
-      };
-    }
-
-    more_dominated : (x c : Cube) → Contains new.points.items x → Contains function.primes c → IsSubset (holds x) (holds c) → IsDominated choice new.points.items new.columns.cubes c
-    more_dominated x c h member sub = elim (cases_Bool (is_subset (size_of point) (holds point) (holds c))) [
-      | inl e ↦ in_columns c (of_point.dominated c member (IsSubset-from_test (size_of point) point (holds c) (refl, refl) e))
-      | inr e ↦ (
-          let lacks : IsSubset (holds point) (holds c) → ⊥ = λ inside. both_ways _ e (is_subset-from_fact (size_of point) (holds point) (holds c) inside) in
-          still c lacks (elim (old_or_new x h) [ inl k ↦ was.dominated x c k member sub | inr f ↦ absurd (lacks (subst (λ y. IsSubset (holds y) (holds c)) (sym f) sub)) ]))
-    ]
-
-    pub found_more : new.columns.size ≡ old.columns.size → IsFound choice function new
-    found_more size = record {
-      wanted = λ x h. elim (old_or_new x h) [ inl k ↦ was.wanted x k | inr e ↦ subst (IsWantedPoint function) e wanted ];
-      primes = λ c h. elim (Contains-append_cases old.columns.cubes row c (subst (λ l. Contains l c) columns h)) [ inl k ↦ was.primes c k | inr k ↦ of_point.primes c k ];
-      dominated = more_dominated;
-      size = size ∙ was.size;
-    }
+  pub found_more : (choice : Choice) (point : Cube) → IsWantedPoint function point → (old new : PickedPoints) (row : List Cube) → new.points.items ≡ old.points.items ++ point ∷ [] → new.columns.cubes ≡ old.columns.cubes ++ row
+      → AreColumnsOf choice function.primes (old.points.items ++ point ∷ []) point row → IsFound choice function old → new.columns.size ≡ old.columns.size → IsFound choice function new
+  found_more choice point wanted old new row points columns of_point was size = record {
+    wanted = λ x h. elim (Contains-append_cases old.points.items (point ∷ []) x (subst (λ l. Contains l x) points h)) [ inl k ↦ was.wanted x k | inr k ↦ subst (IsWantedPoint function) (Contains-one point x k) wanted ];
+    primes = λ c h. elim (Contains-append_cases old.columns.cubes row c (subst (λ l. Contains l c) columns h)) [ inl k ↦ was.primes c k | inr k ↦ of_point.primes c k ];
+    dominated = λ x c h member sub. dominated_with choice old.points.items new.points.items old.columns.cubes row new.columns.cubes point points columns c
+        (λ inside. subst (λ l. IsDominated choice l row c) (sym points) (of_point.dominated c member inside)) (λ y k in_c. was.dominated y c k member in_c) x h sub;
+    size = size ∙ was.size;
+  }
 
 -- the columns are of the size of each point
 pub dominating_sizes : (choice : Choice) (sets : SetLists) (points columns : List Cube) → AreDominating choice (function_of sets) points columns → (x : Cube) → Contains points x → All (λ d. SameSize d x) columns

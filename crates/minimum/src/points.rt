@@ -23,7 +23,6 @@ pub(crate) mod dominating;
 pub(crate) mod picked_points;
 pub(crate) mod proposals;
 pub(crate) mod source;
-pub(crate) mod stand_in;
 
 use crate::cubes::{are_apart, lies_in_one_of};
 use crate::numbered_cubes::{numbers_by_output, numbers_containing};

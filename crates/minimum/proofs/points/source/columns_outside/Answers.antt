@@ -29,6 +29,6 @@ returns-in-Literals-clause-columns c =
     let at : cube_at c.args.points.now c.args.number ≡ x = get_or_default c.args.points.now c.args.number (record { symbols = []; outputs = [] }) x c.requires.number ∙ sym c.index-points-number.is in
     IfOk-weaker c.sum_containing.result _ _
     (λ o h. IfSome_then o h (λ row e.
-      let is : row.cubes ≡ filter (is_within off.size x) all = ap (λ l. l.cubes) e in
-      subst (λ y. AreColumnsOf c.args.choice all c.args.points.now y row.cubes) (sym at) (columns_of_filter c.args.choice off.size all c.args.points.now row.cubes x is)))
+    let is : row.cubes ≡ filter (is_within off.size x) all = ap (λ l. l.cubes) e in
+    subst (λ y. AreColumnsOf c.args.choice all c.args.points.now y row.cubes) (sym at) (columns_of_filter c.args.choice off.size all c.args.points.now row.cubes x is)))
     c.sum_containing.ensures
