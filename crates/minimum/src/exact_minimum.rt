@@ -22,7 +22,9 @@ ghost use Rattle.pla.specs.Sets.{SetLists};
 ghost use Rattle.minimum.specs.Points.{AreDominating, IsFound, function_by, function_of, IsLeastOfPoints, IsSource, StandsFor};
 ghost use Rattle.minimum.specs.Primes.{care_on, chosen, exact_of, primes_of};
 
+use crate::as_needed::exact_as_needed;
 use crate::cubes::add_copy;
+use crate::essential_by_neighbours::consensus_pairs::have_many_consensus_pairs;
 use crate::points::picked_points::PickedPoints;
 use crate::points::proposals::{
     first_places, places_left_out, proposer_by_off, proposer_by_primes,
@@ -93,6 +95,13 @@ fn uses_outside(sets: &Sets) -> bool {
 /// are made sooner, as points are picked by a look at all primes for each of them.
 fn uses_points_of_primes(sets: &Sets) -> bool {
     sets.on().shape().inputs() > 20
+}
+
+/// Whether to make places outside as they are needed: with several outputs where `outside` gave none
+/// or what it gave was too much, and with one output where primes are thought many.
+fn uses_places_as_needed(sets: &Sets) -> bool {
+    let shape = sets.on().shape();
+    uses_points(shape) && (shape.outputs() > 1 || have_many_consensus_pairs(sets.on().as_slice()))
 }
 
 /// Some cubes with the places outside the ON-set and the DC-set, if they are of use and few.
@@ -310,6 +319,11 @@ pub fn exact(alloc: Global, sets: &Sets, choice: Choice) -> Result<Cover, AllocE
 {
     if let Some(off) = off_of(sets)? {
         if let Some(list) = exact_outside(alloc, sets, off, choice)? {
+            return Ok(list);
+        }
+    }
+    if uses_places_as_needed(sets) {
+        if let Some(list) = exact_as_needed(alloc, sets, choice)? {
             return Ok(list);
         }
     }
