@@ -1,17 +1,30 @@
 -- Sources of the primes of three lists.
-use Rattle.std.proofs.Common.{◌≡◌, not, ◌||◌, refl, ap, subst, ◌∙◌}
+use Rattle.std.proofs.Common.{◌≡◌, not, ◌||◌, List, inl, inr, refl, ap, sym, subst, ◌∙◌}
+use Rattle.std.proofs.lemmas.Bool.{cases_Bool, both_ways}
 use Rattle.std.proofs.Math.Bool.{not-not}
 use Rattle.std.specs.List.{Contains}
-use Rattle.cube.specs.Cube.{Place, IsCube, IsPlace}
+use Rattle.cube.specs.Cube.{Cube, Place, holds, IsCube, IsPlace}
 use Rattle.cube.specs.Sum.{complete_sum}
 use Rattle.cube.proofs.SumLemmas.{Contains-complete_sum}
 use Rattle.cover.specs.Cubes.{Cubes}
 use Rattle.cover.specs.Places.{places}
+use Rattle.cover.specs.Reduced.{HasSameCubes}
+use Rattle.cover.proofs.Lists.{list_any_from, list_any_witness}
 use Rattle.cover.proofs.SumEnds.{complete_sum-agree}
 use Rattle.pla.specs.Sets.{SetLists}
 use Rattle.minimum.specs.declared.points.source.Source.TheVariants.{Outside, Primes}
 use Rattle.minimum.specs.Primes.{primes_of}
 use Rattle.minimum.specs.Points.{IsSource, StandsFor}
+
+-- lists of the same cubes hold the same places
+pub places_same : (xs ys : List Cube) → HasSameCubes xs ys → (p : Place) → places ys p ≡ places xs p
+places_same xs ys same p = elim (cases_Bool (places xs p)) [
+  | inl e ↦ let w = list_any_witness (λ c. holds c p) xs e in list_any_from (λ c. holds c p) ys w.0 ((same w.0).0 w.1) w.2 ∙ sym e
+  | inr e ↦ elim (cases_Bool (places ys p)) [
+    | inl f ↦ let w = list_any_witness (λ c. holds c p) ys f in absurd (both_ways (places xs p) e (list_any_from (λ c. holds c p) xs w.0 ((same w.0).1 w.1) w.2))
+    | inr f ↦ f ∙ sym e
+  ]
+]
 
 module _ (sets : SetLists) (off : Cubes) (e : off.size ≡ sets.size) where
   pub primes_outside : IsSource sets.size (Outside off)

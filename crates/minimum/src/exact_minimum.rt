@@ -29,7 +29,7 @@ use crate::points::picked_points::PickedPoints;
 use crate::points::proposals::{
     first_places, places_left_out, proposer_by_off, proposer_by_primes,
 };
-use crate::points::source::Source;
+use crate::points::source::{Source, large_first};
 use crate::points::{add_places, point_table};
 use crate::prime_implicants::{on_and_dc, primes};
 use crate::prime_table::OfPrimes;
@@ -266,7 +266,8 @@ fn exact_outside(
         { size = sets.now.size; cubes = exact_of choice sets.now })) }
 {
     let proposer = proposer_by_off(alloc, sets, &off, false)?;
-    exact_by_points(alloc, sets, &Source::Outside(off), &proposer, choice)
+    let source = Source::Outside(large_first(off)?);
+    exact_by_points(alloc, sets, &source, &proposer, choice)
 }
 
 /// The least cover by the primes of points, from a list of all primes, if that is of use.

@@ -12,7 +12,7 @@ use crate::essential_by_neighbours::{find_essential, find_essential_outside};
 use crate::essential_primes::essential;
 use crate::exact_minimum::{exact, exact_by_points, uses_points};
 use crate::points::proposals::{proposer_by_off, proposer_by_primes};
-use crate::points::source::Source;
+use crate::points::source::{Source, large_first};
 use crate::prime_implicants::primes;
 use cover::{Budget, Cover, subtract};
 use covering::Choice;
@@ -211,7 +211,7 @@ fn exact_outside_off(
     }
     let samples = samples_of(alloc, pla)?;
     let proposer = proposer_by_off(alloc, &samples, off, true)?;
-    let source = Source::Outside(off.try_clone()?);
+    let source = Source::Outside(large_first(off.try_clone()?)?);
     exact_by_points(alloc, &samples, &source, &proposer, choice)
 }
 

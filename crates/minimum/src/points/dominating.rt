@@ -22,7 +22,7 @@ ghost use Rattle.minimum.specs.Dominating.{primes_outside, IsImplicant, IsBest, 
 use crate::cubes::add_copy;
 use crate::points::dominating::best_cube::best_cube;
 use crate::points::dominating::open_points::{holds_one_of, sort_points};
-use crate::points::dominating::refusing_rows::RefusingRows;
+use crate::points::dominating::refusing_rows::{RefusingRows, rows_by_output};
 use cover::Cover;
 use covering::{Choice, numbers};
 use cube::Cube;
@@ -41,6 +41,8 @@ pub(crate) struct Columns {
     pub(crate) left: usize,
     /// Rows that refuse steps of growth.
     pub(crate) rows: RefusingRows,
+    /// For each output the rows that have it.
+    pub(crate) by_output: Vec<Vec<usize>>,
     /// For each point a row that refused to join it last.
     pub(crate) refusing: Vec<usize>,
 }
@@ -61,6 +63,7 @@ impl Columns {
             primes: Cover::new(alloc, off.shape()),
             left: most,
             rows: RefusingRows::new(alloc, off)?,
+            by_output: rows_by_output(alloc, off)?,
             refusing: vec![in alloc; 0; points]?,
         })
     }
@@ -142,9 +145,10 @@ fn add_around(
     let Some(best) = add_best(alloc, off, cube, choice, found)? else {
         return Ok(false);
     };
+    let by_output = &found.by_output;
     let refusing = &mut found.refusing;
     let order = sort_points(
-        alloc, off, points, excluded, candidates, cube, &best, refusing,
+        alloc, off, points, excluded, candidates, cube, &best, by_output, refusing,
     )?;
     for at in excluded.len()..order.held {
         let wide = cube.join(&points[order.numbers[at]])?;

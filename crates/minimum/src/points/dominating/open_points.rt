@@ -1,6 +1,6 @@
 //! The points that may be in a cube that contains a given one.
 
-ghost use Rattle.std.specs.Prelude.{◌≡◌, ◌<◌, IfOk, OnOk, All, length, true};
+ghost use Rattle.std.specs.Prelude.{◌≡◌, ◌<◌, IfOk, IfSome, OnOk, All, length, true};
 ghost use Rattle.cube.specs.Cube.{IsCube, SameSize};
 ghost use Rattle.cover.specs.Cubes.{AreCubes};
 ghost use Rattle.minimum.specs.Dominating.{AreSorted, IsImplicant, NeedsNoJoin, HoldsOneOf};
@@ -43,13 +43,27 @@ fn meets_row(off: &Cover, r: usize, cube: &Cube) -> bool
     !row.disjoint(cube)
 }
 
+/// One of the rows with these numbers that meets the cube.
+fn row_that_meets(off: &Cover, numbers: &[usize], cube: &Cube) -> Option<usize>
+    requires { IsCube off.now.size cube.now }
+    ensures { IfSome result (λ _. IsImplicant off.now cube.now → ⊥) }
+{
+    for r in numbers {
+        if meets_row(off, *r, cube) {
+            return Some(*r);
+        }
+    }
+    None
+}
+
 /// Whether the cube can not be joined with a point: the join meets the list. The row that the last
-/// such join with the point met is looked at first.
+/// such join with the point met is looked at first, and then those that have an output of the join.
 fn is_refused(
     off: &Cover,
     cube: &Cube,
     point: &Cube,
     k: usize,
+    by_output: &[Vec<usize>],
     refusing: &mut Vec<usize>,
 ) -> Result<bool, AllocError>
     requires cube { IsCube off.now.size cube.now }
@@ -62,8 +76,11 @@ fn is_refused(
     if meets_row(off, refusing[k], &wide) {
         return Ok(true);
     }
-    for r in 0..off.len() {
-        if meets_row(off, r, &wide) {
+    for j in 0..wide.shape().outputs() {
+        if !wide.output(j) || j >= by_output.len() {
+            continue;
+        }
+        if let Some(r) = row_that_meets(off, &by_output[j], &wide) {
             refusing[k] = r;
             return Ok(true);
         }
@@ -83,6 +100,7 @@ pub(crate) fn sort_points(
     candidates: &[usize],
     cube: &Cube,
     best: &Cube,
+    by_output: &[Vec<usize>],
     refusing: &mut Vec<usize>,
 ) -> Result<OpenPoints, AllocError>
     requires points { AreCubes off.now.size points.now }
@@ -106,7 +124,7 @@ pub(crate) fn sort_points(
             inside.push(*k)?;
             continue;
         }
-        if is_refused(off, cube, point, *k, refusing)? {
+        if is_refused(off, cube, point, *k, by_output, refusing)? {
             continue;
         }
         numbers.push(*k)?;
