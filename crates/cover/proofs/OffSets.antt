@@ -361,7 +361,7 @@ module _ (size : Size) (rows : List Cube) where
       (and_parts (matches (replicate size.inputs Dash) p.point) (get_or (replicate size.outputs true) p.output false) (holds_universal size p place.0 place.1)).0
       (ap (λ k. get_or (set (replicate size.outputs false) j true) k false) e ∙ get_or-set_same (replicate size.outputs false) j true false (omega (arith, length-replicate size.outputs false)))
 
-  held_only : (j : ℕ) (p : Place) → holds (region_of j) p ≡ true → p.output ≡ j
+  pub held_only : (j : ℕ) (p : Place) → holds (region_of j) p ≡ true → p.output ≡ j
   held_only j p h = set_one size.outputs j p.output (and_parts (matches (replicate size.inputs Dash) p.point) (get_or (set (replicate size.outputs false) j true) p.output false) h).1
 
   abbrev SoFar : ℕ → List Cube → Type 0

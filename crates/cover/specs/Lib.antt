@@ -16,3 +16,4 @@ pub mod Keys
 pub mod Containing
 pub mod Outside
 pub mod Free
+pub mod Merging

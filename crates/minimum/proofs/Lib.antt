@@ -13,6 +13,7 @@ pub mod PrimeSources
 pub mod EssentialPrimes
 pub mod NonCandidates
 pub mod OfPla
+pub mod SamePlaces
 pub mod Growth
 pub mod Neighbours
 pub mod EssentialByNeighbours
