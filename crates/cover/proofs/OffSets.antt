@@ -348,7 +348,7 @@ set_one (suc m) (suc j) zero h = absurd (false≢true h)
 set_one (suc m) (suc j) (suc k) h = ap suc (set_one m j k h)
 
 module _ (size : Size) (rows : List Cube) where
-  abbrev region_of : ℕ → Cube
+  abbrev pub region_of : ℕ → Cube
   region_of j = record { symbols = replicate size.inputs Dash; outputs = set (replicate size.outputs false) j true }
 
   pub region-size : (j : ℕ) (region : Cube) → region ≡ region_of j → HasSize region size

@@ -1,5 +1,5 @@
 //! What a file says, once it is read.
-ghost use Rattle.std.specs.Prelude.{◌≡◌};
+ghost use Rattle.std.specs.Prelude.{◌≡◌, None};
 ghost use Rattle.pla.specs.Names.{lent_names, owned_names};
 
 use crate::file_type::FileType;
