@@ -15,39 +15,6 @@ use Rattle.cover.proofs.Lists.{all_members, list_any_witness}
 use Rattle.cover.proofs.OffSets.{held_at, held_only, region_of}
 use Rattle.cover.proofs.SumMeets.{places-append}
 
-within_bits : (t c o : Bool) → ((t && o) || ((c && o) || false)) ≡ ((t || (c || false)) && o)
-within_bits true true true = refl
-within_bits true true false = refl
-within_bits true false true = refl
-within_bits true false false = refl
-within_bits false true true = refl
-within_bits false true false = refl
-within_bits false false o = refl
-
-apart_bits : (t c o : Bool) → (c ≡ true → o ≡ true → ⊥) → (t && o) ≡ ((t || (c || false)) && o)
-apart_bits true c o h = refl
-apart_bits false true true h = absurd (h refl refl)
-apart_bits false true false h = refl
-apart_bits false false o h = refl
-
--- the places that the first rows have in a cube
-module _ (cubes : List Cube) (k : ℕ) (cube only : Cube) (lt : k < length cubes) (at : cube ≡ get_or cubes k cube) where
-  one_more : (p : Place) → places (take (k + 1) cubes) p ≡ (places (take k cubes) p || (holds cube p || false))
-  one_more p =
-      ap (λ l. places l p) (take_more cubes k cube lt) ∙ places-append (take k cubes) (get_or cubes k cube ∷ []) p
-      ∙ ap (λ c. places (take k cubes) p || (holds c p || false)) (sym at)
-
-  pub within_more : (part next : Cubes) (row : Cube) → ((p : Place) → places part.cubes p ≡ (places (take k cubes) p && holds only p)) → ((p : Place) → holds row p ≡ (holds cube p && holds only p))
-      → Adds part (row ∷ []) next → (p : Place) → places next.cubes p ≡ (places (take (k + 1) cubes) p && holds only p)
-  within_more part next row before is added p =
-      added.places p ∙ ap (λ x. x || (holds row p || false)) (before p) ∙ ap (λ x. (places (take k cubes) p && holds only p) || (x || false)) (is p)
-      ∙ within_bits (places (take k cubes) p) (holds cube p) (holds only p) ∙ ap (λ x. x && holds only p) (sym (one_more p))
-
-  pub within_none : (s : Place → Bool) → ((p : Place) → s p ≡ (places (take k cubes) p && holds only p)) → IsDisjoint (holds cube) (holds only)
-      → (p : Place) → s p ≡ (places (take (k + 1) cubes) p && holds only p)
-  within_none s before apart p =
-      before p ∙ apart_bits (places (take k cubes) p) (holds cube p) (holds only p) (apart p) ∙ ap (λ x. x && holds only p) (sym (one_more p))
-
 and_or : (a b c : Bool) → ((a && b) || (a && c)) ≡ (a && (b || c))
 and_or true b c = refl
 and_or false b c = refl

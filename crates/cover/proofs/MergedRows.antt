@@ -1,5 +1,5 @@
 -- Rows that become one, and lists that stand for others.
-use Rattle.std.proofs.Common.{◌≡◌, ℕ, zero, suc, ◌+◌, ◌<◌, ◌≤◌, Bool, true, false, not, ◌&&◌, ◌||◌, List, [], ◌∷◌, ◌++◌, length, get_or, set, slice_get, take, IsTrue, All, refl, ap, sym, subst, ◌∙◌, arith, inl, inr, append_assoc}
+use Rattle.std.proofs.Common.{◌≡◌, ℕ, zero, suc, ◌+◌, ◌<◌, ◌≤◌, Bool, true, false, ◌&&◌, ◌||◌, List, [], ◌∷◌, ◌++◌, length, get_or, set, slice_get, take, IsTrue, All, refl, ap, sym, subst, ◌∙◌, arith, inl, inr, append_assoc}
 use Rattle.std.specs.Prelude.{Some}
 use Rattle.std.proofs.lemmas.Bool.{and_parts, and_from, or_left, or_right, or_cases}
 use Rattle.std.proofs.lemmas.List.{length-set, length-append, take_more}
@@ -19,10 +19,6 @@ use Rattle.cover.proofs.SumMeets.{places-append}
 use Rattle.cover.proofs.SumSplit.{holds-own}
 
 -- ---- two rows
-
-pub held_from_not : (b : Bool) → not b ≡ false → b ≡ true
-held_from_not true h = refl
-held_from_not false h = sym h
 
 -- a bit agrees with a literal or with its opposite
 both_sides : (s : Symbol) (bit h : Bool) → h ≡ ((agrees s bit && h) || (agrees (opposite s) bit && h))

@@ -1,6 +1,6 @@
 use Rattle.std.proofs.Common.{arith}
 use Rattle.cover.specs.Places.{places}
-use Rattle.cover.proofs.MergedOutputs.{AreBelow-all, AreBelow-next, AreBelow-none}
+use Rattle.cover.proofs.MergedOutputs.{AreBelow-all}
 use Rattle.cover.proofs.merging.merge_rows_of_outputs.Goals as goal
 
 pub returns : goal.returns
