@@ -33,8 +33,12 @@ least_by choice size on dc = unwrap_or
     (filter (λ numbers. is_subset size (difference on dc) (places (chosen (primes_by size on dc) numbers)))
     (sublists (range_with_len 0 (length (primes_by size on dc)))))) []
 
+-- neither in ON nor in OFF
+abbrev open_of : Description → Place → Bool
+open_of d p = not (places (d.on ++ d.off) p)
+
 module _ (d e : Description) (same : HasSamePlaces d e) where
-  neither : (λ (p : Place). not (places (e.on ++ e.off) p)) ≡ (λ (p : Place). not (places (d.on ++ d.off) p))
+  neither : open_of e ≡ open_of d
   neither = fun_ext (λ p. ap not (
     places-append e.on e.off p ∙ ap (λ x. x || places e.off p) (same.on p) ∙ ap (λ x. places d.on p || x) (same.off p) ∙ sym (places-append d.on d.off p)
   ))
@@ -42,18 +46,18 @@ module _ (d e : Description) (same : HasSamePlaces d e) where
   dc_by_type : (t : FileType) → places (dc_of t e) ≡ places (dc_of t d)
   dc_by_type F = refl
   dc_by_type Fd = fun_ext same.dc
-  dc_by_type Fr = ap (λ s. places (complete_sum e.size s)) neither ∙ ap (λ z. places (complete_sum z (λ p. not (places (d.on ++ d.off) p)))) same.size
+  dc_by_type Fr = ap (λ (s : Place → Bool). places (complete_sum e.size s)) neither ∙ ap (λ (z : Size). places (complete_sum z (open_of d))) same.size
   dc_by_type Fdr = fun_ext same.dc
 
   dc_is : places (dc_list e.file_type true e) ≡ places (dc_list d.file_type true d)
-  dc_is = dc_by_type e.file_type ∙ ap (λ t. places (dc_of t d)) same.file_type
+  dc_is = dc_by_type e.file_type ∙ ap (λ (t : FileType). places (dc_of t d)) same.file_type
 
   by_places : {X : Type 0} (answer : Size → (Place → Bool) → (Place → Bool) → X)
       → answer e.size (places e.on) (places (dc_list e.file_type true e)) ≡ answer d.size (places d.on) (places (dc_list d.file_type true d))
   by_places answer =
-      ap (λ z. answer z (places e.on) (places (dc_list e.file_type true e))) same.size
-      ∙ ap (λ s. answer d.size s (places (dc_list e.file_type true e))) (fun_ext same.on)
-      ∙ ap (λ s. answer d.size (places d.on) s) dc_is
+      ap (λ (z : Size). answer z (places e.on) (places (dc_list e.file_type true e))) same.size
+      ∙ ap (λ (s : Place → Bool). answer d.size s (places (dc_list e.file_type true e))) (fun_ext same.on)
+      ∙ ap (λ (s : Place → Bool). answer d.size (places d.on) s) dc_is
 
   pub same_primes : (let list : Cubes = record { size = e.size; cubes = primes_of (sets_of e true true) } in list) ≡ record { size = d.size; cubes = primes_of (sets_of d true true) }
   same_primes = by_places (λ size on dc. let list : Cubes = record { size = size; cubes = primes_by size on dc } in list)

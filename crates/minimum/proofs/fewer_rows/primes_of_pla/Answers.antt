@@ -6,5 +6,5 @@ use Rattle.minimum.proofs.fewer_rows.primes_of_pla.Goals as goal
 
 pub returns-in-Some : goal.returns-in-Some
 returns-in-Some c =
-    let same = MatchOption-at_some _ _ c.in-Some.fewer c.in-Some.is c.in_ok-with_fewer_rows.ensures in
-    IfOk-weaker c.primes_of_rows.result _ _ (λ list h. h ∙ same_primes c.args.pla.now c.in-Some.fewer same) c.primes_of_rows.ensures
+    let same = MatchOption-at_some _ _ c.in-Some.fewer c.in-Some.is c.in_ok-fewer.ensures in
+    IfOk-weaker c.primes_of_pla.result _ _ (λ list h. h ∙ same_primes c.args.pla.now c.in-Some.fewer same) c.primes_of_pla.ensures
