@@ -40,8 +40,8 @@ open_of d p = not (places (d.on ++ d.off) p)
 module _ (d e : Description) (same : HasSamePlaces d e) where
   neither : open_of e ≡ open_of d
   neither = fun_ext (λ p. ap not (
-    places-append e.on e.off p ∙ ap (λ x. x || places e.off p) (same.on p) ∙ ap (λ x. places d.on p || x) (same.off p) ∙ sym (places-append d.on d.off p)
-  ))
+      places-append e.on e.off p ∙ ap (λ x. x || places e.off p) (same.on p) ∙ ap (λ x. places d.on p || x) (same.off p) ∙ sym (places-append d.on d.off p)
+      ))
 
   dc_by_type : (t : FileType) → places (dc_of t e) ≡ places (dc_of t d)
   dc_by_type F = refl
