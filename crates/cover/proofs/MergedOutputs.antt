@@ -1,11 +1,9 @@
 -- The rows of single outputs, one output after the other.
-use Rattle.std.proofs.Common.{◌≡◌, ℕ, ◌+◌, ◌<◌, ◌≤◌, Bool, true, false, ◌&&◌, ◌||◌, List, [], ◌∷◌, ◌++◌, length, get_or, take, IsTrue, refl, ap, sym, subst, ◌∙◌, arith, inl, inr}
-use Rattle.std.specs.List.{Contains}
+use Rattle.std.proofs.Common.{◌≡◌, ℕ, ◌+◌, ◌<◌, ◌≤◌, Bool, true, false, ◌&&◌, ◌||◌, List, refl, ap, sym, ◌∙◌, arith, inl, inr}
 use Rattle.std.proofs.Math.Dec.{eqb, ltb}
 use Rattle.std.proofs.lemmas.Bool.{cases_Bool, cases_lt, and_parts, or_left, or_right, or_cases, eqb-true, eq-eqb, ltb-true, lt-ltb, false≢true}
-use Rattle.std.proofs.lemmas.List.{take_more}
 use Rattle.cube.specs.Size.{Size}
-use Rattle.cube.specs.Cube.{Cube, Place, IsCube, IsDisjoint, IsPlace, holds}
+use Rattle.cube.specs.Cube.{Cube, Place, IsCube, IsPlace, holds}
 use Rattle.cube.proofs.SumLemmas.{IsPlace-from_holds}
 use Rattle.cover.specs.Cubes.{AreCubes, Cubes}
 use Rattle.cover.specs.Merging.{Adds}
@@ -13,7 +11,6 @@ use Rattle.cover.specs.Places.{places}
 use Rattle.cover.proofs.Everywhere.{same_test}
 use Rattle.cover.proofs.Lists.{all_members, list_any_witness}
 use Rattle.cover.proofs.OffSets.{held_at, held_only, region_of}
-use Rattle.cover.proofs.SumMeets.{places-append}
 
 and_or : (a b c : Bool) → ((a && b) || (a && c)) ≡ (a && (b || c))
 and_or true b c = refl

@@ -1,14 +1,14 @@
 -- Rows that become one, and lists that stand for others.
-use Rattle.std.proofs.Common.{◌≡◌, ℕ, zero, suc, ◌+◌, ◌<◌, ◌≤◌, Bool, true, false, ◌&&◌, ◌||◌, List, [], ◌∷◌, ◌++◌, length, get_or, set, slice_get, take, IsTrue, All, refl, ap, sym, subst, ◌∙◌, arith, inl, inr, append_assoc}
+use Rattle.std.proofs.Common.{◌≡◌, ℕ, zero, suc, ◌+◌, ◌<◌, Bool, true, false, ◌&&◌, ◌||◌, List, [], ◌∷◌, ◌++◌, length, get_or, set, slice_get, IsTrue, refl, ap, sym, subst, ◌∙◌, arith, inl, inr, append_assoc}
 use Rattle.std.specs.Prelude.{Some}
 use Rattle.std.proofs.lemmas.Bool.{and_parts, and_from, or_left, or_right, or_cases}
-use Rattle.std.proofs.lemmas.List.{length-set, length-append, take_more}
+use Rattle.std.proofs.lemmas.List.{length-set, length-append}
 use Rattle.std.proofs.lemmas.Option.{get_or_from_slice_get}
 use Rattle.cube.specs.declared.symbol.Symbol.{Symbol}
 use Rattle.cube.specs.declared.symbol.Symbol.TheVariants.{Dash, Zero, One}
 use Rattle.cube.specs.Pattern.{agrees, matches}
 use Rattle.cube.specs.Sharp.{opposite}
-use Rattle.cube.specs.Cube.{Cube, Place, IsSubset, IsDisjoint, holds, with_symbol}
+use Rattle.cube.specs.Cube.{Cube, Place, IsSubset, holds, with_symbol}
 use Rattle.cover.specs.Cubes.{Cubes}
 use Rattle.cover.specs.Marks.{is_symbol}
 use Rattle.cover.specs.Merging.{Adds, IsUnion, StandsFor}

@@ -1,5 +1,5 @@
 -- Rows that become one. No public clause cites this module.
-use Rattle.std.specs.Prelude.{◌≡◌, ℕ, ◌+◌, ◌≤◌, ◌<◌, ◌||◌, Bool, List, Option, None, Some, length, slice_index_or}
+use Rattle.std.specs.Prelude.{◌≡◌, ◌+◌, ◌≤◌, ◌||◌, List, length}
 use Rattle.cube.specs.Cube.{Cube, Place, holds}
 use Rattle.cover.specs.Cubes.{Cubes}
 use Rattle.cover.specs.Places.{places}

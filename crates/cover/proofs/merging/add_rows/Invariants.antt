@@ -1,4 +1,4 @@
-use Rattle.std.proofs.Common.{ℕ, All, vec_len}
+use Rattle.std.proofs.Common.{All, vec_len}
 use Rattle.cube.specs.Cube.{IsCube}
 use Rattle.cover.proofs.MergedRows.{AddsRest}
 use Rattle.cover.proofs.merging.add_rows.Given as goal
