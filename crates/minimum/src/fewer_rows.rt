@@ -1,7 +1,8 @@
 //! The answers for a description, of which long lists are taken with fewer rows.
 //!
 //! What is asked depends on places alone, and not on the rows that give them. A table of truth, with
-//! a row for each point, takes far longer than the same places in few rows.
+//! a row for each point, takes far longer than the same places in few rows. (Its primes do not: the
+//! sum of many small rows is made sooner than these are merged.)
 
 ghost use Rattle.std.specs.Prelude.{◌≡◌, IfOk, IfSome, true};
 ghost use Rattle.cube.specs.Cube.{Place};
@@ -10,10 +11,7 @@ ghost use Rattle.pla.specs.Completed.{sets_of};
 ghost use Rattle.minimum.specs.Primes.{essential_of, exact_of, primes_of};
 ghost use Rattle.minimum.specs.SamePlaces.{HasSamePlaces};
 
-use crate::of_pla::{
-    essential_of_pla as essential_of_rows, exact_of_pla as exact_of_rows,
-    primes_of_pla as primes_of_rows,
-};
+use crate::of_pla::{essential_of_pla as essential_of_rows, exact_of_pla as exact_of_rows};
 use cover::{Cover, merge_rows};
 use covering::Choice;
 use pla::Pla;
@@ -48,26 +46,6 @@ fn with_fewer_rows(pla: &Pla) -> Result<Option<Pla>, AllocError>
     let dc = merged_or_copy(dc, pla.dc())?;
     let off = merged_or_copy(off, pla.off())?;
     Ok(Some(pla.with_lists(on, dc, off)))
-}
-
-/// The primes of the description's sets, in row order.
-///
-/// Under fr the DC-set is not made, unless that is less work: the primes are the complete sum of
-/// the places outside those that OFF alone holds.
-///
-/// # Errors
-///
-/// [`AllocError`] if memory is refused.
-pub fn primes_of_pla(alloc: Global, pla: &Pla) -> Result<Cover, AllocError>
-    ensures { IfOk result (λ list. list ≡ record {
-      size = pla.now.size;
-      cubes = primes_of (sets_of pla.now true true);
-    }) }
-{
-    match with_fewer_rows(pla)? {
-        Some(fewer) => primes_of_rows(alloc, &fewer),
-        None => primes_of_rows(alloc, pla),
-    }
 }
 
 /// The essential primes of the description's sets, in row order.
