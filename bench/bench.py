@@ -545,6 +545,59 @@ def sample_cases():
         yield f"essen-{name}", file_case(["-Dessen"], lambda both=both: both()[0], 0.1)
 
 
+def comparison(width):
+    """Whether one number of `width` bits is above another, equal to it, or below it."""
+    def value(bits):
+        one, other = number(bits[:width]), number(bits[width:])
+        return 4 if one > other else 2 if one == other else 1
+    return 2 * width, 3, value
+
+
+def leading_noughts(inputs):
+    """How many of the first inputs are 0."""
+    return inputs, inputs.bit_length(), lambda bits: bits.index(1) if 1 in bits else inputs
+
+
+def arithmetic_unit(width):
+    """By an operation of two bits, the sum of two numbers, their difference, what both have, or what one has."""
+    def value(bits):
+        operation, one, other = number(bits[:2]), number(bits[2:2 + width]), number(bits[2 + width:])
+        return (one + other, (one - other) % 2 ** (width + 1), one & other, one ^ other)[operation]
+    return 2 + 2 * width, width + 1, value
+
+
+SEGMENTS = (0x7E, 0x30, 0x6D, 0x79, 0x33, 0x5B, 0x5F, 0x70, 0x7F, 0x7B)
+
+
+def sensor_display(width):
+    """The seven segments of a digit for each of two sensors of `width` bits."""
+    def value(bits):
+        one, other = (SEGMENTS[min(9, number(part) * 10 // 2 ** width)] for part in (bits[:width], bits[width:]))
+        return one << 7 | other
+    return 2 * width, 14, value
+
+
+# Functions whose tables of truth are read, with the goals for `exact` and `essen`, if there are any.
+TABLES = [
+    ("sum-8", adder(4), 0.1, 0.1), ("sum-12", adder(6), 0.3, 0.2), ("sum-14", adder(7), 1, 0.3), ("sum-16", adder(8), 3, 0.5),
+    ("product-8", (8, 8, lambda bits: number(bits[:4]) * number(bits[4:])), 0.5, 0.1),
+    ("comparison-14", comparison(7), 0.2, 0.2), ("comparison-16", comparison(8), 0.4, 0.4),
+    ("leading-12", leading_noughts(12), 0.1, 0.1), ("leading-16", leading_noughts(16), 0.2, 0.2),
+    ("ones-11", (11, 4, sum), 0.5, 0.5), ("parity-12", (12, 1, lambda bits: sum(bits) & 1), 0.2, 0.2),
+    ("arithmetic-unit-14", arithmetic_unit(6), 0.5, 0.5), ("display-14", sensor_display(7), 0.5, 0.2),
+]
+
+
+def table_cases():
+    """Tables of truth of arithmetic: a row for each point."""
+    for name, points, least, essential in TABLES:
+        for label, words, goal in (("exact", ("-Dexact",), least), ("essen", ("-Dessen",), essential),
+                                   ("tautology", ("-Dtautology",), 0.1)):
+            yield f"{label}-table-{name}", file_case(
+                list(words), lambda name=name, points=points: write(
+                    f"table-{name}.pla", pla(points[0], points[1], function_rows(*points))), goal)
+
+
 def cases():
     yield "echo-million-rows", file_case(
         ["-Decho"], lambda: write("rows-1000000.pla", pla(20, 4, random_rows(10 ** 6, 20, 4, 1))), 0.30)
@@ -577,6 +630,7 @@ def cases():
     yield from exact_cases()
     yield from large_exact_cases()
     yield from logic_cases()
+    yield from table_cases()
     yield from pair_cases()
     yield from sample_cases()
     yield from wide_verifies()

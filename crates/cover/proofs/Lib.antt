@@ -43,3 +43,5 @@ pub mod MeetsWithin
 pub mod MaskedAgreement
 pub mod SumFour
 pub mod SumFree
+pub mod MergedRows
+pub mod MergedOutputs

@@ -348,7 +348,7 @@ set_one (suc m) (suc j) zero h = absurd (false≢true h)
 set_one (suc m) (suc j) (suc k) h = ap suc (set_one m j k h)
 
 module _ (size : Size) (rows : List Cube) where
-  abbrev region_of : ℕ → Cube
+  abbrev pub region_of : ℕ → Cube
   region_of j = record { symbols = replicate size.inputs Dash; outputs = set (replicate size.outputs false) j true }
 
   pub region-size : (j : ℕ) (region : Cube) → region ≡ region_of j → HasSize region size
@@ -361,7 +361,7 @@ module _ (size : Size) (rows : List Cube) where
       (and_parts (matches (replicate size.inputs Dash) p.point) (get_or (replicate size.outputs true) p.output false) (holds_universal size p place.0 place.1)).0
       (ap (λ k. get_or (set (replicate size.outputs false) j true) k false) e ∙ get_or-set_same (replicate size.outputs false) j true false (omega (arith, length-replicate size.outputs false)))
 
-  held_only : (j : ℕ) (p : Place) → holds (region_of j) p ≡ true → p.output ≡ j
+  pub held_only : (j : ℕ) (p : Place) → holds (region_of j) p ≡ true → p.output ≡ j
   held_only j p h = set_one size.outputs j p.output (and_parts (matches (replicate size.inputs Dash) p.point) (get_or (set (replicate size.outputs false) j true) p.output false) h).1
 
   abbrev SoFar : ℕ → List Cube → Type 0

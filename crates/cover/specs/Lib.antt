@@ -17,3 +17,4 @@ pub mod Keys
 pub mod Containing
 pub mod Outside
 pub mod Free
+pub mod Merging

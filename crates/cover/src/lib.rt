@@ -16,6 +16,7 @@
 //!   complete sum of the places inside, outside, in both lists and in the first alone;
 //! - [`outside`] and [`subtract`], some cubes with the places outside and in the first list alone,
 //!   where the complete sum may be far too long, within a [`Budget`];
+//! - [`merge_rows`], a list with the same places and fewer rows, for tables of truth and the like;
 //! - [`sum_containing`] and [`cubes_containing`], the cubes of a complete sum and of a list that
 //!   contain a region, without the others; and [`in_row_order`], the list sorted.
 //!
@@ -41,6 +42,7 @@ mod containment;
 mod cubes;
 mod list;
 mod literal_counts;
+mod merging;
 mod outside_within_budget;
 mod references;
 mod region;
@@ -53,6 +55,7 @@ pub use compare::meets_within::are_meets_within_either;
 pub use compare::{agree_outside, is_within_either};
 pub use containment::contain;
 pub use list::Cover;
+pub use merging::merge_rows;
 pub use outside_within_budget::{Budget, outside, subtract};
 pub use sums::containing::{cubes_containing, sum_containing};
 pub use sums::rows::in_row_order;

@@ -1,5 +1,5 @@
 //! A list of cubes of one shape, copies of lists, and whether a cube of one meets another.
-ghost use Rattle.std.specs.Prelude.{◌≡◌, ◌==◌, ◌∷◌, ◌++◌, [], length, slice_get, option_copied, false, All, IfOk, OnOk, OnErr, IfErr, IfSome};
+ghost use Rattle.std.specs.Prelude.{◌≡◌, ◌<◌, ◌==◌, ◌∷◌, ◌++◌, [], length, slice_get, slice_set, option_copied, false, All, IfOk, OnOk, OnErr, IfErr, IfSome};
 ghost use Rattle.cube.specs.Cube.{HasSize, IsCube, SameSize, IsDisjoint, holds};
 ghost use Rattle.cover.specs.Cubes.{AreCubes};
 ghost use Rattle.cover.specs.Places.{behind};
@@ -107,6 +107,18 @@ impl Cover {
             Ok(()) => Ok(()),
             Err(failed) => Err(failed.value),
         }
+    }
+
+    /// Puts another cube in place of that at index `i`.
+    pub(crate) fn replace(&mut self, i: usize, cube: Cube)
+        requires index { i < length self.old.cubes }
+        requires size { HasSize cube self.old.size }
+        ensures size { self.new.size ≡ self.old.size }
+        ensures cubes { self.new.cubes ≡ slice_set self.old.cubes i cube }
+    {
+        let is_of_shape = cube.shape() == self.shape;
+        prove!(is_of_shape);
+        self.cubes[i] = cube;
     }
 
     /// Adds the other list's cubes at the end, in their order. If memory is refused, this list

@@ -2,7 +2,7 @@
 ghost use Rattle.std.specs.Prelude.{◌≡◌};
 
 use crate::rows::{are_written, cover_of, is_written};
-use cover::{Cover, agree_outside, complete_sum, contain, difference, intersect};
+use cover::{Cover, agree_outside, complete_sum, contain, difference, intersect, merge_rows};
 use cube::Shape;
 use std::alloc::{AllocError, Global};
 use std::test::Fail;
@@ -18,6 +18,7 @@ pub(crate) enum Operation {
     Append,
     Intersect,
     Difference,
+    Merge,
     // By the one cube of the other list.
     Cofactor,
 }
@@ -34,7 +35,7 @@ type Made = (
     &'static [&'static str],
 );
 
-const MADE: [Made; 13] = [
+const MADE: [Made; 14] = [
     (
         Operation::Clone,
         2,
@@ -102,6 +103,14 @@ const MADE: [Made; 13] = [
         &["1- 1", "0- 1"],
     ),
     (
+        Operation::Merge,
+        2,
+        1,
+        &["11 1", "10 1"],
+        &[],
+        &["11 1", "10 1"],
+    ),
+    (
         Operation::Append,
         2,
         1,
@@ -150,6 +159,14 @@ fn again(list: &Cover) -> Result<Cover, AllocError> {
     Ok(Cover::from_cubes(list.shape(), list.try_clone()?.into_cubes()))
 }
 
+// The list with fewer rows, or as it is where merging rows does not pay.
+fn merged(list: &Cover) -> Result<Cover, AllocError> {
+    match merge_rows(list)? {
+        Some(fewer) => Ok(fewer),
+        None => list.try_clone(),
+    }
+}
+
 pub(crate) fn result_of(
     operation: Operation,
     list: &Cover,
@@ -166,6 +183,7 @@ pub(crate) fn result_of(
         Operation::Append => both(list, other),
         Operation::Intersect => intersect(list, other),
         Operation::Difference => difference(list, other),
+        Operation::Merge => merged(list),
         Operation::Cofactor => match other.get(0) {
             Some(by) => list.cofactor(by),
             None => list.try_clone(),

@@ -39,12 +39,13 @@ const WIDE_REST: Rows = (Rule::Front, 4096, 8192);
 // Operation, the two lists and the rows that are made.
 type Made = (Operation, Rows, Rows, Rows);
 
-const LONG_MADE: [Made; 10] = [
+const LONG_MADE: [Made; 11] = [
     (Operation::Clone, LONG_HALF, NONE, LONG_HALF),
     (Operation::Cubes, LONG_HALF, NONE, LONG_HALF),
     (Operation::CompleteSum, LONG_HALF, NONE, HALF),
     (Operation::Complement, LONG_HALF, NONE, REST),
     (Operation::Contain, LONG_HALF, NONE, LONG_HALF),
+    (Operation::Merge, LONG_HALF, NONE, HALF),
     (Operation::Append, LONG_HALF, LONG_REST, LONG),
     (Operation::Intersect, LONG_HALF, LONG, HALF),
     (Operation::Difference, LONG, LONG_HALF, REST),
@@ -52,12 +53,13 @@ const LONG_MADE: [Made; 10] = [
     (Operation::Cofactor, LONG, (Rule::Points, 7, 8), UNIVERSE),
 ];
 
-const WIDE_MADE: [Made; 11] = [
+const WIDE_MADE: [Made; 12] = [
     (Operation::Clone, WIDE_HALF, NONE, WIDE_HALF),
     (Operation::Cubes, WIDE_HALF, NONE, WIDE_HALF),
     (Operation::CompleteSum, WIDE_HALF, NONE, HALF),
     (Operation::Complement, WIDE_HALF, NONE, REST),
     (Operation::Contain, WIDE_HALF, NONE, WIDE_HALF),
+    (Operation::Merge, WIDE_HALF, NONE, WIDE_HALF),
     (Operation::Contain, (Rule::Zeros, 0, 1024), NONE, UNIVERSE),
     (Operation::Append, WIDE_HALF, WIDE_REST, WIDE),
     (Operation::Intersect, WIDE_HALF, WIDE, HALF),

@@ -15,6 +15,7 @@ pub mod PrimeSources
 pub mod EssentialPrimes
 pub mod NonCandidates
 pub mod OfPla
+pub mod SamePlaces
 pub mod Growth
 pub mod FirstPrimes
 pub mod Neighbours

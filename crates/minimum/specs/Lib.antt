@@ -1,4 +1,5 @@
 pub mod Primes
+pub mod SamePlaces
 pub mod PrimeTable
 pub mod PrimeRows
 pub mod EssentialPrimes

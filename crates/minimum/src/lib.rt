@@ -39,6 +39,7 @@ mod cubes;
 mod essential_by_neighbours;
 mod essential_primes;
 mod exact_minimum;
+mod fewer_rows;
 mod laws;
 mod numbered_cubes;
 mod of_pla;
@@ -53,7 +54,8 @@ pub use covering::{
 pub use essential_by_neighbours::{find_essential, find_essential_outside};
 pub use essential_primes::essential;
 pub use exact_minimum::exact;
+pub use fewer_rows::{essential_of_pla, exact_of_pla};
 pub use laws::points_are_enough;
-pub use of_pla::{essential_of_pla, exact_of_pla, primes_of_pla};
+pub use of_pla::primes_of_pla;
 pub use prime_implicants::primes;
 pub use prime_table::OfPrimes;

@@ -1,5 +1,5 @@
 //! What a file says, once it is read.
-ghost use Rattle.std.specs.Prelude.{◌≡◌};
+ghost use Rattle.std.specs.Prelude.{◌≡◌, None};
 ghost use Rattle.pla.specs.Names.{lent_names, owned_names};
 
 use crate::file_type::FileType;
@@ -88,6 +88,24 @@ impl Pla {
             dc,
             off,
         }
+    }
+
+    /// This description with other lists, and without its names.
+    pub fn with_lists(&self, on: Cover, dc: Cover, off: Cover) -> Pla
+        requires on_size { on.size ≡ self.now.size }
+        requires dc_size { dc.size ≡ self.now.size }
+        requires off_size { off.size ≡ self.now.size }
+        ensures { result ≡ record {
+          size = self.now.size;
+          input_names = None;
+          output_names = None;
+          file_type = self.now.file_type;
+          on = on.cubes;
+          dc = dc.cubes;
+          off = off.cubes;
+        } }
+    {
+        Pla::new(self.shape, None, None, self.file_type, on, dc, off)
     }
 
     /// The numbers of inputs and outputs.

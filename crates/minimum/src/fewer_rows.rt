@@ -1,0 +1,84 @@
+//! The answers for a description, of which long lists are taken with fewer rows.
+//!
+//! What is asked depends on places alone, and not on the rows that give them. A table of truth, with
+//! a row for each point, takes far longer than the same places in few rows. (Its primes do not: the
+//! sum of many small rows is made sooner than these are merged.)
+
+ghost use Rattle.std.specs.Prelude.{◌≡◌, IfOk, IfSome, true};
+ghost use Rattle.cube.specs.Cube.{Place};
+ghost use Rattle.cover.specs.Places.{places};
+ghost use Rattle.pla.specs.Completed.{sets_of};
+ghost use Rattle.minimum.specs.Primes.{essential_of, exact_of, primes_of};
+ghost use Rattle.minimum.specs.SamePlaces.{HasSamePlaces};
+
+use crate::of_pla::{essential_of_pla as essential_of_rows, exact_of_pla as exact_of_rows};
+use cover::{Cover, merge_rows};
+use covering::Choice;
+use pla::Pla;
+use std::alloc::{AllocError, Global};
+
+// The list with fewer rows, or a copy where none was made.
+fn merged_or_copy(merged: Option<Cover>, list: &Cover) -> Result<Cover, AllocError>
+    requires size { IfSome merged (λ fewer. fewer.size ≡ list.now.size) }
+    requires places { IfSome merged
+        (λ fewer. (p : Place) → places fewer.cubes p ≡ places list.now.cubes p) }
+    ensures size { IfOk result (λ all. all.size ≡ list.now.size) }
+    ensures places { IfOk result
+        (λ all. (p : Place) → places all.cubes p ≡ places list.now.cubes p) }
+{
+    match merged {
+        Some(fewer) => Ok(fewer),
+        None => list.try_clone(),
+    }
+}
+
+// The description with lists of fewer rows, or `None` where merging rows does not pay.
+fn with_fewer_rows(pla: &Pla) -> Result<Option<Pla>, AllocError>
+    ensures { IfOk result (λ found. IfSome found (λ fewer. HasSamePlaces pla.now fewer)) }
+{
+    let on = merge_rows(pla.on())?;
+    let dc = merge_rows(pla.dc())?;
+    let off = merge_rows(pla.off())?;
+    if on.is_none() && dc.is_none() && off.is_none() {
+        return Ok(None);
+    }
+    let on = merged_or_copy(on, pla.on())?;
+    let dc = merged_or_copy(dc, pla.dc())?;
+    let off = merged_or_copy(off, pla.off())?;
+    Ok(Some(pla.with_lists(on, dc, off)))
+}
+
+/// The essential primes of the description's sets, in row order.
+///
+/// # Errors
+///
+/// [`AllocError`] if memory is refused.
+pub fn essential_of_pla(alloc: Global, pla: &Pla) -> Result<Cover, AllocError>
+    ensures { IfOk result (λ list. list ≡ record {
+      size = pla.now.size;
+      cubes = essential_of (sets_of pla.now true true) (primes_of (sets_of pla.now true true));
+    }) }
+{
+    match with_fewer_rows(pla)? {
+        Some(fewer) => essential_of_rows(alloc, &fewer),
+        None => essential_of_rows(alloc, pla),
+    }
+}
+
+/// The least cover by primes of the description's sets. Under fr no DC list is made, unless that is
+/// less work.
+///
+/// # Errors
+///
+/// [`AllocError`] if memory is refused.
+pub fn exact_of_pla(alloc: Global, pla: &Pla, choice: Choice) -> Result<Cover, AllocError>
+    ensures { IfOk result (λ list. list ≡ record {
+      size = pla.now.size;
+      cubes = exact_of choice (sets_of pla.now true true);
+    }) }
+{
+    match with_fewer_rows(pla)? {
+        Some(fewer) => exact_of_rows(alloc, &fewer, choice),
+        None => exact_of_rows(alloc, pla, choice),
+    }
+}
