@@ -156,7 +156,8 @@ module _ (count : ℕ → ℕ) (test : ℕ → Bool) (s x : List ℕ) (s_rises :
   by_rests (inr (inr (long, inl less))) = inr (inr ((let a = long_s in let b = split_length test x in omega (arith, long)), inl (let a = sum_s in let b = split_sum count test x in omega arith)))
   by_rests (inr (inr (long, inr (tied, first)))) = inr (inr (
     (let a = long_s in let b = split_length test x in omega (arith, long)),
-    inr ((let a = sum_s in let b = split_sum count test x in omega (arith, tied)), both_first long first)))
+    inr ((let a = sum_s in let b = split_sum count test x in omega (arith, tied)), both_first long first),
+  ))
 
 -- ---- numbers of one kind beside numbers of another
 
