@@ -24,3 +24,4 @@ pub mod Blocking
 pub mod CommonPlace
 pub mod Near
 pub mod Reached
+pub mod LeftOut

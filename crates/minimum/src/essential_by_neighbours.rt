@@ -10,7 +10,8 @@
 //! leave out a place of the prime exactly if it is essential.
 //!
 //! So a cube that lies in a prime grown before needs no look. The others cost a question for each
-//! literal and each missing output, and one for the prime, to the rows that are near.
+//! literal and each missing output, and one for the prime, to the rows that are near. Most are
+//! answered at one look at these, which shows a part that they leave out.
 
 ghost use Rattle.std.specs.Prelude.{◌≡◌, ◌++◌, IfOk, OnOk};
 ghost use Rattle.std.specs.List.{Contains};
@@ -22,16 +23,21 @@ ghost use Rattle.minimum.specs.Neighbours.{has_own, AreNear, HaveSize, AddsEssen
 
 mod blocking;
 mod common_place;
+pub(crate) mod consensus_pairs;
 mod grown_primes;
 pub(crate) mod growth;
+mod holding;
+mod narrower_part;
 mod near_rows;
 mod needed_literals;
 pub(crate) mod neighbours;
+mod part_left_out;
 mod reached_outputs;
 mod sampled;
 
 use crate::essential_by_neighbours::grown_primes::GrownPrimes;
 use crate::essential_by_neighbours::growth::{Growth, Side, grow};
+use crate::essential_by_neighbours::holding::hold_cube;
 use crate::essential_by_neighbours::near_rows::rows_to_ask;
 use crate::essential_by_neighbours::neighbours::neighbours;
 pub use crate::essential_by_neighbours::sampled::find_essential_outside;
@@ -59,7 +65,7 @@ fn is_essential(
     let mut rest = sets.dc().try_clone()?.into_cubes();
     let mut beside = neighbours(alloc, near, prime)?;
     rest.append(&mut beside)?;
-    let held = Cover::from_cubes(rows.shape(), rest).holds_cube(prime)?;
+    let held = hold_cube(&Cover::from_cubes(rows.shape(), rest), prime)?;
     Ok(!held)
 }
 

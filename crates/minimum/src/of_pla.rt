@@ -7,6 +7,7 @@ ghost use Rattle.pla.specs.Description.{Description};
 ghost use Rattle.pla.specs.Completed.{sets_of};
 ghost use Rattle.minimum.specs.Primes.{essential_of, exact_of, primes_of};
 
+use crate::essential_by_neighbours::consensus_pairs::have_many_consensus_pairs;
 use crate::essential_by_neighbours::{find_essential, find_essential_outside};
 use crate::essential_primes::essential;
 use crate::exact_minimum::{exact, exact_by_columns_or_points, exact_by_points, uses_points};
@@ -103,15 +104,18 @@ pub fn primes_of_pla(alloc: Global, pla: &Pla) -> Result<Cover, AllocError>
 }
 
 // Whether to find essential primes without a list of all primes. With up to 12 inputs that list is
-// short, and is made unless rows are few; with one output it mostly is short. Growing looks at all
-// rows for each prime that it grows.
+// short, and is made unless rows are few; with one output it is short unless many pairs of rows
+// have a consensus. Growing looks at all rows for each prime that it grows.
 fn uses_growth(sets: &Sets) -> bool {
     let (inputs, rows) = (sets.on().shape().inputs(), sets.on().len());
     if inputs <= 12 {
         return rows < 100;
     }
     let most = if inputs > 40 { 100_000 } else { 20_000 };
-    sets.on().shape().outputs() > 1 && rows <= most
+    if rows > most {
+        return false;
+    }
+    sets.on().shape().outputs() > 1 || have_many_consensus_pairs(sets.on().as_slice())
 }
 
 // The essential primes of the sets.

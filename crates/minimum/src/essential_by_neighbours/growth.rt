@@ -11,6 +11,7 @@ ghost use Rattle.cube.specs.Cube.{HasSize, IsCube, IsSubset, holds};
 ghost use Rattle.minimum.specs.Neighbours.{on_side, Grows, IsGrown, IsSettledInput, IsSettledOutput, IsFreedAt, AreFirst, AreNear, AreReached, near_or};
 
 use crate::cubes::{are_apart, one_output, opposite};
+use crate::essential_by_neighbours::holding::hold_cube;
 use crate::essential_by_neighbours::near_rows::{rows_near, rows_to_ask};
 use crate::essential_by_neighbours::reached_outputs::{is_refused, outputs_at, part_of};
 use cover::Cover;
@@ -33,7 +34,7 @@ pub(crate) fn is_implicant(side: Side, rows: &Cover, cube: &Cube) -> Result<bool
         (λ b. IsTrue b ↔ IsSubset (holds cube.now) (on_side side rows.now.cubes)) }
 {
     match side {
-        Side::Inside => rows.holds_cube(cube),
+        Side::Inside => hold_cube(rows, cube),
         Side::Outside => Ok(are_apart(rows.as_slice(), cube)),
     }
 }

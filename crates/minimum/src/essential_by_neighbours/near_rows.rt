@@ -18,20 +18,26 @@ fn is_far(cube: &Cube, row: &Cube) -> bool
     cube.opposites(row) > 1
 }
 
-// Whether to copy the rows near the cube to a list of their own: to ask all rows
-// costs less where most are near.
+// At most so many rows are looked at to see whether most are near.
+const MOST_SAMPLED: usize = 64;
+
+// Whether to copy the rows near the cube to a list of their own, by some rows, spread over the
+// list: to ask all rows costs less where most are near.
 fn uses_near_rows(rows: &Cover, cube: &Cube) -> bool {
-    let mut left = rows.len() / 2;
-    for row in rows.as_slice() {
+    let step = rows.len() / MOST_SAMPLED + 1;
+    let mut near: usize = 0;
+    let mut far: usize = 0;
+    for number in 0..MOST_SAMPLED {
+        let Some(row) = rows.as_slice().get(number.saturating_mul(step)) else {
+            break;
+        };
         if is_far(cube, row) {
-            continue;
+            far = far.saturating_add(1);
+        } else {
+            near = near.saturating_add(1);
         }
-        if left == 0 {
-            return false;
-        }
-        left -= 1;
     }
-    true
+    near <= far
 }
 
 /// The rows that do not conflict with the cube at two inputs.

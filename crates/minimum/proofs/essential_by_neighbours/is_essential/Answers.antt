@@ -37,6 +37,6 @@ pub neighbours-requires : goal.neighbours-requires
 neighbours-requires c =
     subst (HasSize c.args.prime.now) (sym (c.requires.near.size ∙ ap (λ k. k.size) c.requires.rows)) c.requires.prime.is_cube.has_size
 
-pub holds_cube-requires : goal.holds_cube-requires
-holds_cube-requires c =
+pub hold_cube-requires : goal.hold_cube-requires
+hold_cube-requires c =
     subst (HasSize c.args.prime.now) (sym (ap (λ k. k.size) c.from_cubes.ensures ∙ c.shape.ensures.size ∙ ap (λ k. k.size) c.requires.rows)) c.requires.prime.is_cube.has_size

@@ -1,0 +1,50 @@
+//! Whether rows are seen to leave out a part of a region.
+//!
+//! Most rows have no place of a region, or a few of its places. So the region is narrowed row by
+//! row, at one look at each: a row that meets what is left loses it by the opposite of one of its
+//! literals. No step is taken back, so that a part can be missed.
+
+ghost use Rattle.std.specs.Prelude.{◌≡◌, true, IfOk, OnOk, All};
+ghost use Rattle.cube.specs.Cube.{SameSize, IsSubset, IsDisjoint, holds};
+ghost use Rattle.cover.specs.Places.{places};
+
+use crate::essential_by_neighbours::narrower_part::narrower_part;
+use cube::Cube;
+use std::alloc::AllocError;
+
+/// Narrows the part so that the row has no place of it; whether the hint showed how.
+fn leave_out(part: &mut Cube, row: &Cube) -> Result<bool, AllocError>
+    requires { SameSize row.now part.old }
+    ensures size { OnOk result (SameSize part.new part.old) }
+    ensures within { OnOk result (IsSubset (holds part.new) (holds part.old)) }
+    ensures apart { IfOk result (λ b. b ≡ true → IsDisjoint (holds row.now) (holds part.new)) }
+{
+    if row.disjoint(part) {
+        return Ok(true);
+    }
+    let Some(narrow) = narrower_part(part, row)? else {
+        return Ok(false);
+    };
+    if !part.contains(&narrow) || !row.disjoint(&narrow) {
+        return Ok(false);
+    }
+    *part = narrow;
+    Ok(true)
+}
+
+/// Whether the rows are seen to leave out a place of the region. It costs a look at each row.
+pub(crate) fn are_seen_to_leave_out(rows: &[Cube], region: &Cube) -> Result<bool, AllocError>
+    requires { All (λ d. SameSize d region.now) rows.now }
+    ensures { IfOk result
+        (λ b. b ≡ true → IsSubset (holds region.now) (places rows.now) → ⊥) }
+{
+    let mut part = region.try_clone()?;
+    for row in rows {
+        if !leave_out(&mut part, row)? {
+            return Ok(false);
+        }
+    }
+    // What is left is a cube, and so has a place.
+    let _shape = part.shape();
+    Ok(true)
+}
