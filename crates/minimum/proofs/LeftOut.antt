@@ -1,5 +1,5 @@
 -- A part that is narrowed so that rows leave it out.
-use Rattle.std.proofs.Common.{◌≡◌, ℕ, ◌+◌, ◌<◌, inl, inr, true, List, length, take, get_or, sym, ◌∙◌}
+use Rattle.std.proofs.Common.{◌≡◌, ℕ, ◌+◌, ◌<◌, inl, inr, List, length, take, get_or, sym, ◌∙◌}
 use Rattle.std.proofs.lemmas.Bool.{or_cases}
 use Rattle.cube.specs.Cube.{Cube, IsSubset, IsDisjoint, holds}
 use Rattle.cover.specs.Places.{places}

@@ -1,7 +1,7 @@
-use Rattle.std.proofs.Common.{refl, sym, subst, ◌∙◌, ap}
+use Rattle.std.proofs.Common.{sym, subst, ◌∙◌}
 use Rattle.std.proofs.lemmas.Bool.{false≢true}
 use Rattle.std.proofs.lemmas.List.{take_all}
-use Rattle.cube.specs.Cube.{Cube, SameSize, IsSubset, IsDisjoint, holds}
+use Rattle.cube.specs.Cube.{SameSize, IsDisjoint, holds}
 use Rattle.cover.specs.Places.{places}
 use Rattle.cover.proofs.SumChoice.{place_of}
 use Rattle.minimum.proofs.LeftOut.{left_out_more}
