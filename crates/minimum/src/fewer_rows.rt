@@ -11,7 +11,7 @@ ghost use Rattle.pla.specs.Completed.{sets_of};
 ghost use Rattle.minimum.specs.Primes.{essential_of, exact_of, primes_of};
 ghost use Rattle.minimum.specs.SamePlaces.{HasSamePlaces};
 
-use crate::of_pla::{essential_of_pla as essential_of_rows, exact_of_pla as exact_of_rows};
+use crate::of_pla::{essential_of_rows, exact_of_rows};
 use cover::{Cover, merge_rows};
 use covering::Choice;
 use pla::Pla;

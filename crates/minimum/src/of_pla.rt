@@ -162,7 +162,7 @@ fn essential_of_samples(alloc: Global, pla: &Pla) -> Result<Cover, AllocError>
 /// # Errors
 ///
 /// [`AllocError`] if memory is refused.
-pub fn essential_of_pla(alloc: Global, pla: &Pla) -> Result<Cover, AllocError>
+pub(crate) fn essential_of_rows(alloc: Global, pla: &Pla) -> Result<Cover, AllocError>
     ensures { IfOk result (λ list. list ≡ record {
       size = pla.now.size;
       cubes = essential_of (sets_of pla.now true true) (primes_of (sets_of pla.now true true));
@@ -263,7 +263,7 @@ fn exact_of_samples(alloc: Global, pla: &Pla, choice: Choice) -> Result<Option<C
 /// # Errors
 ///
 /// [`AllocError`] if memory is refused.
-pub fn exact_of_pla(alloc: Global, pla: &Pla, choice: Choice) -> Result<Cover, AllocError>
+pub(crate) fn exact_of_rows(alloc: Global, pla: &Pla, choice: Choice) -> Result<Cover, AllocError>
     ensures { IfOk result (λ list. list ≡ record {
       size = pla.now.size;
       cubes = exact_of choice (sets_of pla.now true true);

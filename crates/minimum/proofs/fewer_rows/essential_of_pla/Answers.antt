@@ -7,4 +7,4 @@ use Rattle.minimum.proofs.fewer_rows.essential_of_pla.Goals as goal
 pub returns-in-Some : goal.returns-in-Some
 returns-in-Some c =
     let same = MatchOption-at_some _ _ c.in-Some.fewer c.in-Some.is c.in_ok-fewer.ensures in
-    IfOk-weaker c.essential_of_pla.result _ _ (λ list h. h ∙ same_essential c.args.pla.now c.in-Some.fewer same) c.essential_of_pla.ensures
+    IfOk-weaker c.essential_of_rows.result _ _ (λ list h. h ∙ same_essential c.args.pla.now c.in-Some.fewer same) c.essential_of_rows.ensures
