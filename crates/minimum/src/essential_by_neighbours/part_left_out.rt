@@ -45,6 +45,7 @@ pub(crate) fn are_seen_to_leave_out(rows: &[Cube], region: &Cube) -> Result<bool
         }
     }
     // What is left is a cube, and so has a place.
-    let _shape = part.shape();
+    let is_of_shape = part.shape() == region.shape();
+    prove!(is_of_shape);
     Ok(true)
 }

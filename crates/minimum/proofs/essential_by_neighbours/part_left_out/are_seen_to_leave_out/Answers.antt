@@ -28,6 +28,6 @@ returns-then-not-branch c is = absurd (false≢true is)
 
 pub returns : goal.returns
 returns c _ held =
-    let place = place_of _ c.loop-row.part c.shape-shape.ensures.is_cube in
+    let place = place_of _ c.loop-row.part c.shape.ensures.is_cube in
     let apart = subst (λ l. IsDisjoint (holds c.loop-row.part) (places l)) (take_all c.loop-row.row-index c.args.rows.now c.loop-row-test.false) c.loop-row.invariant.apart in
     apart place.0 place.1 (held place.0 (c.loop-row.invariant.within place.0 place.1))
