@@ -1,15 +1,16 @@
 //! The least cover by primes.
 //!
-//! Three ways lead to it. With many inputs and several outputs there may be far too many primes to
-//! list: points are picked, and only the primes that contain one of them are made. With one output
-//! or fewer inputs all primes are listed: points are picked by them where the inputs are many, and
-//! else the rows of their table come from regions. Which way is taken is a hint; where one has spent
-//! its budget, the next one follows.
+//! Four ways lead to it. With many inputs and several outputs points are picked, and columns for them
+//! are grown outside cubes with the places in neither set. Where these cubes are too many, and with
+//! one output where primes are thought many, places outside are made as they are needed
+//! (`as_needed`). Else all primes are listed: points are picked by them where the inputs are many,
+//! and else the rows of their table come from regions. Which way is taken is a hint; where one has
+//! spent its budget, the next one follows.
 //!
 //! Points are picked in rounds: the least cover of the table so far is made, and points are added
 //! for what it leaves out of the ON cubes. The last table was seen to have one to seven times as
-//! many rows as the cover has primes. A round costs what [`least_cover`] does, and a look at the ON
-//! cubes that are left out.
+//! many rows as the cover has primes, and one to three columns a row. A round costs what
+//! [`least_cover`] does, and a look at the ON cubes that are left out.
 
 ghost use Rattle.std.specs.Prelude.{◌≡◌, ◌<◌, ◌||◌, [], IfOk, IfSome, not, true};
 ghost use Rattle.std.specs.List.{Contains};
@@ -310,10 +311,10 @@ fn exact_by_table(
 /// ON-set that is not in the DC-set; of several, the first in row order, with `Choice::Literals` of
 /// those with the fewest literals.
 ///
-/// With many inputs and several outputs it lists no more primes than contain some picked points,
-/// unless a budget is spent. Else its cost is that of [`primes`], with few inputs that of
-/// [`Table::build`], and then that of [`least_cover`] on the reduced table, whose number of
-/// branches has no small bound.
+/// With more than 12 inputs it mostly lists no primes, but makes columns for some picked points: for
+/// each about as many as there are sets of points that primes contain together with it. Else its
+/// cost is that of [`primes`], with few inputs that of [`Table::build`], and then that of
+/// [`least_cover`] on the reduced table, whose number of branches has no small bound.
 pub fn exact(alloc: Global, sets: &Sets, choice: Choice) -> Result<Cover, AllocError>
     ensures { IfOk result (λ list. list ≡ record
         { size = sets.now.size; cubes = exact_of choice sets.now }) }

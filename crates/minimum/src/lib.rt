@@ -8,14 +8,15 @@
 //! - [`primes_of_pla`], [`essential_of_pla`] and [`exact_of_pla`] give the same for a description,
 //!   and make of the lists that its type leaves open those that they need.
 //!
-//! With several outputs and more than 12 inputs the table has a row for each of some picked points,
-//! and only the primes that contain one of them are made, by cubes with the places outside ON-set
-//! and DC-set (McGeer, Sanghavi, Brayton and Sangiovanni-Vincentelli, ESPRESSO-SIGNATURE, 1993).
-//! Points are picked where the least cover of the table so far leaves out a place; once it leaves
-//! out none, it is the least cover by primes: the law [`points_are_enough`]. Else, and where a point
-//! has too many primes or the places outside take too many cubes, all primes are listed: with more
-//! than 20 inputs points are picked by them, and else `Table::build` makes the table. Of type fr
-//! ([`exact_of_pla`]) one output takes the first way too, and from all primes points are picked.
+//! With more than 12 inputs the table mostly has a row for each of some picked points, and columns
+//! that dominate the primes that contain one of them: for each set of points that a prime contains
+//! one that contains them too, and comes no later. So a point may lie in millions of primes. Points
+//! are picked where the least cover of the table so far leaves out a place, at first at maximal
+//! signatures (McGeer, Sanghavi, Brayton and Sangiovanni-Vincentelli, ESPRESSO-SIGNATURE, 1993); once
+//! it leaves out none, it is the least cover by primes: the law [`points_are_enough`]. Columns are
+//! grown outside cubes with the places in neither set, or, where these are too many, with those that
+//! turn out to be needed, beside the essential primes. Else all primes are listed: with more than 20
+//! inputs points are picked by them, and with fewer `Table::build` makes the table.
 //!
 //! The table is one of the covering problem (`covering`), which knows no cubes; what its callers
 //! need is passed on here.
@@ -30,8 +31,7 @@
 //! a ring. Its table has the rows {0,3}, {0,4}, {1,2}, {1,5}, {2,3} and {4,5}; no step reduces it,
 //! and its least cover is 0, 2, 5.
 //!
-//! The points are hints of a search that takes some tens of questions for each; how many it
-//! finds depends on the function and not on the number of its primes.
+//! Lists of many points are merged before anything else is asked of them, but for their primes.
 #![tactic(auto)]
 
 mod as_needed;
