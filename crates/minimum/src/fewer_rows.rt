@@ -32,13 +32,43 @@ fn merged_or_copy(merged: Option<Cover>, list: &Cover) -> Result<Cover, AllocErr
     }
 }
 
+// At most so many rows are looked at to see whether a list is one of points.
+const MOST_SAMPLED: usize = 16;
+
+// Whether rows are points, or nearly so, by some of them: they have literals at three quarters of the
+// inputs. Rows of few literals are left as they are, as the search for points begins with them.
+fn are_nearly_points(list: &Cover) -> bool {
+    let inputs = list.shape().inputs();
+    let step = list.len() / MOST_SAMPLED + 1;
+    for number in 0..MOST_SAMPLED {
+        if let Some(row) = list.get(number.saturating_mul(step)) {
+            if row.literals().saturating_mul(4) < inputs.saturating_mul(3) {
+                return false;
+            }
+        }
+    }
+    true
+}
+
+// The list with fewer rows, if it is one of points and that pays.
+fn merged_points(list: &Cover) -> Result<Option<Cover>, AllocError>
+    ensures size { IfOk result (λ found. IfSome found (λ fewer. fewer.size ≡ list.now.size)) }
+    ensures places { IfOk result (λ found. IfSome found
+        (λ fewer. (p : Place) → places fewer.cubes p ≡ places list.now.cubes p)) }
+{
+    if !are_nearly_points(list) {
+        return Ok(None);
+    }
+    merge_rows(list)
+}
+
 // The description with lists of fewer rows, or `None` where merging rows does not pay.
 fn with_fewer_rows(pla: &Pla) -> Result<Option<Pla>, AllocError>
     ensures { IfOk result (λ found. IfSome found (λ fewer. HasSamePlaces pla.now fewer)) }
 {
-    let on = merge_rows(pla.on())?;
-    let dc = merge_rows(pla.dc())?;
-    let off = merge_rows(pla.off())?;
+    let on = merged_points(pla.on())?;
+    let dc = merged_points(pla.dc())?;
+    let off = merged_points(pla.off())?;
     if on.is_none() && dc.is_none() && off.is_none() {
         return Ok(None);
     }
