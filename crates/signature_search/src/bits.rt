@@ -1,8 +1,6 @@
 //! Sets of bits as words, and the input parts of cubes as words of literals.
 ghost use Rattle.std.specs.Prelude.{◌<◌};
 
-use std::alloc::AllocError;
-
 /// The literals of a cube at 64 inputs: a bit for each that has `0`, and a bit for each with `1`.
 #[derive(Clone, Copy)]
 pub(crate) struct Literals {
@@ -116,22 +114,6 @@ pub(crate) fn join_literals(row: &mut [Literals], other: &[Literals], inputs: &[
     for k in 0..row.len().min(inputs.len()) {
         row[k] = row[k].meet(literals_at(other, k).at(inputs[k]));
     }
-}
-
-/// Adds the cofactor of a cube by another: its literals at inputs where the other has none. Whether
-/// there is such a literal.
-pub(crate) fn push_cofactor(
-    rows: &mut Vec<Literals>,
-    row: &[Literals],
-    other: &[Literals],
-) -> Result<bool, AllocError> {
-    let mut left: u64 = 0;
-    for k in 0..row.len() {
-        let rest = row[k].at(!literals_at(other, k).inputs());
-        left |= rest.inputs();
-        rows.push(rest)?;
-    }
-    Ok(left != 0)
 }
 
 /// The `width` words from an index on, none if that is past the end.
@@ -263,11 +245,29 @@ pub(crate) fn bit_count(words: &[u64]) -> u32 {
 
 /// Adds the bits of another set.
 pub(crate) fn join_bits(words: &mut [u64], others: &[u64]) {
+    for k in 0..words.len().min(others.len()) {
+        words[k] |= others[k];
+    }
+}
+
+/// Adds the bits of another set to the one that begins at an index.
+pub(crate) fn join_bits_at(words: &mut [u64], begin: usize, others: &[u64]) {
     for k in 0..others.len() {
-        if k < words.len() {
-            words[k] |= others[k];
+        let at = begin.wrapping_add(k);
+        if at < words.len() {
+            words[at] |= others[k];
         }
     }
+}
+
+/// Whether a bit is set.
+pub(crate) fn has_bits(words: &[u64]) -> bool {
+    for word in words {
+        if *word != 0 {
+            return true;
+        }
+    }
+    false
 }
 
 /// Leaves the bits that are in both.

@@ -10,141 +10,13 @@
 //! pair by pair, the shorter ones first.
 
 use crate::bits::{
-    Literals, bit_count, few_in_word, has_bit, is_within, join_bits, literals_at, put_bit, row_at,
-    row_count, share_bit, word_at,
+    Literals, bit_count, few_in_word, has_bit, join_bits, literals_at, row_at, row_count, share_bit,
+    word_at,
 };
+use crate::blocking_rows::{BlockingRows, has_row_within};
 use crate::cube::Cube;
 use crate::function::{Function, list_at};
 use std::alloc::{AllocError, Global};
-
-/// Rows of a blocking matrix: the inputs of their literals, and an output for some.
-pub(crate) struct BlockingRows {
-    width: usize,
-    inputs: Vec<u64>,
-    outputs: Vec<Option<usize>>,
-}
-
-impl Drop for BlockingRows {
-    fn drop(self) {
-        let BlockingRows {
-            width: _,
-            inputs: _,
-            outputs: _,
-        } = self;
-    }
-}
-
-impl BlockingRows {
-    pub(crate) fn new(alloc: Global, width: usize) -> BlockingRows {
-        BlockingRows {
-            width,
-            inputs: Vec::new(alloc),
-            outputs: Vec::new(alloc),
-        }
-    }
-
-    /// How many rows there are.
-    pub(crate) fn len(&self) -> usize {
-        self.outputs.len()
-    }
-
-    /// The inputs of the literals of a row.
-    pub(crate) fn inputs(&self, row: usize) -> &[u64] {
-        row_at(&self.inputs, row.saturating_mul(self.width), self.width)
-    }
-
-    /// The inputs of the rows from `begin` to `end`, row by row.
-    pub(crate) fn input_words_of_rows(&self, begin: usize, end: usize) -> &[u64] {
-        let count = end.saturating_sub(begin).saturating_mul(self.width);
-        row_at(&self.inputs, begin.saturating_mul(self.width), count)
-    }
-
-    /// The output of a row, if it has one.
-    pub(crate) fn output(&self, row: usize) -> Option<usize> {
-        match self.outputs.get(row) {
-            Some(output) => *output,
-            None => None,
-        }
-    }
-
-    /// How many literals and outputs a row has.
-    pub(crate) fn size(&self, row: usize) -> u32 {
-        bit_count(self.inputs(row)).wrapping_add(self.output(row).is_some() as u32)
-    }
-
-    /// The end of the rows that have the output of this one, from it on.
-    pub(crate) fn end_of_output(&self, row: usize) -> usize {
-        let output = self.output(row);
-        for other in row..self.len() {
-            if self.output(other) != output {
-                return other;
-            }
-        }
-        self.len()
-    }
-
-    // Adds a row.
-    fn push(&mut self, inputs: &[u64], output: Option<usize>) -> Result<(), AllocError> {
-        self.outputs.push(output)?;
-        self.inputs.extend_from_slice(inputs)
-    }
-
-    /// Adds a row of the inputs of literals.
-    pub(crate) fn push_inputs_of(
-        &mut self,
-        literals: &[Literals],
-        output: Option<usize>,
-    ) -> Result<(), AllocError> {
-        self.outputs.push(output)?;
-        for word in literals {
-            self.inputs.push(word.inputs())?;
-        }
-        Ok(())
-    }
-
-    /// The end of the rows without an output, which stand first.
-    pub(crate) fn end_without_output(&self) -> usize {
-        match self.output(0) {
-            Some(_) => 0,
-            None => self.end_of_output(0),
-        }
-    }
-
-    // Adds a row without literals.
-    fn push_empty(&mut self, output: Option<usize>) -> Result<(), AllocError> {
-        self.outputs.push(output)?;
-        let end = self.inputs.len().saturating_add(self.width);
-        self.inputs.resize(end, 0)
-    }
-
-    // Adds a row of one literal for each of these inputs that is not common to all outputs.
-    fn push_singles(
-        &mut self,
-        singles: &[u64],
-        common: &[u64],
-        output: Option<usize>,
-    ) -> Result<(), AllocError> {
-        for input in 0..self.width.saturating_mul(64) {
-            if has_bit(singles, input) && !has_bit(common, input) {
-                let begin = self.inputs.len().saturating_mul(64);
-                self.push_empty(output)?;
-                put_bit(&mut self.inputs, begin.saturating_add(input));
-            }
-        }
-        Ok(())
-    }
-
-    // Whether the inputs of some row from `begin` to `end` are all among these.
-    fn has_row_within(&self, inputs: &[u64], begin: usize, end: usize) -> bool {
-        let rows = self.input_words_of_rows(begin, end);
-        for other in rows.chunks_exact(self.width.max(1)) {
-            if is_within(other, inputs) {
-                return true;
-            }
-        }
-        false
-    }
-}
 
 /// At how many inputs two cubes have opposite literals (0, 1 or more), and whether one of these
 /// inputs is in the set.
@@ -203,23 +75,22 @@ impl BlockingMatrix {
         }
     }
 
-    /// Adds the minimal rows of a cube: first those without an output, then those of each output
-    /// that the cube lacks. `false` if it meets an OFF cube.
-    pub(crate) fn add_rows(
+    /// The minimal rows of a cube. `None` if it meets an OFF cube.
+    pub(crate) fn rows_of(
         &mut self,
-        found: &mut BlockingRows,
+        alloc: Global,
         function: &Function,
         cube: &Cube,
-    ) -> Result<bool, AllocError> {
+    ) -> Result<Option<BlockingRows>, AllocError> {
         if !self.gather_rows_of_cube(function, cube)? {
-            return Ok(false);
+            return Ok(None);
         }
-        self.push_minimal_rows(found, 0, None)?;
-        let longer = found.len();
-        found.push_singles(&self.singles, &self.common, None)?;
+        let mut found = BlockingRows::new(alloc, self.width);
+        self.push_minimal_rows(&mut found)?;
+        found.end_group(&self.singles, &self.common)?;
         join_bits(&mut self.common, &self.singles);
-        self.add_rows_of_other_outputs(found, longer, function, cube)?;
-        Ok(true)
+        self.add_rows_of_outputs(&mut found, function, cube)?;
+        Ok(Some(found))
     }
 
     // Gathers the rows of the outputs that the cube has. `false` if it meets an OFF cube.
@@ -243,41 +114,39 @@ impl BlockingMatrix {
         Ok(true)
     }
 
-    // Adds the minimal rows of each output that the cube lacks.
-    fn add_rows_of_other_outputs(
+    // Adds the minimal rows of each output; those that the cube has have none.
+    fn add_rows_of_outputs(
         &mut self,
         found: &mut BlockingRows,
-        longer: usize,
         function: &Function,
         cube: &Cube,
     ) -> Result<(), AllocError> {
         for output in 0..function.outputs {
-            if !has_bit(&cube.outputs, output) {
-                let off = list_at(&function.off, output);
-                self.add_rows_of_output(found, longer, &cube.literals, off, output)?;
+            if has_bit(&cube.outputs, output) {
+                found.end_group(&[], &[])?;
+            } else {
+                self.add_rows_of_output(found, &cube.literals, list_at(&function.off, output))?;
             }
         }
         Ok(())
     }
 
     // Adds the minimal rows of an output that the cube lacks, with these OFF cubes. If the cube
-    // meets one of them, that is one row without literals.
+    // meets one of them, the output is a row by itself.
     fn add_rows_of_output(
         &mut self,
         found: &mut BlockingRows,
-        longer: usize,
         cube: &[Literals],
         off: &[Literals],
-        output: usize,
     ) -> Result<(), AllocError> {
         self.rows.clear();
         self.singles.fill(0);
         join_bits(&mut self.singles, &self.common);
         if self.gather_rows(cube, off)? {
-            self.push_minimal_rows(found, longer, Some(output))?;
-            found.push_singles(&self.singles, &self.common, Some(output))
+            self.push_minimal_rows(found)?;
+            found.end_group(&self.singles, &self.common)
         } else {
-            found.push_empty(Some(output))
+            found.end_bare_group()
         }
     }
 
@@ -301,13 +170,14 @@ impl BlockingMatrix {
         Ok(true)
     }
 
-    // Orders the rows of several literals that contain no single one and none of the first `longer`
-    // rows found.
-    fn order_rows(&mut self, found: &BlockingRows, longer: usize) -> Result<(), AllocError> {
+    // Orders the rows of several literals that contain no single one and none of the longer rows
+    // without an output.
+    fn order_rows(&mut self, found: &BlockingRows) -> Result<(), AllocError> {
+        let shorter = found.without_output().longer;
         self.order.clear();
         for index in 0..row_count(&self.rows, self.width) {
             let row = row_at(&self.rows, index.wrapping_mul(self.width), self.width);
-            if !share_bit(row, &self.singles) && !found.has_row_within(row, 0, longer) {
+            if !share_bit(row, &self.singles) && !has_row_within(shorter, row) {
                 self.order.push((bit_count(row), index))?;
             }
         }
@@ -316,20 +186,14 @@ impl BlockingMatrix {
     }
 
     // Adds the minimal ones of the rows of several literals that contain no single one and none of
-    // the first `longer` rows found.
-    fn push_minimal_rows(
-        &mut self,
-        found: &mut BlockingRows,
-        longer: usize,
-        output: Option<usize>,
-    ) -> Result<(), AllocError> {
-        self.order_rows(found, longer)?;
-        let begin = found.len();
+    // the longer rows without an output.
+    fn push_minimal_rows(&mut self, found: &mut BlockingRows) -> Result<(), AllocError> {
+        self.order_rows(found)?;
         for at in 0..self.order.len() {
             let (_, index) = self.order[at];
             let row = row_at(&self.rows, index.saturating_mul(self.width), self.width);
-            if !found.has_row_within(row, begin, found.len()) {
-                found.push(row, output)?;
+            if !has_row_within(found.open_rows(), row) {
+                found.push(row)?;
             }
         }
         Ok(())

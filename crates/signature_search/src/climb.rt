@@ -3,89 +3,74 @@
 //! A literal is left out, or an output added, and the signature cube of what comes of it taken
 //! instead if it has a place of its own. So the number that is found stays near the number of
 //! maximal ones.
-//!
-//! A step is a number: the input of a literal that may be left out or, from 64 for each word of
-//! literals on, an output that may be added.
 
-use crate::bits::{free_input, has_bit, has_literal_at, join_bits, put_bit};
-use crate::blocking_matrix::BlockingRows;
+use crate::bits::{free_input, has_bit, has_literal_at, put_bit};
+use crate::blocking_rows::Step;
 use crate::cube::Cube;
 use crate::finder::{Finder, Signature};
-use crate::function::Function;
-use std::alloc::{AllocError, Global};
+use std::alloc::AllocError;
 
-/// The step that adds the first output, at cubes of this many words of literals.
-fn first_output_step(words: usize) -> usize {
-    words.saturating_mul(64)
-}
-
-/// The steps that a row by itself forbids: no implicant that contains the cube lacks its literal or
-/// has its output.
-fn forbidden_steps(
-    alloc: Global,
-    function: &Function,
-    rows: &BlockingRows,
-) -> Result<Vec<u64>, AllocError> {
-    let words = function.width.saturating_add(function.output_words);
-    let mut steps: Vec<u64> = vec![in alloc; 0; words]?;
-    for row in 0..rows.len() {
-        if rows.size(row) == 1 {
-            join_bits(&mut steps, rows.inputs(row));
-            if let Some(output) = rows.output(row) {
-                put_bit(
-                    &mut steps,
-                    first_output_step(function.width).saturating_add(output),
-                );
-            }
-        }
+/// The step of a number: the literals by their inputs first, then the outputs.
+fn step_at(number: usize, inputs: usize) -> Step {
+    match number.checked_sub(inputs) {
+        Some(output) => Step::WithOutput(output),
+        None => Step::WithoutLiteral(number),
     }
-    Ok(steps)
 }
 
 /// Whether a step leads to another cube.
-fn is_new(cube: &Cube, step: usize) -> bool {
-    let outputs = first_output_step(cube.literals.len());
-    if step < outputs {
-        has_literal_at(&cube.literals, step)
-    } else {
-        !has_bit(&cube.outputs, step - outputs)
+fn is_new(cube: &Cube, step: Step) -> bool {
+    match step {
+        Step::WithoutLiteral(input) => has_literal_at(&cube.literals, input),
+        Step::WithOutput(output) => !has_bit(&cube.outputs, output),
     }
 }
 
 /// Takes a step.
-fn take_step(cube: &mut Cube, step: usize) {
-    let outputs = first_output_step(cube.literals.len());
-    if step < outputs {
-        free_input(&mut cube.literals, step);
-    } else {
-        put_bit(&mut cube.outputs, step - outputs);
+fn take_step(cube: &mut Cube, step: Step) {
+    match step {
+        Step::WithoutLiteral(input) => free_input(&mut cube.literals, input),
+        Step::WithOutput(output) => put_bit(&mut cube.outputs, output),
     }
 }
 
 impl Finder<'_> {
-    // Tries a step, unless an earlier one led as far. Whether it leads on.
-    fn try_step(&mut self, at: &mut Signature, step: usize) -> Result<bool, AllocError> {
-        if !is_new(&at.cube, step) {
-            return Ok(false);
-        }
+    // The signature cube of what comes of a step. `None` if that meets OFF.
+    fn signature_after(
+        &mut self,
+        at: &Signature,
+        step: Step,
+    ) -> Result<Option<Signature>, AllocError> {
         let mut cube = Cube::of(self.alloc, &at.cube.literals, &at.cube.outputs)?;
         take_step(&mut cube, step);
-        match self.signature_of(&cube)? {
-            Some(signature) => {
-                *at = signature;
-                Ok(true)
-            }
-            None => Ok(false),
+        if self.primes.is_some() {
+            return self.signature_cube(&cube);
         }
+        let rows = at.rows.after(self.alloc, step)?;
+        Ok(Some(Signature::of_rows(self.alloc, self.function, &cube, rows)?))
+    }
+
+    // Tries a step, unless an earlier one led as far. Whether it leads on.
+    fn try_step(&mut self, at: &mut Signature, step: Step) -> Result<bool, AllocError> {
+        if !is_new(&at.cube, step) || at.rows.forbid(step) {
+            return Ok(false);
+        }
+        let Some(mut signature) = self.signature_after(at, step)? else {
+            return Ok(false);
+        };
+        if !self.finds_own_place(&mut signature)? {
+            return Ok(false);
+        }
+        *at = signature;
+        Ok(true)
     }
 
     // Tries each step once. Whether one led on.
     fn climb_once(&mut self, at: &mut Signature) -> Result<bool, AllocError> {
-        let forbidden = forbidden_steps(self.alloc, self.function, &at.rows)?;
-        let outputs = first_output_step(self.function.width);
+        let (inputs, outputs) = (self.function.inputs, self.function.outputs);
         let mut rose = false;
-        for step in 0..outputs.saturating_add(self.function.outputs) {
-            if !has_bit(&forbidden, step) && self.try_step(at, step)? {
+        for number in 0..inputs.saturating_add(outputs) {
+            if self.try_step(at, step_at(number, inputs))? {
                 rose = true;
             }
         }

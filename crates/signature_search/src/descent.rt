@@ -5,8 +5,10 @@
 //! point has one always. So the literals that part the two cubes are put in an order, those of
 //! short rows first, and the least number of them that will do is found by binary search.
 
-use crate::bits::{Literals, has_bit, has_literal_at, literal_at, put_literal, row_at};
-use crate::blocking_matrix::BlockingRows;
+use crate::bits::{
+    Literals, bit_count, has_bit, has_literal_at, literal_at, put_literal, row_at,
+};
+use crate::blocking_rows::{BlockingRows, Group};
 use crate::cube::Cube;
 use crate::finder::{Finder, Signature};
 use crate::rows::Place;
@@ -15,13 +17,32 @@ use std::alloc::{AllocError, Global};
 // The weight of a row, shared by its literals.
 const ROW_WEIGHT: u64 = 1 << 32;
 
-/// The weight of an input: its shares of the rows that have it. Short rows give large shares.
-fn input_weight(rows: &BlockingRows, input: usize) -> u64 {
+/// The share of one of this many literals and outputs of a row.
+fn share_of_row(count: u32) -> u64 {
+    ROW_WEIGHT / u64::from(count.max(1))
+}
+
+/// The weight of an input in a group: its shares of the rows that have it, where each row has this
+/// many outputs.
+fn weight_in_group(group: Group<'_>, width: usize, outputs: u32, input: usize) -> u64 {
     let mut weight: u64 = 0;
-    for row in 0..rows.len() {
-        if has_bit(rows.inputs(row), input) {
-            weight = weight.wrapping_add(ROW_WEIGHT / u64::from(rows.size(row).max(1)));
+    if has_bit(group.singles, input) {
+        weight = share_of_row(outputs.wrapping_add(1));
+    }
+    for row in group.longer.chunks_exact(width.max(1)) {
+        if has_bit(row, input) {
+            weight = weight.wrapping_add(share_of_row(bit_count(row).wrapping_add(outputs)));
         }
+    }
+    weight
+}
+
+/// The weight of an input: its shares of the rows that have it. Short rows give large shares.
+fn input_weight(rows: &BlockingRows, width: usize, input: usize) -> u64 {
+    let mut weight = weight_in_group(rows.without_output(), width, 0, input);
+    for output in 0..rows.outputs() {
+        let group = rows.of_output(output);
+        weight = weight.wrapping_add(weight_in_group(group, width, 1, input));
     }
     weight
 }
@@ -38,7 +59,8 @@ fn missing_literals(
         if let Some(one) = literal_at(&signature.cube.literals, input)
             && !has_literal_at(wide, input)
         {
-            missing.push((u64::MAX - input_weight(&signature.rows, input), input, one))?;
+            let weight = input_weight(&signature.rows, wide.len(), input);
+            missing.push((u64::MAX - weight, input, one))?;
         }
     }
     missing.sort_unstable();

@@ -10,13 +10,14 @@
 //! on the inputs where the cube has no literal; so the tests of all rows together are one question.
 
 use crate::bits::{
-    Literals, drop_bit, has_bit, join_literals, literals_at, meets, narrow_at, push_cofactor,
-    row_at, row_count, word_at,
+    Literals, drop_bit, few_in_word, has_bit, join_literals, literals_at, meets, narrow_at, row_at,
+    row_count, word_at,
 };
-use crate::blocking_matrix::{BlockingMatrix, BlockingRows};
+use crate::blocking_matrix::BlockingMatrix;
+use crate::blocking_rows::{BlockingRows, Group};
 use crate::cube::Cube;
 use crate::function::{Function, list_at};
-use crate::lists::push_cofactors;
+use crate::lists::{Outside, push_cofactor, push_cofactors};
 use crate::prime_list::push_primes;
 use crate::question::Question;
 use crate::rows::{Place, Rows};
@@ -47,27 +48,27 @@ impl Drop for Signature {
 }
 
 impl Signature {
-    /// Narrows the cube to that of another cube's minimal rows. `false` if that one meets OFF.
-    fn meet_rows(
-        &mut self,
-        matrix: &mut BlockingMatrix,
+    /// The signature cube of a cube with these minimal rows, without a place.
+    pub(crate) fn of_rows(
+        alloc: Global,
         function: &Function,
         cube: &Cube,
-    ) -> Result<bool, AllocError> {
-        if !matrix.add_rows(&mut self.rows, function, cube)? {
-            return Ok(false);
-        }
-        for row in 0..self.rows.len() {
-            join_literals(
-                &mut self.cube.literals,
-                &cube.literals,
-                self.rows.inputs(row),
-            );
-            if let Some(output) = self.rows.output(row) {
-                drop_bit(&mut self.cube.outputs, output);
+        rows: BlockingRows,
+    ) -> Result<Signature, AllocError> {
+        let mut inputs: Vec<u64> = vec![in alloc; 0; function.width]?;
+        rows.join_inputs(&mut inputs);
+        let mut meet = Cube::whole(alloc, function.width, function.outputs)?;
+        join_literals(&mut meet.literals, &cube.literals, &inputs);
+        for output in 0..function.outputs {
+            if !rows.of_output(output).is_empty() {
+                drop_bit(&mut meet.outputs, output);
             }
         }
-        Ok(true)
+        Ok(Signature {
+            cube: meet,
+            place: Place::none(alloc),
+            rows,
+        })
     }
 }
 
@@ -88,10 +89,46 @@ pub(crate) struct Finder<'a> {
     compared: Vec<Literals>,
 }
 
-/// Whether a cube meets the signature cube with the literals of some row exchanged. `compared` says
-/// where they have opposite literals, and where the same.
-fn meets_with_any_row_exchanged(compared: &[Literals], rows: &[u64], width: usize) -> bool {
-    for row in rows.chunks_exact(width.max(1)) {
+/// Whether a cube meets the signature cube with the literals of some row of the group exchanged.
+fn meets_with_any_row_exchanged(
+    compared: &mut [Literals],
+    other: &[Literals],
+    cube: &[Literals],
+    rows: Group<'_>,
+) -> bool {
+    if meets_with_single_exchanged(other, cube, rows) {
+        return true;
+    }
+    if rows.longer.is_empty() {
+        return false;
+    }
+    compare(compared, other, cube);
+    meets_with_longer_row_exchanged(compared, rows.longer)
+}
+
+/// Whether a cube meets the signature cube with the literal of some row of one exchanged, or with
+/// none where the output is a row by itself: such a literal is the only one that parts the two, or
+/// none does, and the cube lacks such a literal.
+fn meets_with_single_exchanged(other: &[Literals], cube: &[Literals], rows: Group<'_>) -> bool {
+    let (mut few, mut parting, mut lacked) = (0, 0, 0);
+    for k in 0..other.len() {
+        let opposites = other[k].opposites(literals_at(cube, k));
+        let singles = word_at(rows.singles, k);
+        few = few_in_word(opposites).wrapping_add(few);
+        parting |= opposites & singles;
+        lacked |= singles & !other[k].inputs();
+    }
+    match few {
+        0 => lacked != 0 || rows.is_bare,
+        1 => parting != 0,
+        _ => false,
+    }
+}
+
+/// Whether a cube meets the signature cube with the literals of some of these rows exchanged.
+/// `compared` says where they have opposite literals, and where the same.
+fn meets_with_longer_row_exchanged(compared: &[Literals], rows: &[u64]) -> bool {
+    for row in rows.chunks_exact(compared.len().max(1)) {
         if meets_with_row_exchanged(compared, row) {
             return true;
         }
@@ -141,19 +178,12 @@ impl<'a> Finder<'a> {
     /// The signature cube of a cube, without a place. `None` if the cube meets OFF.
     pub(crate) fn signature_cube(&mut self, cube: &Cube) -> Result<Option<Signature>, AllocError> {
         let (alloc, function) = (self.alloc, self.function);
-        let mut signature = Signature {
-            cube: Cube::whole(alloc, function.width, function.outputs)?,
-            place: Place::none(alloc),
-            rows: BlockingRows::new(alloc, function.width),
-        };
-        let is_implicant = match self.primes {
-            Some(primes) => signature.meet_primes(primes, cube, function.outputs)?,
-            None => signature.meet_rows(&mut self.matrix, function, cube)?,
-        };
-        if is_implicant {
-            Ok(Some(signature))
-        } else {
-            Ok(None)
+        if let Some(primes) = self.primes {
+            return Signature::of_primes(alloc, function, primes, cube);
+        }
+        match self.matrix.rows_of(alloc, function, cube)? {
+            Some(rows) => Ok(Some(Signature::of_rows(alloc, function, cube, rows)?)),
+            None => Ok(None),
         }
     }
 
@@ -190,16 +220,15 @@ impl<'a> Finder<'a> {
     // question.
     fn output_of_own_place(&mut self, signature: &Signature) -> Result<Option<usize>, AllocError> {
         self.avoided.clear();
-        let first = signature.rows.end_without_output();
-        if self.primes.is_none() && !self.avoid_rows_with_outputs(signature, first)? {
+        if self.primes.is_none()
+            && let Outside::Nothing = self.avoid_rows_with_outputs(signature)?
+        {
             return Ok(None);
         }
         let common = self.avoided.len();
         for output in 0..self.function.outputs {
             self.avoided.truncate(common);
-            if has_bit(&signature.cube.outputs, output)
-                && self.has_own_place(signature, first, output)?
-            {
+            if has_bit(&signature.cube.outputs, output) && self.has_own_place(signature, output)? {
                 return Ok(Some(output));
             }
         }
@@ -210,7 +239,6 @@ impl<'a> Finder<'a> {
     fn has_own_place(
         &mut self,
         signature: &Signature,
-        first: usize,
         output: usize,
     ) -> Result<bool, AllocError> {
         if list_at(&self.function.on, output).is_empty() {
@@ -219,7 +247,7 @@ impl<'a> Finder<'a> {
         if self.guess_own_place(&signature.cube, output)? {
             return Ok(true);
         }
-        if !self.avoid_all(signature, first, output)? {
+        if let Outside::Nothing = self.avoid_all(signature, output)? {
             return Ok(false);
         }
         if self.function.samples {
@@ -230,66 +258,51 @@ impl<'a> Finder<'a> {
             .ask(&signature.cube.literals, &self.avoided, &mut budget)
     }
 
-    // Gathers the cubes to be avoided for the rows with an output. `false` if these are all places.
-    fn avoid_rows_with_outputs(
-        &mut self,
-        signature: &Signature,
-        first: usize,
-    ) -> Result<bool, AllocError> {
-        let rows = &signature.rows;
-        let mut begin = first;
-        for _ in first..rows.len() {
-            let Some(output) = rows.output(begin) else {
-                break;
-            };
-            let end = rows.end_of_output(begin);
-            let exchanged = rows.input_words_of_rows(begin, end);
-            if !self.avoid_exchanged(&signature.cube, exchanged, output)? {
-                return Ok(false);
+    // Gathers the cubes to be avoided for the rows with an output.
+    fn avoid_rows_with_outputs(&mut self, signature: &Signature) -> Result<Outside, AllocError> {
+        for output in 0..self.function.outputs {
+            let rows = signature.rows.of_output(output);
+            if !rows.is_empty()
+                && let Outside::Nothing = self.avoid_exchanged(&signature.cube, rows, output)?
+            {
+                return Ok(Outside::Nothing);
             }
-            begin = end;
         }
-        Ok(true)
+        Ok(Outside::Unknown)
     }
 
-    // Gathers the ON and DC cubes of an output that the cube meets with a row exchanged. `false` if
-    // one of them contains the cube then.
+    // Gathers the ON and DC cubes of an output that the cube meets with a row exchanged.
     fn avoid_exchanged(
         &mut self,
         cube: &Cube,
-        rows: &[u64],
+        rows: Group<'_>,
         output: usize,
-    ) -> Result<bool, AllocError> {
+    ) -> Result<Outside, AllocError> {
         let (cube, width) = (cube.literals.as_slice(), self.function.width);
         let (avoided, compared) = (&mut self.avoided, self.compared.as_mut_slice());
         for other in list_at(&self.function.on_and_dc, output).chunks_exact(width.max(1)) {
-            compare(compared, other, cube);
-            if meets_with_any_row_exchanged(compared, rows, width)
-                && !push_cofactor(avoided, other, cube)?
+            if meets_with_any_row_exchanged(compared, other, cube, rows)
+                && let Outside::Nothing = push_cofactor(avoided, other, cube)?
             {
-                return Ok(false);
+                return Ok(Outside::Nothing);
             }
         }
-        Ok(true)
+        Ok(Outside::Unknown)
     }
 
-    // Gathers the cubes to be avoided under this output. `false` if these are all places.
+    // Gathers the cubes to be avoided under this output.
     fn avoid_all(
         &mut self,
         signature: &Signature,
-        first: usize,
         output: usize,
-    ) -> Result<bool, AllocError> {
+    ) -> Result<Outside, AllocError> {
         let cube = &signature.cube;
-        let is_left = match self.primes {
+        let outside = match self.primes {
             Some(primes) => push_primes(&mut self.avoided, primes, cube, output)?,
-            None => {
-                let exchanged = signature.rows.input_words_of_rows(0, first);
-                self.avoid_exchanged(cube, exchanged, output)?
-            }
+            None => self.avoid_exchanged(cube, signature.rows.without_output(), output)?,
         };
-        if !is_left {
-            return Ok(false);
+        if let Outside::Nothing = outside {
+            return Ok(Outside::Nothing);
         }
         let dc = list_at(&self.function.dc, output);
         push_cofactors(&mut self.avoided, dc, &cube.literals, self.function.width)

@@ -19,6 +19,7 @@
 
 mod bits;
 mod blocking_matrix;
+mod blocking_rows;
 mod climb;
 mod complement;
 mod counts;

@@ -4,14 +4,15 @@
 //! own if it lies in no other prime. This is used where the primes are few and the OFF cubes many.
 
 use crate::bits::{
-    Literals, contains, has_bit, is_within, meet_bits, meets, narrow_at, push_cofactor,
+    Literals, contains, has_bit, is_within, meet_bits, meets, narrow_at,
 };
+use crate::blocking_rows::BlockingRows;
 use crate::cube::Cube;
 use crate::finder::{Finder, Signature};
-use crate::function::list_at;
-use crate::lists::any_meets;
-use crate::rows::Rows;
-use std::alloc::AllocError;
+use crate::function::{Function, list_at};
+use crate::lists::{Outside, any_meets, push_cofactor};
+use crate::rows::{Place, Rows};
+use std::alloc::{AllocError, Global};
 
 /// Whether a prime contains the cube.
 fn prime_contains(primes: &Rows, prime: usize, cube: &Cube) -> bool {
@@ -45,47 +46,64 @@ fn other_prime_meets(primes: &Rows, cube: &Cube, place: &[Literals], output: usi
     false
 }
 
-/// Adds the cofactors of the primes with the output that meet the cube and do not contain it.
-/// `false` if one of them contains all of it under this output.
+/// Adds the cofactors of the primes with the output that meet the cube and do not contain it: one
+/// of them may hold all of it under this output.
 pub(crate) fn push_primes(
     avoided: &mut Vec<Literals>,
     primes: &Rows,
     cube: &Cube,
     output: usize,
-) -> Result<bool, AllocError> {
+) -> Result<Outside, AllocError> {
     for prime in 0..primes.len() {
         let literals = primes.literals_of(prime);
         if has_bit(primes.outputs_of(prime), output)
             && meets(literals, &cube.literals)
             && !prime_contains(primes, prime, cube)
-            && !push_cofactor(avoided, literals, &cube.literals)?
+            && let Outside::Nothing = push_cofactor(avoided, literals, &cube.literals)?
         {
-            return Ok(false);
+            return Ok(Outside::Nothing);
         }
     }
-    Ok(true)
+    Ok(Outside::Unknown)
+}
+
+/// All inputs of a cube's literals as a row, without an output and with each output that the cube
+/// lacks: no literal is a row by itself, so each may be left out.
+fn rows_of_all_literals(
+    alloc: Global,
+    function: &Function,
+    cube: &Cube,
+) -> Result<BlockingRows, AllocError> {
+    let mut rows = BlockingRows::new(alloc, function.width);
+    rows.push_inputs_of(&cube.literals)?;
+    rows.end_group(&[], &[])?;
+    for output in 0..function.outputs {
+        if !has_bit(&cube.outputs, output) {
+            rows.push_inputs_of(&cube.literals)?;
+        }
+        rows.end_group(&[], &[])?;
+    }
+    Ok(rows)
 }
 
 impl Signature {
-    /// Narrows the cube to the meet of the primes that contain the other one. Whether there is one.
-    /// All literals are a row, without an output and with each output that is absent, of this many:
-    /// no literal is a row by itself, so each may be left out.
-    pub(crate) fn meet_primes(
-        &mut self,
+    /// The meet of the primes that contain a cube. `None` if there is none.
+    pub(crate) fn of_primes(
+        alloc: Global,
+        function: &Function,
         primes: &Rows,
         cube: &Cube,
-        outputs: usize,
-    ) -> Result<bool, AllocError> {
-        if !narrow_to_primes(&mut self.cube, primes, cube) {
-            return Ok(false);
+    ) -> Result<Option<Signature>, AllocError> {
+        let mut meet = Cube::whole(alloc, function.width, function.outputs)?;
+        if !narrow_to_primes(&mut meet, primes, cube) {
+            return Ok(None);
         }
-        self.rows.push_inputs_of(&self.cube.literals, None)?;
-        for output in 0..outputs {
-            if !has_bit(&self.cube.outputs, output) {
-                self.rows.push_inputs_of(&self.cube.literals, Some(output))?;
-            }
-        }
-        Ok(true)
+        let rows = rows_of_all_literals(alloc, function, &meet)?;
+        Ok(Some(Signature {
+            cube: meet,
+            place: Place::none(alloc),
+            rows,
+        }))
     }
 }
 

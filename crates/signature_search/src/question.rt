@@ -12,9 +12,8 @@ use crate::bits::{
     narrow_at, put_literal, row_at, row_count, tail,
 };
 use crate::counts::Counts;
-use crate::lists::{any_meets, push_cofactors};
+use crate::lists::{Outside, any_meets, push_cofactors};
 use std::alloc::{AllocError, Global};
-use std::mem::swap;
 
 /// A region that is open: where it begins, and the literal of the half that was not looked at.
 #[derive(Clone, Copy)]
@@ -38,10 +37,10 @@ enum State {
 /// What the cubes of the last region show together.
 #[derive(Drop)]
 struct Notes {
-    // The opposites of the cubes of one literal.
-    forced: Vec<Literals>,
     // The literals that occur; while an input is chosen, those of the shortest cubes.
     occurring: Vec<Literals>,
+    // Whether a cube of one literal forced the opposite one.
+    has_forced: bool,
     // Whether there is seen to be no place outside the cubes.
     is_held: bool,
 }
@@ -61,14 +60,24 @@ pub(crate) struct Question {
     counts: Counts,
 }
 
-/// Notes the literals of a cube. Whether it has none, one, or more (0, 1 or more).
-fn note_literals(row: &[Literals], occurring: &mut [Literals]) -> u32 {
+/// Writes the row that begins at `from` to `to`, without its literals at the inputs of `taken`, and
+/// notes that the others occur. How many these are (0, 1 or more).
+fn move_row_without(
+    rows: &mut [Literals],
+    from: usize,
+    to: usize,
+    taken: &[Literals],
+    occurring: &mut [Literals],
+) -> u32 {
     let mut few: u32 = 0;
-    for k in 0..row.len() {
-        few = few.wrapping_add(few_in_word(row[k].inputs()));
-        if k < occurring.len() {
-            occurring[k] = occurring[k].meet(row[k]);
+    for k in 0..taken.len().min(occurring.len()) {
+        let left = literals_at(rows, from.wrapping_add(k)).at(!taken[k].inputs());
+        let at = to.wrapping_add(k);
+        if at < rows.len() {
+            rows[at] = left;
         }
+        occurring[k] = occurring[k].meet(left);
+        few = few.wrapping_add(few_in_word(left.inputs()));
     }
     few
 }
@@ -93,41 +102,43 @@ fn force_pure_literals(occurring: &[Literals], forced: &mut [Literals]) {
 
 impl Notes {
     fn new(alloc: Global, width: usize) -> Result<Notes, AllocError> {
-        let forced: Vec<Literals> = vec![in alloc; Literals::NONE; width]?;
         let occurring: Vec<Literals> = vec![in alloc; Literals::NONE; width]?;
         Ok(Notes {
-            forced,
             occurring,
+            has_forced: false,
             is_held: false,
         })
     }
 
     // Before the cubes of a region are noted.
     fn begin(&mut self) {
+        self.has_forced = false;
         self.is_held = false;
-        self.forced.fill(Literals::NONE);
         self.occurring.fill(Literals::NONE);
     }
 
-    // Notes that the literals of a cube occur, and what it forces if it has one literal.
-    fn add(&mut self, row: &[Literals]) {
-        let few = note_literals(row, &mut self.occurring);
-        if few == 1 {
-            force_opposites(row, &mut self.forced);
-        } else if few == 0 {
-            self.is_held = true;
+    // Narrows the cube that begins at `from` to the forced literals, and writes it to `to`. Whether
+    // it stays: a cube of one literal forces the opposite one, with which it shares no place.
+    fn keeps(
+        &mut self,
+        rows: &mut [Literals],
+        from: usize,
+        to: usize,
+        forced: &mut [Literals],
+    ) -> bool {
+        match move_row_without(rows, from, to, forced, &mut self.occurring) {
+            0 => {
+                self.is_held = true;
+                false
+            }
+            1 => {
+                force_opposites(row_at(rows, to, forced.len()), forced);
+                self.has_forced = true;
+                false
+            }
+            _ => true,
         }
     }
-}
-
-/// Whether some input has both literals.
-fn has_both_literals(row: &[Literals]) -> bool {
-    for word in row {
-        if word.zeros & word.ones != 0 {
-            return true;
-        }
-    }
-    false
 }
 
 /// Counts the literals of cubes by input, and notes those that occur in the shortest cubes.
@@ -153,26 +164,12 @@ fn count_literals(
     }
 }
 
-/// Adds a copy of the row that begins at an index, narrowed to these literals.
-fn push_narrowed(
-    rows: &mut Vec<Literals>,
-    begin: usize,
-    literals: &[Literals],
-) -> Result<(), AllocError> {
-    for k in 0..literals.len() {
-        rows.push(literals_at(rows, begin.wrapping_add(k)).meet(literals[k]))?;
+/// Adds a copy of the row that begins at an index.
+fn push_copy(rows: &mut Vec<Literals>, begin: usize, width: usize) -> Result<(), AllocError> {
+    for k in 0..width {
+        rows.push(literals_at(rows, begin.wrapping_add(k)))?;
     }
     Ok(())
-}
-
-/// Writes the row that begins at `from` to `to`, without its literals at the inputs of `taken`.
-fn move_row_without(rows: &mut [Literals], from: usize, to: usize, taken: &[Literals]) {
-    for k in 0..taken.len() {
-        let at = to.wrapping_add(k);
-        if at < rows.len() {
-            rows[at] = literals_at(rows, from.wrapping_add(k)).at(!taken[k].inputs());
-        }
-    }
 }
 
 impl Question {
@@ -205,7 +202,7 @@ impl Question {
         if !any_meets(list, self.answer(), self.width) {
             return Ok(true);
         }
-        if !self.load_rows(inside, list)? {
+        if let Outside::Nothing = self.load_rows(inside, list)? {
             return Ok(false);
         }
         let regions = *budget;
@@ -267,9 +264,12 @@ impl Question {
         }
     }
 
-    // Loads the first region: the cube, and the cubes of the list that meet it. `false` if one of
-    // them contains it.
-    fn load_rows(&mut self, inside: &[Literals], list: &[Literals]) -> Result<bool, AllocError> {
+    // Loads the first region: the cube, and the cubes of the list that meet it.
+    fn load_rows(
+        &mut self,
+        inside: &[Literals],
+        list: &[Literals],
+    ) -> Result<Outside, AllocError> {
         self.rows.clear();
         self.regions.push(Region {
             begin: 0,
@@ -277,11 +277,12 @@ impl Question {
             one: false,
         })?;
         self.rows.extend_from_slice(inside)?;
-        if !push_cofactors(&mut self.rows, list, inside, self.width)? {
-            return Ok(false);
+        if let Outside::Nothing = push_cofactors(&mut self.rows, list, inside, self.width)? {
+            return Ok(Outside::Nothing);
         }
-        self.note_all_rows();
-        Ok(true)
+        self.forced.fill(Literals::NONE);
+        self.take_forced_literals(0);
+        Ok(Outside::Unknown)
     }
 
     // Unit propagation: takes what is forced in the last region, until nothing is.
@@ -302,48 +303,35 @@ impl Question {
         State::Held
     }
 
-    // Notes the literals of all cubes of the first region.
-    fn note_all_rows(&mut self) {
-        self.notes.begin();
-        let rows = tail(&self.rows, self.width);
-        for index in 0..row_count(rows, self.width) {
-            let begin = index.wrapping_mul(self.width);
-            self.notes.add(row_at(rows, begin, self.width));
-        }
-        self.end_notes();
-    }
-
-    // After the cubes of the last region are noted: what they force is known now. Where they force
-    // nothing, pure literals do.
-    fn end_notes(&mut self) {
-        swap(&mut self.forced, &mut self.notes.forced);
-        if !has_literal(&self.forced) {
+    // After the cubes of the last region are noted. Where none forced a literal, pure ones do.
+    fn end_notes(&mut self, begin: usize) {
+        narrow_at(&mut self.rows, begin, &self.forced);
+        if !self.notes.has_forced {
             force_pure_literals(&self.notes.occurring, &mut self.forced);
-        }
-        if has_both_literals(&self.forced) {
-            self.notes.is_held = true;
         }
     }
 
     // Narrows the last region to the forced literals: cubes that have one of their opposites drop
-    // out.
+    // out. What a cube forces is taken from the next one on, and then once more from all of them.
     fn take_forced_literals(&mut self, begin: usize) {
         let width = self.width;
-        narrow_at(&mut self.rows, begin, &self.forced);
         self.notes.begin();
         let count = self.rows.len().saturating_sub(begin) / width.max(1);
         let mut from = begin;
         let mut to = begin.saturating_add(width);
         for _ in 1..count {
             from = from.saturating_add(width);
-            if meets(row_at(&self.rows, from, width), &self.forced) {
-                move_row_without(&mut self.rows, from, to, &self.forced);
-                self.notes.add(row_at(&self.rows, to, width));
+            if self.notes.is_held {
+                break;
+            }
+            if meets(row_at(&self.rows, from, width), &self.forced)
+                && self.notes.keeps(&mut self.rows, from, to, &mut self.forced)
+            {
                 to = to.saturating_add(width);
             }
         }
         self.rows.truncate(to);
-        self.end_notes();
+        self.end_notes(begin);
     }
 
     // Splits the last region, and goes on with the half that has fewer cubes; the other half is left
@@ -375,19 +363,20 @@ impl Question {
     // Copies a region to the end, narrowed to the forced literals.
     fn copy_region(&mut self, begin: usize, end: usize) -> Result<(), AllocError> {
         let width = self.width;
-        push_narrowed(&mut self.rows, begin, &self.forced)?;
+        push_copy(&mut self.rows, begin, width)?;
         self.notes.begin();
         let mut from = begin.saturating_add(width);
         for _ in 0..end.saturating_sub(from) / width.max(1) {
             if meets(row_at(&self.rows, from, width), &self.forced) {
                 let to = self.rows.len();
                 self.rows.extend_from_slice(&self.forced)?;
-                move_row_without(&mut self.rows, from, to, &self.forced);
-                self.notes.add(row_at(&self.rows, to, width));
+                if !self.notes.keeps(&mut self.rows, from, to, &mut self.forced) {
+                    self.rows.truncate(to);
+                }
             }
             from = from.saturating_add(width);
         }
-        self.end_notes();
+        self.end_notes(end);
         Ok(())
     }
 

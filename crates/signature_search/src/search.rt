@@ -2,7 +2,7 @@
 //! those that lie in others are dropped (`maximal_places`).
 
 use crate::bits::{Literals, bit_count, contains, has_bit, is_within, literal_count, meets};
-use crate::blocking_matrix::BlockingRows;
+use crate::blocking_rows::BlockingRows;
 use crate::cube::Cube;
 use crate::finder::{Finder, Signature};
 use crate::function::{Function, list_at};
