@@ -1,6 +1,8 @@
 //! Sets of bits as words, and the input parts of cubes as words of literals.
 ghost use Rattle.std.specs.Prelude.{◌<◌};
 
+use std::alloc::AllocError;
+
 /// The literals of a cube at 64 inputs: a bit for each that has `0`, and a bit for each with `1`.
 #[derive(Clone, Copy)]
 pub(crate) struct Literals {
@@ -99,6 +101,14 @@ pub(crate) fn literal_count(row: &[Literals]) -> u32 {
     count
 }
 
+/// Adds the opposites of a cube's literals to the forced ones.
+pub(crate) fn force_opposites(row: &[Literals], forced: &mut [Literals]) {
+    for k in 0..row.len().min(forced.len()) {
+        forced[k].zeros |= row[k].ones;
+        forced[k].ones |= row[k].zeros;
+    }
+}
+
 /// Narrows the cube that begins at an index to its meet with the other one, by adding its literals.
 pub(crate) fn narrow_at(rows: &mut [Literals], begin: usize, other: &[Literals]) {
     for k in 0..other.len() {
@@ -124,6 +134,21 @@ pub(crate) fn row_at<T>(rows: &[T], begin: usize, width: usize) -> &[T] {
     } else {
         &[]
     }
+}
+
+/// Adds a copy of the `width` words from an index on.
+pub(crate) fn push_copy<T: Copy>(
+    rows: &mut Vec<T>,
+    begin: usize,
+    width: usize,
+) -> Result<(), AllocError> {
+    for k in 0..width {
+        if let Some(word) = rows.get(begin.wrapping_add(k)) {
+            let copied = *word;
+            rows.push(copied)?;
+        }
+    }
+    Ok(())
 }
 
 /// How many rows of `width` words there are.
@@ -268,6 +293,25 @@ pub(crate) fn has_bits(words: &[u64]) -> bool {
         }
     }
     false
+}
+
+/// Takes the bits of another set away from the one that begins at an index.
+pub(crate) fn drop_bits_at(words: &mut [u64], begin: usize, others: &[u64]) {
+    for k in 0..others.len() {
+        let at = begin.wrapping_add(k);
+        if at < words.len() {
+            words[at] &= !others[k];
+        }
+    }
+}
+
+/// How many bits are in both sets.
+pub(crate) fn shared_count(a: &[u64], b: &[u64]) -> u32 {
+    let mut count: u32 = 0;
+    for k in 0..a.len().min(b.len()) {
+        count = count.wrapping_add((a[k] & b[k]).count_ones());
+    }
+    count
 }
 
 /// Leaves the bits that are in both.

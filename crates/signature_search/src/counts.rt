@@ -39,12 +39,6 @@ impl Counts {
         Ok(Counts { zeros, ones })
     }
 
-    /// Sets all counts to 0.
-    pub(crate) fn clear(&mut self) {
-        self.zeros.fill(0);
-        self.ones.fill(0);
-    }
-
     /// Counts the literals of a cube.
     pub(crate) fn add(&mut self, row: &[Literals]) {
         let (zeros, ones) = (&mut self.zeros, &mut self.ones);
@@ -52,6 +46,14 @@ impl Counts {
             let first = k.wrapping_mul(64);
             count_inputs(row[k].zeros, first, zeros);
             count_inputs(row[k].ones, first, ones);
+        }
+    }
+
+    /// Sets how often an input is 0, and how often 1.
+    pub(crate) fn set(&mut self, input: usize, zeros: u32, ones: u32) {
+        if input < self.zeros.len() && input < self.ones.len() {
+            self.zeros[input] = zeros;
+            self.ones[input] = ones;
         }
     }
 

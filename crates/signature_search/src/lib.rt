@@ -28,11 +28,13 @@ mod descent;
 mod finder;
 mod function;
 mod lists;
+mod occurrences;
 mod prime_list;
 mod proposer;
 mod question;
 mod rows;
 mod search;
+mod splits;
 
 pub use proposer::Proposer;
 pub use rows::{Place, Rows};

@@ -1,43 +1,22 @@
 //! Whether a cube has a place outside a list of cubes.
 //!
 //! The cubes are clauses: a place is outside a cube if it has the opposite of one of its literals.
-//! Cubes of one literal force the opposite one, literals that stand in one sense alone are opposed
-//! too, and what is left is split at an input of the shortest cubes that has most literals (Davis,
-//! Logemann and Loveland, A machine program for theorem-proving, 1962). The regions that are open
-//! stand one after the other in one piece of memory: what was taken so far, and the cubes. A region
-//! costs some passes over its cubes, and the number of regions is bounded by a budget.
+//! Cubes of one literal force the opposite one, and literals that stand in one sense alone are
+//! opposed too. Most questions are answered so, by a few passes over the cubes; what is left is
+//! split (`splits`). The number of regions that are looked at is bounded by a budget.
 
 use crate::bits::{
-    Literals, few_in_word, has_literal, has_literal_at, literal_count, literals_at, meets,
-    narrow_at, put_literal, row_at, row_count, tail,
+    Literals, few_in_word, force_opposites, has_literal, literals_at, meets, narrow_at, row_at,
+    tail,
 };
-use crate::counts::Counts;
 use crate::lists::{Outside, any_meets, push_cofactors};
+use crate::splits::{Splits, State};
 use std::alloc::{AllocError, Global};
 
-/// A region that is open: where it begins, and the literal of the half that was not looked at.
-#[derive(Clone, Copy)]
-struct Region {
-    begin: usize,
-    input: usize,
-    one: bool,
-}
-
-/// What is known of a region.
-#[derive(Clone, Copy)]
-enum State {
-    /// It has a place outside the cubes.
-    PlaceFound,
-    /// It has none.
-    Held,
-    /// Nothing is forced, and it is to be split.
-    Undecided,
-}
-
-/// What the cubes of the last region show together.
+/// What the cubes show together.
 #[derive(Drop)]
 struct Notes {
-    // The literals that occur; while an input is chosen, those of the shortest cubes.
+    // The literals that occur.
     occurring: Vec<Literals>,
     // Whether a cube of one literal forced the opposite one.
     has_forced: bool,
@@ -49,15 +28,14 @@ struct Notes {
 #[derive(Drop)]
 pub(crate) struct Question {
     width: usize,
+    // The cube that is asked for, with what was taken so far, and then the cubes that meet it.
     rows: Vec<Literals>,
-    regions: Vec<Region>,
-    // The literals that are forced in the last region.
+    // The literals that are forced.
     forced: Vec<Literals>,
     notes: Notes,
     // By input: the literal that it last had in an answer, where the cube asked for had none.
     remembered: Vec<Literals>,
-    // How many cubes have the literals of an input.
-    counts: Counts,
+    splits: Splits,
 }
 
 /// Writes the row that begins at `from` to `to`, without its literals at the inputs of `taken`, and
@@ -80,14 +58,6 @@ fn move_row_without(
         few = few.wrapping_add(few_in_word(left.inputs()));
     }
     few
-}
-
-/// Adds the opposites of a cube's literals to the forced ones.
-fn force_opposites(row: &[Literals], forced: &mut [Literals]) {
-    for k in 0..row.len().min(forced.len()) {
-        forced[k].zeros |= row[k].ones;
-        forced[k].ones |= row[k].zeros;
-    }
 }
 
 /// Forces, at inputs where one literal alone occurs, the other one: the cubes with it then do not
@@ -141,52 +111,18 @@ impl Notes {
     }
 }
 
-/// Counts the literals of cubes by input, and notes those that occur in the shortest cubes.
-fn count_literals(
-    rows: &[Literals],
-    width: usize,
-    counts: &mut Counts,
-    occurring: &mut [Literals],
-) {
-    counts.clear();
-    let mut shortest = u32::MAX;
-    for index in 0..row_count(rows, width) {
-        let row = row_at(rows, index.wrapping_mul(width), width);
-        let count = literal_count(row);
-        if count < shortest {
-            shortest = count;
-            occurring.fill(Literals::NONE);
-        }
-        if count == shortest {
-            narrow_at(occurring, 0, row);
-        }
-        counts.add(row);
-    }
-}
-
-/// Adds a copy of the row that begins at an index.
-fn push_copy(rows: &mut Vec<Literals>, begin: usize, width: usize) -> Result<(), AllocError> {
-    for k in 0..width {
-        rows.push(literals_at(rows, begin.wrapping_add(k)))?;
-    }
-    Ok(())
-}
-
 impl Question {
     pub(crate) fn new(alloc: Global, words: usize) -> Result<Question, AllocError> {
         let width = words.max(1);
         let forced: Vec<Literals> = vec![in alloc; Literals::NONE; width]?;
         let remembered: Vec<Literals> = vec![in alloc; Literals::NONE; width]?;
-        let notes = Notes::new(alloc, width)?;
-        let counts = Counts::new(alloc, words)?;
         Ok(Question {
             width,
             rows: Vec::new(alloc),
-            regions: Vec::new(alloc),
             forced,
-            notes,
+            notes: Notes::new(alloc, width)?,
             remembered,
-            counts,
+            splits: Splits::new(alloc, width)?,
         })
     }
 
@@ -205,25 +141,30 @@ impl Question {
         if let Outside::Nothing = self.load_rows(inside, list)? {
             return Ok(false);
         }
-        let regions = *budget;
-        for _ in 0..regions {
-            *budget = budget.saturating_sub(1);
-            let goes_on = match self.propagate() {
-                State::PlaceFound => {
-                    self.remember_answer(inside);
-                    return Ok(true);
-                }
-                State::Held => self.backtrack(),
-                State::Undecided => {
-                    self.split()?;
-                    true
-                }
-            };
-            if !goes_on {
-                return Ok(false);
-            }
+        if *budget == 0 {
+            return Ok(false);
         }
-        Ok(false)
+        *budget = budget.saturating_sub(1);
+        let is_found = match self.propagate() {
+            State::PlaceFound => true,
+            State::Held => false,
+            State::Undecided => self.search(budget)?,
+        };
+        if is_found {
+            self.remember_answer(inside);
+        }
+        Ok(is_found)
+    }
+
+    // Whether a place is found by splits.
+    fn search(&mut self, budget: &mut u64) -> Result<bool, AllocError> {
+        let rows = self.rows.as_slice();
+        self.splits
+            .begin(row_at(rows, 0, self.width), tail(rows, self.width))?;
+        let is_found = self.splits.search(budget)?;
+        self.rows.clear();
+        self.rows.extend_from_slice(self.splits.last_region())?;
+        Ok(is_found)
     }
 
     /// Narrows the cube to the literals of former answers, as an answer that may be one: parts of a
@@ -231,7 +172,6 @@ impl Question {
     /// others.
     pub(crate) fn guess(&mut self, inside: &[Literals]) -> Result<(), AllocError> {
         self.rows.clear();
-        self.regions.clear();
         let (rows, remembered) = (&mut self.rows, self.remembered.as_slice());
         for k in 0..inside.len() {
             let kept = literals_at(remembered, k).at(!inside[k].inputs());
@@ -242,8 +182,7 @@ impl Question {
 
     // Remembers the literals of the answer at inputs where the cube asked for has none.
     fn remember_answer(&mut self, inside: &[Literals]) {
-        let begin = self.begin_of_last_region();
-        let answer = row_at(&self.rows, begin, self.width);
+        let answer = row_at(&self.rows, 0, self.width);
         let remembered: &mut [Literals] = &mut self.remembered;
         for k in 0..inside.len().min(remembered.len()) {
             let found = literals_at(answer, k).at(!inside[k].inputs());
@@ -253,166 +192,66 @@ impl Question {
 
     /// The cube that was found last, which is outside the list.
     pub(crate) fn answer(&self) -> &[Literals] {
-        row_at(&self.rows, self.begin_of_last_region(), self.width)
+        row_at(&self.rows, 0, self.width)
     }
 
-    // The index of the first word of the last region.
-    fn begin_of_last_region(&self) -> usize {
-        match self.regions.last() {
-            Some(region) => region.begin,
-            None => 0,
-        }
-    }
-
-    // Loads the first region: the cube, and the cubes of the list that meet it.
+    // Loads the cube, and the cubes of the list that meet it.
     fn load_rows(
         &mut self,
         inside: &[Literals],
         list: &[Literals],
     ) -> Result<Outside, AllocError> {
         self.rows.clear();
-        self.regions.push(Region {
-            begin: 0,
-            input: 0,
-            one: false,
-        })?;
         self.rows.extend_from_slice(inside)?;
         if let Outside::Nothing = push_cofactors(&mut self.rows, list, inside, self.width)? {
             return Ok(Outside::Nothing);
         }
         self.forced.fill(Literals::NONE);
-        self.take_forced_literals(0);
+        self.take_forced_literals();
         Ok(Outside::Unknown)
     }
 
-    // Unit propagation: takes what is forced in the last region, until nothing is.
+    // Takes what is forced, until nothing is.
     fn propagate(&mut self) -> State {
-        let begin = self.begin_of_last_region();
-        for _ in 0..=self.counts.inputs() {
+        for _ in 0..=self.width.saturating_mul(64) {
             if self.notes.is_held {
                 return State::Held;
             }
-            if self.rows.len() <= begin.saturating_add(self.width) {
+            if self.rows.len() <= self.width {
                 return State::PlaceFound;
             }
             if !has_literal(&self.forced) {
                 return State::Undecided;
             }
-            self.take_forced_literals(begin);
+            self.take_forced_literals();
         }
         State::Held
     }
 
-    // After the cubes of the last region are noted. Where none forced a literal, pure ones do.
-    fn end_notes(&mut self, begin: usize) {
-        narrow_at(&mut self.rows, begin, &self.forced);
-        if !self.notes.has_forced {
-            force_pure_literals(&self.notes.occurring, &mut self.forced);
-        }
-    }
-
-    // Narrows the last region to the forced literals: cubes that have one of their opposites drop
-    // out. What a cube forces is taken from the next one on, and then once more from all of them.
-    fn take_forced_literals(&mut self, begin: usize) {
+    // Narrows the cube to the forced literals: cubes that have one of their opposites drop out. What
+    // a cube forces is taken from the next one on, and then once more from all of them. Where none
+    // forces a literal, pure ones do.
+    fn take_forced_literals(&mut self) {
         let width = self.width;
         self.notes.begin();
-        let count = self.rows.len().saturating_sub(begin) / width.max(1);
-        let mut from = begin;
-        let mut to = begin.saturating_add(width);
+        let count = self.rows.len() / width.max(1);
+        let mut from = 0;
+        let mut to = width;
         for _ in 1..count {
-            from = from.saturating_add(width);
+            from = width.saturating_add(from);
             if self.notes.is_held {
                 break;
             }
             if meets(row_at(&self.rows, from, width), &self.forced)
                 && self.notes.keeps(&mut self.rows, from, to, &mut self.forced)
             {
-                to = to.saturating_add(width);
+                to = width.saturating_add(to);
             }
         }
         self.rows.truncate(to);
-        self.end_notes(begin);
-    }
-
-    // Splits the last region, and goes on with the half that has fewer cubes; the other half is left
-    // to that region.
-    fn split(&mut self) -> Result<(), AllocError> {
-        let (from, end) = (self.begin_of_last_region(), self.rows.len());
-        let input = self.splitting_input(from);
-        let (zeros, ones) = self.counts.of(input);
-        let one = ones < zeros;
-        if let Some(region) = self.regions.last_mut() {
-            region.input = input;
-            region.one = !one;
+        narrow_at(&mut self.rows, 0, &self.forced);
+        if !self.notes.has_forced {
+            force_pure_literals(&self.notes.occurring, &mut self.forced);
         }
-        self.regions.push(Region {
-            begin: end,
-            input,
-            one,
-        })?;
-        self.force_literal(input, one);
-        self.copy_region(from, end)
-    }
-
-    // Forces one literal alone.
-    fn force_literal(&mut self, input: usize, one: bool) {
-        self.forced.fill(Literals::NONE);
-        put_literal(&mut self.forced, input, one);
-    }
-
-    // Copies a region to the end, narrowed to the forced literals.
-    fn copy_region(&mut self, begin: usize, end: usize) -> Result<(), AllocError> {
-        let width = self.width;
-        push_copy(&mut self.rows, begin, width)?;
-        self.notes.begin();
-        let mut from = begin.saturating_add(width);
-        for _ in 0..end.saturating_sub(from) / width.max(1) {
-            if meets(row_at(&self.rows, from, width), &self.forced) {
-                let to = self.rows.len();
-                self.rows.extend_from_slice(&self.forced)?;
-                if !self.notes.keeps(&mut self.rows, from, to, &mut self.forced) {
-                    self.rows.truncate(to);
-                }
-            }
-            from = from.saturating_add(width);
-        }
-        self.end_notes(end);
-        Ok(())
-    }
-
-    // Leaves the last region, and goes on with the other half of the one before it. Whether there
-    // is one.
-    fn backtrack(&mut self) -> bool {
-        if let Some(region) = self.regions.pop() {
-            self.rows.truncate(region.begin);
-        }
-        match self.regions.last() {
-            Some(region) => {
-                let (begin, input, one) = (region.begin, region.input, region.one);
-                self.force_literal(input, one);
-                self.take_forced_literals(begin);
-                true
-            }
-            None => false,
-        }
-    }
-
-    // The input of the shortest cubes of a region that has most literals, and among those the one
-    // that has most of the rarer one.
-    fn splitting_input(&mut self, begin: usize) -> usize {
-        let (counts, occurring) = (&mut self.counts, &mut self.notes.occurring);
-        let rows = tail(&self.rows, begin.saturating_add(self.width));
-        count_literals(rows, self.width, counts, occurring);
-        let mut best = 0;
-        let mut most = (0, 0);
-        for input in 0..counts.inputs() {
-            let (zeros, ones) = counts.of(input);
-            let here = (zeros.wrapping_add(ones), zeros.min(ones));
-            if has_literal_at(occurring, input) && here >= most {
-                most = here;
-                best = input;
-            }
-        }
-        best
     }
 }
