@@ -10,8 +10,8 @@
 //! pair by pair, the shorter ones first.
 
 use crate::bits::{
-    Literals, bit_count, few_in_word, has_bit, join_bits, literals_at, row_at, row_count, share_bit,
-    word_at,
+    Literals, bit_count, few_in_word, has_bit, join_bits, literals_at, row_at, row_count,
+    share_bit, word_at,
 };
 use crate::blocking_rows::{BlockingRows, has_row_within};
 use crate::cube::Cube;

@@ -231,13 +231,10 @@ impl BlockingRows {
     }
 
     /// Ends a group: these inputs are rows by themselves, but for the common ones.
-    pub(crate) fn end_group(
-        &mut self,
-        singles: &[u64],
-        common: &[u64],
-    ) -> Result<(), AllocError> {
+    pub(crate) fn end_group(&mut self, singles: &[u64], common: &[u64]) -> Result<(), AllocError> {
         for k in 0..self.width {
-            self.singles.push(word_at(singles, k) & !word_at(common, k))?;
+            self.singles
+                .push(word_at(singles, k) & !word_at(common, k))?;
         }
         self.are_bare.push(false)?;
         self.ends.push(self.longer.len())?;

@@ -236,11 +236,7 @@ impl<'a> Finder<'a> {
     }
 
     // Whether the cube has a place of its own under this output.
-    fn has_own_place(
-        &mut self,
-        signature: &Signature,
-        output: usize,
-    ) -> Result<bool, AllocError> {
+    fn has_own_place(&mut self, signature: &Signature, output: usize) -> Result<bool, AllocError> {
         if list_at(&self.function.on, output).is_empty() {
             return Ok(false);
         }
@@ -291,11 +287,7 @@ impl<'a> Finder<'a> {
     }
 
     // Gathers the cubes to be avoided under this output.
-    fn avoid_all(
-        &mut self,
-        signature: &Signature,
-        output: usize,
-    ) -> Result<Outside, AllocError> {
+    fn avoid_all(&mut self, signature: &Signature, output: usize) -> Result<Outside, AllocError> {
         let cube = &signature.cube;
         let outside = match self.primes {
             Some(primes) => push_primes(&mut self.avoided, primes, cube, output)?,

@@ -3,9 +3,7 @@
 //! The signature cube of a cube is the meet of the primes that contain it, and a place of it is its
 //! own if it lies in no other prime. This is used where the primes are few and the OFF cubes many.
 
-use crate::bits::{
-    Literals, contains, has_bit, is_within, meet_bits, meets, narrow_at,
-};
+use crate::bits::{Literals, contains, has_bit, is_within, meet_bits, meets, narrow_at};
 use crate::blocking_rows::BlockingRows;
 use crate::cube::Cube;
 use crate::finder::{Finder, Signature};

@@ -196,11 +196,7 @@ impl Question {
     }
 
     // Loads the cube, and the cubes of the list that meet it.
-    fn load_rows(
-        &mut self,
-        inside: &[Literals],
-        list: &[Literals],
-    ) -> Result<Outside, AllocError> {
+    fn load_rows(&mut self, inside: &[Literals], list: &[Literals]) -> Result<Outside, AllocError> {
         self.rows.clear();
         self.rows.extend_from_slice(inside)?;
         if let Outside::Nothing = push_cofactors(&mut self.rows, list, inside, self.width)? {

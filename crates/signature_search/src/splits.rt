@@ -244,7 +244,11 @@ impl Splits {
     fn take_literal(&mut self, input: usize, one: bool) {
         let begin = self.begin_of_taken();
         free_input(&mut self.forced, input);
-        put_literal(&mut self.taken, begin.saturating_mul(64).saturating_add(input), one);
+        put_literal(
+            &mut self.taken,
+            begin.saturating_mul(64).saturating_add(input),
+            one,
+        );
         let begin = self.begin_of_live();
         drop_bits_at(&mut self.live, begin, self.occurrences.of(input, !one));
         for k in 0..self.occurrences.words() {
