@@ -51,7 +51,7 @@ pub(crate) fn has_row_within(rows: &[u64], inputs: &[u64]) -> bool {
 }
 
 /// Adds the inputs of each row to a set.
-fn join_rows(set: &mut [u64], rows: &[u64]) {
+pub(crate) fn join_rows(set: &mut [u64], rows: &[u64]) {
     for row in rows.chunks_exact(set.len().max(1)) {
         join_bits(set, row);
     }
@@ -73,6 +73,14 @@ impl Drop for Shorter {
 }
 
 impl Shorter {
+    // No rows at all.
+    fn none(alloc: Global) -> Shorter {
+        Shorter {
+            singles: Vec::new(alloc),
+            longer: Vec::new(alloc),
+        }
+    }
+
     // No rows, of this many words.
     fn new(alloc: Global, width: usize) -> Result<Shorter, AllocError> {
         Ok(Shorter {
@@ -280,7 +288,7 @@ impl BlockingRows {
 
     // The rows after a literal is left out.
     fn without_literal(&self, alloc: Global, input: usize) -> Result<BlockingRows, AllocError> {
-        let none = Shorter::new(alloc, self.width)?;
+        let none = Shorter::none(alloc);
         let mut common = Shorter::new(alloc, self.width)?;
         let mut own = Shorter::new(alloc, self.width)?;
         let mut found = BlockingRows::new(alloc, self.width);
@@ -300,7 +308,7 @@ impl BlockingRows {
 
     // The rows after an output is added.
     fn with_output(&self, alloc: Global, added: usize) -> Result<BlockingRows, AllocError> {
-        let none = Shorter::new(alloc, self.width)?;
+        let none = Shorter::none(alloc);
         let mut common = Shorter::new(alloc, self.width)?;
         let mut found = BlockingRows::new(alloc, self.width);
         common.take_all(self.of_output(added))?;

@@ -10,14 +10,14 @@
 //! on the inputs where the cube has no literal; so the tests of all rows together are one question.
 
 use crate::bits::{
-    Literals, drop_bit, few_in_word, has_bit, join_literals, literals_at, meets, narrow_at, row_at,
-    row_count, word_at,
+    Literals, drop_bit, has_bit, join_literals, meets, narrow_at, row_at, row_count,
 };
 use crate::blocking_matrix::BlockingMatrix;
 use crate::blocking_rows::{BlockingRows, Group};
 use crate::cube::Cube;
+use crate::exchanges::Exchanges;
 use crate::function::{Function, list_at};
-use crate::lists::{Outside, push_cofactor, push_cofactors};
+use crate::lists::{Outside, push_cofactors};
 use crate::prime_list::push_primes;
 use crate::question::Question;
 use crate::rows::{Place, Rows};
@@ -85,74 +85,7 @@ pub(crate) struct Finder<'a> {
     pub(crate) avoided: Vec<Literals>,
     // The hashes of signature cubes that have no place of their own.
     without_own_place: BTreeSet<u64>,
-    // Where a cube has the opposite literals of the signature cube, and where the same.
-    compared: Vec<Literals>,
-}
-
-/// Whether a cube meets the signature cube with the literals of some row of the group exchanged.
-fn meets_with_any_row_exchanged(
-    compared: &mut [Literals],
-    other: &[Literals],
-    cube: &[Literals],
-    rows: Group<'_>,
-) -> bool {
-    if meets_with_single_exchanged(other, cube, rows) {
-        return true;
-    }
-    if rows.longer.is_empty() {
-        return false;
-    }
-    compare(compared, other, cube);
-    meets_with_longer_row_exchanged(compared, rows.longer)
-}
-
-/// Whether a cube meets the signature cube with the literal of some row of one exchanged, or with
-/// none where the output is a row by itself: such a literal is the only one that parts the two, or
-/// none does, and the cube lacks such a literal.
-fn meets_with_single_exchanged(other: &[Literals], cube: &[Literals], rows: Group<'_>) -> bool {
-    let (mut few, mut parting, mut lacked) = (0, 0, 0);
-    for k in 0..other.len() {
-        let opposites = other[k].opposites(literals_at(cube, k));
-        let singles = word_at(rows.singles, k);
-        few = few_in_word(opposites).wrapping_add(few);
-        parting |= opposites & singles;
-        lacked |= singles & !other[k].inputs();
-    }
-    match few {
-        0 => lacked != 0 || rows.is_bare,
-        1 => parting != 0,
-        _ => false,
-    }
-}
-
-/// Whether a cube meets the signature cube with the literals of some of these rows exchanged.
-/// `compared` says where they have opposite literals, and where the same.
-fn meets_with_longer_row_exchanged(compared: &[Literals], rows: &[u64]) -> bool {
-    for row in rows.chunks_exact(compared.len().max(1)) {
-        if meets_with_row_exchanged(compared, row) {
-            return true;
-        }
-    }
-    false
-}
-
-/// Whether a cube meets the signature cube with the literals of this row exchanged.
-fn meets_with_row_exchanged(compared: &[Literals], row: &[u64]) -> bool {
-    for k in 0..compared.len().min(row.len()) {
-        let (word, inputs) = (literals_at(compared, k), word_at(row, k));
-        if (word.ones & inputs) | (word.zeros & !inputs) != 0 {
-            return false;
-        }
-    }
-    true
-}
-
-/// Notes where the cubes have opposite literals, as zeros, and where the same, as ones.
-fn compare(compared: &mut [Literals], a: &[Literals], b: &[Literals]) {
-    for k in 0..compared.len().min(a.len()).min(b.len()) {
-        compared[k].zeros = a[k].opposites(b[k]);
-        compared[k].ones = a[k].agreements(b[k]);
-    }
+    exchanges: Exchanges,
 }
 
 impl<'a> Finder<'a> {
@@ -161,7 +94,6 @@ impl<'a> Finder<'a> {
         function: &'a Function,
         primes: Option<&'a Rows>,
     ) -> Result<Finder<'a>, AllocError> {
-        let compared: Vec<Literals> = vec![in alloc; Literals::NONE; function.width]?;
         let question = Question::new(alloc, function.width)?;
         Ok(Finder {
             alloc,
@@ -171,7 +103,7 @@ impl<'a> Finder<'a> {
             primes,
             avoided: Vec::new(alloc),
             without_own_place: BTreeSet::new(alloc),
-            compared,
+            exchanges: Exchanges::new(alloc),
         })
     }
 
@@ -220,6 +152,7 @@ impl<'a> Finder<'a> {
     // question.
     fn output_of_own_place(&mut self, signature: &Signature) -> Result<Option<usize>, AllocError> {
         self.avoided.clear();
+        self.exchanges.begin(&signature.cube.literals)?;
         if self.primes.is_none()
             && let Outside::Nothing = self.avoid_rows_with_outputs(signature)?
         {
@@ -259,7 +192,7 @@ impl<'a> Finder<'a> {
         for output in 0..self.function.outputs {
             let rows = signature.rows.of_output(output);
             if !rows.is_empty()
-                && let Outside::Nothing = self.avoid_exchanged(&signature.cube, rows, output)?
+                && let Outside::Nothing = self.avoid_exchanged(rows, output)?
             {
                 return Ok(Outside::Nothing);
             }
@@ -267,23 +200,16 @@ impl<'a> Finder<'a> {
         Ok(Outside::Unknown)
     }
 
-    // Gathers the ON and DC cubes of an output that the cube meets with a row exchanged.
-    fn avoid_exchanged(
-        &mut self,
-        cube: &Cube,
-        rows: Group<'_>,
-        output: usize,
-    ) -> Result<Outside, AllocError> {
-        let (cube, width) = (cube.literals.as_slice(), self.function.width);
-        let (avoided, compared) = (&mut self.avoided, self.compared.as_mut_slice());
-        for other in list_at(&self.function.on_and_dc, output).chunks_exact(width.max(1)) {
-            if meets_with_any_row_exchanged(compared, other, cube, rows)
-                && let Outside::Nothing = push_cofactor(avoided, other, cube)?
-            {
-                return Ok(Outside::Nothing);
+    // Gathers the ON and DC cubes of an output that the signature cube meets with a row exchanged.
+    fn avoid_exchanged(&mut self, rows: Group<'_>, output: usize) -> Result<Outside, AllocError> {
+        let list = list_at(&self.function.on_and_dc, output);
+        match self.function.occurrences.get(output) {
+            Some(occurrences) => {
+                self.exchanges
+                    .push_met(&mut self.avoided, list, occurrences, rows)
             }
+            None => Ok(Outside::Unknown),
         }
-        Ok(Outside::Unknown)
     }
 
     // Gathers the cubes to be avoided under this output.
@@ -291,7 +217,7 @@ impl<'a> Finder<'a> {
         let cube = &signature.cube;
         let outside = match self.primes {
             Some(primes) => push_primes(&mut self.avoided, primes, cube, output)?,
-            None => self.avoid_exchanged(cube, signature.rows.without_output(), output)?,
+            None => self.avoid_exchanged(signature.rows.without_output(), output)?,
         };
         if let Outside::Nothing = outside {
             return Ok(Outside::Nothing);

@@ -3,6 +3,7 @@
 use crate::bits::{Literals, has_bit, words_for};
 use crate::complement::complement;
 use crate::lists::absorb_list;
+use crate::occurrences::Occurrences;
 use crate::rows::Rows;
 use std::alloc::{AllocError, Global};
 
@@ -24,6 +25,8 @@ pub(crate) struct Function {
     pub(crate) off: Vec<Vec<Literals>>,
     /// Cubes that hold the points of ON and DC.
     pub(crate) on_and_dc: Vec<Vec<Literals>>,
+    /// Which of these have each literal.
+    pub(crate) occurrences: Vec<Occurrences>,
 }
 
 impl Drop for Function {
@@ -39,6 +42,7 @@ impl Drop for Function {
             dc: _,
             off: _,
             on_and_dc: _,
+            occurrences: _,
         } = self;
     }
 }
@@ -95,7 +99,18 @@ impl Function {
         } else {
             function.join_on_and_dc(alloc)?;
         }
+        function.note_occurrences(alloc)?;
         Ok(function)
+    }
+
+    // Notes which cubes of ON and DC have each literal.
+    fn note_occurrences(&mut self, alloc: Global) -> Result<(), AllocError> {
+        for output in 0..self.outputs {
+            let mut occurrences = Occurrences::new(alloc);
+            occurrences.take(list_at(&self.on_and_dc, output), self.width)?;
+            self.occurrences.push(occurrences)?;
+        }
+        Ok(())
     }
 
     // Takes ON with DC as the complements of OFF. `false` if that is past the budget.
@@ -141,6 +156,7 @@ impl Function {
             dc: rows_by_output(alloc, dc, outputs)?,
             off: Vec::new(alloc),
             on_and_dc: Vec::new(alloc),
+            occurrences: Vec::new(alloc),
         })
     }
 }

@@ -25,6 +25,7 @@ mod complement;
 mod counts;
 mod cube;
 mod descent;
+mod exchanges;
 mod finder;
 mod function;
 mod lists;

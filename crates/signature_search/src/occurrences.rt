@@ -1,7 +1,7 @@
 //! Which cubes of a list have a literal, as sets of cubes: a bit for each, so that one word tells of
 //! 64 cubes.
 
-use crate::bits::{Literals, put_bit, row_at, row_count, words_for};
+use crate::bits::{Literals, put_bit, row_at, row_count, word_at, words_for};
 use std::alloc::{AllocError, Global};
 
 /// The cubes that have each literal.
@@ -9,7 +9,8 @@ use std::alloc::{AllocError, Global};
 pub(crate) struct Occurrences {
     // How many words a set takes.
     words: usize,
-    // By input, the cubes that have it as 0, and then those that have it as 1.
+    // The cubes, and by input those that have it as 0, and then those that have it as 1.
+    all: Vec<u64>,
     sets: Vec<u64>,
 }
 
@@ -18,6 +19,7 @@ impl Occurrences {
     pub(crate) fn new(alloc: Global) -> Occurrences {
         Occurrences {
             words: 1,
+            all: Vec::new(alloc),
             sets: Vec::new(alloc),
         }
     }
@@ -32,9 +34,12 @@ impl Occurrences {
         let count = row_count(list, width);
         self.words = words_for(count);
         let size = width.saturating_mul(128).saturating_mul(self.words);
+        self.all.clear();
+        self.all.resize(self.words, 0)?;
         self.sets.clear();
         self.sets.resize(size, 0)?;
         for cube in 0..count {
+            put_bit(&mut self.all, cube);
             self.add_cube(cube, row_at(list, cube.wrapping_mul(width), width));
         }
         Ok(())
@@ -60,6 +65,17 @@ impl Occurrences {
             put_bit(&mut self.sets, begin.wrapping_add(cube));
             rest &= rest.wrapping_sub(1);
         }
+    }
+
+    /// A word of the set of all cubes.
+    pub(crate) fn all(&self, k: usize) -> u64 {
+        word_at(&self.all, k)
+    }
+
+    /// A word of the set of the cubes that have an input as 0, or as 1.
+    pub(crate) fn word(&self, input: usize, one: bool, k: usize) -> u64 {
+        let set = input.wrapping_mul(2).wrapping_add(one as usize);
+        word_at(&self.sets, set.wrapping_mul(self.words).wrapping_add(k))
     }
 
     /// The cubes that have an input as 0, or as 1.
