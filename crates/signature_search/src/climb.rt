@@ -2,7 +2,7 @@
 //!
 //! A literal is left out, or an output added, and the signature cube of what comes of it taken
 //! instead if it has a place of its own. So the number that is found stays near the number of
-//! maximal ones.
+//! maximal ones. The minimal rows after a step come from those before it.
 
 use crate::bits::{free_input, has_bit, has_literal_at, put_bit};
 use crate::blocking_rows::Step;

@@ -91,6 +91,7 @@ impl Exchanges {
 
     // Finds the cubes of a word of the sets.
     fn find(&self, occurrences: &Occurrences, k: usize, rows: Group<'_>) -> Found {
+        let asks_longer = !rows.longer.is_empty();
         let (mut parted, mut parted_twice, mut elsewhere) = (0, 0, 0);
         let (mut by_single, mut agreeing) = (0, u64::MAX);
         for (input, one) in &self.literals {
@@ -101,17 +102,17 @@ impl Exchanges {
                 by_single |= opposite;
                 agreeing &= occurrences.word(*input, *one, k);
             }
-            if !has_bit(&self.longer, *input) {
+            if asks_longer && !has_bit(&self.longer, *input) {
                 elsewhere |= opposite;
             }
         }
         let all = occurrences.all(k);
         let lacking = if rows.is_bare { u64::MAX } else { !agreeing };
         let met = all & ((by_single & !parted_twice) | (lacking & !parted));
-        let open = if rows.longer.is_empty() {
-            0
-        } else {
+        let open = if asks_longer {
             all & !met & !elsewhere
+        } else {
+            0
         };
         Found { met, open }
     }

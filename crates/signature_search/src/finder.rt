@@ -6,8 +6,9 @@
 //! functions, 1993). A wanted place of it is its own if only the primes that contain all of it hold
 //! the place. To test a place, exchange the literals of a minimal row for their opposites, under
 //! the output of the row if it has one: the place is an own one if for each row the place that
-//! comes of this is outside ON and DC. Which ON and DC cubes hold an exchanged place depends only
-//! on the inputs where the cube has no literal; so the tests of all rows together are one question.
+//! comes of this is outside ON and DC. Which ON and DC cubes hold an exchanged place (`exchanges`)
+//! depends only on the inputs where the cube has no literal; so the tests of all rows together are
+//! one question.
 
 use crate::bits::{
     Literals, drop_bit, has_bit, join_literals, meets, narrow_at, row_at, row_count,

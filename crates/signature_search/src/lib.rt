@@ -13,8 +13,13 @@
 //!    and the ON cube whose signature cube has a place of its own, and from there larger ones. The
 //!    cover leaves out that place too: a prime that held it would hold the signature cube.
 //!
-//! Signature cubes that lie in others are left out. One costs a pass over all OFF cubes, and one
-//! question over the ON and DC cubes near it; a maximal one takes some tens of these.
+//! Signature cubes that lie in others are left out. The first one costs a pass over all OFF cubes;
+//! a larger one has its rows from those of the cube before, and costs one question over the ON and
+//! DC cubes near it. A maximal one takes some tens of these.
+//!
+//! The crate has cubes of its own (`bits`): words of literals in one list, which a question copies,
+//! narrows and compares by the million. It has no contract to keep with them, so it stands on no
+//! crate of cubes, and is proved beside them.
 #![tactic(auto)]
 
 mod bits;
