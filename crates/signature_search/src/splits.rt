@@ -183,7 +183,8 @@ impl Splits {
             if self.is_held {
                 return State::Held;
             }
-            if !has_bits(tail(&self.live, self.begin_of_live())) {
+            let begin = self.begin_of_live();
+            if !has_bits(tail(&self.live, begin)) {
                 return State::PlaceFound;
             }
             self.count_open_literals();
@@ -217,7 +218,8 @@ impl Splits {
 
     // Counts the cubes that have the literals of an input, and forces the opposite of a pure one.
     fn count_input(&mut self, input: usize) {
-        let live = tail(&self.live, self.begin_of_live());
+        let begin = self.begin_of_live();
+        let live = tail(&self.live, begin);
         let zeros = shared_count(live, self.occurrences.of(input, false));
         let ones = shared_count(live, self.occurrences.of(input, true));
         self.counts.set(input, zeros, ones);
@@ -270,7 +272,8 @@ impl Splits {
     // Notes what a cube forces.
     fn note_shorter_cube(&mut self, cube: usize) {
         let row = row_at(&self.cubes, cube.saturating_mul(self.width), self.width);
-        let taken = tail(&self.taken, self.begin_of_taken());
+        let begin = self.begin_of_taken();
+        let taken = tail(&self.taken, begin);
         match note_open(row, taken, &mut self.open) {
             0 => self.is_held = true,
             1 => force_opposites(&self.open, &mut self.forced),
@@ -324,8 +327,10 @@ impl Splits {
 
     // Notes the literals that are open in the cubes of the last region that have fewest.
     fn note_shortest(&mut self) {
-        let live = tail(&self.live, self.begin_of_live());
-        let taken = tail(&self.taken, self.begin_of_taken());
+        let begin = self.begin_of_live();
+        let live = tail(&self.live, begin);
+        let begin = self.begin_of_taken();
+        let taken = tail(&self.taken, begin);
         let mut least = u32::MAX;
         for cube in 0..row_count(&self.cubes, self.width) {
             if has_bit(live, cube) {
