@@ -271,9 +271,9 @@ impl Splits {
 
     // Notes what a cube forces.
     fn note_shorter_cube(&mut self, cube: usize) {
-        let row = row_at(&self.cubes, cube.saturating_mul(self.width), self.width);
         let begin = self.begin_of_taken();
         let taken = tail(&self.taken, begin);
+        let row = row_at(&self.cubes, cube.saturating_mul(self.width), self.width);
         match note_open(row, taken, &mut self.open) {
             0 => self.is_held = true,
             1 => force_opposites(&self.open, &mut self.forced),
@@ -327,10 +327,9 @@ impl Splits {
 
     // Notes the literals that are open in the cubes of the last region that have fewest.
     fn note_shortest(&mut self) {
-        let begin = self.begin_of_live();
-        let live = tail(&self.live, begin);
-        let begin = self.begin_of_taken();
-        let taken = tail(&self.taken, begin);
+        let (begin_of_live, begin_of_taken) = (self.begin_of_live(), self.begin_of_taken());
+        let live = tail(&self.live, begin_of_live);
+        let taken = tail(&self.taken, begin_of_taken);
         let mut least = u32::MAX;
         for cube in 0..row_count(&self.cubes, self.width) {
             if has_bit(live, cube) {
