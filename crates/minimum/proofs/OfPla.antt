@@ -86,6 +86,10 @@ module _ (given : SetLists) (none : given.dc ≡ []) where
       all_wanted true = refl
       all_wanted false = refl
 
+-- the lists of a description under fr
+abbrev pub samples_of : Description → SetLists
+samples_of d = record { size = d.size; on = d.on; dc = []; off = d.off }
+
 -- an answer for the samples' lists is one for those of a description under fr
 module _ (d : Description) (given : SetLists) (e : given ≡ record { size = d.size; on = d.on; dc = []; off = d.off }) (f : d.file_type ≡ Fr) where
   pub open_sets : with_open given ≡ sets_of d true true
