@@ -1,8 +1,7 @@
 -- Sources of the primes of three lists.
-use Rattle.std.proofs.Common.{◌≡◌, not, ◌||◌, List, Option, inl, inr, refl, ap, ap₂, sym, subst, ◌∙◌}
+use Rattle.std.proofs.Common.{◌≡◌, not, ◌||◌, List, inl, inr, refl, ap, sym, subst, ◌∙◌}
 use Rattle.std.proofs.lemmas.Bool.{cases_Bool, both_ways}
 use Rattle.std.proofs.Math.Bool.{not-not}
-use Rattle.std.specs.Prelude.{IfOk, IfSome, Result}
 use Rattle.std.specs.List.{Contains}
 use Rattle.cube.specs.Cube.{Cube, Place, holds, IsCube, IsPlace}
 use Rattle.cube.specs.Sum.{complete_sum}
@@ -14,9 +13,10 @@ use Rattle.cover.proofs.Lists.{list_any_from, list_any_witness}
 use Rattle.cover.proofs.SumEnds.{complete_sum-agree}
 use Rattle.pla.specs.Sets.{SetLists}
 use Rattle.minimum.specs.declared.points.source.Source.TheVariants.{Outside, Primes}
-use Rattle.minimum.specs.Primes.{exact_of, primes_of}
-use Rattle.covering.specs.declared.choice.Choice.{Choice}
+use Rattle.minimum.specs.Primes.{primes_of}
+use Rattle.minimum.specs.declared.points.source.Source.{Source}
 use Rattle.minimum.specs.Points.{IsSource, StandsFor, lists_of}
+use Rattle.minimum.proofs.PickedPoints.{wanted_by}
 
 
 -- lists of the same cubes hold the same places
@@ -56,8 +56,11 @@ module _ (sets : SetLists) (list : Cubes) (e : list ≡ record { size = sets.siz
   pub stands_among : StandsFor sets sets (Primes list)
   stands_among = record { size = refl; on = refl; wanted = λ p place. refl; primes = ap (λ (l : Cubes). l.cubes) e }
 
--- an answer for the lists alone
-pub exact_given : (choice : Choice) (sets : SetLists) (on dc : Cubes) → on ≡ record { size = sets.size; cubes = sets.on } → dc ≡ record { size = sets.size; cubes = sets.dc } → {E : Type 0} (r : Result (Option Cubes) E)
-    → IfOk r (λ o. IfSome o (λ list. list ≡ record { size = on.size; cubes = exact_of choice (lists_of on dc) }))
-    → IfOk r (λ o. IfSome o (λ list. list ≡ record { size = sets.size; cubes = exact_of choice sets }))
-exact_given choice sets on dc e f r = subst (λ z. IfOk r (λ o. IfSome o (λ list. list ≡ z))) (ap₂ (λ (a b : Cubes). let l : Cubes = record { size = a.size; cubes = exact_of choice (lists_of a b) } in l) e f)
+-- so they are for the lists alone
+pub stands_given : (sets : SetLists) (on dc : Cubes) (source : Source) → on ≡ record { size = sets.size; cubes = sets.on } → dc ≡ record { size = sets.size; cubes = sets.dc } → StandsFor sets sets source → StandsFor sets (lists_of on dc) source
+stands_given sets on dc source e f same = record {
+  size = ap (λ (l : Cubes). l.size) e;
+  on = ap (λ (l : Cubes). l.cubes) (sym e);
+  wanted = λ p place. wanted_by sets on dc e f p;
+  primes = same.primes;
+}

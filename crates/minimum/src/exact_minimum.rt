@@ -93,8 +93,10 @@ fn off_of(sets: &Sets) -> Result<Option<Cover>, AllocError>
 /// The least cover by the primes of points outside cubes with the places in neither set; none where
 /// these are of no use or too many, or points have too many primes.
 fn exact_outside(alloc: Global, sets: &Sets, choice: Choice) -> Result<Option<Cover>, AllocError>
+    ghost lists: { SetLists }
+    requires { sets.now ≡ lists }
     ensures { IfOk result (λ o. IfSome o (λ list. list ≡ record
-        { size = sets.now.size; cubes = exact_of choice sets.now })) }
+        { size = lists.size; cubes = exact_of choice lists })) }
 {
     let Some(off) = off_of(sets)? else {
         return Ok(None);
@@ -127,10 +129,12 @@ fn exact_among(
     source: &Source,
     choice: Choice,
 ) -> Result<Option<Cover>, AllocError>
-    requires { source.now ≡ Source.Primes (record
-        { size = sets.now.size; cubes = primes_of sets.now }) }
+    ghost lists: { SetLists }
+    requires lists { sets.now ≡ lists }
+    requires source { source.now ≡ Source.Primes (record
+        { size = lists.size; cubes = primes_of lists }) }
     ensures { IfOk result (λ o. IfSome o (λ list. list ≡ record
-        { size = sets.now.size; cubes = exact_of choice sets.now })) }
+        { size = lists.size; cubes = exact_of choice lists })) }
 {
     exact_by_points(alloc, sets.on(), sets.dc(), source, false, choice)
 }

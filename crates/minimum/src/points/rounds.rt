@@ -1,10 +1,10 @@
 //! The least cover by primes of picked points.
 //!
 //! Points are picked in rounds: a cover of the table so far is made, and points are added for what it
-//! leaves out of the ON cubes. While something is left out any cover of the fewest columns serves. The
-//! last table was seen to have one to seven times as many rows as the cover has primes, and one to
-//! three columns a row. A round costs what the cover does, and a look at the ON cubes that are left
-//! out.
+//! leaves out of the ON cubes. While much is left out a short cover serves, and the least is asked for
+//! where little is. The last table was seen to have one to seven times as many rows as the cover has
+//! primes, and one to three columns a row. A round costs what the cover does, and a look at the ON
+//! cubes that are left out.
 
 ghost use Rattle.std.specs.Prelude.{◌≡◌, ◌||◌, [], IfOk, IfSome, true};
 ghost use Rattle.std.specs.List.{Contains};
@@ -23,23 +23,22 @@ use crate::points::proposals::{first_places, places_left_out, proposer_of};
 use crate::points::source::Source;
 use crate::points::{add_places, point_table};
 use cover::{Cover, in_row_order};
-use covering::{Choice, Table, least_cover};
+use covering::{Choice, Table, least_cover, short_cover};
 use cube::Cube;
 use signature_search::Proposer;
 use std::alloc::{AllocError, Global};
 
-/// The numbers of a cover of the table: the least, or only one of the fewest columns.
+/// The numbers of a cover of the table: the least, or only a short one.
 fn numbers_of_cover(table: &Table, choice: Choice, is_least: bool) -> Result<Vec<usize>, AllocError>
     ensures { IfOk result (λ v. is_least ≡ true → IsLeast choice table.now v.items) }
 {
     if is_least {
         return least_cover(table, choice);
     }
-    least_cover(table, Choice::First)
+    short_cover(table)
 }
 
-/// A cover of the table of the points: the least, or only one of the fewest columns, which is found
-/// sooner.
+/// A cover of the table of the points: the least, or only a short one, which is found sooner.
 pub(crate) fn cover_of_points(
     alloc: Global,
     points: &[Cube],
@@ -86,8 +85,7 @@ fn left_out(alloc: Global, on: &Cover, dc: &Cover, list: &Cover) -> Result<Cover
 // At most this many rounds are made.
 const MOST_ROUNDS: usize = 200;
 
-// Where at most this many ON cubes are left out, the next cover is asked for as if it were the last:
-// it is the least one. Which of many covers of the fewest columns is taken matters little before.
+// Where at most this many ON cubes are left out, the least cover is asked for: it may be the last.
 const FEW_LEFT_OUT: usize = 20;
 
 /// The least cover by the primes of points from these points on: where a cover of their table leaves
