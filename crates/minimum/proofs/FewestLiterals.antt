@@ -1,6 +1,8 @@
 -- The implicants between a narrow cube and a wide one: none is better than the best.
 use Rattle.std.proofs.Common.{◌≡◌, ◌≢◌, ℕ, zero, suc, ◌+◌, ◌<◌, ◌≤◌, ◌⊎◌, inl, inr, Bool, true, false, List, [], ◌∷◌, length, replicate, get_or, count_by, refl, ap, sym, subst, ◌∙◌, arith}
 use Rattle.std.specs.Cmp.Lexicographic.{slice_cmp}
+use Rattle.std.specs.Ordering.{ordering_then, bool_cmp}
+use Rattle.std.specs.declared.cmp.Ordering.{Ordering}
 use Rattle.std.specs.declared.cmp.Ordering.TheVariants.{Less, Equal, Greater}
 use Rattle.std.proofs.lemmas.Bool.{cases_Bool, cases_eq, cases_lt, false≢true}
 use Rattle.std.proofs.lemmas.List.{get_or-set_same, get_or-set_other, get_or_past, get_or-replicate, length-replicate}
@@ -8,7 +10,7 @@ use Rattle.cube.specs.declared.symbol.Symbol.{Symbol}
 use Rattle.cube.specs.declared.symbol.Symbol.TheVariants.{Dash, Zero, One}
 use Rattle.cube.specs.Pattern.{agrees, is_literal}
 use Rattle.cube.specs.Cube.{Cube, holds, literals, with_symbol, IsCube, IsSubset}
-use Rattle.cube.specs.Order.{symbol_cmp}
+use Rattle.cube.specs.Order.{symbol_cmp, row_cmp}
 use Rattle.cube.proofs.HoldsLemmas.{IsSubset-from_Covers}
 use Rattle.cover.specs.Cubes.{Cubes}
 use Rattle.cover.proofs.SumSplit.{IsCube-with_symbol}
@@ -122,6 +124,15 @@ up_to_more (b ∷ bs) (w ∷ ws) (c ∷ cs) e h same =
     ]
 
 -- ---- a wide cube that has too many literals, or comes no earlier
+
+up_to_by_rows : (wide best : Cube) → row_cmp best wide ≢ Greater → IsUpTo wide best
+up_to_by_rows wide best h e = h (ap (λ o. ordering_then o (slice_cmp bool_cmp best.outputs wide.outputs)) e)
+
+pub up_to_if_less : (wide best : Cube) (o : Ordering) → o ≡ row_cmp best wide → o ≡ Less → IsUpTo wide best
+up_to_if_less wide best o is less = up_to_by_rows wide best (λ after. (let same : Less ≡ Greater = sym less ∙ (is ∙ after) in cc))
+
+pub up_to_if_equal : (wide best : Cube) (o : Ordering) → o ≡ row_cmp best wide → o ≡ Equal → IsUpTo wide best
+up_to_if_equal wide best o is equal = up_to_by_rows wide best (λ after. (let same : Equal ≡ Greater = sym equal ∙ (is ∙ after) in cc))
 
 pub as_many : (wide c : Cube) → HasLiteralsOf wide c → length c.symbols ≡ length wide.symbols → literals wide ≤ literals c
 as_many wide c has e = count_all is_literal Dash wide.symbols c.symbols e (λ k h. ap is_literal (has k (no_dash (get_or wide.symbols k Dash) h)) ∙ h)

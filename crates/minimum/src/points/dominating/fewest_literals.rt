@@ -9,6 +9,7 @@
 ghost use Rattle.std.specs.Prelude.{◌≡◌, true, IfOk, IfSome, OnOk};
 ghost use Rattle.cube.specs.Cube.{IsCube, IsSubset, SameSize, holds};
 ghost use Rattle.covering.specs.declared.choice.Choice.TheVariants.{Literals};
+ghost use Rattle.minimum.specs.Points.{IsUpTo};
 ghost use Rattle.minimum.specs.Dominating.{HasNoLiteral, IsBestFreed, IsNoWorse, AreNoBetter};
 
 use crate::points::dominating::literal_search::{LiteralSearch, Step, has_input};
@@ -39,11 +40,24 @@ fn with_literals_in(off: &Cover, cube: &Cube, kept: &[u64]) -> Result<Cube, Allo
 {
     let mut freed = cube.try_clone()?;
     for i in 0..off.shape().inputs() {
-        if !has_input(kept, i) {
-            freed.set_symbol(i, Symbol::Dash);
+        if has_input(kept, i) {
+            continue;
         }
+        freed.set_symbol(i, Symbol::Dash);
     }
     Ok(freed)
+}
+
+/// Whether the literals of the wide cube come no earlier than those of the best.
+fn comes_no_earlier(wide: &Cube, best: &Cube) -> bool
+    requires { SameSize best.now wide.now }
+    ensures { result ≡ true → IsUpTo wide.now best.now }
+{
+    match best.row_cmp(wide) {
+        Ordering::Less => true,
+        Ordering::Equal => true,
+        Ordering::Greater => false,
+    }
 }
 
 /// Whether no cube with the literals of the wide one is better than the best.
@@ -52,7 +66,7 @@ fn is_late(wide: &Cube, best: &Cube) -> bool
     ensures { result ≡ true → IsNoWorse wide.now best.now }
 {
     if wide.literals() == best.literals() {
-        return best.row_cmp(wide) != Ordering::Greater;
+        return comes_no_earlier(wide, best);
     }
     wide.literals() > best.literals()
 }

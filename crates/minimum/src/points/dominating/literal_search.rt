@@ -238,8 +238,10 @@ impl LiteralSearch {
 
     // Takes what is kept for the best.
     fn take(&mut self) {
-        for w in 0..self.best.len() {
-            self.best[w] = word(&self.kept, w);
+        for w in 0..self.words {
+            if w < self.best.len() {
+                self.best[w] = word(&self.kept, w);
+            }
         }
         self.fewest = count_common(&self.kept, &self.kept);
     }
@@ -288,10 +290,11 @@ impl LiteralSearch {
             self.put_too_many(k)?;
             return Ok(true);
         }
-        if depth == 0 || self.left <= self.rows.len() {
+        let looks = self.rows.len().saturating_mul(size.saturating_add(2));
+        if depth == 0 || self.left <= looks {
             return Ok(false);
         }
-        self.left -= self.rows.len();
+        self.left -= looks;
         let Some(i) = self.most_used(k) else {
             return Ok(false);
         };
