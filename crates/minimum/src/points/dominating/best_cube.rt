@@ -1,8 +1,9 @@
 //! The best of the cubes that contain a cube and meet none of a list.
 //!
-//! Each literal is taken away that can be, from the first input on; then each output is added that
-//! can be. What can not is told by a row of the list that refuses it: the rows are a hint, and each
-//! is looked at. So a step costs a look at one row, and the cube one at all rows.
+//! Each literal is taken away that can be, from the first input on, or where literals count, all but
+//! the fewest; then each output is added that can be. What can not is told by a row of the list that
+//! refuses it: the rows are a hint, and each is looked at. So a step costs a look at one row, and the
+//! cube one at all rows.
 
 ghost use Rattle.std.specs.Prelude.{◌≡◌, ◌<◌, true, IfOk, IfSome, OnOk};
 ghost use Rattle.cube.specs.Cube.{IsCube, IsSubset, holds};
@@ -163,7 +164,8 @@ fn freed_cube(
 }
 
 /// The best of the cubes that contain the cube and meet none of the list, or `None` if the cube meets
-/// one, or literals count (or a hint is wrong). It costs some looks at each of the list.
+/// one, or the search for the fewest literals took too long (or a hint is wrong). It costs some looks
+/// at each of the list.
 pub(crate) fn best_cube(
     alloc: Global,
     off: &Cover,
