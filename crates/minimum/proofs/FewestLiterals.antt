@@ -18,7 +18,7 @@ use Rattle.covering.specs.declared.choice.Choice.TheVariants.{Literals}
 use Rattle.minimum.specs.declared.essential_by_neighbours.growth.Side.TheVariants.{Outside}
 use Rattle.minimum.specs.Neighbours.{on_side, IsSettledInput}
 use Rattle.minimum.specs.Points.{IsUpTo, IsAsGood}
-use Rattle.minimum.specs.Dominating.{IsImplicant, IsBestFreed, IsImplicantOver, HasLiteralsOf, IsBetween, HasNoLiteral, IsNoWorse, AreNoBetter}
+use Rattle.minimum.specs.Dominating.{IsBestFreed, IsImplicantOver, HasLiteralsOf, IsBetween, HasNoLiteral, IsNoWorse, AreNoBetter}
 use Rattle.minimum.proofs.Growth.{same_sizes, covering}
 
 -- ---- how many pass a test
@@ -148,14 +148,6 @@ late_by_order wide best same up c has e =
       | inr no_less ↦ inr (omega (arith, most, same, no_less), up_to_more best.symbols wide.symbols c.symbols e up has)
     ]
 
-pub late_between : (off : Cubes) (narrow wide best : Cube) → IsCube off.size wide → IsNoWorse wide best → AreNoBetter off narrow wide best
-late_between off narrow wide best wide_cube late c between = late c between.literals (between.implicant.is_cube.has_size.0 ∙ sym wide_cube.has_size.0)
-
--- ---- a row that meets the narrow cube
-
-pub none_between : (off : Cubes) (narrow wide best : Cube) → (IsImplicant off narrow → ⊥) → AreNoBetter off narrow wide best
-none_between off narrow wide best meets c between = absurd (meets (λ p h. between.implicant.within p (between.implicant.over p h)))
-
 -- ---- those that keep a literal, and the others
 
 module _ (off : Cubes) (narrow wide best kept freed : Cube) (i : ℕ) (narrow_cube : IsCube off.size narrow) (wide_cube : IsCube off.size wide) (lt : i < off.size.inputs) (kept_is : kept ≡ with_symbol wide i (get_or narrow.symbols i Dash)) (freed_is : freed ≡ with_symbol narrow i Dash) where
@@ -201,9 +193,6 @@ module _ (off : Cubes) (narrow wide best kept freed : Cube) (i : ℕ) (narrow_cu
         | inl dash ↦ other c (frees c between dash)
         | inr same ↦ one c (keeps c between same)
       ]
-
-pub kept_cube : (off : Cubes) (wide kept : Cube) (i : ℕ) (s : Symbol) → IsCube off.size wide → kept ≡ with_symbol wide i s → IsCube off.size kept
-kept_cube off wide kept i s is_cube e = subst (IsCube off.size) (sym e) (IsCube-with_symbol off.size wide i s is_cube)
 
 -- ---- a cube as good as each implicant
 
