@@ -1,9 +1,10 @@
 -- The implicants between a narrow cube and a wide one: none is better than the best.
-use Rattle.std.proofs.Common.{◌≡◌, ◌≢◌, ℕ, zero, suc, ◌+◌, ◌<◌, ◌≤◌, ◌⊎◌, inl, inr, Bool, true, false, List, [], ◌∷◌, length, replicate, get_or, count_by, refl, ap, sym, subst, ◌∙◌, arith}
+use Rattle.std.proofs.Common.{◌≡◌, ◌≢◌, ℕ, zero, suc, ◌+◌, ◌<◌, ◌≤◌, ◌⊎◌, inl, inr, Bool, true, false, List, [], ◌∷◌, length, replicate, get_or, count_by, cond, refl, ap, sym, subst, ◌∙◌, arith}
 use Rattle.std.specs.Cmp.Lexicographic.{slice_cmp}
 use Rattle.std.specs.Ordering.{ordering_then, bool_cmp}
 use Rattle.std.specs.declared.cmp.Ordering.{Ordering}
 use Rattle.std.specs.declared.cmp.Ordering.TheVariants.{Less, Equal, Greater}
+use Rattle.std.proofs.lemmas.List.Recursion.{is_count_by}
 use Rattle.std.proofs.lemmas.Bool.{cases_Bool, cases_eq, cases_lt, false≢true}
 use Rattle.std.proofs.lemmas.List.{get_or-set_same, get_or-set_other, get_or_past, get_or-replicate, length-replicate}
 use Rattle.cube.specs.declared.symbol.Symbol.{Symbol}
@@ -23,10 +24,20 @@ use Rattle.minimum.proofs.Growth.{same_sizes, covering}
 
 -- ---- how many pass a test
 
+abbrev count : {X : Type 0} → (X → Bool) → List X → ℕ
+count p [] = 0
+count p (x ∷ xs) = cond (p x) (1 + count p xs) (count p xs)
+
+count_is : {X : Type 0} (p : X → Bool) (xs : List X) → count p xs ≡ count_by p xs
+count_is p xs = is_count_by (count p) p refl (λ y ys. refl) xs
+
+count_step : {X : Type 0} (p : X → Bool) (x : X) (xs : List X) → count_by p (x ∷ xs) ≡ cond (p x) (1 + count_by p xs) (count_by p xs)
+count_step p x xs = sym (count_is p (x ∷ xs)) ∙ ap (λ n. cond (p x) (1 + n) n) (count_is p xs)
+
 count_next : {X : Type 0} (p : X → Bool) (x : X) (xs : List X) → ((p x ≡ true) × (count_by p (x ∷ xs) ≡ 1 + count_by p xs)) ⊎ ((p x ≡ false) × (count_by p (x ∷ xs) ≡ count_by p xs))
 count_next p x xs = elim (cases_Bool (p x)) [
-  | inl e ↦ inl (e, rw e)
-  | inr e ↦ inr (e, rw e)
+  | inl e ↦ inl (e, count_step p x xs ∙ ap (λ b. cond b (1 + count_by p xs) (count_by p xs)) e)
+  | inr e ↦ inr (e, count_step p x xs ∙ ap (λ b. cond b (1 + count_by p xs) (count_by p xs)) e)
 ]
 
 -- where each that passes in one list passes in another, as many do, and more if one passes there alone
@@ -48,19 +59,19 @@ count_all p d (x ∷ xs) (y ∷ ys) e h =
 
 pub count_alone : {X : Type 0} (p : X → Bool) (d : X) (xs ys : List X) (k : ℕ) → length ys ≡ length xs → k < length xs → ((j : ℕ) → p (get_or xs j d) ≡ true → p (get_or ys j d) ≡ true) → p (get_or xs k d) ≡ false → p (get_or ys k d) ≡ true
     → count_by p xs < count_by p ys
-count_alone p d [] ys k e lt h no yes = absurd (omega (arith, lt))
-count_alone p d (x ∷ xs) [] k e lt h no yes = absurd (omega (arith, e))
-count_alone p d (x ∷ xs) (y ∷ ys) zero e lt h no yes =
+count_alone p d [] ys k e lt h off on = absurd (omega (arith, lt))
+count_alone p d (x ∷ xs) [] k e lt h off on = absurd (omega (arith, e))
+count_alone p d (x ∷ xs) (y ∷ ys) zero e lt h off on =
     let more = count_all p d xs ys (omega (arith, e)) (λ k. h (suc k)) in
     elim (count_next p x xs) [
-      | inl one ↦ absurd (false≢true (sym no ∙ one.0))
+      | inl one ↦ absurd (false≢true (sym off ∙ one.0))
       | inr one ↦ elim (count_next p y ys) [
         | inl two ↦ (let a = one.1 in let b = two.1 in omega (arith, a, b, more))
-        | inr two ↦ absurd (false≢true (sym two.0 ∙ yes))
+        | inr two ↦ absurd (false≢true (sym two.0 ∙ on))
       ]
     ]
-count_alone p d (x ∷ xs) (y ∷ ys) (suc k) e lt h no yes =
-    let more = count_alone p d xs ys k (omega (arith, e)) (omega (arith, lt)) (λ j. h (suc j)) no yes in
+count_alone p d (x ∷ xs) (y ∷ ys) (suc k) e lt h off on =
+    let more = count_alone p d xs ys k (omega (arith, e)) (omega (arith, lt)) (λ j. h (suc j)) off on in
     elim (count_next p x xs) [
       | inl one ↦ elim (count_next p y ys) [
         | inl two ↦ (let a = one.1 in let b = two.1 in omega (arith, a, b, more))

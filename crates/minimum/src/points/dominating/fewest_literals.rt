@@ -68,7 +68,10 @@ fn is_late(wide: &Cube, best: &Cube) -> bool
     if wide.literals() == best.literals() {
         return comes_no_earlier(wide, best);
     }
-    wide.literals() > best.literals()
+    if wide.literals() > best.literals() {
+        return true;
+    }
+    false
 }
 
 /// The step at this place, and the place of the next one.
