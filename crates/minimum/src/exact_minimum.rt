@@ -4,8 +4,8 @@
 //! cubes with the places in neither set; so too under fr, where OFF tells these places. Where these
 //! cubes are too many, and with one output where primes are thought many, places outside are made as
 //! they are needed (`as_needed`). Else all primes are listed: points are picked by them where the
-//! inputs are many, and else the rows of their table come from regions. Which way is taken is a hint;
-//! where one has spent its budget, the next one follows.
+//! inputs are many, and else the rows of their table come from regions. Which way is taken is a hint
+//! (`ways`); where one has spent its budget, the next one follows.
 
 ghost use Rattle.std.specs.Prelude.{◌≡◌, ◌||◌, IfOk, IfSome, not, true};
 ghost use Rattle.cube.specs.Cube.{IsPlace, Place, difference as difference_of};
@@ -18,64 +18,17 @@ ghost use Rattle.minimum.specs.Primes.{exact_of, primes_of};
 
 use crate::as_needed::exact_as_needed;
 use crate::cubes::cubes_at;
-use crate::essential_by_neighbours::consensus_pairs::have_many_consensus_pairs;
 use crate::points::rounds::exact_by_points;
 use crate::points::source::{Source, large_first};
 use crate::prime_implicants::{on_and_dc, primes};
 use crate::prime_table::OfPrimes;
-use cover::{Budget, Cover, outside};
+use crate::ways::{
+    budget_outside, uses_outside, uses_places_as_needed, uses_points, uses_points_of_primes,
+};
+use cover::{Cover, outside};
 use covering::{Choice, Table, least_cover};
-use cube::Shape;
 use pla::{Pla, Sets};
 use std::alloc::{AllocError, Global};
-
-// At most this many cubes with the places outside are made for an output on average. Where many
-// functions are joined in one output there are far more, but few primes, and all of these are
-// listed.
-const MOST_OF_AN_OUTPUT: usize = 250;
-
-// At most this many such cubes are made for all outputs together.
-const MOST_OUTSIDE: usize = 40000;
-
-// At most this many rows are looked at for each output, besides each row of the lists once for each
-// of these cubes. To give up takes some tenths of a second an output; functions with few such cubes
-// were seen to take a tenth of these rows.
-const MOST_ROWS_OF_AN_OUTPUT: usize = 1_000_000;
-
-/// The budget for cubes with the places that this list does not hold.
-fn budget_outside(all: &Cover) -> Budget {
-    let outputs = all.shape().outputs();
-    let rows = all.len().saturating_mul(MOST_OF_AN_OUTPUT);
-    Budget {
-        cubes: outputs.saturating_mul(MOST_OF_AN_OUTPUT).min(MOST_OUTSIDE),
-        rows: outputs.saturating_mul(rows.saturating_add(MOST_ROWS_OF_AN_OUTPUT)),
-    }
-}
-
-/// Whether to pick points in place of listing all primes: functions of few inputs have few primes.
-fn uses_points(shape: Shape) -> bool {
-    shape.inputs() > 12
-}
-
-/// Whether to make the places outside. Of one output the primes are mostly few, and where
-/// many functions are joined in it the places outside take too many cubes to begin with.
-fn uses_outside(sets: &Sets) -> bool {
-    let shape = sets.on().shape();
-    uses_points(shape) && shape.outputs() > 1
-}
-
-/// Whether to pick points where all primes are listed: with fewer inputs the rows from regions
-/// are made sooner, as points are picked by a look at all primes for each of them.
-fn uses_points_of_primes(sets: &Sets) -> bool {
-    sets.on().shape().inputs() > 20
-}
-
-/// Whether to make places outside as they are needed: with several outputs where `outside` gave none
-/// or what it gave was too much, and with one output where primes are thought many.
-fn uses_places_as_needed(sets: &Sets) -> bool {
-    let shape = sets.on().shape();
-    uses_points(shape) && (shape.outputs() > 1 || have_many_consensus_pairs(sets.on().as_slice()))
-}
 
 /// Some cubes with the places outside the ON-set and the DC-set, if they are of use and few.
 fn off_of(sets: &Sets) -> Result<Option<Cover>, AllocError>

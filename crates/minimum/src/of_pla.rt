@@ -7,31 +7,15 @@ ghost use Rattle.pla.specs.Description.{Description};
 ghost use Rattle.pla.specs.Completed.{sets_of};
 ghost use Rattle.minimum.specs.Primes.{essential_of, exact_of, primes_of};
 
-use crate::essential_by_neighbours::consensus_pairs::have_many_consensus_pairs;
 use crate::essential_by_neighbours::{find_essential, find_essential_outside};
 use crate::essential_primes::essential;
 use crate::exact_minimum::{exact, exact_of_samples};
 use crate::prime_implicants::primes;
-use cover::{Budget, Cover, subtract};
+use crate::ways::{budget_of_off, uses_growth};
+use cover::{Cover, subtract};
 use covering::Choice;
 use pla::{FileType, Pla, Sets};
 use std::alloc::{AllocError, Global};
-
-// Taking the ON list from one OFF row makes at most this many cubes; past that a DC list is made.
-const MOST_OF_OFF: usize = 200_000;
-
-// At most this many rows are looked at for all OFF rows, besides each ON row once for each OFF row:
-// a wide OFF row over many ON rows takes far more, and then a DC list is made sooner.
-const MOST_ROWS_OF_OFF: usize = 4_000_000;
-
-// The budget for taking the ON list from the OFF list.
-fn budget_of_off(pla: &Pla) -> Budget {
-    let pairs = pla.off().len().saturating_mul(pla.on().len());
-    Budget {
-        cubes: MOST_OF_OFF,
-        rows: pairs.saturating_add(MOST_ROWS_OF_OFF),
-    }
-}
 
 // Cubes of the places of the OFF list that the ON list does not hold, under fr, unless that is too
 // much: outside them are the places of the ON-set with what neither list holds.
@@ -78,21 +62,6 @@ pub fn primes_of_pla(alloc: Global, pla: &Pla) -> Result<Cover, AllocError>
         Some(off) => primes_outside(&off),
         None => primes(&Sets::of(alloc, pla, true, false)?),
     }
-}
-
-// Whether to find essential primes without a list of all primes. With up to 12 inputs that list is
-// short, and is made unless rows are few; with one output it is short unless many pairs of rows
-// have a consensus. Growing looks at all rows for each prime that it grows.
-fn uses_growth(sets: &Sets) -> bool {
-    let (inputs, rows) = (sets.on().shape().inputs(), sets.on().len());
-    if inputs <= 12 {
-        return rows < 100;
-    }
-    let most = if inputs > 40 { 100_000 } else { 20_000 };
-    if rows > most {
-        return false;
-    }
-    sets.on().shape().outputs() > 1 || have_many_consensus_pairs(sets.on().as_slice())
 }
 
 // The essential primes of the sets.
