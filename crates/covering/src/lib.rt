@@ -9,6 +9,7 @@
 //! - [`reduce`] applies the steps of a reduction until none applies; the least cover stays.
 //! - [`least_cover`] gives the least cover, and [`least_cover_with_effort`] counts what was done to
 //!   find it. [`least_cover_plain`] gives it too, by trying all choices.
+//! - [`short_cover`] gives a short one soon.
 //!
 //! Nothing is known here of cubes. The lists of numbers and marks that a table is made of serve
 //! lists of primes as well: [`numbers`], [`copy_of`], [`is_within`], [`is_blank`]; [`all_marked`],
@@ -48,6 +49,7 @@ mod reduction;
 mod renumber;
 mod row_dominance;
 mod search;
+mod short_covers;
 mod solver;
 mod steps;
 mod table;
@@ -60,5 +62,6 @@ pub use heuristics::Effort;
 pub use laws::{least_difference_decides, least_is_unique, weights_bound_covers};
 pub use marks::{all_marked, is_marked, unmark};
 pub use reduction::reduce;
+pub use short_covers::short_cover;
 pub use solver::{least_cover, least_cover_with_effort};
 pub use table::Table;

@@ -441,7 +441,7 @@ impl Table {
     }
 
     /// A cover that is likely short: a bound on the length says when a local search is at its end.
-    fn short_cover(
+    pub(crate) fn short_cover(
         &self,
         alloc: Global,
         choice: Choice,

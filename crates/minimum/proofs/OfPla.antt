@@ -1,9 +1,10 @@
 -- The places of the ON-set with the DC-set under fr, by those that OFF alone holds.
-use Rattle.std.proofs.Common.{◌≡◌, ◌∙◌, Bool, true, false, not, ◌&&◌, ◌||◌, List, [], ◌++◌, refl, ap, sym, subst, Option}
+use Rattle.std.proofs.Common.{◌≡◌, ◌∙◌, Bool, true, false, not, ◌&&◌, ◌||◌, List, [], ◌++◌, refl, ap, ap₂, sym, subst}
 use Rattle.std.proofs.Math.Bool.{not-not}
-use Rattle.std.specs.Prelude.{IfOk, IfSome, Result}
-use Rattle.cube.specs.Cube.{Cube, Place, IsPlace, difference}
+use Rattle.std.specs.List.{Contains}
+use Rattle.cube.specs.Cube.{Cube, Place, IsCube, IsPlace, difference}
 use Rattle.cube.specs.Sum.{complete_sum}
+use Rattle.cube.proofs.SumLemmas.{Contains-complete_sum}
 use Rattle.cover.specs.Cubes.{Cubes}
 use Rattle.cover.specs.Places.{places}
 use Rattle.cover.proofs.OffSets.{places-sum}
@@ -13,10 +14,10 @@ use Rattle.pla.specs.declared.file_type.FileType.TheVariants.{Fr}
 use Rattle.pla.specs.Completed.{dc_list, off_list, outside, sets_of}
 use Rattle.pla.specs.Description.{Description}
 use Rattle.pla.specs.Sets.{SetLists}
-use Rattle.covering.specs.declared.choice.Choice.{Choice}
-use Rattle.minimum.specs.declared.points.source.Source.TheVariants.{Outside, Primes}
-use Rattle.minimum.specs.Primes.{care_on, exact_of, primes_of}
-use Rattle.minimum.specs.Points.{StandsFor}
+use Rattle.minimum.specs.declared.points.source.Source.{Source}
+use Rattle.minimum.specs.declared.points.source.Source.TheVariants.{Outside}
+use Rattle.minimum.specs.Primes.{care_on, primes_of}
+use Rattle.minimum.specs.Points.{IsSource, StandsFor, lists_of, source_primes, source_size}
 use Rattle.minimum.specs.Blocking.{IsSampled}
 
 -- outside what OFF alone holds: on, or neither
@@ -71,9 +72,6 @@ module _ (given : SetLists) (none : given.dc ≡ []) where
         (λ p place. valid_place alone.cubes p place (is p place));
   }
 
-  pub stands_primes : (list : Cubes) → list.cubes ≡ primes_of (with_open given) → StandsFor (with_open given) given (Primes list)
-  stands_primes list e = record { size = refl; on = refl; wanted = wanted_place; primes = e }
-
   pub sampled_alone : (alone : Cubes) (on : Cubes) → on ≡ record { size = given.size; cubes = given.on } → ((p : Place) → IsPlace given.size p → places alone.cubes p ≡ difference (places given.off) (places given.on) p)
       → IsSampled (with_open given) on alone
   sampled_alone alone on e is = record {
@@ -86,11 +84,31 @@ module _ (given : SetLists) (none : given.dc ≡ []) where
       all_wanted true = refl
       all_wanted false = refl
 
+-- the lists of a description under fr
+abbrev pub samples_of : Description → SetLists
+samples_of d = record { size = d.size; on = d.on; dc = []; off = d.off }
+
 -- an answer for the samples' lists is one for those of a description under fr
 module _ (d : Description) (given : SetLists) (e : given ≡ record { size = d.size; on = d.on; dc = []; off = d.off }) (f : d.file_type ≡ Fr) where
   pub open_sets : with_open given ≡ sets_of d true true
   open_sets = ap with_open e ∙ ap (λ t. record { size = d.size; on = d.on; dc = dc_list t true d; off = off_list t true d }) (sym f)
 
-  pub exact_of_open : (choice : Choice) {E : Type 0} (r : Result (Option Cubes) E) → IfOk r (λ o. IfSome o (λ list. list ≡ record { size = given.size; cubes = exact_of choice (with_open given) }))
-      → IfOk r (λ o. IfSome o (λ list. list ≡ record { size = d.size; cubes = exact_of choice (sets_of d true true) }))
-  exact_of_open choice r = subst (λ sets. IfOk r (λ o. IfSome o (λ list. list ≡ record { size = sets.size; cubes = exact_of choice sets }))) open_sets
+-- the samples stand for the three sets, whatever source tells the same primes
+module _ (d : Description) (off : Cubes) (f : d.file_type ≡ Fr) (e : off.size ≡ d.size) (is : (p : Place) → IsPlace d.size p → places off.cubes p ≡ difference (places d.off) (places d.on) p)
+    (sets : SetLists) (s : sets ≡ sets_of d true true) (on dc : Cubes) (a : on ≡ record { size = d.size; cubes = d.on }) (b : dc ≡ record { size = d.size; cubes = [] }) where
+  samples_alone : StandsFor sets (samples_of d) (Outside off)
+  samples_alone = subst (λ z. StandsFor z (samples_of d) (Outside off)) (open_sets d (samples_of d) refl f ∙ sym s) (stands_alone (samples_of d) refl off e is)
+
+  pub samples_stand : (source : Source) → source_primes source ≡ source_primes (Outside off) → StandsFor sets (lists_of on dc) source
+  samples_stand source same = record {
+    size = ap (λ (l : Cubes). l.size) a ∙ samples_alone.size;
+    on = samples_alone.on ∙ ap (λ (l : Cubes). l.cubes) (sym a);
+    wanted = λ p place. ap₂ (λ (x y : Cubes). places x.cubes p && not (places y.cubes p)) a b ∙ samples_alone.wanted p place;
+    primes = same ∙ samples_alone.primes;
+  }
+
+  pub samples_source : (source : Source) → source_size source ≡ off.size → source_primes source ≡ source_primes (Outside off) → IsSource on.size source
+  samples_source source sized same = record {
+    sized = sized ∙ e ∙ ap (λ (l : Cubes). l.size) (sym a);
+    cubes = λ c h. subst (λ z. IsCube z c) (e ∙ ap (λ (l : Cubes). l.size) (sym a)) ((Contains-complete_sum off.size (λ p. not (places off.cubes p)) c).0 (subst (λ l. Contains l c) same h)).is_cube;
+  }

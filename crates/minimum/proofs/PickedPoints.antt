@@ -1,5 +1,5 @@
 -- Points that are picked, and the primes that contain them.
-use Rattle.std.proofs.Common.{◌≡◌, ◌≢◌, ℕ, suc, ◌<◌, Bool, true, false, cond, not, ◌||◌, List, [], ◌∷◌, ◌++◌, length, map, get_or, All, refl, ap, ap₂, sym, subst, ◌∙◌, ◌⊎◌, arith, inl, inr}
+use Rattle.std.proofs.Common.{◌≡◌, ◌≢◌, ℕ, suc, ◌<◌, Bool, true, false, cond, not, ◌&&◌, ◌||◌, List, [], ◌∷◌, ◌++◌, length, map, get_or, All, refl, ap, ap₂, sym, subst, ◌∙◌, ◌⊎◌, arith, inl, inr}
 use Rattle.std.specs.Prelude.{filter}
 use Rattle.std.specs.List.{Contains, range_with_len}
 use Rattle.std.proofs.lemmas.Bool.{cases_Bool, false≢true, and_parts, not-true, both_ways}
@@ -33,7 +33,7 @@ use Rattle.minimum.specs.Primes.{care_on, primes_of}
 use Rattle.minimum.specs.PrimeRows.{contains_region, has_output, with_output, HasOneOutput}
 use Rattle.minimum.specs.declared.points.source.Source.{Source}
 use Rattle.minimum.specs.declared.points.picked_points.PickedPoints.{PickedPoints}
-use Rattle.minimum.specs.Points.{Function, function_of, function_by, source_size, source_primes, IsSource, StandsFor, IsFound, IsPointAt, IsWantedPoint, AreDominating, IsDominated, AreColumnsOf, IsAsGood, holders, IsOnePoint}
+use Rattle.minimum.specs.Points.{Function, function_of, function_by, lists_of, source_size, source_primes, IsSource, StandsFor, IsFound, IsPointAt, IsWantedPoint, AreDominating, IsDominated, AreColumnsOf, IsAsGood, holders, IsOnePoint}
 use Rattle.minimum.proofs.Dominating.{dominated_with}
 use Rattle.minimum.proofs.PrimeRows.{spans_holds}
 
@@ -77,6 +77,10 @@ sizes_for size cubes region are cube k d lt = let own = are k d lt in (own.has_s
 
 pub care_parts : (sets : SetLists) (p : Place) → care_on sets p ≡ true → (places sets.on p ≡ true) × (not (places sets.dc p) ≡ true)
 care_parts sets p want = and_parts (places sets.on p) (not (places sets.dc p)) want
+
+-- the lists alone say which places are wanted
+pub wanted_by : (sets : SetLists) (on dc : Cubes) → on ≡ record { size = sets.size; cubes = sets.on } → dc ≡ record { size = sets.size; cubes = sets.dc } → (p : Place) → care_on (lists_of on dc) p ≡ care_on sets p
+wanted_by sets on dc e f p = ap₂ (λ (a b : Cubes). places a.cubes p && not (places b.cubes p)) e f
 
 -- what lies in a list and in the DC list holds wanted places by the list
 pub wanted_in : (sets : SetLists) (list held : List Cube) → held ≡ list ++ sets.dc → IsSubset (places sets.on) (places held) → IsSubset (care_on sets) (places list)

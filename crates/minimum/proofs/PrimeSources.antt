@@ -14,7 +14,10 @@ use Rattle.cover.proofs.SumEnds.{complete_sum-agree}
 use Rattle.pla.specs.Sets.{SetLists}
 use Rattle.minimum.specs.declared.points.source.Source.TheVariants.{Outside, Primes}
 use Rattle.minimum.specs.Primes.{primes_of}
-use Rattle.minimum.specs.Points.{IsSource, StandsFor}
+use Rattle.minimum.specs.declared.points.source.Source.{Source}
+use Rattle.minimum.specs.Points.{IsSource, StandsFor, lists_of}
+use Rattle.minimum.proofs.PickedPoints.{wanted_by}
+
 
 -- lists of the same cubes hold the same places
 pub places_same : (xs ys : List Cube) → HasSameCubes xs ys → (p : Place) → places ys p ≡ places xs p
@@ -52,3 +55,12 @@ module _ (sets : SetLists) (list : Cubes) (e : list ≡ record { size = sets.siz
 
   pub stands_among : StandsFor sets sets (Primes list)
   stands_among = record { size = refl; on = refl; wanted = λ p place. refl; primes = ap (λ (l : Cubes). l.cubes) e }
+
+-- so they are for the lists alone
+pub stands_given : (sets : SetLists) (on dc : Cubes) (source : Source) → on ≡ record { size = sets.size; cubes = sets.on } → dc ≡ record { size = sets.size; cubes = sets.dc } → StandsFor sets sets source → StandsFor sets (lists_of on dc) source
+stands_given sets on dc source e f same = record {
+  size = ap (λ (l : Cubes). l.size) e;
+  on = ap (λ (l : Cubes). l.cubes) (sym e);
+  wanted = λ p place. wanted_by sets on dc e f p;
+  primes = same.primes;
+}

@@ -99,12 +99,6 @@ pub record IsImplicantOver (off : Cubes) (cube c : Cube) : Type 0 where
   pub within : IsImplicant off c
   pub over : IsSubset (holds cube) (holds c)
 
--- a row of the list that the cube meets
-pub record IsMetBy (off : Cubes) (c row : Cube) : Type 0 where
-  pub member : Contains off.cubes row
-  pub is_cube : IsCube off.size row
-  pub meets : IsDisjoint (holds row) (holds c) → ⊥
-
 -- the second cube has each literal of the first
 abbrev pub HasLiteralsOf : Cube → Cube → Type 0
 HasLiteralsOf wide c = (k : ℕ) → slice_index_or wide.symbols k Dash ≢ Dash
@@ -119,9 +113,12 @@ pub record IsBetween (off : Cubes) (narrow wide c : Cube) : Type 0 where
 abbrev pub HasNoLiteral : Cube → Type 0
 HasNoLiteral c = (k : ℕ) → slice_index_or c.symbols k Dash ≡ Dash
 
--- a cube took the place of another, which was no better; it contains what the other contains of
--- both the narrow cube and the wide one
-pub record Improves (off : Cubes) (narrow wide old new : Cube) : Type 0 where
-  pub good : IsAsGood Literals old new
-  pub over : (e : Cube) → IsSubset (holds e) (holds narrow) → IsSubset (holds e) (holds wide)
-      → IsImplicantOver off e old → IsImplicantOver off e new
+-- no cube with the literals of the wide one is better than the best
+abbrev pub IsNoWorse : Cube → Cube → Type 0
+IsNoWorse wide best = (c : Cube) → HasLiteralsOf wide c → length c.symbols ≡ length wide.symbols
+    → IsAsGood Literals c best
+
+-- no implicant between the two is better than the best
+abbrev pub AreNoBetter : Cubes → Cube → Cube → Cube → Type 0
+AreNoBetter off narrow wide best = (c : Cube) → IsBetween off narrow wide c
+    → IsAsGood Literals c best

@@ -1,5 +1,5 @@
 -- A table of the primes that hold some wanted places.
-use Rattle.std.specs.Prelude.{◌≡◌, ◌≢◌, ℕ, ◌<◌, ◌⊎◌, Bool, true, not, List, ◌++◌, Contains, filter, length, map, slice_index_or}
+use Rattle.std.specs.Prelude.{◌≡◌, ◌≢◌, ℕ, ◌<◌, ◌⊎◌, Bool, true, not, List, [], ◌++◌, Contains, filter, length, map, slice_index_or}
 use Rattle.std.specs.Cmp.Lexicographic.{slice_cmp}
 use Rattle.std.specs.declared.cmp.Ordering.TheVariants.{Greater}
 use Rattle.std.specs.List.{range_with_len}
@@ -9,7 +9,7 @@ use Rattle.cube.specs.Size.{Size}
 use Rattle.cube.specs.Cube.{Cube, Place, holds, literals, IsCube, IsPlace, IsSubset}
 use Rattle.cube.specs.Order.{symbol_cmp, row_cmp}
 use Rattle.cube.specs.Sum.{complete_sum}
-use Rattle.cover.specs.Cubes.{AreCubes}
+use Rattle.cover.specs.Cubes.{AreCubes, Cubes}
 use Rattle.cover.specs.Places.{places}
 use Rattle.cover.specs.Reduced.{HasSameCubes}
 use Rattle.pla.specs.Sets.{SetLists}
@@ -32,6 +32,15 @@ pub record Function : Type 0 where
 -- that of three lists
 abbrev pub function_of : SetLists → Function
 function_of sets = record { size = sets.size; primes = primes_of sets; wanted = care_on sets }
+
+-- the lists that say which places are wanted
+abbrev pub lists_of : Cubes → Cubes → SetLists
+lists_of on dc = record { size = on.size; on = on.cubes; dc = dc.cubes; off = [] }
+
+-- the list of a source
+abbrev pub source_list : Source → Cubes
+source_list (Outside off) = off
+source_list (Primes list) = list
 
 -- the size of a source, and the primes that it tells: those outside its list, or the list itself
 abbrev pub source_size : Source → Size

@@ -34,9 +34,9 @@ use crate::as_needed::places_outside::{add_refusals, add_refusals_of_growth, par
 use crate::cubes::are_apart;
 use crate::essential_by_neighbours::find_essential;
 use crate::essential_by_neighbours::reached_outputs::outputs_at;
-use crate::exact_minimum::cover_of_points;
 use crate::points::dominating::dominating_columns;
 use crate::points::picked_points::push_cube;
+use crate::points::rounds::cover_of_points;
 use crate::points::{is_wanted, point_with};
 use crate::prime_implicants::on_and_dc;
 use cover::{Cover, in_row_order};
@@ -121,7 +121,7 @@ fn add_point_in(
     let Some(point) = point_in(alloc, &known.outside, part)? else {
         return Ok(());
     };
-    if !is_wanted(sets, &point) {
+    if !is_wanted(sets.on(), sets.dc(), &point) {
         return Ok(());
     }
     if !are_apart(essential.as_slice(), &point) {

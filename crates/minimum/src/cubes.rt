@@ -6,6 +6,7 @@ ghost use Rattle.cube.specs.Sharp.{opposite as opposite_of};
 ghost use Rattle.cover.specs.Cubes.{AreCubes};
 ghost use Rattle.cover.specs.Places.{places};
 ghost use Rattle.minimum.specs.Neighbours.{LiesInOneOf};
+ghost use Rattle.minimum.specs.Primes.{chosen};
 
 use cover::Cover;
 use cube::{Cube, Shape, Symbol};
@@ -82,4 +83,20 @@ pub(crate) fn add_copy(list: &mut Cover, cube: &Cube) -> Result<(), AllocError>
         Ok(()) => Ok(()),
         Err(_) => Err(AllocError),
     }
+}
+
+/// The cubes with these numbers.
+pub(crate) fn cubes_at(alloc: Global, list: &Cover, numbers: &[usize]) -> Result<Cover, AllocError>
+    ensures { IfOk result (λ l. l ≡ record {
+      size = list.now.size;
+      cubes = chosen list.now.cubes numbers.now;
+    }) }
+{
+    let mut picked = Cover::new(alloc, list.shape());
+    for number in numbers {
+        if let Some(cube) = list.get(*number) {
+            add_copy(&mut picked, cube)?;
+        }
+    }
+    Ok(picked)
 }

@@ -1,109 +1,34 @@
-//! The least cover by primes.
+//! The least cover by primes: which ways lead to it.
 //!
-//! Four ways lead to it. With many inputs and several outputs points are picked, and columns for them
-//! are grown outside cubes with the places in neither set. Where these cubes are too many, and with
-//! one output where primes are thought many, places outside are made as they are needed
-//! (`as_needed`). Else all primes are listed: points are picked by them where the inputs are many,
-//! and else the rows of their table come from regions. Which way is taken is a hint; where one has
-//! spent its budget, the next one follows.
-//!
-//! Points are picked in rounds: the least cover of the table so far is made, and points are added
-//! for what it leaves out of the ON cubes. The last table was seen to have one to seven times as
-//! many rows as the cover has primes, and one to three columns a row. A round costs what
-//! [`least_cover`] does, and a look at the ON cubes that are left out.
+//! With many inputs and several outputs points are picked, and columns for them are grown outside
+//! cubes with the places in neither set; so too under fr, where OFF tells these places. Where these
+//! cubes are too many, and with one output where primes are thought many, places outside are made as
+//! they are needed (`as_needed`). Else all primes are listed: points are picked by them where the
+//! inputs are many, and else the rows of their table come from regions. Which way is taken is a hint
+//! (`ways`); where one has spent its budget, the next one follows.
 
-ghost use Rattle.std.specs.Prelude.{◌≡◌, ◌<◌, ◌||◌, [], IfOk, IfSome, not, true};
-ghost use Rattle.std.specs.List.{Contains};
-ghost use Rattle.cube.specs.Cube.{Cube as Row, IsPlace, IsSubset, Place};
-ghost use Rattle.cube.specs.Limits.{IsWithinLimits, format_limits};
-ghost use Rattle.cover.specs.Cubes.{AreCubes};
+ghost use Rattle.std.specs.Prelude.{◌≡◌, ◌||◌, IfOk, IfSome, not, true};
+ghost use Rattle.cube.specs.Cube.{IsPlace, Place, difference as difference_of};
 ghost use Rattle.cover.specs.Places.{places};
-ghost use Rattle.covering.specs.Cover.{IsLeast};
+ghost use Rattle.pla.specs.declared.file_type.FileType.{FileType};
+ghost use Rattle.pla.specs.Completed.{sets_of};
 ghost use Rattle.pla.specs.Sets.{SetLists};
-ghost use Rattle.minimum.specs.Points.{AreDominating, IsFound, function_by, function_of, IsLeastOfPoints, IsSource, StandsFor};
-ghost use Rattle.minimum.specs.Primes.{care_on, chosen, exact_of, primes_of};
+ghost use Rattle.minimum.specs.declared.points.source.Source.{Source};
+ghost use Rattle.minimum.specs.Primes.{exact_of, primes_of};
 
 use crate::as_needed::exact_as_needed;
-use crate::cubes::add_copy;
-use crate::essential_by_neighbours::consensus_pairs::have_many_consensus_pairs;
-use crate::points::picked_points::PickedPoints;
-use crate::points::proposals::{
-    first_places, places_left_out, proposer_by_off, proposer_by_primes,
-};
+use crate::cubes::cubes_at;
+use crate::points::rounds::exact_by_points;
 use crate::points::source::{Source, large_first};
-use crate::points::{add_places, point_table};
 use crate::prime_implicants::{on_and_dc, primes};
 use crate::prime_table::OfPrimes;
-use cover::{Budget, Cover, in_row_order, outside};
-use covering::{Choice, Table, least_cover, reduce};
-use cube::{Cube, Shape};
-use pla::Sets;
-use signature_search::Proposer;
+use crate::ways::{
+    budget_outside, uses_outside, uses_places_as_needed, uses_points, uses_points_of_primes,
+};
+use cover::{Cover, outside};
+use covering::{Choice, Table, least_cover};
+use pla::{Pla, Sets};
 use std::alloc::{AllocError, Global};
-
-/// The cubes with these numbers.
-fn cubes_at(alloc: Global, list: &Cover, numbers: &[usize]) -> Result<Cover, AllocError>
-    ensures { IfOk result (λ l. l ≡ record {
-      size = list.now.size;
-      cubes = chosen list.now.cubes numbers.now;
-    }) }
-{
-    let mut picked = Cover::new(alloc, list.shape());
-    for number in numbers {
-        if let Some(cube) = list.get(*number) {
-            add_copy(&mut picked, cube)?;
-        }
-    }
-    Ok(picked)
-}
-
-// At most this many cubes with the places outside are made for an output on average. Where many
-// functions are joined in one output there are far more, but few primes, and all of these are
-// listed.
-const MOST_OF_AN_OUTPUT: usize = 250;
-
-// At most this many such cubes are made for all outputs together.
-const MOST_OUTSIDE: usize = 40000;
-
-// At most this many rows are looked at for each output, besides each row of the lists once for each
-// of these cubes. To give up takes some tenths of a second an output; functions with few such cubes
-// were seen to take a tenth of these rows.
-const MOST_ROWS_OF_AN_OUTPUT: usize = 1_000_000;
-
-/// The budget for cubes with the places that this list does not hold.
-fn budget_outside(all: &Cover) -> Budget {
-    let outputs = all.shape().outputs();
-    let rows = all.len().saturating_mul(MOST_OF_AN_OUTPUT);
-    Budget {
-        cubes: outputs.saturating_mul(MOST_OF_AN_OUTPUT).min(MOST_OUTSIDE),
-        rows: outputs.saturating_mul(rows.saturating_add(MOST_ROWS_OF_AN_OUTPUT)),
-    }
-}
-
-/// Whether to pick points in place of listing all primes: functions of few inputs have few primes.
-pub(crate) fn uses_points(shape: Shape) -> bool {
-    shape.inputs() > 12
-}
-
-/// Whether to make the places outside. Of one output the primes are mostly few, and where
-/// many functions are joined in it the places outside take too many cubes to begin with.
-fn uses_outside(sets: &Sets) -> bool {
-    let shape = sets.on().shape();
-    uses_points(shape) && shape.outputs() > 1
-}
-
-/// Whether to pick points where all primes are listed: with fewer inputs the rows from regions
-/// are made sooner, as points are picked by a look at all primes for each of them.
-fn uses_points_of_primes(sets: &Sets) -> bool {
-    sets.on().shape().inputs() > 20
-}
-
-/// Whether to make places outside as they are needed: with several outputs where `outside` gave none
-/// or what it gave was too much, and with one output where primes are thought many.
-fn uses_places_as_needed(sets: &Sets) -> bool {
-    let shape = sets.on().shape();
-    uses_points(shape) && (shape.outputs() > 1 || have_many_consensus_pairs(sets.on().as_slice()))
-}
 
 /// Some cubes with the places outside the ON-set and the DC-set, if they are of use and few.
 fn off_of(sets: &Sets) -> Result<Option<Cover>, AllocError>
@@ -118,176 +43,19 @@ fn off_of(sets: &Sets) -> Result<Option<Cover>, AllocError>
     outside(&all, budget_outside(&all))
 }
 
-// At most this many rounds are made.
-const MOST_ROUNDS: usize = 200;
-
-/// The numbers of a cover of the fewest columns.
-fn shortest_cover(table: &Table) -> Result<Vec<usize>, AllocError> {
-    least_cover(table, Choice::First)
-}
-
-/// The numbers of a cover of the table: the least, or only a shortest.
-fn numbers_of_cover(table: &Table, choice: Choice, is_least: bool) -> Result<Vec<usize>, AllocError>
-    ensures { IfOk result (λ v. is_least ≡ true → IsLeast choice table.now v.items) }
-{
-    if is_least {
-        return least_cover(table, choice);
-    }
-    shortest_cover(table)
-}
-
-/// A cover of the table of the points: the least, or only a shortest, which is found sooner.
-pub(crate) fn cover_of_points(
-    alloc: Global,
-    points: &[Cube],
-    columns: &Cover,
-    choice: Choice,
-    is_least: bool,
-) -> Result<Cover, AllocError>
-    ghost sets: { SetLists }
-    requires on { AreCubes sets.size sets.on }
-    requires dominating { AreDominating choice (function_of sets) points.now columns.now.cubes }
-    requires size { columns.now.size ≡ sets.size }
-    requires limits { IsWithinLimits format_limits sets.size }
-    ensures size { IfOk result (λ list. list.size ≡ sets.size) }
-    ensures least { IfOk result (λ list. is_least ≡ true
-        → IsLeastOfPoints choice (function_of sets) [] points.now list.cubes) }
-    ensures columns { IfOk result (λ list. (c : Row) → Contains list.cubes c → Contains columns.now.cubes c) }
-{
-    let columns = in_row_order(columns)?;
-    let table = point_table(alloc, points, &columns)?;
-    let table = reduce(table, choice)?;
-    let numbers = numbers_of_cover(&table, choice, is_least)?;
-    cubes_at(alloc, &columns, &numbers)
-}
-
-/// The least cover of the table of the points.
-fn least_of_points(
-    alloc: Global,
-    points: &[Cube],
-    columns: &Cover,
-    choice: Choice,
-) -> Result<Cover, AllocError>
-    ghost sets: { SetLists }
-    requires on { AreCubes sets.size sets.on }
-    requires dominating { AreDominating choice (function_of sets) points.now columns.now.cubes }
-    requires size { columns.now.size ≡ sets.size }
-    requires limits { IsWithinLimits format_limits sets.size }
-    ensures size { IfOk result (λ list. list.size ≡ sets.size) }
-    ensures least { IfOk result (λ list. IsLeastOfPoints choice (function_of sets) [] points.now list.cubes) }
-    ensures columns { IfOk result (λ list. (c : Row) → Contains list.cubes c → Contains columns.now.cubes c) }
-{
-    cover_of_points(alloc, points, columns, choice, true)
-}
-
-/// The ON cubes of which the list and the DC list leave out a place.
-fn left_out(alloc: Global, sets: &Sets, list: &Cover) -> Result<Cover, AllocError>
-    requires { list.now.size ≡ sets.now.size }
-    ensures { IfOk result (λ left. left.cubes ≡ [] → IsSubset (care_on sets.now) (places list.now.cubes)) }
-{
-    let mut held = list.try_clone()?;
-    held.append(sets.dc())?;
-    let cubes = sets.on().as_slice();
-    let are_held = held.holds_cubes(cubes)?;
-    let mut left = Cover::new(alloc, list.shape());
-    for k in 0..cubes.len() {
-        if !are_held[k] {
-            add_copy(&mut left, &cubes[k])?;
-        }
-    }
-    Ok(left)
-}
-
-/// The least cover by the primes of points from these points on: where the least cover of their
-/// table leaves out a place, points are added for what it leaves out.
-fn exact_in_rounds(
-    alloc: Global,
-    given: &Sets,
-    source: &Source,
-    proposer: &Proposer,
-    choice: Choice,
-    found: &mut PickedPoints,
-) -> Result<Option<Cover>, AllocError>
-    ghost sets: { SetLists }
-    requires source { IsSource given.now.size source.now }
-    requires same { StandsFor sets given.now source.now }
-    requires limits { IsWithinLimits format_limits given.now.size }
-    requires on { AreCubes given.now.size given.now.on }
-    requires found { IsFound choice (function_by given.now source.now) found.old }
+/// The least cover by the primes of points outside cubes with the places in neither set; none where
+/// these are of no use or too many, or points have too many primes.
+fn exact_outside(alloc: Global, sets: &Sets, choice: Choice) -> Result<Option<Cover>, AllocError>
+    ghost lists: { SetLists }
+    requires { sets.now ≡ lists }
     ensures { IfOk result (λ o. IfSome o (λ list. list ≡ record
-        { size = given.now.size; cubes = exact_of choice sets })) }
+        { size = lists.size; cubes = exact_of choice lists })) }
 {
-    for _ in 0..MOST_ROUNDS {
-        let list = least_of_points(alloc, &found.points, &found.columns, choice)?;
-        let left = left_out(alloc, given, &list)?;
-        if left.is_empty() {
-            return Ok(Some(list));
-        }
-        let places = places_left_out(alloc, proposer, &left, &list)?;
-        if !add_places(alloc, given, source, &places, choice, found)? {
-            return Ok(None);
-        }
-    }
-    Ok(None)
-}
-
-/// The least cover by the primes of points, or none where the points that are proposed are not
-/// enough, or have too many primes.
-pub(crate) fn exact_by_points(
-    alloc: Global,
-    given: &Sets,
-    source: &Source,
-    proposer: &Proposer,
-    choice: Choice,
-) -> Result<Option<Cover>, AllocError>
-    ghost sets: { SetLists }
-    requires source { IsSource given.now.size source.now }
-    requires same { StandsFor sets given.now source.now }
-    requires limits { IsWithinLimits format_limits given.now.size }
-    ensures { IfOk result (λ o. IfSome o (λ list. list ≡ record
-        { size = given.now.size; cubes = exact_of choice sets })) }
-{
-    let mut found = PickedPoints::new(alloc, given.on().shape());
-    let places = first_places(alloc, proposer, given.on())?;
-    add_places(alloc, given, source, &places, choice, &mut found)?;
-    exact_in_rounds(alloc, given, source, proposer, choice, &mut found)
-}
-
-/// The least cover by the primes of points outside these cubes.
-fn exact_outside(
-    alloc: Global,
-    sets: &Sets,
-    off: Cover,
-    choice: Choice,
-) -> Result<Option<Cover>, AllocError>
-    requires size { off.size ≡ sets.now.size }
-    requires places { (p : Place) → IsPlace sets.now.size p
-        → places off.cubes p ≡ not (places sets.now.on p || places sets.now.dc p) }
-    ensures { IfOk result (λ o. IfSome o (λ list. list ≡ record
-        { size = sets.now.size; cubes = exact_of choice sets.now })) }
-{
-    let proposer = proposer_by_off(alloc, sets, &off, false)?;
-    let source = Source::Outside(large_first(off)?);
-    exact_by_points(alloc, sets, &source, &proposer, choice)
-}
-
-/// The least cover by the primes of points, from a list of all primes, if that is of use.
-fn exact_among(
-    alloc: Global,
-    sets: &Sets,
-    primes: &Cover,
-    choice: Choice,
-) -> Result<Option<Cover>, AllocError>
-    requires { primes.now ≡ record { size = sets.now.size; cubes = primes_of sets.now } }
-    ensures { IfOk result (λ o. IfSome o (λ list. list ≡ record
-        { size = sets.now.size; cubes = exact_of choice sets.now })) }
-{
-    if !uses_points_of_primes(sets) {
+    let Some(off) = off_of(sets)? else {
         return Ok(None);
-    }
-    let proposer = proposer_by_primes(alloc, sets, primes, false)?;
-    let source = Source::Primes(primes.try_clone()?);
-    exact_by_points(alloc, sets, &source, &proposer, choice)
+    };
+    let source = Source::Outside(large_first(off)?);
+    exact_by_points(alloc, sets.on(), sets.dc(), &source, false, choice)
 }
 
 /// The least cover by primes, from the table of all of them.
@@ -302,9 +70,40 @@ fn exact_by_table(
         { size = sets.now.size; cubes = exact_of choice sets.now }) }
 {
     let table = Table::build(alloc, primes, sets)?;
-    let table = reduce(table, choice)?;
     let least = least_cover(&table, choice)?;
     cubes_at(alloc, primes, &least)
+}
+
+/// The least cover by the primes of points, which are picked by a list of all primes; none where that
+/// is too much.
+fn exact_among(
+    alloc: Global,
+    sets: &Sets,
+    source: &Source,
+    choice: Choice,
+) -> Result<Option<Cover>, AllocError>
+    ghost lists: { SetLists }
+    requires lists { sets.now ≡ lists }
+    requires source { source.now ≡ Source.Primes (record
+        { size = lists.size; cubes = primes_of lists }) }
+    ensures { IfOk result (λ o. IfSome o (λ list. list ≡ record
+        { size = lists.size; cubes = exact_of choice lists })) }
+{
+    exact_by_points(alloc, sets.on(), sets.dc(), source, false, choice)
+}
+
+/// The least cover by primes, from a list of all of them.
+fn exact_by_primes(alloc: Global, sets: &Sets, choice: Choice) -> Result<Cover, AllocError>
+    ensures { IfOk result (λ list. list ≡ record
+        { size = sets.now.size; cubes = exact_of choice sets.now }) }
+{
+    let source = Source::Primes(primes(sets)?);
+    if uses_points_of_primes(sets) {
+        if let Some(list) = exact_among(alloc, sets, &source, choice)? {
+            return Ok(list);
+        }
+    }
+    exact_by_table(alloc, sets, source.list(), choice)
 }
 
 /// The least cover by primes: the shortest list of primes that together hold each place of the
@@ -314,24 +113,46 @@ fn exact_by_table(
 /// With more than 12 inputs it mostly lists no primes, but makes columns for some picked points: for
 /// each about as many as there are sets of points that primes contain together with it. Else its
 /// cost is that of [`primes`], with few inputs that of [`Table::build`], and then that of
-/// [`least_cover`] on the reduced table, whose number of branches has no small bound.
+/// [`least_cover`], whose number of branches has no small bound.
 pub fn exact(alloc: Global, sets: &Sets, choice: Choice) -> Result<Cover, AllocError>
     ensures { IfOk result (λ list. list ≡ record
         { size = sets.now.size; cubes = exact_of choice sets.now }) }
 {
-    if let Some(off) = off_of(sets)? {
-        if let Some(list) = exact_outside(alloc, sets, off, choice)? {
-            return Ok(list);
-        }
+    if let Some(list) = exact_outside(alloc, sets, choice)? {
+        return Ok(list);
     }
     if uses_places_as_needed(sets) {
         if let Some(list) = exact_as_needed(alloc, sets, choice)? {
             return Ok(list);
         }
     }
-    let primes = primes(sets)?;
-    if let Some(list) = exact_among(alloc, sets, &primes, choice)? {
-        return Ok(list);
+    exact_by_primes(alloc, sets, choice)
+}
+
+/// The least cover under fr, by points outside these places, which OFF alone holds, or by points that
+/// are picked by all primes; none where both are too much.
+pub(crate) fn exact_of_samples(
+    alloc: Global,
+    pla: &Pla,
+    off: Cover,
+    choice: Choice,
+) -> Result<Option<Cover>, AllocError>
+    ghost sets: { SetLists }
+    requires sets { sets ≡ sets_of pla.now true true }
+    requires file_type { pla.now.file_type ≡ FileType.Fr }
+    requires size { off.size ≡ pla.now.size }
+    requires places { (p : Place) → IsPlace pla.now.size p
+        → places off.cubes p ≡ difference_of (places pla.now.off) (places pla.now.on) p }
+    ensures { IfOk result (λ o. IfSome o (λ list. list ≡ record
+        { size = pla.now.size; cubes = exact_of choice sets })) }
+{
+    let none = Cover::new(alloc, pla.shape());
+    let source = Source::Outside(large_first(off)?);
+    if uses_points(pla.shape()) {
+        if let Some(list) = exact_by_points(alloc, pla.on(), &none, &source, true, choice)? {
+            return Ok(Some(list));
+        }
     }
-    exact_by_table(alloc, sets, &primes, choice)
+    let all = source.with_all_primes()?;
+    exact_by_points(alloc, pla.on(), &none, &all, true, choice)
 }

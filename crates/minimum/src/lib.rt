@@ -46,6 +46,7 @@ mod of_pla;
 mod points;
 mod prime_implicants;
 mod prime_table;
+mod ways;
 
 pub use covering::{
     Choice, Effort, Table, least_cover, least_cover_plain, least_cover_with_effort,

@@ -17,11 +17,12 @@ ghost use Rattle.cube.specs.Limits.{IsWithinLimits, format_limits};
 ghost use Rattle.covering.specs.Table.{AreRows, items_of};
 ghost use Rattle.minimum.specs.Primes.{care_on};
 ghost use Rattle.minimum.specs.PrimeRows.{HasOneOutput, with_output};
-ghost use Rattle.minimum.specs.Points.{IsSource, IsOnePoint, function_by, holders, IsFound, point_table as point_table_of};
+ghost use Rattle.minimum.specs.Points.{IsSource, IsOnePoint, function_by, holders, IsFound, lists_of, point_table as point_table_of};
 
 pub(crate) mod dominating;
 pub(crate) mod picked_points;
 pub(crate) mod proposals;
+pub(crate) mod rounds;
 pub(crate) mod source;
 
 use crate::cubes::{are_apart, lies_in_one_of};
@@ -32,7 +33,6 @@ use crate::prime_table::weights;
 use cover::Cover;
 use covering::{Choice, Table, numbers};
 use cube::{Cube, Shape, Symbol};
-use pla::Sets;
 use signature_search::Place as ProposedPlace;
 use std::alloc::{AllocError, Global};
 
@@ -90,31 +90,35 @@ fn point_of_place(
 }
 
 /// Whether the point is wanted: it lies in an ON cube, and in no DC cube.
-pub(crate) fn is_wanted(sets: &Sets, point: &Cube) -> bool
-    requires { IsCube sets.now.size point.now }
-    ensures { result ≡ true → (p : Place) → holds point.now p ≡ true → care_on sets.now p ≡ true }
+pub(crate) fn is_wanted(on: &Cover, dc: &Cover, point: &Cube) -> bool
+    requires dc { dc.now.size ≡ on.now.size }
+    requires point { IsCube on.now.size point.now }
+    ensures { result ≡ true → (p : Place) → holds point.now p ≡ true
+        → care_on (lists_of on.now dc.now) p ≡ true }
 {
-    lies_in_one_of(point, sets.on().as_slice()) && are_apart(sets.dc().as_slice(), point)
+    lies_in_one_of(point, on.as_slice()) && are_apart(dc.as_slice(), point)
 }
 
 /// Adds the proposed place, if it is wanted and its columns are found within the budget.
 fn add_place(
     alloc: Global,
-    sets: &Sets,
+    on: &Cover,
+    dc: &Cover,
     source: &Source,
     place: &ProposedPlace,
     choice: Choice,
     most: usize,
     found: &mut PickedPoints,
 ) -> Result<(), AllocError>
-    requires source { IsSource sets.now.size source.now }
-    requires found { IsFound choice (function_by sets.now source.now) found.old }
-    ensures { OnOk result (IsFound choice (function_by sets.now source.now) found.new) }
+    requires dc { dc.now.size ≡ on.now.size }
+    requires source { IsSource on.now.size source.now }
+    requires found { IsFound choice (function_by (lists_of on.now dc.now) source.now) found.old }
+    ensures { OnOk result (IsFound choice (function_by (lists_of on.now dc.now) source.now) found.new) }
 {
-    let Some(point) = point_of_place(alloc, sets.on().shape(), place)? else {
+    let Some(point) = point_of_place(alloc, on.shape(), place)? else {
         return Ok(());
     };
-    if !is_wanted(sets, &point) {
+    if !is_wanted(on, dc, &point) {
         return Ok(());
     }
     let number = found.points.len();
@@ -129,19 +133,21 @@ fn add_place(
 /// Adds the proposed places that are wanted and whose columns are found within the budget.
 fn add_places_within(
     alloc: Global,
-    sets: &Sets,
+    on: &Cover,
+    dc: &Cover,
     source: &Source,
     places: &[ProposedPlace],
     choice: Choice,
     most: usize,
     found: &mut PickedPoints,
 ) -> Result<(), AllocError>
-    requires source { IsSource sets.now.size source.now }
-    requires found { IsFound choice (function_by sets.now source.now) found.old }
-    ensures { OnOk result (IsFound choice (function_by sets.now source.now) found.new) }
+    requires dc { dc.now.size ≡ on.now.size }
+    requires source { IsSource on.now.size source.now }
+    requires found { IsFound choice (function_by (lists_of on.now dc.now) source.now) found.old }
+    ensures { OnOk result (IsFound choice (function_by (lists_of on.now dc.now) source.now) found.new) }
 {
     for place in places {
-        add_place(alloc, sets, source, place, choice, most, found)?;
+        add_place(alloc, on, dc, source, place, choice, most, found)?;
     }
     Ok(())
 }
@@ -155,19 +161,21 @@ const MOST_LOOKS: [usize; 2] = [200_000_000, 4_000_000_000];
 /// Whether there is one.
 pub(crate) fn add_places(
     alloc: Global,
-    sets: &Sets,
+    on: &Cover,
+    dc: &Cover,
     source: &Source,
     places: &[ProposedPlace],
     choice: Choice,
     found: &mut PickedPoints,
 ) -> Result<bool, AllocError>
-    requires source { IsSource sets.now.size source.now }
-    requires found { IsFound choice (function_by sets.now source.now) found.old }
-    ensures { OnOk result (IsFound choice (function_by sets.now source.now) found.new) }
+    requires dc { dc.now.size ≡ on.now.size }
+    requires source { IsSource on.now.size source.now }
+    requires found { IsFound choice (function_by (lists_of on.now dc.now) source.now) found.old }
+    ensures { OnOk result (IsFound choice (function_by (lists_of on.now dc.now) source.now) found.new) }
 {
     let count = found.points.len();
     for most in &MOST_LOOKS {
-        add_places_within(alloc, sets, source, places, choice, *most, found)?;
+        add_places_within(alloc, on, dc, source, places, choice, *most, found)?;
         if found.points.len() > count {
             return Ok(true);
         }

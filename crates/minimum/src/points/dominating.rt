@@ -29,6 +29,8 @@ use cube::Cube;
 use std::alloc::{AllocError, Global};
 
 pub(crate) mod best_cube;
+pub(crate) mod fewest_literals;
+pub(crate) mod literal_search;
 pub(crate) mod open_points;
 pub(crate) mod refusing_rows;
 
@@ -62,7 +64,7 @@ impl Columns {
         Ok(Columns {
             primes: Cover::new(alloc, off.shape()),
             left: most,
-            rows: RefusingRows::new(alloc, off)?,
+            rows: RefusingRows::new(alloc, off, most)?,
             by_output: rows_by_output(alloc, off)?,
             refusing: vec![in alloc; 0; points]?,
         })

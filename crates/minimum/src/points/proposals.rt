@@ -3,9 +3,9 @@
 ghost use Rattle.std.specs.Prelude.{IfOk};
 ghost use Rattle.cube.specs.Limits.{IsWithinLimits, format_limits};
 
+use crate::points::source::Source;
 use cover::Cover;
 use cube::{Cube, Symbol};
-use pla::Sets;
 use signature_search::{Place, Proposer, Rows};
 use std::alloc::{AllocError, Global};
 
@@ -44,35 +44,24 @@ fn rows_of(alloc: Global, list: &Cover) -> Result<Rows, AllocError>
     Ok(rows)
 }
 
-/// What proposes places of the sets, by cubes with the places that neither ON nor DC has. With
-/// `sampled` all that is neither in the ON list nor in `off` is in the DC-set.
-pub(crate) fn proposer_by_off(
+/// What proposes wanted places, by the places outside or by all primes. With `sampled` all that is
+/// neither in the ON list nor outside is in the DC-set.
+pub(crate) fn proposer_of(
     alloc: Global,
-    sets: &Sets,
-    off: &Cover,
+    on: &Cover,
+    dc: &Cover,
+    source: &Source,
     sampled: bool,
 ) -> Result<Proposer, AllocError>
-    ensures { IfOk result (λ _. IsWithinLimits format_limits sets.now.size) }
+    ensures { IfOk result (λ _. IsWithinLimits format_limits on.now.size) }
 {
-    let on = rows_of(alloc, sets.on())?;
-    let dc = rows_of(alloc, sets.dc())?;
-    let off = rows_of(alloc, off)?;
-    Proposer::by_off(alloc, &on, &dc, &off, sampled)
-}
-
-/// The same by a list of all primes.
-pub(crate) fn proposer_by_primes(
-    alloc: Global,
-    sets: &Sets,
-    primes: &Cover,
-    sampled: bool,
-) -> Result<Proposer, AllocError>
-    ensures { IfOk result (λ _. IsWithinLimits format_limits sets.now.size) }
-{
-    let on = rows_of(alloc, sets.on())?;
-    let dc = rows_of(alloc, sets.dc())?;
-    let primes = rows_of(alloc, primes)?;
-    Proposer::by_primes(alloc, &on, &dc, primes, sampled)
+    let on = rows_of(alloc, on)?;
+    let dc = rows_of(alloc, dc)?;
+    let rows = rows_of(alloc, source.list())?;
+    match source {
+        Source::Outside(_) => Proposer::by_off(alloc, &on, &dc, &rows, sampled),
+        Source::Primes(_) => Proposer::by_primes(alloc, &on, &dc, rows, sampled),
+    }
 }
 
 /// Places to begin with.

@@ -1,4 +1,4 @@
-use Rattle.std.proofs.Common.{sym, subst}
+use Rattle.std.proofs.Common.{◌∙◌, sym, subst}
 use Rattle.std.proofs.lemmas.Result.{IfOk-weaker}
 use Rattle.cube.specs.Cube.{IsCube, IsDisjoint, holds, size_of}
 use Rattle.cover.specs.Places.{places}
@@ -7,7 +7,7 @@ use Rattle.minimum.specs.Primes.{primes_of}
 use Rattle.minimum.specs.PrimeRows.{HasOneOutput}
 use Rattle.minimum.specs.Points.{IsOnePoint}
 use Rattle.minimum.specs.AsNeeded.{AreOutside}
-use Rattle.minimum.proofs.PickedPoints.{wanted_point}
+use Rattle.minimum.proofs.PickedPoints.{wanted_by, wanted_point}
 use Rattle.minimum.proofs.AsNeeded.{size_is, points_more}
 use Rattle.minimum.proofs.as_needed.add_point_in.Goals as goal
 
@@ -21,7 +21,7 @@ returns c =
     let one : HasOneOutput point = rw c.in-Some.is at c.in_ok-point.ensures.one in
     let literals : IsOnePoint point = rw c.in-Some.is at c.in_ok-point.ensures.point in
     let is_cube : IsCube sets.size point = subst (λ z. IsCube z point) (sym (size_is sets.size part c.requires.part.has_size)) cube in
-    let wanted = wanted_point sets (Primes (record { size = sets.size; cubes = primes_of sets })) point is_cube one literals (c.is_wanted.ensures c.if-not-is_wanted.false) in
+    let wanted = wanted_point sets (Primes (record { size = sets.size; cubes = primes_of sets })) point is_cube one literals (λ p h. sym (wanted_by sets c.on.result.now c.dc.result.now c.on.ensures c.dc.ensures p) ∙ c.is_wanted.ensures c.if-not-is_wanted.false p h) in
     let apart : IsDisjoint (holds point) (places essential) = subst (λ l. IsDisjoint (holds point) (places l)) c.as_slice.ensures.value (c.are_apart.ensures.0 c.if-not-are_apart.false) in
     IfOk-weaker c.push_cube.result _ _
     (λ _ e. record {

@@ -11,7 +11,7 @@ returns c =
     let sets = c.args.sets.now in
     let choice = c.args.choice in
     let primes = c.args.primes.now in
-    let least = (c.in_ok-table-2.ensures.least c.in_ok-least.least.items).1 c.in_ok-least.ensures in
+    let least = c.in_ok-least.ensures in
     let is = least_is choice sets c.in_ok-table.table c.in_ok-least.least.items c.in_ok-table.ensures.columns c.in_ok-table.ensures.covers least in
     IfOk-weaker c.cubes_at.result _ _
     (λ l h. h ∙ ap (λ s. cubes_of primes.size (chosen primes.cubes s)) (c.deref.ensures.value ∙ is)

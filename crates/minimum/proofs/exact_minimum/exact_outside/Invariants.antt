@@ -1,4 +1,4 @@
 use Rattle.minimum.proofs.exact_minimum.exact_outside.Given as goal
 
 abbrev pub ghost-exact_by_points : goal.ghost-exact_by_points
-ghost-exact_by_points a = a.given.now
+ghost-exact_by_points g a = g.lists

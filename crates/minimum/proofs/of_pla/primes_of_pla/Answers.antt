@@ -1,5 +1,7 @@
-use Rattle.std.proofs.Common.{◌∙◌, sym}
 use Rattle.minimum.proofs.of_pla.primes_of_pla.Goals as goal
 
-pub primes_of_samples-requires : goal.primes_of_samples-requires
-primes_of_samples-requires c = sym c.file_type.ensures ∙ c.in-Fr.is
+pub returns-in-Some : goal.returns-in-Some
+returns-in-Some c = ?
+
+pub returns-in-None : goal.returns-in-None
+returns-in-None c = ?

@@ -4,28 +4,28 @@ use Rattle.std.specs.List.{Contains}
 use Rattle.cube.specs.Cube.{IsCube}
 use Rattle.cover.specs.Cubes.{AreCubes}
 use Rattle.cover.specs.Marks.{cube_at}
-use Rattle.minimum.specs.Points.{AreColumnsOf, IsWantedPoint, function_by, source_primes}
+use Rattle.minimum.specs.Points.{AreColumnsOf, IsWantedPoint, function_by, lists_of, source_primes}
 use Rattle.minimum.proofs.PickedPoints.{wanted_point, points_with, found_more}
 use Rattle.minimum.proofs.points.add_place.Goals as goal
 
 pub columns_for-requires-clause-points : goal.columns_for-requires-clause-points
 columns_for-requires-clause-points c =
-    let sets = c.args.sets.now in
+    let sets = lists_of c.args.on.now c.args.dc.now in
     let point = c.in-Some.point in
-    let shape : c.shape.result ≡ sets.size = c.shape.ensures.size ∙ ap (λ l. l.size) c.on.ensures in
+    let shape : c.shape.result ≡ sets.size = c.shape.ensures.size in
     let cube : IsCube c.shape.result point = rw c.in-Some.is at c.in_ok-point.ensures.cube in
     let wanted : IsWantedPoint (function_by sets c.args.source.now) point = wanted_point sets c.args.source.now point (subst (λ z. IsCube z point) shape cube) (rw c.in-Some.is at c.in_ok-point.ensures.one) (rw c.in-Some.is at c.in_ok-point.ensures.point) (c.is_wanted.ensures c.if-not-is_wanted.false) in
     subst (λ z. AreCubes z c.deref.result.now) (sym c.requires.source.sized) (points_with sets c.args.source.now c.args.choice point c.args.found.now c.deref.result.now wanted (c.deref.ensures.value ∙ c.in_ok-push_cube.ensures) c.requires.found)
 
 pub returns-in_ok-append-in-Some-2 : goal.returns-in_ok-append-in-Some-2
 returns-in_ok-append-in-Some-2 c =
-    let sets = c.args.sets.now in
+    let sets = lists_of c.args.on.now c.args.dc.now in
     let source = c.args.source.now in
     let point = c.in-Some.point in
     let old = c.args.found.now in
     let row = c.in-Some-2.row in
     let points = c.deref.result.now in
-    let shape : c.shape.result ≡ sets.size = c.shape.ensures.size ∙ ap (λ l. l.size) c.on.ensures in
+    let shape : c.shape.result ≡ sets.size = c.shape.ensures.size in
     let cube : IsCube c.shape.result point = rw c.in-Some.is at c.in_ok-point.ensures.cube in
     let wanted : IsWantedPoint (function_by sets source) point = wanted_point sets source point (subst (λ z. IsCube z point) shape cube) (rw c.in-Some.is at c.in_ok-point.ensures.one) (rw c.in-Some.is at c.in_ok-point.ensures.point) (c.is_wanted.ensures c.if-not-is_wanted.false) in
     let both : points ≡ old.points.items ++ point ∷ [] = c.deref.ensures.value ∙ c.in_ok-push_cube.ensures in

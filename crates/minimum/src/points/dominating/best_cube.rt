@@ -1,8 +1,9 @@
 //! The best of the cubes that contain a cube and meet none of a list.
 //!
-//! Each literal is taken away that can be, from the first input on; then each output is added that
-//! can be. What can not is told by a row of the list that refuses it: the rows are a hint, and each
-//! is looked at. So a step costs a look at one row, and the cube one at all rows.
+//! Each literal is taken away that can be, from the first input on, or where literals count, all but
+//! the fewest; then each output is added that can be. What can not is told by a row of the list that
+//! refuses it: the rows are a hint, and each is looked at. So a step costs a look at one row, and the
+//! cube one at all rows.
 
 ghost use Rattle.std.specs.Prelude.{◌≡◌, ◌<◌, true, IfOk, IfSome, OnOk};
 ghost use Rattle.cube.specs.Cube.{IsCube, IsSubset, holds};
@@ -11,6 +12,7 @@ ghost use Rattle.minimum.specs.Neighbours.{on_side, IsFreedAt, IsSettledInput, I
 ghost use Rattle.minimum.specs.Dominating.{IsBest, IsBestFreed, IsSettledUpTo};
 
 use crate::cubes::{are_apart, one_output, opposite};
+use crate::points::dominating::fewest_literals::fewest_literals;
 use crate::points::dominating::refusing_rows::RefusingRows;
 use cover::Cover;
 use covering::Choice;
@@ -132,28 +134,38 @@ fn with_outputs(
     Ok(Some(grown))
 }
 
-/// The cube freed of literals from the first input on; or `None` where a hint is wrong, or literals
-/// count.
+/// The cube freed of literals, as the choice says; or `None` where a hint is wrong, or the search for
+/// the fewest literals took too long.
 fn freed_cube(
+    alloc: Global,
     off: &Cover,
     cube: &Cube,
     choice: Choice,
-    refusing: &[Option<usize>],
+    refusing: &mut RefusingRows,
 ) -> Result<Option<Cube>, AllocError>
     requires { IsCube off.now.size cube.now }
     ensures { IfOk result (λ o. IfSome o (IsBestFreed choice off.now cube.now)) }
 {
-    let Choice::First = choice else {
-        return Ok(None);
-    };
-    let Some(first) = first_at_inputs(off, cube, refusing)? else {
-        return Ok(None);
-    };
-    Ok(Some(first))
+    match choice {
+        Choice::First => {
+            refusing.find_at_inputs(off, cube);
+            let Some(first) = first_at_inputs(off, cube, &refusing.inputs)? else {
+                return Ok(None);
+            };
+            Ok(Some(first))
+        }
+        Choice::Literals => {
+            let Some(fewest) = fewest_literals(alloc, off, cube, &mut refusing.left)? else {
+                return Ok(None);
+            };
+            Ok(Some(fewest))
+        }
+    }
 }
 
 /// The best of the cubes that contain the cube and meet none of the list, or `None` if the cube meets
-/// one, or literals count (or a hint is wrong). It costs some looks at each of the list.
+/// one, or the search for the fewest literals took too long (or a hint is wrong). It costs some looks
+/// at each of the list.
 pub(crate) fn best_cube(
     alloc: Global,
     off: &Cover,
@@ -164,8 +176,7 @@ pub(crate) fn best_cube(
     requires { IsCube off.now.size cube.now }
     ensures { IfOk result (λ o. IfSome o (IsBest choice off.now cube.now)) }
 {
-    refusing.find_at_inputs(off, cube);
-    let Some(freed) = freed_cube(off, cube, choice, &refusing.inputs)? else {
+    let Some(freed) = freed_cube(alloc, off, cube, choice, refusing)? else {
         return Ok(None);
     };
     refusing.find_at_outputs(off, &freed);

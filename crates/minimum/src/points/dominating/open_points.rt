@@ -33,7 +33,7 @@ pub(crate) fn holds_one_of(points: &[Cube], numbers: &[usize], cube: &Cube) -> b
 }
 
 /// Whether the cube meets the row with this number.
-fn meets_row(off: &Cover, r: usize, cube: &Cube) -> bool
+pub(crate) fn meets_row(off: &Cover, r: usize, cube: &Cube) -> bool
     requires { IsCube off.now.size cube.now }
     ensures { result ≡ true → IsImplicant off.now cube.now → ⊥ }
 {

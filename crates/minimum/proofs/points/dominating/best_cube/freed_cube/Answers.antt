@@ -3,8 +3,8 @@ use Rattle.minimum.specs.Dominating.{IsBestFreed}
 use Rattle.minimum.proofs.FirstPrimes.{first_freed}
 use Rattle.minimum.proofs.points.dominating.best_cube.freed_cube.Goals as goal
 
-pub returns : goal.returns
-returns c =
+pub returns-in-Some : goal.returns-in-Some
+returns-in-Some c =
     let off = c.args.off.now in
     subst (λ z. IsBestFreed z off c.args.cube.now c.in-Some.first) (sym c.in-First.is)
-    (first_freed off c.args.cube.now c.in-Some.first c.requires (rw c.in-Some.is at c.in_ok-first.ensures.settled) (rw c.in-Some.is at c.in_ok-first.ensures.first))
+    (first_freed off c.args.cube.now c.in-Some.first c.requires (rw c.in-Some.is at c.in_ok-first-in-First.ensures.settled) (rw c.in-Some.is at c.in_ok-first-in-First.ensures.first))

@@ -1,4 +1,0 @@
-use Rattle.minimum.proofs.exact_minimum.exact_by_points.Given as goal
-
-abbrev pub ghost-exact_in_rounds : goal.ghost-exact_in_rounds
-ghost-exact_in_rounds g a = g.sets

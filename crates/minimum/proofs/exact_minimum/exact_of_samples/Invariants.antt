@@ -1,0 +1,4 @@
+use Rattle.minimum.proofs.exact_minimum.exact_of_samples.Given as goal
+
+abbrev pub ghost-exact_by_points : goal.ghost-exact_by_points
+ghost-exact_by_points g a = g.sets

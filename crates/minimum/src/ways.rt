@@ -1,0 +1,112 @@
+//! Which way leads to an answer, and how far: hints, which owe nothing.
+
+use crate::essential_by_neighbours::consensus_pairs::have_many_consensus_pairs;
+use cover::{Budget, Cover};
+use cube::{Cube, Shape};
+use pla::{Pla, Sets};
+
+// At most this many cubes with the places outside are made for an output on average. Where many
+// functions are joined in one output there are far more, but few primes, and all of these are
+// listed.
+const MOST_OF_AN_OUTPUT: usize = 250;
+
+// At most this many such cubes are made for all outputs together.
+const MOST_OUTSIDE: usize = 40000;
+
+// At most this many rows are looked at for each output, besides each row of the lists once for each
+// of these cubes. To give up takes some tenths of a second an output; functions with few such cubes
+// were seen to take a tenth of these rows.
+const MOST_ROWS_OF_AN_OUTPUT: usize = 1_000_000;
+
+/// The budget for cubes with the places that this list does not hold.
+pub(crate) fn budget_outside(all: &Cover) -> Budget {
+    let outputs = all.shape().outputs();
+    let rows = all.len().saturating_mul(MOST_OF_AN_OUTPUT);
+    Budget {
+        cubes: outputs.saturating_mul(MOST_OF_AN_OUTPUT).min(MOST_OUTSIDE),
+        rows: outputs.saturating_mul(rows.saturating_add(MOST_ROWS_OF_AN_OUTPUT)),
+    }
+}
+
+/// Whether to pick points in place of listing all primes: functions of few inputs have few primes.
+pub(crate) fn uses_points(shape: Shape) -> bool {
+    shape.inputs() > 12
+}
+
+/// Whether to make the places outside. Of one output the primes are mostly few, and where
+/// many functions are joined in it the places outside take too many cubes to begin with.
+pub(crate) fn uses_outside(sets: &Sets) -> bool {
+    let shape = sets.on().shape();
+    uses_points(shape) && shape.outputs() > 1
+}
+
+/// Whether to pick points where all primes are listed: with fewer inputs the rows from regions
+/// are made sooner, as points are picked by a look at all primes for each of them.
+pub(crate) fn uses_points_of_primes(sets: &Sets) -> bool {
+    sets.on().shape().inputs() > 20
+}
+
+/// Whether the two have the same outputs.
+fn have_same_outputs(one: &Cube, other: &Cube) -> bool {
+    for w in 0..one.shape().outputs() / 64 + 1 {
+        if one.output_bits(w) != other.output_bits(w) {
+            return false;
+        }
+    }
+    true
+}
+
+/// Whether some rows have other outputs than the first.
+fn have_several_functions(rows: &[Cube]) -> bool {
+    let Some(first) = rows.first() else {
+        return false;
+    };
+    for row in rows {
+        if !have_same_outputs(row, first) {
+            return true;
+        }
+    }
+    false
+}
+
+/// Whether to make places outside as they are needed: where `outside` gave none, or what it gave was
+/// too much, and primes are thought many. They are where many rows have a consensus, and mostly with
+/// many inputs and several functions; where all rows have the same outputs there are no more primes
+/// than with one.
+pub(crate) fn uses_places_as_needed(sets: &Sets) -> bool {
+    let rows = sets.on().as_slice();
+    let inputs = sets.on().shape().inputs();
+    uses_points(sets.on().shape())
+        && (inputs > 16 && have_several_functions(rows) || have_many_consensus_pairs(rows))
+}
+
+// Taking the ON list from one OFF row makes at most this many cubes; past that a DC list is made.
+const MOST_OF_OFF: usize = 200_000;
+
+// At most this many rows are looked at for all OFF rows, besides each ON row once for each OFF row:
+// a wide OFF row over many ON rows takes far more, and then a DC list is made sooner.
+const MOST_ROWS_OF_OFF: usize = 4_000_000;
+
+/// The budget for taking the ON list from the OFF list.
+pub(crate) fn budget_of_off(pla: &Pla) -> Budget {
+    let pairs = pla.off().len().saturating_mul(pla.on().len());
+    Budget {
+        cubes: MOST_OF_OFF,
+        rows: pairs.saturating_add(MOST_ROWS_OF_OFF),
+    }
+}
+
+/// Whether to find essential primes without a list of all primes. With up to 12 inputs that list is
+/// short, and is made unless rows are few; with one output it is short unless many pairs of rows
+/// have a consensus. Growing looks at all rows for each prime that it grows.
+pub(crate) fn uses_growth(sets: &Sets) -> bool {
+    let (inputs, rows) = (sets.on().shape().inputs(), sets.on().len());
+    if inputs <= 12 {
+        return rows < 100;
+    }
+    let most = if inputs > 40 { 100_000 } else { 20_000 };
+    if rows > most {
+        return false;
+    }
+    sets.on().shape().outputs() > 1 || have_many_consensus_pairs(sets.on().as_slice())
+}
