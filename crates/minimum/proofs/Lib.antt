@@ -11,6 +11,7 @@ pub mod PointTables
 pub mod PickedPoints
 pub mod Joins
 pub mod Dominating
+pub mod RowsAround
 pub mod PrimeSources
 pub mod EssentialPrimes
 pub mod NonCandidates
