@@ -75,7 +75,7 @@ module _ (c row y against : Cube) (same : SameSize row c) (covers : Covers c y) 
     long_point = length-map (range_with_len 0 (length c.symbols)) bits ∙ length-range_with_len 0 (length c.symbols)
 
     bit_of_point : (i : ℕ) → i < length c.symbols → get_or point i false ≡ bits i
-    bit_of_point i lt = get_or-map-range_with_len bits 0 (length c.symbols) i i false lt refl
+    bit_of_point i lt = get_or-map-range_with_len bits 0 (length c.symbols) i i false lt (omega arith)
 
     both : (i : ℕ) → i < length c.symbols → (agrees (get_or c.symbols i Dash) (bits i) ≡ true) × (agrees (get_or row.symbols i Dash) (bits i) ≡ true)
     both i lt =
@@ -198,18 +198,18 @@ module _ (off around : Cubes) (y : Cube) (size : around.size ≡ off.size) (same
         largest = λ d d_is within sub. is.largest d (subst (λ n. IsCube n d) (sym size) d_is) ((same d d_is (λ p h. sub p (over p h))).0 within) sub;
       })
 
-  module _ (points found kept : List Cube) (own : Contains points y) (kept_is : kept ≡ filter (is_within around.size y) found) (y_is : IsCube off.size y) where
+  module _ (points found kept : List Cube) (n : Size) (n_is : n ≡ off.size) (own : Contains points y) (kept_is : kept ≡ filter (is_within n y) found) (y_is : IsCube off.size y) where
     pub kept_prime : ((c : Cube) → Contains found c → Contains (primes_outside around) c) → (c : Cube) → Contains kept c → Contains (primes_outside off) c
     kept_prime primes c h =
-        let f = Contains-filter_cases (is_within around.size y) found c (subst (λ l. Contains l c) kept_is h) in
-        prime_around c (primes c f.0) (IsSubset-from_test around.size y (holds c) (subst (HasSize y) (sym size) y_is.has_size) f.1)
+        let f = Contains-filter_cases (is_within n y) found c (subst (λ l. Contains l c) kept_is h) in
+        prime_around c (primes c f.0) (IsSubset-from_test n y (holds c) (subst (HasSize y) (sym n_is) y_is.has_size) f.1)
 
     pub kept_dominated : (choice : Choice) → ((c : Cube) → IsCube around.size c → IsImplicant around c → IsSubset (holds y) (holds c) → IsDominated choice points found c)
         → (c : Cube) → IsCube off.size c → IsImplicant off c → IsSubset (holds y) (holds c) → IsDominated choice points kept c
     kept_dominated choice served c c_is within over =
-        let d = served c (subst (λ n. IsCube n c) (sym size) c_is) ((same c c_is over).0 within) over in
+        let d = served c (subst (λ m. IsCube m c) (sym size) c_is) ((same c c_is over).0 within) over in
         record {
           column = d.column;
-          member = subst (λ l. Contains l d.column) (sym kept_is) (Contains-filter (is_within around.size y) found d.column d.member (is_subset-from_fact around.size (holds y) (holds d.column) (d.dominates.over y own over)));
+          member = subst (λ l. Contains l d.column) (sym kept_is) (Contains-filter (is_within n y) found d.column d.member (is_subset-from_fact n (holds y) (holds d.column) (d.dominates.over y own over)));
           dominates = d.dominates;
         }

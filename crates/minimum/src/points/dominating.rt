@@ -207,6 +207,7 @@ fn columns_by_rows(
 // Below so many cubes of a list, or so many points, what they are looked at costs less than to find
 // which of the cubes matter.
 const MANY_ROWS: usize = 200;
+
 const MANY_POINTS: usize = 100;
 
 /// Columns that dominate all cubes that meet no cube of the list and contain the point with this

@@ -23,7 +23,7 @@ loop-row-preserved c =
     let is = c.in_ok-push.ensures.items in
     let row_is : IsCube size row = subst (IsCube size) (sym at) (c.as_slice-row-items.ensures.cubes k row lt) in
     let against : All (IsAgainst size y) c.deref.result.now = subst (All (IsAgainst size y)) (sym c.deref.ensures.value)
-        (subst (λ n. All (IsAgainst n y) c.in_ok-against.against.items) (size_of-is y size c.requires.has_size) c.in_ok-against.ensures) in
+    (subst (λ n. All (IsAgainst n y) c.in_ok-against.against.items) (size_of-is y size c.requires.has_size) c.in_ok-against.ensures) in
     let widened : IsWidened size y row wide = c.in_ok-widened.ensures size y row_is c.requires against in
     let member : Contains off.cubes row = subst (λ l. Contains l row) c.as_slice-row-items.ensures.value (k, lt, sym at) in
     record {
