@@ -12,6 +12,7 @@ pub mod PickedPoints
 pub mod Joins
 pub mod Dominating
 pub mod FewestLiterals
+pub mod RowsAround
 pub mod PrimeSources
 pub mod EssentialPrimes
 pub mod NonCandidates

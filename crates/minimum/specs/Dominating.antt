@@ -1,9 +1,10 @@
 -- Columns that dominate the cubes that contain some points and meet no cube of a list. No public
 -- clause cites this module.
-use Rattle.std.specs.Prelude.{◌≡◌, ℕ, ◌≢◌, ◌<◌, ◌≤◌, ◌⊎◌, Bool, not, List, length, take, drop, slice_index_or, Contains, All}
+use Rattle.std.specs.Prelude.{◌≡◌, ℕ, ◌≢◌, ◌<◌, ◌≤◌, ◌⊎◌, ◌↔◌, Bool, not, List, length, take, drop, slice_index_or, Contains, All}
 use Rattle.cube.specs.declared.symbol.Symbol.TheVariants.{Dash}
 use Rattle.cube.specs.Size.{Size}
 use Rattle.cube.specs.Cube.{Cube, Place, holds, IsCube, IsSubset, IsDisjoint}
+use Rattle.cube.specs.Sharp.{opposite}
 use Rattle.cube.specs.Sum.{complete_sum}
 use Rattle.cover.specs.Cubes.{Cubes}
 use Rattle.cover.specs.Marks.{cube_at}
@@ -122,3 +123,26 @@ IsNoWorse wide best = (c : Cube) → HasLiteralsOf wide c → length c.symbols �
 abbrev pub AreNoBetter : Cubes → Cube → Cube → Cube → Type 0
 AreNoBetter off narrow wide best = (c : Cube) → IsBetween off narrow wide c
     → IsAsGood Literals c best
+
+-- a cube with the opposite of another's symbol at each input
+pub record IsAgainst (size : Size) (y c : Cube) : Type 0 where
+  pub is_cube : IsCube size c
+  pub symbols : (i : ℕ) → slice_index_or c.symbols i Dash ≡ opposite (slice_index_or y.symbols i Dash)
+
+-- a cube that contains a row, and meets no other of the cubes that contain y than the row does
+pub record IsWidened (size : Size) (y row wide : Cube) : Type 0 where
+  pub is_cube : IsCube size wide
+  pub over : IsSubset (holds row) (holds wide)
+  pub apart : (c : Cube) → IsCube size c → IsSubset (holds y) (holds c)
+      → IsDisjoint (holds row) (holds c) → IsDisjoint (holds wide) (holds c)
+
+-- cubes that hold all places of some rows, and meet no implicant that contains y
+pub record IsAround (off : Cubes) (y : Cube) (rows around : List Cube) : Type 0 where
+  pub over : IsSubset (places rows) (places around)
+  pub apart : (d c : Cube) → Contains around d → IsImplicantOver off y c
+      → IsDisjoint (holds d) (holds c)
+
+-- of the cubes that contain y, the same meet no cube of either list
+abbrev pub HaveSameImplicantsOver : Cubes → Cubes → Cube → Type 0
+HaveSameImplicantsOver off around y = (c : Cube) → IsCube off.size c → IsSubset (holds y) (holds c)
+    → (IsImplicant off c ↔ IsImplicant around c)

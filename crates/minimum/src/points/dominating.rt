@@ -23,7 +23,8 @@ use crate::cubes::add_copy;
 use crate::points::dominating::best_cube::best_cube;
 use crate::points::dominating::open_points::{holds_one_of, sort_points};
 use crate::points::dominating::refusing_rows::{RefusingRows, rows_by_output};
-use cover::Cover;
+use crate::points::dominating::rows_around::rows_around;
+use cover::{Cover, cubes_containing};
 use covering::{Choice, numbers};
 use cube::Cube;
 use std::alloc::{AllocError, Global};
@@ -33,6 +34,7 @@ pub(crate) mod fewest_literals;
 pub(crate) mod literal_search;
 pub(crate) mod open_points;
 pub(crate) mod refusing_rows;
+pub(crate) mod rows_around;
 
 /// Columns that were made, how much more may be looked at, and what is remembered.
 #[derive(Drop)]
@@ -169,7 +171,7 @@ fn add_around(
 ///
 /// Each column costs a look at all cubes of the list, and for each point that may be joined with
 /// what it was grown from another one.
-pub(crate) fn columns_of_point(
+fn columns_by_rows(
     alloc: Global,
     off: &Cover,
     points: &[Cube],
@@ -202,6 +204,44 @@ pub(crate) fn columns_of_point(
         return Ok(None);
     }
     Ok(Some(found.primes))
+}
+
+// Below so many cubes of a list, or so many points, what they are looked at costs less than to find
+// which of the cubes matter.
+const MANY_ROWS: usize = 200;
+
+const MANY_POINTS: usize = 100;
+
+/// Columns that dominate all cubes that meet no cube of the list and contain the point with this
+/// number, whichever of the others they contain; `None` where more than so many of the cubes that
+/// matter, and points, would be looked at.
+pub(crate) fn columns_of_point(
+    alloc: Global,
+    off: &Cover,
+    points: &[Cube],
+    number: usize,
+    choice: Choice,
+    most: usize,
+) -> Result<Option<Cover>, AllocError>
+    requires points { AreCubes off.now.size points.now }
+    requires number { number < length points.now }
+    ensures size { IfOk result (λ o. IfSome o (λ list. list.size ≡ off.now.size)) }
+    ensures primes { IfOk result (λ o. IfSome o (λ list. (c : Row) → Contains list.cubes c
+        → Contains (primes_outside off.now) c)) }
+    ensures dominated { IfOk result (λ o. IfSome o (λ list. (c : Row) → IsCube off.now.size c
+        → IsImplicant off.now c → IsSubset (holds (cube_at points.now number)) (holds c)
+        → IsDominated choice points.now list.cubes c)) }
+{
+    if off.len() < MANY_ROWS || points.len() < MANY_POINTS {
+        return columns_by_rows(alloc, off, points, number, choice, most);
+    }
+    let point = &points[number];
+    let around = rows_around(alloc, off, point)?;
+    let Some(found) = columns_by_rows(alloc, &around, points, number, choice, most)? else {
+        return Ok(None);
+    };
+    let columns = cubes_containing(point, &found)?;
+    Ok(Some(columns))
 }
 
 /// Columns that dominate all cubes that meet no cube of the list and contain one of the points, or
