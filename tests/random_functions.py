@@ -10,23 +10,20 @@ Each difference is printed with as few rows as still show it; the last line coun
 
 The programs of bench/low_budgets.py take ways that the product takes for much larger functions alone.
 """
-import argparse
 import os
 import random
-import subprocess
 import sys
-from concurrent.futures import ProcessPoolExecutor
 from dataclasses import dataclass
 
 sys.dont_write_bytecode = True
 sys.path.insert(0, os.path.dirname(os.path.abspath(__file__)))
 
+import batches  # noqa: E402
 from definition import Description  # noqa: E402
 from least import Answers, GaveUp  # noqa: E402
 from support import printed  # noqa: E402
 
 COMMANDS = ("-Dprimes", "-Dessen", "-Dexact", "-Dexact --literals")
-SECONDS = 20                       # that a program may take; none was seen to take a tenth of one
 
 
 def table(chance, inputs, outputs):
@@ -113,98 +110,59 @@ def due(function, place):
     """The answers that are due, by command."""
     answers = Answers(function)
     lists = (answers.primes, answers.essential(), answers.exact(False), answers.exact(True))
-    return {command: printed(place.inputs, function.outputs, *(f"{place.place(cube)} {out}" for cube, out in rows))
+    return {command: (printed(place.inputs, function.outputs, *(f"{place.place(cube)} {out}" for cube, out in rows)), 0)
             for command, rows in zip(COMMANDS, lists)}
 
 
-def answer(program, command, text):
-    try:
-        done = subprocess.run([program, *command.split()], input=text, stdout=subprocess.PIPE, stderr=subprocess.PIPE,
-                              timeout=SECONDS)
-    except subprocess.TimeoutExpired:
-        return f"none in {SECONDS} seconds".encode()
-    return done.stdout if not done.returncode else done.stdout + done.stderr + b"status %d\n" % done.returncode
-
-
-def differs(program, command, seed, function, place):
-    """The file and the two answers, where the program's is not the one that is due."""
+def differs(program, command, cuts, function, place):
+    """What is told where the program's answer is not the one that is due."""
     try:
         wanted = due(function, place)[command]
     except GaveUp:
         return None
-    text = text_of(random.Random(seed), function, place)
-    found = answer(program, command, text)
-    return None if found == wanted else (text, wanted, found)
+    files = {"-": text_of(random.Random(cuts), function, place)}
+    found = batches.answer(program, command, files)
+    return None if found == wanted else batches.told("with fewer rows", program, command, files, wanted, found)
 
 
-def with_fewer_rows(program, command, seed, function, place):
+def with_fewer_rows(program, command, cuts, function, place, shown):
     """The difference with as few rows as still show it."""
-    rows, shown, k = list(function.rows), differs(program, command, seed, function, place), 0
-    while shown and k < len(rows):
-        fewer = Description(function.inputs, function.outputs, function.kind, tuple(rows[:k] + rows[k + 1:]))
-        less = differs(program, command, seed, fewer, place) if len(rows) > 1 else None
-        if less:
-            shown = less
-            del rows[k]
+    k = 0
+    while k < len(function.rows) > 1:
+        rows = function.rows[:k] + function.rows[k + 1:]
+        fewer = Description(function.inputs, function.outputs, function.kind, rows)
+        if told := differs(program, command, cuts, fewer, place):
+            function, shown = fewer, told
         else:
             k += 1
     return shown
 
 
-def compared(programs, seed, number):
-    """How many answers were compared, and texts that tell of differences."""
-    chance = random.Random(f"{seed} {number}")
+def drawn_with_answers(chance, number):
+    """A function, where its inputs stand, and the answers that are due."""
     while True:
         function = drawn(chance)
         place = setting(chance, number, function.inputs)
         try:
-            wanted = due(function, place)
-            break
+            return function, place, due(function, place)
         except GaveUp:
-            continue
+            pass
+
+
+def compared(programs, seed, number):
+    """How many answers were compared, and texts that tell of differences."""
+    chance = random.Random(f"{seed} {number}")
+    function, place, wanted = drawn_with_answers(chance, number)
     cuts = chance.random()
-    text, told = text_of(random.Random(cuts), function, place), []
+    files, told = {"-": text_of(random.Random(cuts), function, place)}, []
     for program in programs:
         for command, output in wanted.items():
-            if answer(program, command, text) != output:
-                shown = with_fewer_rows(program, command, cuts, function, place)
-                file, one, other = shown if shown else (text, output, b"(not seen again)")
-                told.append(f"function {number}: {program} {command}\n{file.decode()}due:\n{one.decode()}found:\n"
-                            f"{other.decode(errors='replace')}")
+            found = batches.answer(program, command, files)
+            if found != output:
+                shown = batches.told(f"function {number}", program, command, files, output, found)
+                told.append(with_fewer_rows(program, command, cuts, function, place, shown))
     return len(programs) * len(wanted), told
 
 
-def compared_many(call):
-    programs, seed, numbers = call
-    return [compared(programs, seed, number) for number in numbers]
-
-
-def read_words():
-    reader = argparse.ArgumentParser(usage=argparse.SUPPRESS)
-    reader.add_argument("--count", type=int, default=200)
-    reader.add_argument("--seed", type=int, default=1)
-    reader.add_argument("--processes", type=int, default=2)
-    reader.add_argument("programs", nargs="+")
-    return reader.parse_args()
-
-
-def main():
-    if len(sys.argv) < 2 or sys.argv[1] in ("-h", "--help"):
-        sys.exit(__doc__)
-    words = read_words()
-    programs = [os.path.abspath(program) for program in words.programs]
-    calls = [(programs, words.seed, range(first, min(first + 10, words.count))) for first in range(0, words.count, 10)]
-    answers = differences = 0
-    with ProcessPoolExecutor(words.processes) as pool:
-        for results in pool.map(compared_many, calls):
-            for count, told in results:
-                answers += count
-                differences += len(told)
-                for text in told:
-                    print(text, flush=True)
-    print(f"{words.count} functions, {len(programs)} programs, {answers} answers: {differences} differences")
-    sys.exit(1 if differences else 0)
-
-
 if __name__ == "__main__":
-    main()
+    batches.main(__doc__, compared)
