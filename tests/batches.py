@@ -2,24 +2,26 @@
 files have in common."""
 import argparse
 import os
+import resource
 import subprocess
 import sys
-from concurrent.futures import ProcessPoolExecutor
+from concurrent.futures import ProcessPoolExecutor, as_completed
 
 from support import folder_of
 
-SECONDS = 60                       # that a program may take for an answer; none was seen to take a tenth of it
+SECONDS = 60                       # of a processor, that a program may take for an answer
 AT_ONCE = 10                       # files that a process draws before it tells of them
 
 
+def limit():
+    resource.setrlimit(resource.RLIMIT_CPU, (SECONDS, SECONDS))
+
+
 def answer(program, command, files):
-    """What the program leaves on its outputs, and its status. Standard input is the file `-`."""
+    """What the program leaves on its outputs, and its status, below 0 where it took too long. Standard input is the file `-`."""
     with folder_of(files) as folder:
-        try:
-            done = subprocess.run([program, *command.split()], cwd=folder, input=files.get("-", b""), stdout=subprocess.PIPE,
-                                  stderr=subprocess.PIPE, timeout=SECONDS)
-        except subprocess.TimeoutExpired:
-            return f"none in {SECONDS} seconds".encode(), -1
+        done = subprocess.run([program, *command.split()], cwd=folder, input=files.get("-", b""), stdout=subprocess.PIPE,
+                              stderr=subprocess.PIPE, preexec_fn=limit)
     return done.stdout + done.stderr, done.returncode
 
 
@@ -55,8 +57,8 @@ def main(about, compare):
              for first in range(0, words.count, AT_ONCE)]
     answers = differences = 0
     with ProcessPoolExecutor(words.processes) as pool:
-        for results in pool.map(compared_many, calls):
-            for count, texts in results:
+        for done in as_completed([pool.submit(compared_many, call) for call in calls]):
+            for count, texts in done.result():
                 answers += count
                 differences += len(texts)
                 for text in texts:
