@@ -144,13 +144,17 @@ def files_below(folder, ending):
             for place, _, names in os.walk(folder) for name in names if name.endswith(ending)}
 
 
-def write_crate(folder, name, needs):
+def as_it_is(path, text):
+    return text
+
+
+def write_crate(folder, name, needs, changed):
     write_package(folder, name, ["rattle_std", *needs])
     source, target = os.path.join(TOP, "crates", name, "src"), os.path.join(folder, name, "src")
     files = files_below(source, ".rt")
     for file in sorted(files):
         with open(os.path.join(source, file + ".rt")) as opened:
-            text = as_rust(opened.read(), file in ("lib", "main"))
+            text = as_rust(changed(f"{name}/{file}", opened.read()), file in ("lib", "main"))
         write_if_new(os.path.join(target, file + ".rs"), text)
     for file in files_below(target, ".rs") - files:
         os.remove(os.path.join(target, file + ".rs"))
@@ -163,11 +167,12 @@ def write_shim(folder):
             write_if_new(os.path.join(folder, name, "src/lib.rs"), file.read())
 
 
-def write_all(folder, programs):
+def write_all(folder, programs, changed=as_it_is):
+    """Writes the sources; `changed` gives the text of a file, named by crate and path, that stands for its own."""
     crates = needed(programs)
     write_shim(folder)
     for name, needs in crates.items():
-        write_crate(folder, name, needs)
+        write_crate(folder, name, needs, changed)
     members = ", ".join(f'"{name}"' for name in [*crates, "rattle_std", *PORTS])
     write_if_new(os.path.join(folder, "Cargo.toml"), f"""[workspace]
 members = [{members}]

@@ -407,12 +407,17 @@ def prime_cases():
 
 
 def sum_cases():
-    """Complete sums of parts that share no input, and of many points."""
+    """Complete sums of parts that share no input, in one output or two, and of many points."""
     for count in (2, 8, 16, 100, 300):
         yield f"primes-rings-{count}", file_case(
             ["-Dprimes"],
             lambda count=count: write(f"rings-apart-{count}.pla", pla(3 * count, 1, rings_side_by_side(count))),
             0.2)
+    for count in (10, 40):
+        yield f"exact-rings-twice-{count}", file_case(
+            ["-Dexact"],
+            lambda count=count: write(
+                f"rings-twice-{count}.pla", pla(3 * count, 2, (row + "1" for row in rings_side_by_side(count)))), 1)
     yield "primes-mlp5", file_case(["-Dprimes"], lambda: function("mlp5"), None)
     yield "primes-random-points-12", file_case(
         ["-Dprimes"], lambda: write("random-points-12.pla", pla(12, 1, random_points(12, 0.4, 0.3, 1))), None)
@@ -583,7 +588,8 @@ TABLES = [
     ("product-8", (8, 8, lambda bits: number(bits[:4]) * number(bits[4:])), 0.5, 0.1),
     ("comparison-14", comparison(7), 0.2, 0.2), ("comparison-16", comparison(8), 0.4, 0.4),
     ("leading-12", leading_noughts(12), 0.1, 0.1), ("leading-16", leading_noughts(16), 0.2, 0.2),
-    ("ones-11", (11, 4, sum), 0.5, 0.5), ("parity-12", (12, 1, lambda bits: sum(bits) & 1), 0.2, 0.2),
+    ("ones-11", (11, 4, sum), 0.5, 0.5), ("ones-13", (13, 4, sum), 1, 5),
+    ("parity-12", (12, 1, lambda bits: sum(bits) & 1), 0.2, 0.2),
     ("arithmetic-unit-14", arithmetic_unit(6), 0.5, 0.5), ("display-14", sensor_display(7), 0.5, 0.2),
 ]
 

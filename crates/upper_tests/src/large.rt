@@ -3,7 +3,9 @@
 //!
 //! A call may be refused memory at any time, and would still meet its contract. So each is asked
 //! here for more than it might be tempted to keep short.
-use crate::descriptions::{ALL, Case, ESSENTIAL, OUTSIDE, answers};
+use crate::descriptions::{
+    ALL, Case, ESSENTIAL, LEAST_OF, LISTED, NO_PRIMES, OUTSIDE, SAMPLED, answers,
+};
 use crate::rules::{Outputs, Rule};
 use crate::tables::{has_taken, least_is, rings, rings_are_solved};
 use covering::{all_marked, copy_of, is_marked, numbers, unmark};
@@ -12,7 +14,7 @@ use signature_search::{Proposer, Rows};
 use std::alloc::{AllocError, Global};
 use std::test::Fail;
 
-const LARGE: [Case; 6] = [
+const LARGE: [Case; 14] = [
     // Points of which each is an essential prime, and these in a table of 4,096 columns.
     (
         b".i 13\n.o 1\n.type f\n",
@@ -78,6 +80,89 @@ const LARGE: [Case; 6] = [
         ESSENTIAL,
         Rule::Both,
         128,
+    ),
+    // A hundred rings with an output each.
+    (
+        b".i 300\n.o 100\n.type f\n",
+        300,
+        100,
+        Outputs::OfRing,
+        &[(Rule::Ring, 600, b'1')],
+        LEAST_OF,
+        Rule::RingLeast,
+        300,
+    ),
+    // A ring behind each of 512 codes.
+    (
+        b".i 13\n.o 1\n.type f\n",
+        13,
+        1,
+        Outputs::All,
+        &[(Rule::CodedRing, 3072, b'1')],
+        LISTED,
+        Rule::CodedPrime,
+        3072,
+    ),
+    (
+        b".i 13\n.o 1\n.type f\n",
+        13,
+        1,
+        Outputs::All,
+        &[(Rule::CodedRing, 3072, b'1')],
+        LEAST_OF,
+        Rule::CodedLeast,
+        1536,
+    ),
+    // Tables of truth.
+    (
+        b".i 13\n.o 2\n.type f\n",
+        13,
+        2,
+        Outputs::All,
+        &[(Rule::RingTable, 6144, b'1')],
+        LISTED,
+        Rule::RingPrime,
+        6,
+    ),
+    (
+        b".i 13\n.o 2\n.type f\n",
+        13,
+        2,
+        Outputs::All,
+        &[(Rule::RingTable, 6144, b'1')],
+        NO_PRIMES,
+        Rule::RingPrime,
+        0,
+    ),
+    (
+        b".i 13\n.o 2\n.type f\n",
+        13,
+        2,
+        Outputs::All,
+        &[(Rule::RingTable, 6144, b'1')],
+        LEAST_OF,
+        Rule::RingLeast,
+        3,
+    ),
+    (
+        b".i 13\n.o 2\n.type fr\n",
+        13,
+        2,
+        Outputs::All,
+        &[(Rule::RingTable, 6144, b'1'), (Rule::GapTable, 2048, b'0')],
+        LEAST_OF,
+        Rule::RingLeast,
+        3,
+    ),
+    (
+        b".i 13\n.o 2\n.type fr\n",
+        13,
+        2,
+        Outputs::All,
+        &[(Rule::OneTable, 4096, b'1'), (Rule::ZeroTable, 4096, b'0')],
+        SAMPLED,
+        Rule::Prime,
+        1,
     ),
 ];
 

@@ -24,6 +24,18 @@ pub(crate) enum Rule {
     // The six primes of each ring, and the first, third and sixth of them: a least cover.
     RingPrime,
     RingLeast,
+    // The same behind codes at all other inputs, first those of the code 0, and so on. The ones of a
+    // code are even, so that no two codes are neighbours.
+    CodedRing,
+    CodedGap,
+    CodedPrime,
+    CodedLeast,
+    // Tables of truth: all points with a point of a ring at the last three inputs, or another one;
+    // and all with 1 at the last input but one, or with 0.
+    RingTable,
+    GapTable,
+    OneTable,
+    ZeroTable,
     // The number at the last six inputs.
     Point,
     // The number at the twelve inputs before the last, where it makes the ones odd, or even. No two
@@ -82,6 +94,44 @@ fn parity_byte(number: usize, place: usize, is_odd: bool) -> u8 {
     }
 }
 
+// The byte of the number whose bits stand from this place on.
+fn bit_byte(number: usize, place: usize, first: usize) -> u8 {
+    digit(number >> place.saturating_sub(first).min(63) & 1 == 1)
+}
+
+// The byte of the row where each code is followed by so many.
+fn coded_byte(codes: &[&[u8; 3]], number: usize, place: usize) -> u8 {
+    if codes.is_empty() {
+        return b'-';
+    }
+    let code = number / codes.len();
+    match place {
+        0..=2 => ring_byte(codes, number % codes.len(), place),
+        3 => digit(code.count_ones() % 2 == 1),
+        _ => bit_byte(code, place, 4),
+    }
+}
+
+// The byte of the row of a table of all points with one of these at the last inputs.
+fn table_byte(codes: &[&[u8; 3]], number: usize, place: usize) -> u8 {
+    if codes.is_empty() {
+        return b'-';
+    }
+    match place {
+        0..=2 => ring_byte(codes, number % codes.len(), place),
+        _ => bit_byte(number / codes.len(), place, 3),
+    }
+}
+
+// The byte of the row of a table of all points with this byte at the last input but one.
+fn half_byte(byte: u8, number: usize, place: usize) -> u8 {
+    match place {
+        0 => digit(number % 2 == 1),
+        1 => byte,
+        _ => bit_byte(number / 2, place, 2),
+    }
+}
+
 // The byte at the input of this place, from the last one on.
 fn byte_of(rule: Rule, number: usize, place: usize) -> u8 {
     let is_pair = place / 2 == number;
@@ -94,6 +144,14 @@ fn byte_of(rule: Rule, number: usize, place: usize) -> u8 {
         Rule::Ring => rings_byte(&POINTS, number, place),
         Rule::RingPrime => rings_byte(&PRIMES, number, place),
         Rule::RingLeast => rings_byte(&LEAST, number, place),
+        Rule::CodedRing => coded_byte(&POINTS, number, place),
+        Rule::CodedGap => coded_byte(&GAPS, number, place),
+        Rule::CodedPrime => coded_byte(&PRIMES, number, place),
+        Rule::CodedLeast => coded_byte(&LEAST, number, place),
+        Rule::RingTable => table_byte(&POINTS, number, place),
+        Rule::GapTable => table_byte(&GAPS, number, place),
+        Rule::OneTable => half_byte(b'1', number, place),
+        Rule::ZeroTable => half_byte(b'0', number, place),
         Rule::Point if place < 6 => digit(number >> place & 1 == 1),
         Rule::Odd => parity_byte(number, place, true),
         Rule::Even => parity_byte(number, place, false),
@@ -102,17 +160,23 @@ fn byte_of(rule: Rule, number: usize, place: usize) -> u8 {
     }
 }
 
-// Which outputs the rows have: all, or each the one with its number.
+// Which outputs the rows have: all, or each the one with its number, or that of its ring.
 #[derive(Clone, Copy)]
 pub(crate) enum Outputs {
     All,
     Own,
+    OfRing,
 }
 
-fn has_output(outputs: Outputs, number: usize, output: usize) -> bool {
+fn has_output(outputs: Outputs, rule: Rule, number: usize, output: usize) -> bool {
     match outputs {
         Outputs::All => true,
         Outputs::Own => number == output,
+        Outputs::OfRing => match rule {
+            Rule::Ring | Rule::RingPrime => number / 6 == output,
+            Rule::RingLeast => number / 3 == output,
+            _ => number == output,
+        },
     }
 }
 
@@ -137,7 +201,7 @@ fn add_row(
     }
     text.push(b' ')?;
     for j in 0..outputs {
-        text.push(if has_output(which, number, j) {
+        text.push(if has_output(which, rule, number, j) {
             mark
         } else {
             b'~'
@@ -174,7 +238,7 @@ fn is_row(cube: &Cube, which: Outputs, rule: Rule, number: usize) -> bool {
         }
     }
     for j in 0..shape.outputs() {
-        if cube.output(j) != has_output(which, number, j) {
+        if cube.output(j) != has_output(which, rule, number, j) {
             return false;
         }
     }

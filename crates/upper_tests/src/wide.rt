@@ -21,7 +21,7 @@ const OF_SETS: &[Call] = &[
     Call::ExactOfSets(LITERALS),
 ];
 
-const WIDE: [Case; 20] = [
+const WIDE: [Case; 28] = [
     (
         b".i 600\n.o 16\n.type f\n",
         600,
@@ -233,6 +233,88 @@ const WIDE: [Case; 20] = [
         SAMPLED,
         Rule::Point,
         16,
+    ),
+    // Rings with an output each.
+    (
+        b".i 60\n.o 20\n.type f\n",
+        60,
+        20,
+        Outputs::OfRing,
+        &[(Rule::Ring, 120, b'1')],
+        NO_PRIMES,
+        Rule::RingPrime,
+        0,
+    ),
+    (
+        b".i 60\n.o 20\n.type f\n",
+        60,
+        20,
+        Outputs::OfRing,
+        &[(Rule::Ring, 120, b'1')],
+        LEAST_OF,
+        Rule::RingLeast,
+        60,
+    ),
+    (
+        b".i 600\n.o 20\n.type f\n",
+        600,
+        20,
+        Outputs::OfRing,
+        &[(Rule::Ring, 120, b'1')],
+        LEAST_OF,
+        Rule::RingLeast,
+        60,
+    ),
+    // Rings behind codes.
+    (
+        b".i 40\n.o 1\n.type f\n",
+        40,
+        1,
+        Outputs::All,
+        &[(Rule::CodedRing, 192, b'1')],
+        LISTED,
+        Rule::CodedPrime,
+        192,
+    ),
+    (
+        b".i 40\n.o 1\n.type f\n",
+        40,
+        1,
+        Outputs::All,
+        &[(Rule::CodedRing, 192, b'1')],
+        NO_PRIMES,
+        Rule::CodedPrime,
+        0,
+    ),
+    (
+        b".i 40\n.o 1\n.type f\n",
+        40,
+        1,
+        Outputs::All,
+        &[(Rule::CodedRing, 192, b'1')],
+        LEAST_OF,
+        Rule::CodedLeast,
+        96,
+    ),
+    (
+        b".i 40\n.o 2\n.type f\n",
+        40,
+        2,
+        Outputs::All,
+        &[(Rule::CodedRing, 192, b'1')],
+        LEAST_OF,
+        Rule::CodedLeast,
+        96,
+    ),
+    (
+        b".i 130\n.o 1\n.type f\n",
+        130,
+        1,
+        Outputs::All,
+        &[(Rule::Ring, 240, b'1')],
+        LEAST_OF,
+        Rule::RingLeast,
+        120,
     ),
 ];
 

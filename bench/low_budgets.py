@@ -1,0 +1,146 @@
+#!/usr/bin/env python3
+"""Builds the program as plain Rust with budgets set so low that functions of a few inputs take each way to an answer.
+
+usage: bench/low_budgets.py FOLDER [BUILD ..]     writes FOLDER/BUILD (none named: all that are listed below)
+
+No budget and no hint changes an answer, so that each of these programs is to answer what the definitions say; they are
+run by tests/random_functions.py. FOLDER/crates has the sources of the last one. Each text that is changed has to stand
+once in its file, so that a list that no longer fits the sources is noticed.
+"""
+import os
+import shutil
+import sys
+
+sys.dont_write_bytecode = True
+
+import as_rust  # noqa: E402
+
+EXACT, OF_PLA, NEEDED = "minimum/exact_minimum", "minimum/of_pla", "minimum/as_needed"
+POINTS, SOURCE = "minimum/points", "minimum/points/source"
+CONSENSUS = "minimum/essential_by_neighbours/consensus_pairs"
+NEAR, MERGING = "minimum/essential_by_neighbours/near_rows", "cover/merging"
+
+# Changes: a file of a crate, a text that stands there, and what stands there in its place.
+POINTS_OF_FEW_INPUTS = [
+    (EXACT, "shape.inputs() > 12", "shape.inputs() > 0"),
+    (EXACT, "uses_points(shape) && shape.outputs() > 1\n", "uses_points(shape)\n"),
+]
+GROWTH = [(OF_PLA, "inputs <= 12 {", "inputs < 1 {"), (OF_PLA, "sets.on().shape().outputs() > 1 ||", "true ||")]
+NO_GROWTH = [(OF_PLA, "inputs <= 12 {", "inputs < 2000 {"), (OF_PLA, "return rows < 100;", "return false;")]
+NO_CUBES_OUTSIDE = [
+    (EXACT, "MOST_OF_AN_OUTPUT: usize = 250", "MOST_OF_AN_OUTPUT: usize = 0"),
+    (EXACT, "MOST_ROWS_OF_AN_OUTPUT: usize = 1_000_000", "MOST_ROWS_OF_AN_OUTPUT: usize = 0"),
+]
+FEW_CUBES_OUTSIDE = [
+    (EXACT, "MOST_OF_AN_OUTPUT: usize = 250", "MOST_OF_AN_OUTPUT: usize = 6"),
+    (EXACT, "MOST_OUTSIDE: usize = 40000", "MOST_OUTSIDE: usize = 12"),
+    (EXACT, "MOST_ROWS_OF_AN_OUTPUT: usize = 1_000_000", "MOST_ROWS_OF_AN_OUTPUT: usize = 100"),
+]
+ALWAYS_AS_NEEDED = [
+    (EXACT, "(shape.outputs() > 1 || have_many_consensus_pairs(sets.on().as_slice()))",
+     "(shape.outputs() > 0 || have_many_consensus_pairs(sets.on().as_slice()))"),
+]
+NEVER_AS_NEEDED = [
+    (EXACT, "uses_points(shape) && (shape.outputs() > 1 || have_many_consensus_pairs(sets.on().as_slice()))",
+     "uses_points(shape) && shape.outputs() > 2000 && have_many_consensus_pairs(sets.on().as_slice())"),
+]
+POINTS_OF_PRIMES = [(EXACT, "sets.on().shape().inputs() > 20", "sets.on().shape().inputs() > 0")]
+NO_POINTS_OF_PRIMES = [(EXACT, "sets.on().shape().inputs() > 20", "sets.on().shape().inputs() > 2000")]
+FEW_ROUNDS = [(EXACT, "MOST_ROUNDS: usize = 200", "MOST_ROUNDS: usize = 2")]
+NO_FEW_PRIMES = [(SOURCE, "FEW_PRIMES: usize = 40", "FEW_PRIMES: usize = 0")]
+FEW_LOOKS = [(POINTS, "[200_000_000, 4_000_000_000]", "[15, 60]")]
+FEW_PRIMES_OF_A_POINT = [(SOURCE, "MOST_PRIMES: usize = 30_000", "MOST_PRIMES: usize = 3")]
+FEW_NEEDED_ROUNDS = [(NEEDED, "MOST_ROUNDS: usize = 2_000", "MOST_ROUNDS: usize = 6")]
+FEW_WORDS = [(NEEDED, "MOST_WORDS: usize = 4_000_000_000", "MOST_WORDS: usize = 300")]
+NO_CUBES_OF_OFF = [(OF_PLA, "MOST_OF_OFF: usize = 200_000", "MOST_OF_OFF: usize = 0")]
+FEW_CUBES_OF_OFF = [(OF_PLA, "MOST_OF_OFF: usize = 200_000", "MOST_OF_OFF: usize = 2"),
+                    (OF_PLA, "MOST_ROWS_OF_OFF: usize = 4_000_000", "MOST_ROWS_OF_OFF: usize = 4")]
+MERGED = [
+    (MERGING, "LEAST_ROWS: usize = 64", "LEAST_ROWS: usize = 2"),
+    ("minimum/fewer_rows", "row.literals().saturating_mul(4) < inputs.saturating_mul(3)", "inputs > 2000"),
+    ("cover/merging/input_order", "count.saturating_mul(4).saturating_mul(step) >= rows.len()",
+     "count.saturating_add(step) > 0"),
+]
+NEVER_NEAR = [(NEAR, "near <= far", "near <= far && near == usize::MAX")]
+ALWAYS_NEAR = [(NEAR, "near <= far", "near <= far || near > 0")]
+SEARCH_AT_ONCE = [("cover/region/passes", "root / 2 + 1", "root / 1000"),
+                  ("cover/region/passes", "root.saturating_mul(4)", "root / 1000")]
+SHORT_LISTS = [
+    ("cover/region/nearest_first", "FEW: usize = 64", "FEW: usize = 1"),
+    ("cover/outside_within_budget", "FEW: usize = 16", "FEW: usize = 1"),
+    ("cover/compare/meets_within", "FEW: usize = 16", "FEW: usize = 1"),
+    ("cover/containment", "SMALL: usize = 8", "SMALL: usize = 1"),
+    ("cover/compare/pairwise", "SMALL: usize = 8", "SMALL: usize = 1"),
+    ("cover/sums/meets", "FEW: usize = 64", "FEW: usize = 2"),
+    ("cover/sums/meets", "FEWER: usize = 16", "FEWER: usize = 1"),
+    ("cover/sums/absorb", "MANY: usize = 32", "MANY: usize = 2"),
+    ("cover/sums/dependent_outputs", "FEW: usize = 64", "FEW: usize = 2"),
+    ("cover/sums/containing", "MANY: u32 = 6", "MANY: u32 = 3"),
+    ("minimum/prime_table/halving_input", "FEW: usize = 16", "FEW: usize = 1"),
+    ("covering/solver", "FEW: usize = 8", "FEW: usize = 1"),
+    ("covering/solver", "BATCH_TABLES: u64 = 600", "BATCH_TABLES: u64 = 2"),
+]
+FEW_PROPOSALS = [
+    ("signature_search/search", "REGION_BUDGET: u64 = 1 << 16", "REGION_BUDGET: u64 = 2"),
+    ("signature_search/search", "MOST_SIGNATURES: usize = 20000", "MOST_SIGNATURES: usize = 3"),
+    ("signature_search/function", "COMPLEMENT_BUDGET: usize = 1 << 18", "COMPLEMENT_BUDGET: usize = 2"),
+    ("signature_search/finder", "REGION_BUDGET: u64 = 300", "REGION_BUDGET: u64 = 2"),
+]
+
+BUILDS = {
+    # Points outside a list; the columns of a point are those that dominate, or, where literals count, all primes.
+    "points": [*POINTS_OF_FEW_INPUTS, *GROWTH, *NO_FEW_PRIMES, *SHORT_LISTS],
+    # The same within budgets that are spent now and then: by cubes outside, looks, primes of a point, rounds.
+    "points-spent": [*POINTS_OF_FEW_INPUTS, *GROWTH, *NO_FEW_PRIMES, *FEW_CUBES_OUTSIDE, *FEW_LOOKS, *FEW_PRIMES_OF_A_POINT,
+                     *FEW_ROUNDS, *ALWAYS_AS_NEEDED, *FEW_PROPOSALS, *NEVER_NEAR],
+    # Places outside as they are needed.
+    "needed": [*POINTS_OF_FEW_INPUTS, *GROWTH, *NO_CUBES_OUTSIDE, *ALWAYS_AS_NEEDED, *NO_CUBES_OF_OFF, *ALWAYS_NEAR],
+    # The same until rounds or looks are spent; then points that are picked by all primes.
+    "needed-spent": [*POINTS_OF_FEW_INPUTS, *NO_GROWTH, *NO_CUBES_OUTSIDE, *ALWAYS_AS_NEEDED, *FEW_NEEDED_ROUNDS, *FEW_WORDS,
+                     *POINTS_OF_PRIMES, *FEW_CUBES_OF_OFF, *SEARCH_AT_ONCE],
+    # Points that are picked by all primes, until rounds are spent; then the table of all primes.
+    "primes": [*POINTS_OF_FEW_INPUTS, *NO_GROWTH, *NO_CUBES_OUTSIDE, *NEVER_AS_NEEDED, *POINTS_OF_PRIMES, *SHORT_LISTS,
+               *FEW_PROPOSALS],
+    "primes-spent": [*POINTS_OF_FEW_INPUTS, *GROWTH, *NO_CUBES_OUTSIDE, *NEVER_AS_NEEDED, *POINTS_OF_PRIMES, *FEW_ROUNDS,
+                     *NO_CUBES_OF_OFF, *NEVER_NEAR, *SEARCH_AT_ONCE],
+    # The table of all primes, also of many inputs.
+    "table": [*NO_GROWTH, *POINTS_OF_FEW_INPUTS, *NO_CUBES_OUTSIDE, *NEVER_AS_NEEDED, *NO_POINTS_OF_PRIMES, *NO_CUBES_OF_OFF,
+              *SHORT_LISTS],
+    # Rows of all lists are merged, whatever they are; then points, or places outside as they are needed.
+    "merged": [*MERGED, *POINTS_OF_FEW_INPUTS, *GROWTH, *FEW_CUBES_OUTSIDE, *ALWAYS_AS_NEEDED, *ALWAYS_NEAR, *SEARCH_AT_ONCE],
+}
+
+
+def changed_by(changes, used):
+    """What as_rust writes in place of a file's text; the changes that are made are added to `used`."""
+    def changed(path, text):
+        for file, old, new in changes:
+            if file == path:
+                if text.count(old) != 1:
+                    sys.exit(f"bench/low_budgets.py: {path} has not once: {old}")
+                text = text.replace(old, new)
+                used.add((file, old))
+        return text
+    return changed
+
+
+def build(target, name):
+    folder, used = os.path.join(target, "crates"), set()
+    as_rust.write_all(folder, ["espresso"], changed_by(BUILDS[name], used))
+    lost = [change for change in BUILDS[name] if change[:2] not in used]
+    if lost:
+        sys.exit(f"bench/low_budgets.py: no such file: {lost[0][0]}")
+    as_rust.build(folder, ["espresso"], "release")
+    shutil.copy2(os.path.join(folder, "target/release/espresso"), os.path.join(target, name))
+
+
+def main():
+    words = sys.argv[1:]
+    if not words or words[0].startswith("-") or not set(words[1:]) <= set(BUILDS):
+        sys.exit(__doc__)
+    for name in words[1:] or BUILDS:
+        build(os.path.realpath(words[0]), name)
+
+
+if __name__ == "__main__":
+    main()
