@@ -313,7 +313,7 @@ class Source:
         """A comment for each name of a contract that an import has renamed."""
         code = re.sub(r"//.*", "", "\n".join(entry.lines))
         names = sorted({name for clause in clauses(code) for name in tokens(clause)} & set(self.names))
-        return [f"// {name} is {origin} of {'.'.join(module.split('.')[1:2] + module.split('.')[3:])}"
+        return [f"// {name} is {origin} of {self.book.place_of(module.split('.')[1], module.split('.')[3:])}"
                 for name in names for module, origin in [self.names[name]] if origin != name and name not in parts(origin)]
 
     def cite(self, entry):
@@ -339,10 +339,11 @@ class Book:
     """All modules and sources, looked up by their names."""
 
     def __init__(self):
-        self.modules, self.sources, self.items = {}, {}, {}
+        self.modules, self.sources, self.items, self.passed_on = {}, {}, {}, {}
         for crate in CRATES:
             for path, dotted in files(f"crates/{crate}/specs", ".antt"):
                 self.modules[f"{crate}.{dotted}"] = Module(self, f"{crate}.{dotted}", path)
+            self.passed_on.update(modules_passed_on(crate))
             for path, dotted in files(f"crates/{crate}/src", ".rt"):
                 dotted = re.sub(r"\.mod$|^lib$", "", dotted)
                 self.sources[crate, dotted] = Source(self, crate, dotted, path)
@@ -362,7 +363,12 @@ class Book:
         if path[0] == "declared":
             path = path[1:-1] if path[-1] == "TheVariants" else path[1:]
             return self.item(crate, ".".join(path[:-1]), path[-1])
-        return self.modules[f"{crate}.{'.'.join(path)}"].find(name)
+        return self.modules[self.place_of(crate, path)].find(name)
+
+    def place_of(self, crate, path):
+        """`crate.Module` of a module, also of one that the crate passes on."""
+        place = ".".join([crate, *path])
+        return self.passed_on.get(place, place)
 
     def lookup_in_kit(self, module, name):
         """The entry of a name of a module of the kit, under that name."""
@@ -483,6 +489,16 @@ def path_in_kit(module):
         if os.path.isfile(os.path.join(kit(), file + ".antt")):
             return place, os.path.join(kit(), file + ".antt")
     return module, None
+
+
+def modules_passed_on(crate):
+    """The modules of other crates that a crate passes on: for each `crate.Module` the one whose it is."""
+    path = os.path.join(ROOT, "crates", crate, "specs/Lib.antt")
+    if not os.path.isfile(path):
+        return {}
+    with open(path, encoding="utf-8") as file:
+        found = re.findall(r"^pub use Rattle\.(\w+)\.specs\.(\w+)$", file.read(), re.M)
+    return {f"{crate}.{name}": f"{origin}.{name}" for origin, name in found}
 
 
 def files(folder, ending):

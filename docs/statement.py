@@ -97,7 +97,7 @@ what is missing, with the last line.""",
      ("pla.Lists", "pla.Description", "pla.Sets", "pla.Completed")),
     ("Cubes, places and complete sums", "",
      ("cube.Size", "cube.Limits", "cube.Pattern", "cube.Cube", "cube.Order", "cube.Sum")),
-    ("Lists of cubes", "", ("cover.Cubes", "cover.Places", "cover.Contained")),
+    ("Lists of cubes", "", ("rows.Cubes", "rows.Places", "rows.Contained")),
     ("Primes and covers by primes", "", ("minimum.Primes", "covering.Cover", "covering.Table")),
     ("The printed text", "", ("pla.Text",)),
     ("Devices", """What a contract sees of files, of outputs, and of the calls to them. `start` gives `execute` the files and streams of the system, of which
@@ -481,7 +481,8 @@ def pages():
     for crate, title, about in LIBRARIES:
         calls = book.public_calls(crate)
         contracts += calls
-        modules = sorted(place for place in book.modules if place.startswith(crate + "."))
+        modules = [place for place in book.modules if place.startswith(crate + ".")]
+        modules = sorted(modules + [origin for place, origin in book.passed_on.items() if place.startswith(crate + ".")])
         subjects.append((title, f"The library `{crate}`. {about}", [*dict.fromkeys("::".join(call.split("::")[:2]) for call in calls), *modules]))
     libraries = Page(book, contracts, subjects, statement.seen)
     return {"STATEMENT.md": statement.text(STATEMENT), "LIBRARIES.md": libraries.text(LIBRARIES_PAGE)}

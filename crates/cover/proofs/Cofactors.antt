@@ -16,12 +16,12 @@ use Rattle.cube.proofs.HoldsLemmas.{length-matches, agrees_at-matches, matches-f
 use Rattle.cube.proofs.Members.{Contains-map, Contains-map_cases, Contains-filter, Contains-filter_cases}
 use Rattle.cube.proofs.SharpLemmas.{some_true, true_some}
 use Rattle.cube.proofs.ZipLemmas.{get_or-zip2_any}
-use Rattle.cover.specs.Cubes.{AreCubes}
+use Rattle.rows.specs.Cubes.{AreCubes}
 use Rattle.cover.specs.Cofactor.{cofactors}
-use Rattle.cover.specs.Places.{places, holds_all, is_disjoint, meeting, universal}
-use Rattle.cover.proofs.Everywhere.{holds_all-universal, holds_universal}
-use Rattle.cover.proofs.Lists.{list_any_from, list_any_witness, all_members, members_all}
-use Rattle.cover.proofs.Meeting.{is_disjoint-from_fact, IsDisjoint-from_test}
+use Rattle.rows.specs.Places.{places, holds_all, is_disjoint, meeting, universal}
+use Rattle.rows.proofs.Everywhere.{holds_all-universal, holds_universal}
+use Rattle.rows.proofs.Lists.{list_any_from, list_any_witness, all_members, members_all}
+use Rattle.rows.proofs.Meeting.{is_disjoint-from_fact, IsDisjoint-from_test}
 
 -- the bit that a symbol asks for, or else the point's own
 forced_bit : Symbol → Bool → Bool

@@ -8,10 +8,10 @@ use Rattle.cube.specs.Cube.{Cube, Place, IsPlace, IsSubset, intersection}
 use Rattle.cube.specs.Sum.{all_places}
 use Rattle.cube.proofs.Members.{list_all_at, list_all_from}
 use Rattle.cube.proofs.SumLemmas.{IsPlace-from_holds}
-use Rattle.cover.specs.Cubes.{AreCubes}
-use Rattle.cover.specs.Places.{places, agree_outside, universal}
-use Rattle.cover.proofs.Agreement.{IsSubset-places_test, agree_outside-turned}
-use Rattle.cover.proofs.Everywhere.{same_test, HasSize-universal, universal-all_places}
+use Rattle.rows.specs.Cubes.{AreCubes}
+use Rattle.rows.specs.Places.{places, agree_outside, universal}
+use Rattle.rows.proofs.Agreement.{IsSubset-places_test, agree_outside-turned}
+use Rattle.rows.proofs.Everywhere.{same_test, HasSize-universal, universal-all_places}
 
 -- the free places: the given ones, and those outside both a list and its mask
 abbrev pub all_free : (s t free mask other_mask : Place → Bool) → Place → Bool

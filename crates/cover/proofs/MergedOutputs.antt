@@ -5,12 +5,12 @@ use Rattle.std.proofs.lemmas.Bool.{cases_Bool, cases_lt, and_parts, or_left, or_
 use Rattle.cube.specs.Size.{Size}
 use Rattle.cube.specs.Cube.{Cube, Place, IsCube, IsPlace, holds}
 use Rattle.cube.proofs.SumLemmas.{IsPlace-from_holds}
-use Rattle.cover.specs.Cubes.{AreCubes, Cubes}
+use Rattle.rows.specs.Cubes.{AreCubes, Cubes}
 use Rattle.cover.specs.Merging.{Adds}
-use Rattle.cover.specs.Places.{places}
-use Rattle.cover.proofs.Everywhere.{same_test}
-use Rattle.cover.proofs.Lists.{all_members, list_any_witness}
-use Rattle.cover.proofs.OffSets.{held_at, held_only, region_of}
+use Rattle.rows.specs.Places.{places}
+use Rattle.rows.proofs.Everywhere.{same_test}
+use Rattle.rows.proofs.Lists.{all_members, list_any_witness}
+use Rattle.rows.proofs.OneOutput.{held_at, held_only, region_of}
 
 and_or : (a b c : Bool) → ((a && b) || (a && c)) ≡ (a && (b || c))
 and_or true b c = refl

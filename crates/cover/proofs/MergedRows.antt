@@ -9,14 +9,14 @@ use Rattle.cube.specs.declared.symbol.Symbol.TheVariants.{Dash, Zero, One}
 use Rattle.cube.specs.Pattern.{agrees, matches}
 use Rattle.cube.specs.Sharp.{opposite}
 use Rattle.cube.specs.Cube.{Cube, Place, IsSubset, holds, with_symbol}
-use Rattle.cover.specs.Cubes.{Cubes}
-use Rattle.cover.specs.Marks.{is_symbol}
+use Rattle.rows.specs.Cubes.{Cubes}
+use Rattle.rows.specs.Marks.{is_symbol}
 use Rattle.cover.specs.Merging.{Adds, IsUnion, StandsFor}
-use Rattle.cover.specs.Places.{places}
-use Rattle.cover.proofs.ContainmentLemmas.{is_symbol-same}
-use Rattle.cover.proofs.Everywhere.{same_test}
-use Rattle.cover.proofs.SumMeets.{places-append}
-use Rattle.cover.proofs.SumSplit.{holds-own}
+use Rattle.rows.specs.Places.{places}
+use Rattle.rows.proofs.ContainmentLemmas.{is_symbol-same}
+use Rattle.rows.proofs.Everywhere.{same_test}
+use Rattle.rows.proofs.SumMeets.{places-append}
+use Rattle.rows.proofs.SumSplit.{holds-own}
 
 -- ---- two rows
 

@@ -4,7 +4,7 @@ use Rattle.cube.specs.declared.symbol.Symbol.TheVariants.{Dash, Zero, One}
 use Rattle.cube.specs.Size.{Size}
 use Rattle.cube.specs.Cube.{Cube}
 use Rattle.cube.specs.Cofactor.{cofactor}
-use Rattle.cover.specs.Places.{meeting}
+use Rattle.rows.specs.Places.{meeting}
 
 -- the cubes that have a place of c, in their order, each the cofactor by c
 abbrev pub cofactors : Size → Cube → List Cube → List Cube

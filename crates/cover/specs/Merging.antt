@@ -1,8 +1,8 @@
 -- Rows that become one. No public clause cites this module.
 use Rattle.std.specs.Prelude.{◌≡◌, ◌+◌, ◌≤◌, ◌||◌, List, length}
 use Rattle.cube.specs.Cube.{Cube, Place, holds}
-use Rattle.cover.specs.Cubes.{Cubes}
-use Rattle.cover.specs.Places.{places}
+use Rattle.rows.specs.Cubes.{Cubes}
+use Rattle.rows.specs.Places.{places}
 
 -- c has the places of a and of b
 abbrev pub IsUnion : Cube → Cube → Cube → Type 0

@@ -2,7 +2,7 @@
 ghost use Rattle.std.specs.Prelude.{◌≡◌, ◌↔◌, IsTrue, IfOk};
 ghost use Rattle.cube.specs.Cube.{HasSize, IsSubset, holds};
 ghost use Rattle.cover.specs.Cofactor.{cofactors};
-ghost use Rattle.cover.specs.Places.{places, holds_all};
+ghost use Rattle.rows.specs.Places.{places, holds_all};
 
 use crate::list::Cover;
 use cube::Cube;

@@ -1,17 +1,14 @@
 //! Whether the places of a list lie in two others, and whether two lists agree outside a third.
-pub(crate) mod equal_rows;
 pub(crate) mod intersects;
 pub(crate) mod meets_within;
-pub(crate) mod pairwise;
 
 ghost use Rattle.std.specs.Prelude.{◌≡◌, ◌↔◌, ◌||◌, IsTrue, IfOk};
 ghost use Rattle.cube.specs.Cube.{IsSubset};
-ghost use Rattle.cover.specs.Places.{places, agree_outside as agree_outside_of};
+ghost use Rattle.rows.specs.Places.{places, agree_outside as agree_outside_of};
 
-use crate::compare::equal_rows::rows_not_among;
-use crate::compare::pairwise::{Relation, are_related};
 use crate::list::Cover;
 use crate::references::{references_to, references_to_both};
+use regions::{Relation, are_related, rows_not_among};
 use std::alloc::AllocError;
 
 /// Whether each place of `list` is in `other` or in `dc`. Rows that stand in `other` or `dc` too,

@@ -7,15 +7,13 @@
 //! rows that have literals at many inputs, the pairs that are looked at are far fewer than all.
 ghost use Rattle.std.specs.Prelude.{◌≡◌, ℕ, ◌<◌, true, false, IfOk, OnOk, length, slice_index_or, All, filter};
 ghost use Rattle.std.specs.List.{list_any, range_with_len};
-ghost use Rattle.cover.specs.Contained.{contained, is_within as is_within_of};
-ghost use Rattle.cover.specs.Cubes.{AreCubes};
-ghost use Rattle.cover.specs.Marks.{cube_at, is_contained_at, is_absorbed_by, symbol_at, is_symbol, is_over, Marks, MarksPart};
+ghost use Rattle.rows.specs.Contained.{contained, is_within as is_within_of};
+ghost use Rattle.rows.specs.Cubes.{AreCubes};
+ghost use Rattle.rows.specs.Marks.{cube_at, is_contained_at, is_absorbed_by, symbol_at, is_symbol, is_over, Marks, MarksPart};
 
 use crate::list::Cover;
-use crate::literal_counts::LiteralCounts;
-use crate::references::references;
-use crate::symbols::{is_same_symbol, symbol_contains};
 use cube::Symbol;
+use rows::{LiteralCounts, is_same_symbol, references, symbol_contains};
 use std::alloc::{AllocError, Global};
 
 // Parts of at most this many cubes are not split: a look at their pairs costs no more.

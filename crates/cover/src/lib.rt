@@ -38,25 +38,18 @@
 
 mod cofactor;
 mod compare;
+mod complete_sums;
 mod containment;
-mod cubes;
 mod list;
-mod literal_counts;
 mod merging;
 mod outside_within_budget;
 mod references;
-mod region;
-mod row_hash;
-mod sums;
-mod symbols;
 mod tautology;
 
 pub use compare::meets_within::are_meets_within_either;
 pub use compare::{agree_outside, is_within_either};
+pub use complete_sums::{complete_sum, cubes_containing, difference, intersect, sum_containing};
 pub use containment::contain;
-pub use list::Cover;
+pub use list::{Cover, in_row_order};
 pub use merging::merge_rows;
 pub use outside_within_budget::{Budget, outside, subtract};
-pub use sums::containing::{cubes_containing, sum_containing};
-pub use sums::rows::in_row_order;
-pub use sums::{complete_sum, difference, intersect};

@@ -1,10 +1,13 @@
-//! A list of cubes of one shape, copies of lists, and whether a cube of one meets another.
-ghost use Rattle.std.specs.Prelude.{◌≡◌, ◌<◌, ◌==◌, ◌∷◌, ◌++◌, [], length, slice_get, slice_set, option_copied, false, All, IfOk, OnOk, OnErr, IfErr, IfSome};
-ghost use Rattle.cube.specs.Cube.{HasSize, IsCube, SameSize, IsDisjoint, holds};
-ghost use Rattle.cover.specs.Cubes.{AreCubes};
-ghost use Rattle.cover.specs.Places.{behind};
+//! A list of cubes of one shape.
+ghost use Rattle.std.specs.Prelude.{◌≡◌, ◌<◌, ◌++◌, ◌∷◌, [], IfOk, OnOk, All, length, ◌==◌, slice_get, slice_set, option_copied, OnErr, IfErr, IfSome};
+ghost use Rattle.rows.specs.Reduced.{HasSameCubes};
+ghost use Rattle.cube.specs.Order.{row_cmp as row_order};
+ghost use Rattle.std.specs.List.Sorted.{IsStrictlySortedBy};
+ghost use Rattle.cube.specs.Cube.{HasSize, IsCube};
+ghost use Rattle.rows.specs.Cubes.{AreCubes};
 
 use cube::{Cube, Shape};
+use rows::{clone_cubes, sort_rows};
 use std::alloc::{AllocError, Global};
 use std::marker::Model;
 
@@ -16,7 +19,7 @@ pub struct Cover {
 }
 
 impl Model for Cover {
-    ghost use Rattle.cover.specs.Cubes.{Cubes, AreCubes};
+    ghost use Rattle.rows.specs.Cubes.{Cubes, AreCubes};
 
     ghost Value = { Cubes };
 
@@ -142,45 +145,18 @@ impl Cover {
     }
 }
 
-/// Copies of the cubes, in their order.
-pub(crate) fn clone_cubes(alloc: Global, cubes: &[Cube]) -> Result<Vec<Cube>, AllocError>
-    ensures { IfOk result (λ copy. copy.items ≡ cubes.now) }
+/// The cubes of the list in row order, each once.
+///
+/// # Errors
+///
+/// [`AllocError`] if memory is refused.
+pub fn in_row_order(list: &Cover) -> Result<Cover, AllocError>
+    ensures size { IfOk result (λ all. all.size ≡ list.now.size) }
+    ensures rising { IfOk result (λ all. IsStrictlySortedBy row_order all.cubes) }
+    ensures cubes { IfOk result (λ all. HasSameCubes list.now.cubes all.cubes) }
 {
-    with_copies(Vec::with_capacity(alloc, cubes.len())?, cubes)
-}
-
-/// The list, with copies of the cubes after its own.
-pub(crate) fn with_copies(list: Vec<Cube>, cubes: &[Cube]) -> Result<Vec<Cube>, AllocError>
-    ensures { IfOk result (λ all. all.items ≡ list.items ++ cubes.now) }
-{
-    let mut all = list;
-    all.reserve(cubes.len())?;
-    for cube in cubes {
-        all.push(cube.try_clone()?)?;
-    }
-    Ok(all)
-}
-
-/// Copies of the cubes that the references refer to, in their order.
-pub(crate) fn clone_referents(alloc: Global, rows: &[&Cube]) -> Result<Vec<Cube>, AllocError>
-    ensures { IfOk result (λ copies. copies.items ≡ behind rows.now) }
-{
-    let mut copies = Vec::with_capacity(alloc, rows.len())?;
-    for row in rows {
-        copies.push(row.try_clone()?)?;
-    }
-    Ok(copies)
-}
-
-/// Whether some cube has a place of the row.
-pub(crate) fn any_meets(cubes: &[Cube], row: &Cube) -> bool
-    requires { All (λ d. SameSize d row.now) cubes.now }
-    ensures { result ≡ false → All (λ d. IsDisjoint (holds d) (holds row.now)) cubes.now }
-{
-    for cube in cubes {
-        if !cube.disjoint(row) {
-            return true;
-        }
-    }
-    false
+    let alloc = list.allocator();
+    let shape = list.shape();
+    let rows = sort_rows(alloc, list.try_clone()?.into_cubes())?;
+    Ok(Cover::from_cubes(shape, rows))
 }

@@ -11,15 +11,14 @@ pub(crate) mod row_table;
 
 ghost use Rattle.std.specs.Prelude.{◌≡◌, ◌<◌, ◌≤◌, ◌&&◌, ◌∷◌, [], IfOk, IfSome, OnOk, All, length, nat_eq, slice_index_or};
 ghost use Rattle.cube.specs.Cube.{Cube as Row, HasSize, Place, SameSize, holds};
-ghost use Rattle.cover.specs.Places.{places};
+ghost use Rattle.rows.specs.Places.{places};
 ghost use Rattle.cover.specs.Merging.{Adds, IsUnion, StandsFor};
 
-use crate::cubes::cube_of_output;
 use crate::list::Cover;
 use crate::merging::input_order::{have_neighbours, order_of_inputs};
 use crate::merging::row_table::{RowTable, hash_at, hashes_of, symbol_hash};
-use crate::symbols::{is_same_symbol, opposite};
 use cube::{Cube, Shape, Symbol};
+use rows::{cube_of_output, is_same_symbol, opposite};
 use std::alloc::{AllocError, Global};
 
 // Lists of fewer rows stay as they are.

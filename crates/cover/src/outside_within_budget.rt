@@ -8,19 +8,19 @@
 ghost use Rattle.std.specs.Prelude.{◌≡◌, ◌<◌, ◌&&◌, IfOk, IfSome, All, length, Some, slice_get, not, false, true};
 ghost use Rattle.cube.specs.Size.{Size};
 ghost use Rattle.cube.specs.Cube.{HasSize, SameSize, IsCube, IsSubset, Place, IsPlace, holds, difference as difference_of};
-ghost use Rattle.cover.specs.Cubes.{AreCubes};
-ghost use Rattle.cover.specs.Places.{places};
-ghost use Rattle.cover.specs.Outside.{AreNear, IsRest, Extends};
+ghost use Rattle.rows.specs.Cubes.{AreCubes};
+ghost use Rattle.rows.specs.Places.{places};
+ghost use Rattle.sums.specs.Outside.{AreNear, IsRest, Extends};
 
-use crate::compare::equal_rows::rows_not_among;
-use crate::compare::intersects::are_disjoint;
-use crate::cubes::cube_of_output;
-use crate::list::{Cover, any_meets, clone_cubes, clone_referents};
+use crate::complete_sums::difference;
+use crate::list::Cover;
 use crate::references::references_to;
-use crate::region::open_literals::{count_bits, open_bits};
-use crate::sums::difference;
-use crate::sums::rows::{push_copy, rows_of_both, sort_rows};
 use cube::{Cube, Shape, Symbol};
+use regions::{are_disjoint, rows_not_among};
+use rows::{
+    any_meets, clone_cubes, clone_referents, count_bits, cube_of_output, open_bits, push_copy,
+    rows_of_both, sort_rows,
+};
 use std::alloc::{AllocError, Global};
 
 // Lists of at most this many rows are not halved: each row is asked for by itself.

@@ -1,18 +1,12 @@
 //! Lists of references to cubes, as the questions about lists take them.
 ghost use Rattle.std.specs.Prelude.{◌≡◌, ◌++◌, IfOk, All};
 ghost use Rattle.cube.specs.Cube.{HasSize};
-ghost use Rattle.cover.specs.Places.{behind};
+ghost use Rattle.rows.specs.Places.{behind};
 
 use crate::list::Cover;
 use cube::Cube;
-use std::alloc::{AllocError, Global};
-
-// References to the cubes of a list.
-pub(crate) fn references(alloc: Global, cubes: &[Cube]) -> Result<Vec<&Cube>, AllocError>
-    ensures { IfOk result (λ refs. behind refs.items ≡ cubes.now) }
-{
-    cubes.iter().collect(alloc)
-}
+use rows::references;
+use std::alloc::AllocError;
 
 // References to the cubes of a cover.
 pub(crate) fn references_to(list: &Cover) -> Result<Vec<&Cube>, AllocError>

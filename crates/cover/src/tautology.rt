@@ -1,19 +1,18 @@
 //! The questions to a list: whether its cubes hold every place (`tautology`), a given cube
 //! (`holds_cube`), or each of several (`holds_cubes`), and what they leave out of these
-//! (`part_left_out`, `parts_left_out`). `region` answers them.
+//! (`part_left_out`, `parts_left_out`). `regions` answers them.
 ghost use Rattle.std.specs.Prelude.{◌≡◌, IfOk, IfNone, IfSome, All, is_none, map};
 ghost use Rattle.std.specs.List.{AllZip};
 ghost use Rattle.cube.specs.Cube.{HasSize, IsSubset, holds};
 ghost use Rattle.cube.specs.Sum.{is_subset};
-ghost use Rattle.cover.specs.LeftOut.{IsLeftOut};
-ghost use Rattle.cover.specs.Places.{places, holds_all};
+ghost use Rattle.regions.specs.LeftOut.{IsLeftOut};
+ghost use Rattle.rows.specs.Places.{places, holds_all};
 
-use crate::cubes::universal_cube;
 use crate::list::Cover;
-use crate::references::{references, references_to};
-use crate::region::nearest_first::part_left_out_of_each;
-use crate::region::part_left_out;
+use crate::references::references_to;
 use cube::Cube;
+use regions::{part_left_out, part_left_out_of_each};
+use rows::{references, universal_cube};
 use std::alloc::{AllocError, Global};
 
 // Which of the parts are none.

@@ -1,7 +1,7 @@
 //! Small lists by hand. What the program prints of longer ones is tested on the built program.
 ghost use Rattle.std.specs.Prelude.{◌≡◌};
 
-use crate::rows::{are_written, cover_of, is_written};
+use crate::row_texts::{are_written, cover_of, is_written};
 use cover::{Cover, agree_outside, complete_sum, contain, difference, intersect, merge_rows};
 use cube::Shape;
 use std::alloc::{AllocError, Global};

@@ -1,5 +1,7 @@
 //! Small cubes by hand.
-use crate::rows::{are_written, cube_of, cube_of_bytes, cube_of_symbols, is_written, same_shape};
+use crate::row_texts::{
+    are_written, cube_of, cube_of_bytes, cube_of_symbols, is_written, same_shape,
+};
 use crate::wide::{Operation, answer};
 use cube::{Cube, Shape, Symbol, laws, limits};
 use std::alloc::Global;

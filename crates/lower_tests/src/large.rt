@@ -7,7 +7,7 @@ ghost use Rattle.std.specs.Prelude.{◌≡◌};
 
 use crate::covers::{Operation, Question, answer, result_of};
 use crate::places;
-use crate::rows::{cube_of_bytes, held_of, same_shape};
+use crate::row_texts::{cube_of_bytes, held_of, same_shape};
 use crate::rules::{Rows, Rule, are_rows, cube_of_rule, has_rows, is_row, list_of};
 use cube::{Cube, Shape};
 use std::alloc::Global;

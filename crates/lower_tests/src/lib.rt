@@ -38,7 +38,7 @@ mod reading;
 #[cfg(test)]
 mod reasons;
 #[cfg(test)]
-mod rows;
+mod row_texts;
 #[cfg(test)]
 mod rules;
 #[cfg(test)]

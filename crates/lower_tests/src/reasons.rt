@@ -1,5 +1,5 @@
 //! Tautology and containment against the plain definition, and on wide lists.
-use crate::rows::{cube_of_symbols, held_of, push};
+use crate::row_texts::{cube_of_symbols, held_of, push};
 use cover::Cover;
 use cube::{Cube, Shape, Symbol};
 use std::alloc::Global;

@@ -1,7 +1,7 @@
 //! Lists by rule, also wide and long ones.
 ghost use Rattle.std.specs.Prelude.{◌≡◌, IfOk};
 
-use crate::rows::{cube_of_symbols, push, same_shape};
+use crate::row_texts::{cube_of_symbols, push, same_shape};
 use cover::Cover;
 use cube::{Cube, Shape, Symbol};
 use std::alloc::Global;

@@ -1,7 +1,7 @@
 //! Wide cubes against forms that go symbol by symbol.
 ghost use Rattle.cube.specs.Cube.{SameSize};
 
-use crate::rows::{byte_of, cube_of_symbols, same_shape};
+use crate::row_texts::{byte_of, cube_of_symbols, same_shape};
 use cube::{Cube, Symbol};
 use std::alloc::{AllocError, Global};
 use std::cmp::Ordering;

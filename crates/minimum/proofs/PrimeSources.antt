@@ -18,7 +18,6 @@ use Rattle.minimum.specs.declared.points.source.Source.{Source}
 use Rattle.minimum.specs.Points.{IsSource, StandsFor, lists_of}
 use Rattle.minimum.proofs.PickedPoints.{wanted_by}
 
-
 -- lists of the same cubes hold the same places
 pub places_same : (xs ys : List Cube) → HasSameCubes xs ys → (p : Place) → places ys p ≡ places xs p
 places_same xs ys same p = elim (cases_Bool (places xs p)) [

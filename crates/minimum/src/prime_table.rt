@@ -15,10 +15,10 @@ ghost use Rattle.minimum.specs.PrimeTable.{HasPrimeColumns, HasPrimeCovers};
 ghost use Rattle.minimum.specs.PrimeRows.{AreEnough, AreRowsOf};
 
 mod halving_input;
-mod rows;
+mod split_rows;
 
 use crate::cubes::one_output;
-use crate::prime_table::rows::{Candidates, Lists};
+use crate::prime_table::split_rows::{Candidates, Lists};
 use cover::Cover;
 use covering::{Table, numbers};
 use cube::{Cube, Shape};

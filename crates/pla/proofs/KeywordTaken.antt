@@ -8,8 +8,8 @@ use Rattle.cube.specs.Limits.{Limits}
 use Rattle.cube.specs.Size.{Size}
 use Rattle.pla.specs.declared.file_type.FileType.{FileType}
 use Rattle.pla.specs.declared.file_type.FileType.TheVariants.{Fd}
-use Rattle.pla.specs.declared.rows.Part.{Part}
-use Rattle.pla.specs.declared.rows.Part.TheVariants.{On, DontCare, Off}
+use Rattle.pla.specs.declared.row_lines.Part.{Part}
+use Rattle.pla.specs.declared.row_lines.Part.TheVariants.{On, DontCare, Off}
 use Rattle.pla.specs.declared.header.Head.{Head}
 use Rattle.pla.specs.Lines.{is_keyword_line, all_symbols, arguments}
 use Rattle.pla.specs.Keywords.{has, type_on, type_by}

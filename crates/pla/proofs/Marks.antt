@@ -7,7 +7,7 @@ use Rattle.std.proofs.lemmas.Nat.{and_assoc, and_comm, and_le_r}
 use Rattle.std.proofs.lemmas.List.{same_lists, get_or-map, length-map, take_more}
 use Rattle.std.proofs.lemmas.List.FromFn.{get_or-map-range_with_len}
 use Rattle.cube.specs.Bytes.{has_mark}
-use Rattle.pla.specs.declared.rows.TheConstants.{MARKS}
+use Rattle.pla.specs.declared.row_lines.TheConstants.{MARKS}
 use Rattle.pla.specs.Symbols.{is_byte_of}
 
 and_left : (a b : Bool) → (a && b) ≡ true → a ≡ true

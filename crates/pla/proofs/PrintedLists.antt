@@ -9,8 +9,8 @@ use Rattle.std.proofs.Math.Seq.{take-append_seam, drop-append_seam}
 use Rattle.cube.specs.Size.{Size}
 use Rattle.cube.specs.Cube.{Cube, IsCube}
 use Rattle.pla.specs.declared.file_type.FileType.TheVariants.{Fdr}
-use Rattle.pla.specs.declared.rows.Part.{Part}
-use Rattle.pla.specs.declared.rows.Part.TheVariants.{On, DontCare, Off}
+use Rattle.pla.specs.declared.row_lines.Part.{Part}
+use Rattle.pla.specs.declared.row_lines.Part.TheVariants.{On, DontCare, Off}
 use Rattle.pla.specs.declared.out_type.OutType.TheVariants.{Fdr as out_fdr}
 use Rattle.pla.specs.Lines.{all_symbols}
 use Rattle.pla.specs.Symbols.{width, rows}

@@ -12,8 +12,8 @@ use Rattle.cube.specs.declared.symbol.Symbol.TheVariants.{Dash, Zero, One}
 use Rattle.cube.specs.Size.{Size}
 use Rattle.cube.specs.Cube.{Cube, HasSize, IsCube}
 use Rattle.pla.specs.declared.file_type.FileType.TheVariants.{Fdr}
-use Rattle.pla.specs.declared.rows.Part.{Part}
-use Rattle.pla.specs.declared.rows.Part.TheVariants.{On, DontCare, Off}
+use Rattle.pla.specs.declared.row_lines.Part.{Part}
+use Rattle.pla.specs.declared.row_lines.Part.TheVariants.{On, DontCare, Off}
 use Rattle.std.specs.Option.{option_map_or}
 use Rattle.pla.specs.Lines.{is_blank, is_row_blank, is_keyword_line, row_code, symbols}
 use Rattle.pla.specs.Symbols.{width, is_byte_of, is_symbol_at, any_bad}

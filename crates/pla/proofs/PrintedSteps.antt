@@ -8,7 +8,7 @@ use Rattle.cube.specs.Size.{Size}
 use Rattle.cube.specs.Cube.{Cube, IsCube}
 use Rattle.pla.specs.declared.file_type.FileType.{FileType}
 use Rattle.pla.specs.declared.file_type.FileType.TheVariants.{Fdr}
-use Rattle.pla.specs.declared.rows.Part.{Part}
+use Rattle.pla.specs.declared.row_lines.Part.{Part}
 use Rattle.pla.specs.Lines.{is_empty, keyword_words, symbols}
 use Rattle.pla.specs.Symbols.{width, left_over}
 use Rattle.pla.specs.Header.{Header, header_of, size_in}

@@ -12,7 +12,7 @@ use Rattle.cube.specs.Size.{Size}
 use Rattle.cube.specs.Cube.{Cube}
 use Rattle.pla.specs.declared.file_type.FileType.TheVariants.{Fdr}
 use Rattle.pla.specs.declared.out_type.OutType.TheVariants.{Fdr as out_fdr}
-use Rattle.pla.specs.declared.rows.Part.TheVariants.{On, DontCare, Off}
+use Rattle.pla.specs.declared.row_lines.Part.TheVariants.{On, DontCare, Off}
 use Rattle.pla.specs.Lines.{symbols, all_symbols, pieces, ended_lines}
 use Rattle.pla.specs.Keywords.{looked_at}
 use Rattle.pla.specs.Symbols.{width}

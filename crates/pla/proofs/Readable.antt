@@ -19,8 +19,8 @@ use Rattle.pla.specs.declared.ending.Ending.{Ending}
 use Rattle.pla.specs.declared.ending.Ending.TheVariants.{End, Failed}
 use Rattle.pla.specs.declared.file_type.FileType.{FileType}
 use Rattle.pla.specs.declared.file_type.FileType.TheVariants.{F, Fd, Fr, Fdr}
-use Rattle.pla.specs.declared.rows.Part.{Part}
-use Rattle.pla.specs.declared.rows.Part.TheVariants.{On, DontCare, Off}
+use Rattle.pla.specs.declared.row_lines.Part.{Part}
+use Rattle.pla.specs.declared.row_lines.Part.TheVariants.{On, DontCare, Off}
 use Rattle.pla.specs.declared.fault.ReadFault.{ReadFault}
 use Rattle.pla.specs.declared.fault.ReadKind.TheVariants.{ShapeMissing, UnfinishedRow, ReadFailed}
 use Rattle.pla.specs.Lines.{is_empty, arguments, all_symbols, lines_of, ended_lines, open_rest}

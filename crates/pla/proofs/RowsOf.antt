@@ -12,8 +12,8 @@ use Rattle.std.proofs.Math.Nat.{div-add-mod, mul_comm, mod-lt, mod-eq-sub-div-mu
 use Rattle.cube.specs.Cube.{Cube}
 use Rattle.cube.specs.Size.{Size}
 use Rattle.pla.specs.declared.file_type.FileType.{FileType}
-use Rattle.pla.specs.declared.rows.Part.{Part}
-use Rattle.pla.specs.declared.rows.Part.TheVariants.{On, DontCare, Off}
+use Rattle.pla.specs.declared.row_lines.Part.{Part}
+use Rattle.pla.specs.declared.row_lines.Part.TheVariants.{On, DontCare, Off}
 use Rattle.pla.specs.Symbols.{width, row_count, rows, unfinished_row}
 use Rattle.pla.specs.Lists.{part_symbols, given_cube, given_list}
 use Rattle.pla.specs.Reading.{RowsRead, rows_of, with_row, with_symbol}

@@ -8,7 +8,7 @@ use Rattle.std.proofs.Math.Seq.{take-append_seam, drop-append-add}
 use Rattle.pla.specs.declared.file_type.FileType.{FileType}
 use Rattle.pla.specs.Lines.{is_row_blank}
 use Rattle.pla.specs.Symbols.{is_byte_of, is_symbol_at, width}
-use Rattle.pla.specs.declared.rows.Part.TheVariants.{On, DontCare, Off}
+use Rattle.pla.specs.declared.row_lines.Part.TheVariants.{On, DontCare, Off}
 use Rattle.pla.specs.Lists.{cube_by, given_cube, input_symbol, part_symbols}
 use Rattle.pla.specs.Reading.{RowsRead, with_row, with_symbol, with_run, read_code, BeginsRow, IsRun}
 use Rattle.pla.proofs.RowsOf.{same_rows}

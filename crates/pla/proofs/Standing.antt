@@ -5,7 +5,7 @@ use Rattle.cube.specs.Limits.{Limits}
 use Rattle.cube.specs.Size.{Size}
 use Rattle.pla.specs.declared.file_type.FileType.{FileType}
 use Rattle.pla.specs.declared.fault.ReadKind.{ReadKind}
-use Rattle.pla.specs.declared.rows.Part.TheVariants.{On, DontCare, Off}
+use Rattle.pla.specs.declared.row_lines.Part.TheVariants.{On, DontCare, Off}
 use Rattle.pla.specs.Lines.{symbols, all_symbols}
 use Rattle.pla.specs.Keywords.{size_given, is_ending}
 use Rattle.pla.specs.Symbols.{left_over, rows, unfinished_row}

@@ -14,7 +14,7 @@ use Rattle.pla.specs.Lines.{is_empty, arguments, all_symbols, lines_of, open_res
 use Rattle.pla.specs.Keywords.{has, number, number_within, inputs_on, outputs_on, names_on, type_on, first_given, size_by, is_ending, looked_at}
 use Rattle.pla.specs.Symbols.{left_over}
 use Rattle.pla.specs.Header.{Header, header_of, size_in, type_in}
-use Rattle.pla.specs.declared.rows.Part.TheVariants.{On, DontCare, Off}
+use Rattle.pla.specs.declared.row_lines.Part.TheVariants.{On, DontCare, Off}
 use Rattle.pla.specs.Lists.{given_list}
 use Rattle.pla.specs.Fault.{tests, first_kind, fault_in, fault_on, sound, sound_after, line_fault, end_kind, end_fault, rest_kind, rest_fault, last_fault, has_ending, at_line, fault_of, is_past_limit, is_too_long, is_bad_number}
 use Rattle.pla.specs.Description.{Description}

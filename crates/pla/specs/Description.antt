@@ -8,7 +8,7 @@ use Rattle.pla.specs.declared.file_type.FileType.{FileType}
 use Rattle.pla.specs.Lines.{all_symbols, lines_of}
 use Rattle.pla.specs.Keywords.{looked_at}
 use Rattle.pla.specs.Header.{header_of, size_in, type_in}
-use Rattle.pla.specs.declared.rows.Part.TheVariants.{On, DontCare, Off}
+use Rattle.pla.specs.declared.row_lines.Part.TheVariants.{On, DontCare, Off}
 use Rattle.pla.specs.Lists.{given_list}
 
 -- a function of several outputs: its size, the names, the type of the rows, and the lists as given

@@ -7,8 +7,8 @@ use Rattle.cube.specs.Cube.{Cube}
 use Rattle.cube.specs.Size.{Size}
 use Rattle.pla.specs.declared.file_type.FileType.{FileType}
 use Rattle.pla.specs.declared.file_type.FileType.TheVariants.{Fd, Fr, Fdr}
-use Rattle.pla.specs.declared.rows.Part.{Part}
-use Rattle.pla.specs.declared.rows.Part.TheVariants.{On, DontCare, Off}
+use Rattle.pla.specs.declared.row_lines.Part.{Part}
+use Rattle.pla.specs.declared.row_lines.Part.TheVariants.{On, DontCare, Off}
 use Rattle.pla.specs.Symbols.{is_byte_of, rows}
 
 -- the symbols that put an output into a list, under the type

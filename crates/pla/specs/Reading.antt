@@ -7,7 +7,7 @@ use Rattle.pla.specs.declared.file_type.FileType.{FileType}
 use Rattle.pla.specs.declared.fault.LineError.{LineError}
 use Rattle.pla.specs.declared.fault.LineError.TheVariants.{Memory, Fault}
 use Rattle.pla.specs.declared.fault.ReadKind.TheVariants.{BadSymbol}
-use Rattle.pla.specs.declared.rows.Part.TheVariants.{On, DontCare, Off}
+use Rattle.pla.specs.declared.row_lines.Part.TheVariants.{On, DontCare, Off}
 use Rattle.pla.specs.Lines.{is_row_blank}
 use Rattle.pla.specs.Symbols.{is_symbol_at, width, unfinished_row}
 use Rattle.pla.specs.Lists.{part_symbols, given_cube, given_list}

@@ -9,7 +9,7 @@ use Rattle.pla.specs.Lines.{all_symbols, ended_lines, open_rest}
 use Rattle.pla.specs.Keywords.{looked_at}
 use Rattle.pla.specs.Header.{Header, header_of, size_in, type_in}
 use Rattle.pla.specs.Symbols.{unfinished_row}
-use Rattle.pla.specs.declared.rows.Part.TheVariants.{On, DontCare, Off}
+use Rattle.pla.specs.declared.row_lines.Part.TheVariants.{On, DontCare, Off}
 use Rattle.pla.specs.Lists.{given_list}
 use Rattle.pla.specs.Fault.{sound, fault_on, open_fault}
 

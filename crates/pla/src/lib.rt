@@ -51,7 +51,7 @@ mod parser;
 mod print_buffer;
 mod printed_row;
 mod reading;
-mod rows;
+mod row_lines;
 mod scan;
 mod sets;
 mod text;

@@ -16,7 +16,7 @@ use crate::fault::{LineError, ReadKind};
 use crate::file_type::FileType;
 use crate::header::{Head, too_long};
 use crate::line::{begins_keyword, has_symbol, keyword_code_of, words_of};
-use crate::rows::Rows;
+use crate::row_lines::Rows;
 use cube::Shape;
 use std::alloc::Global;
 use std::marker::Model;

@@ -1,14 +1,11 @@
 //! Whether two lists have a place in common.
-ghost use Rattle.std.specs.Prelude.{◌≡◌, ◌↔◌, IsTrue, IfOk};
-ghost use Rattle.cube.specs.Cube.{IsDisjoint};
-ghost use Rattle.cover.specs.Cubes.{AreCubes};
-ghost use Rattle.cover.specs.Places.{places, share_place};
+ghost use Rattle.std.specs.Prelude.{◌≡◌, IfOk};
+ghost use Rattle.rows.specs.Places.{places, share_place};
 
-use crate::compare::pairwise::{Relation, are_related};
 use crate::list::Cover;
-use crate::references::{references, references_to};
-use cube::{Cube, Shape};
-use std::alloc::{AllocError, Global};
+use crate::references::references_to;
+use regions::{Relation, are_related};
+use std::alloc::AllocError;
 
 impl Cover {
     /// Whether some place is in both lists. If splits at inputs soon separate the rows of the two,
@@ -27,21 +24,4 @@ impl Cover {
         let apart = are_related(alloc, shape, Relation::Disjoint, depth, &rows, &others)?;
         Ok(!apart)
     }
-}
-
-/// Whether no place is in a row and in a cube of the mask.
-pub(crate) fn are_disjoint(
-    alloc: Global,
-    shape: Shape,
-    rows: &[Cube],
-    mask: &[Cube],
-) -> Result<bool, AllocError>
-    requires rows { AreCubes shape rows.now }
-    requires mask { AreCubes shape mask.now }
-    ensures { IfOk result (λ apart. IsTrue apart ↔ IsDisjoint (places rows.now) (places mask.now)) }
-{
-    let mine = references(alloc, rows)?;
-    let theirs = references(alloc, mask)?;
-    let depth = shape.inputs();
-    are_related(alloc, shape, Relation::Disjoint, depth, &mine, &theirs)
 }

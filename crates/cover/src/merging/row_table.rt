@@ -1,7 +1,7 @@
 //! Where rows stand in a list, by hashes of their symbols: a hint, looked at before it counts.
 
-use crate::row_hash::mix;
-use cube::{Cube, Shape, Symbol};
+use cube::{Cube, Symbol};
+use rows::mix;
 use std::alloc::{AllocError, Global};
 
 // At most this many slots are looked at for a hash, from the one that it picks.

@@ -1,9 +1,9 @@
 use Rattle.std.proofs.Common.{◌↔◌, ◌||◌, subst, IsTrue}
 use Rattle.std.proofs.lemmas.Result.{IfOk-weaker}
 use Rattle.cube.specs.Cube.{IsSubset}
-use Rattle.cover.specs.Cubes.{AreCubes}
-use Rattle.cover.specs.Places.{places}
-use Rattle.cover.proofs.Agreement.{agree_outside-first, agree_outside-second}
+use Rattle.rows.specs.Cubes.{AreCubes}
+use Rattle.rows.specs.Places.{places}
+use Rattle.rows.proofs.Agreement.{agree_outside-first, agree_outside-second}
 use Rattle.cover.proofs.compare.agree_outside.Goals as goal
 
 pub returns-then-not-branch : goal.returns-then-not-branch

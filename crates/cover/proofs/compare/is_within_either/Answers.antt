@@ -2,9 +2,9 @@ use Rattle.std.proofs.Common.{◌≡◌, ◌∙◌, ◌++◌, ◌↔◌, All, ap
 use Rattle.std.specs.Borrow.{Bor}
 use Rattle.std.proofs.lemmas.Result.{IfOk-weaker}
 use Rattle.cube.specs.Cube.{Cube, HasSize, IsSubset}
-use Rattle.cover.specs.Places.{places, behind}
-use Rattle.cover.proofs.Agreement.{IsSubset-either}
-use Rattle.cover.proofs.EqualRows.{HasSize-rest, IsSubset-rest}
+use Rattle.rows.specs.Places.{places, behind}
+use Rattle.rows.proofs.Agreement.{IsSubset-either}
+use Rattle.regions.proofs.EqualRows.{HasSize-rest, IsSubset-rest}
 use Rattle.cover.proofs.compare.is_within_either.Goals as goal
 
 pub are_related-requires-clause-rows : goal.are_related-requires-clause-rows

@@ -1,7 +1,7 @@
 use Rattle.std.proofs.Common.{◌∙◌, arith}
 use Rattle.std.proofs.lemmas.Result.{on_ok_weaker}
-use Rattle.cover.specs.Marks.{is_symbol, is_over, symbol_at}
-use Rattle.cover.proofs.ContainmentLemmas.{All-having, MarksPart-from_Marks, length-behind_first, split_asks}
+use Rattle.rows.specs.Marks.{is_symbol, is_over, symbol_at}
+use Rattle.rows.proofs.ContainmentLemmas.{All-having, MarksPart-from_Marks, length-behind_first, split_asks}
 use Rattle.cover.proofs.containment.+mark_absorbed.Goals as goal
 
 pub mark_absorbed_at-mark_absorbed-requires : goal.mark_absorbed_at-mark_absorbed-requires

@@ -1,8 +1,8 @@
 use Rattle.std.proofs.Common.{◌≡◌, ◌∙◌, length, ap, sym, subst, replicate, false, get_or, arith}
 use Rattle.std.specs.List.{range_with_len}
-use Rattle.cover.specs.Cubes.{AreCubes}
-use Rattle.cover.specs.Marks.{Marks}
-use Rattle.cover.proofs.ContainmentLemmas.{All-range, marks_contained, take_front}
+use Rattle.rows.specs.Cubes.{AreCubes}
+use Rattle.rows.specs.Marks.{Marks}
+use Rattle.rows.proofs.ContainmentLemmas.{All-range, marks_contained, take_front}
 use Rattle.cover.proofs.containment.contain.Goals as goal
 
 pub mark_absorbed-requires-clause-cubes : goal.mark_absorbed-requires-clause-cubes

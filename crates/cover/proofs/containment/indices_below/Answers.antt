@@ -1,6 +1,6 @@
 use Rattle.std.proofs.Common.{◌∙◌, ◌∷◌, ◌++◌, [], ap, sym, zero-add}
 use Rattle.std.specs.List.{range_with_len}
-use Rattle.cover.proofs.ContainmentLemmas.{range-more}
+use Rattle.rows.proofs.ContainmentLemmas.{range-more}
 use Rattle.cover.proofs.containment.indices_below.Goals as goal
 
 pub loop-k-preserved : goal.loop-k-preserved

@@ -1,6 +1,6 @@
 use Rattle.std.proofs.Common.{◌∙◌, refl, ap, get_or}
-use Rattle.cover.specs.Marks.{is_over}
-use Rattle.cover.proofs.Chosen.{kept_or_not, all_kept}
+use Rattle.rows.specs.Marks.{is_over}
+use Rattle.rows.proofs.Chosen.{kept_or_not, all_kept}
 use Rattle.cover.proofs.containment.indices_with_containing_symbol.Goals as goal
 use Rattle.cover.proofs.containment.indices_with_containing_symbol.Goals.{then-symbol_contains+in_ok-push, else-symbol_contains}
 

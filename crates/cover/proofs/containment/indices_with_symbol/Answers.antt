@@ -1,6 +1,6 @@
 use Rattle.std.proofs.Common.{◌∙◌, refl, ap, get_or}
-use Rattle.cover.specs.Marks.{is_symbol}
-use Rattle.cover.proofs.Chosen.{kept_or_not, all_kept}
+use Rattle.rows.specs.Marks.{is_symbol}
+use Rattle.rows.proofs.Chosen.{kept_or_not, all_kept}
 use Rattle.cover.proofs.containment.indices_with_symbol.Goals as goal
 use Rattle.cover.proofs.containment.indices_with_symbol.Goals.{then-is_same_symbol+in_ok-push, else-is_same_symbol}
 

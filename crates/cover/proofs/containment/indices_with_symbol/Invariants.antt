@@ -1,5 +1,5 @@
 use Rattle.std.proofs.Common.{◌≡◌, take, filter}
-use Rattle.cover.specs.Marks.{is_symbol, symbol_at}
+use Rattle.rows.specs.Marks.{is_symbol, symbol_at}
 use Rattle.cover.proofs.containment.indices_with_symbol.Given as goal
 
 abbrev pub invariant-loop-k : goal.invariant-loop-k

@@ -1,6 +1,6 @@
 use Rattle.std.proofs.Common.{◌∙◌, ap, subst, get_or}
-use Rattle.cover.specs.Cubes.{AreCubes}
-use Rattle.cover.proofs.ContainmentLemmas.{lies_from_answer}
+use Rattle.rows.specs.Cubes.{AreCubes}
+use Rattle.rows.proofs.ContainmentLemmas.{lies_from_answer}
 use Rattle.cover.proofs.containment.is_within.Goals as goal
 
 pub returns : goal.returns

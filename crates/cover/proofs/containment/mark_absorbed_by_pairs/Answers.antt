@@ -1,7 +1,7 @@
 use Rattle.std.proofs.Common.{◌∙◌, ◌+◌, ◌<◌, get_or, take, sym, subst}
 use Rattle.std.proofs.lemmas.List.{take_all}
-use Rattle.cover.specs.Marks.{Marks}
-use Rattle.cover.proofs.ContainmentLemmas.{Marks-left, Marks-marked}
+use Rattle.rows.specs.Marks.{Marks}
+use Rattle.rows.proofs.ContainmentLemmas.{Marks-left, Marks-marked}
 use Rattle.cover.proofs.containment.mark_absorbed_by_pairs.Goals as goal
 use Rattle.cover.proofs.containment.mark_absorbed_by_pairs.Goals.{then-is_absorbed_by_some, else-is_absorbed_by_some}
 

@@ -1,5 +1,5 @@
 use Rattle.std.proofs.Common.{take}
-use Rattle.cover.specs.Marks.{Marks}
+use Rattle.rows.specs.Marks.{Marks}
 use Rattle.cover.proofs.containment.mark_absorbed_by_pairs.Given as goal
 
 abbrev pub invariant-loop-k : goal.invariant-loop-k

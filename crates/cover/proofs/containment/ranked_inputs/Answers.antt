@@ -1,8 +1,8 @@
 use Rattle.std.proofs.Common.{ℕ, ◌<◌, ◌-◌, ◌∙◌, ◌∷◌, ◌++◌, [], All, ap, sym, subst}
 use Rattle.std.proofs.lemmas.List.Elements.{All-nil, All-same, All-push}
-use Rattle.cover.specs.Cubes.{AreCubes}
-use Rattle.cover.specs.Places.{behind}
-use Rattle.cover.proofs.Lists.{lengths_of_cubes}
+use Rattle.rows.specs.Cubes.{AreCubes}
+use Rattle.rows.specs.Places.{behind}
+use Rattle.rows.proofs.Lists.{lengths_of_cubes}
 use Rattle.cover.proofs.containment.ranked_inputs.Goals as goal
 use Rattle.cover.proofs.containment.ranked_inputs.Goals.{then-weight-gt0+in_ok-push, else-weight-gt0}
 

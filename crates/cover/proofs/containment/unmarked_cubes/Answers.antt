@@ -1,7 +1,7 @@
 use Rattle.std.proofs.Common.{◌+◌, ◌<◌, ◌∙◌, ◌++◌, ◌∷◌, [], length, ap, sym, subst, get_or}
-use Rattle.cover.specs.Cubes.{AreCubes}
-use Rattle.cover.specs.Marks.{cube_at}
-use Rattle.cover.proofs.ContainmentLemmas.{KeepsUnmarked, KeepsUnmarked-keep, KeepsUnmarked-skip, cube_at-self}
+use Rattle.rows.specs.Cubes.{AreCubes}
+use Rattle.rows.specs.Marks.{cube_at}
+use Rattle.rows.proofs.ContainmentLemmas.{KeepsUnmarked, KeepsUnmarked-keep, KeepsUnmarked-skip, cube_at-self}
 use Rattle.cover.proofs.containment.unmarked_cubes.Goals as goal
 use Rattle.cover.proofs.containment.unmarked_cubes.Goals.{then-not-marks-k+in_ok-try_clone+in_ok-push, else-not-marks-k}
 

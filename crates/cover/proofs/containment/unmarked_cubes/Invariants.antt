@@ -1,4 +1,4 @@
-use Rattle.cover.proofs.ContainmentLemmas.{KeepsUnmarked}
+use Rattle.rows.proofs.ContainmentLemmas.{KeepsUnmarked}
 use Rattle.cover.proofs.containment.unmarked_cubes.Given as goal
 
 abbrev pub invariant-loop-k : goal.invariant-loop-k

@@ -3,9 +3,9 @@ use Rattle.std.specs.Option.{option_to_list}
 use Rattle.std.proofs.lemmas.List.Elements.{All-pop}
 use Rattle.std.proofs.lemmas.Option.{MatchOption-at_none}
 use Rattle.cube.specs.Cube.{IsCube}
-use Rattle.cover.specs.Cubes.{AreCubes}
+use Rattle.rows.specs.Cubes.{AreCubes}
 use Rattle.cover.proofs.MergedRows.{AddsRest, AddsRest-all, AddsRest-more, AddsRest-none}
-use Rattle.cover.proofs.SumRows.{nothing_left}
+use Rattle.rows.proofs.SumRows.{nothing_left}
 use Rattle.cover.proofs.merging.add_rows.Goals as goal
 
 pub loop-row-init : goal.loop-row-init

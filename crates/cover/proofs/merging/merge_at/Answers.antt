@@ -1,5 +1,5 @@
 use Rattle.std.proofs.Common.{◌∙◌, ap, sym, arith}
-use Rattle.cover.specs.Marks.{is_symbol}
+use Rattle.rows.specs.Marks.{is_symbol}
 use Rattle.cover.proofs.MergedRows.{merged_union}
 use Rattle.cover.proofs.merging.merge_at.Goals as goal
 

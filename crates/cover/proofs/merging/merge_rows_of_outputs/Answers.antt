@@ -1,5 +1,5 @@
 use Rattle.std.proofs.Common.{arith}
-use Rattle.cover.specs.Places.{places}
+use Rattle.rows.specs.Places.{places}
 use Rattle.cover.proofs.MergedOutputs.{AreBelow-all}
 use Rattle.cover.proofs.merging.merge_rows_of_outputs.Goals as goal
 

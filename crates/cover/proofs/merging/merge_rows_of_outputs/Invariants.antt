@@ -1,5 +1,5 @@
 use Rattle.std.proofs.Common.{◌≡◌}
-use Rattle.cover.specs.Places.{places}
+use Rattle.rows.specs.Places.{places}
 use Rattle.cover.proofs.MergedOutputs.{AreBelow}
 use Rattle.cover.proofs.merging.merge_rows_of_outputs.Given as goal
 

@@ -1,6 +1,6 @@
 use Rattle.std.proofs.Common.{◌≡◌, ◌&&◌, take}
 use Rattle.cube.specs.Cube.{Place, holds}
-use Rattle.cover.specs.Places.{places}
+use Rattle.rows.specs.Places.{places}
 use Rattle.cover.proofs.merging.rows_within.Given as goal
 
 abbrev pub invariant-loop-k : goal.invariant-loop-k

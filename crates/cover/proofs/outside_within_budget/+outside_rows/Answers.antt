@@ -3,11 +3,11 @@ use Rattle.std.proofs.lemmas.Option.{slice_get_within, IfSome_then, MatchOption-
 use Rattle.std.proofs.lemmas.Result.{IfOk-weaker}
 use Rattle.cube.specs.declared.symbol.Symbol.TheVariants.{Dash, Zero, One}
 use Rattle.cube.specs.Cube.{IsCube, holds}
-use Rattle.cover.specs.Cubes.{AreCubes}
-use Rattle.cover.specs.Outside.{AreNear}
-use Rattle.cover.proofs.SumSplit.{IsCube-with_symbol}
-use Rattle.cover.proofs.Regions.{fewer_dashes, zero_literal, one_literal}
-use Rattle.cover.proofs.OffSets.{IsRest-near, IsRest-near_found, IsRest-halves}
+use Rattle.rows.specs.Cubes.{AreCubes}
+use Rattle.sums.specs.Outside.{AreNear}
+use Rattle.rows.proofs.SumSplit.{IsCube-with_symbol}
+use Rattle.rows.proofs.Regions.{fewer_dashes, zero_literal, one_literal}
+use Rattle.sums.proofs.OffSets.{IsRest-near, IsRest-near_found, IsRest-halves}
 use Rattle.cover.proofs.outside_within_budget.+outside_rows.Goals as goal
 
 pub outside_rows-returns-in_default : goal.outside_rows-returns-in_default

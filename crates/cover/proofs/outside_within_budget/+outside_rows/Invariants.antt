@@ -1,5 +1,5 @@
 use Rattle.std.proofs.Common.{◌+◌, ◌*◌}
-use Rattle.cover.specs.Splits.{dashes}
+use Rattle.rows.specs.Splits.{dashes}
 use Rattle.cover.proofs.outside_within_budget.+outside_rows.Given as goal
 
 abbrev pub decreases-outside_rows : goal.decreases-outside_rows

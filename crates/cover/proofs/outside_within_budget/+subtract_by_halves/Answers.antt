@@ -3,7 +3,7 @@ use Rattle.std.proofs.lemmas.Option.{MatchOption-at_some}
 use Rattle.std.proofs.lemmas.List.{length-take, length-drop}
 use Rattle.std.proofs.lemmas.List.Elements.{All-same, All-take, All-drop}
 use Rattle.cube.specs.Cube.{Cube, IsCube}
-use Rattle.cover.proofs.OffSets.{IsRest-apart, IsRest-parts}
+use Rattle.sums.proofs.OffSets.{IsRest-apart, IsRest-parts}
 use Rattle.cover.proofs.outside_within_budget.+subtract_by_halves.Goals as goal
 
 pub returns-then-branch : goal.returns-then-branch

@@ -1,10 +1,10 @@
 use Rattle.std.proofs.Common.{◌≡◌, ◌∙◌, List, ap, sym, subst}
 use Rattle.std.proofs.lemmas.Result.{IfOk-weaker}
 use Rattle.cube.specs.Cube.{Cube, difference}
-use Rattle.cover.specs.Cubes.{AreCubes}
-use Rattle.cover.specs.Places.{places, behind}
-use Rattle.cover.proofs.EqualRows.{difference-rest}
-use Rattle.cover.proofs.MeetsWithin.{AreCubes-rest}
+use Rattle.rows.specs.Cubes.{AreCubes}
+use Rattle.rows.specs.Places.{places, behind}
+use Rattle.regions.proofs.EqualRows.{difference-rest}
+use Rattle.regions.proofs.MeetsWithin.{AreCubes-rest}
 use Rattle.cover.proofs.outside_within_budget.clone_rows_not_among.Goals as goal
 
 pub returns-clause-cubes : goal.returns-clause-cubes

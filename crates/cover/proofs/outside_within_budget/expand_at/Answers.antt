@@ -2,10 +2,10 @@ use Rattle.std.proofs.Common.{sym, subst}
 use Rattle.std.proofs.lemmas.Result.{IfOk-weaker}
 use Rattle.cube.specs.declared.symbol.Symbol.TheVariants.{Dash}
 use Rattle.cube.specs.Cube.{Cube, holds, difference, IsCube, IsSubset}
-use Rattle.cover.specs.Places.{places}
-use Rattle.cover.specs.Outside.{Extends}
-use Rattle.cover.proofs.SumSplit.{IsCube-with_symbol}
-use Rattle.cover.proofs.OffSets.{Extends-self, holds-expand_at}
+use Rattle.rows.specs.Places.{places}
+use Rattle.sums.specs.Outside.{Extends}
+use Rattle.rows.proofs.SumSplit.{IsCube-with_symbol}
+use Rattle.sums.proofs.OffSets.{Extends-self, holds-expand_at}
 use Rattle.cover.proofs.outside_within_budget.expand_at.Goals as goal
 
 pub returns-then-is_in_region_outside_rows-clause-extends : goal.returns-then-is_in_region_outside_rows-clause-extends

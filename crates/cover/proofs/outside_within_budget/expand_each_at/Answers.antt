@@ -1,12 +1,12 @@
 use Rattle.std.proofs.Common.{◌∙◌, sym, subst, ◌∷◌, [], arith}
 use Rattle.std.proofs.lemmas.List.Elements.{All-nil, All-same}
 use Rattle.cube.specs.Cube.{IsCube, holds, difference}
-use Rattle.cover.specs.Cubes.{AreCubes}
-use Rattle.cover.specs.Places.{places}
-use Rattle.cover.specs.Outside.{Extends}
-use Rattle.cover.proofs.Lists.{all_members}
-use Rattle.cover.proofs.SumRows.{sizes}
-use Rattle.cover.proofs.OffSets.{AreCubes-one, AreCubes-append, Extends-more}
+use Rattle.rows.specs.Cubes.{AreCubes}
+use Rattle.rows.specs.Places.{places}
+use Rattle.sums.specs.Outside.{Extends}
+use Rattle.rows.proofs.Lists.{all_members}
+use Rattle.rows.proofs.SumRows.{sizes}
+use Rattle.sums.proofs.OffSets.{AreCubes-one, AreCubes-append, Extends-more}
 use Rattle.cover.proofs.outside_within_budget.expand_each_at.Goals as goal
 
 pub loop-cube-init : goal.loop-cube-init

@@ -1,9 +1,9 @@
 use Rattle.std.proofs.Common.{take}
 use Rattle.cube.specs.Size.{Size}
 use Rattle.cube.specs.Cube.{holds, difference}
-use Rattle.cover.specs.Cubes.{AreCubes}
-use Rattle.cover.specs.Places.{places}
-use Rattle.cover.specs.Outside.{Extends}
+use Rattle.rows.specs.Cubes.{AreCubes}
+use Rattle.rows.specs.Places.{places}
+use Rattle.sums.specs.Outside.{Extends}
 use Rattle.cover.proofs.outside_within_budget.expand_each_at.Given as goal
 
 abbrev pub invariant-loop-cube : goal.invariant-loop-cube

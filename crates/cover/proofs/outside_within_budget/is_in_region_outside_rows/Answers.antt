@@ -1,6 +1,6 @@
 use Rattle.std.proofs.lemmas.Bool.{not-true}
 use Rattle.cube.specs.Cube.{holds}
-use Rattle.cover.proofs.OffSets.{outside_rows}
+use Rattle.sums.proofs.OffSets.{outside_rows}
 use Rattle.cover.proofs.outside_within_budget.is_in_region_outside_rows.Goals as goal
 
 pub returns-then-contains : goal.returns-then-contains

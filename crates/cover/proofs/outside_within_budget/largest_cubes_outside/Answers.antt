@@ -1,10 +1,10 @@
 use Rattle.std.proofs.Common.{◌≡◌, ◌∙◌, ◌++◌, ◌∷◌, [], vec_len, ap, subst}
 use Rattle.cube.specs.Cube.{difference}
 use Rattle.cube.specs.Sum.{complete_sum}
-use Rattle.cover.specs.Cubes.{Cubes, AreCubes}
-use Rattle.cover.specs.Places.{places}
-use Rattle.cover.proofs.Reasons.{none_left}
-use Rattle.cover.proofs.OffSets.{places-rest, IsRest-whole}
+use Rattle.rows.specs.Cubes.{Cubes, AreCubes}
+use Rattle.rows.specs.Places.{places}
+use Rattle.regions.proofs.Reasons.{none_left}
+use Rattle.sums.proofs.OffSets.{places-rest, IsRest-whole}
 use Rattle.cover.proofs.outside_within_budget.largest_cubes_outside.Goals as goal
 
 pub returns-then-is_empty : goal.returns-then-is_empty

@@ -1,9 +1,9 @@
 use Rattle.std.proofs.Common.{sym, subst}
 use Rattle.cube.specs.Cube.{holds, difference}
-use Rattle.cover.specs.Cubes.{AreCubes}
-use Rattle.cover.specs.Places.{places}
-use Rattle.cover.specs.Outside.{Extends}
-use Rattle.cover.proofs.OffSets.{IsRest-larger, IsRest-sorted}
+use Rattle.rows.specs.Cubes.{AreCubes}
+use Rattle.rows.specs.Places.{places}
+use Rattle.sums.specs.Outside.{Extends}
+use Rattle.sums.proofs.OffSets.{IsRest-larger, IsRest-sorted}
 use Rattle.cover.proofs.outside_within_budget.merge_halves.Goals as goal
 
 pub expand_each_at-requires : goal.expand_each_at-requires

@@ -3,8 +3,9 @@ use Rattle.std.proofs.lemmas.Option.{MatchOption-at_some}
 use Rattle.cube.specs.Size.{Size}
 use Rattle.cube.specs.declared.symbol.Symbol.TheVariants.{Dash}
 use Rattle.cube.specs.Cube.{Cube, holds}
-use Rattle.cover.specs.Outside.{IsRest}
-use Rattle.cover.proofs.OffSets.{outside-more, output_cube}
+use Rattle.sums.specs.Outside.{IsRest}
+use Rattle.sums.proofs.OffSets.{outside-more}
+use Rattle.rows.proofs.OneOutput.{output_cube}
 use Rattle.cover.proofs.outside_within_budget.outside.Goals as goal
 
 pub loop-j-preserved : goal.loop-j-preserved

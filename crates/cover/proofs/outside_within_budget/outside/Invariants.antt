@@ -1,5 +1,5 @@
 use Rattle.std.proofs.Common.{ltb}
-use Rattle.cover.specs.Outside.{IsRest}
+use Rattle.sums.specs.Outside.{IsRest}
 use Rattle.cover.proofs.outside_within_budget.outside.Given as goal
 
 abbrev pub invariant-loop-j : goal.invariant-loop-j

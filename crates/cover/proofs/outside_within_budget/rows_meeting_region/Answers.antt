@@ -1,8 +1,8 @@
 use Rattle.std.proofs.Common.{◌+◌, [], sym, subst, take}
 use Rattle.std.proofs.lemmas.List.{take_all}
 use Rattle.cube.specs.Cube.{holds}
-use Rattle.cover.specs.Outside.{AreNear}
-use Rattle.cover.proofs.OffSets.{near-none, near-kept, near-left}
+use Rattle.sums.specs.Outside.{AreNear}
+use Rattle.sums.proofs.OffSets.{near-none, near-kept, near-left}
 use Rattle.cover.proofs.outside_within_budget.rows_meeting_region.Goals as goal
 use Rattle.cover.proofs.outside_within_budget.rows_meeting_region.Goals.{then-not-disjoint+in_ok-push_copy, else-not-disjoint}
 

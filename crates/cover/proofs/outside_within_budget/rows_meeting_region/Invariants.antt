@@ -1,8 +1,8 @@
 use Rattle.std.proofs.Common.{take}
 use Rattle.cube.specs.Size.{Size}
 use Rattle.cube.specs.Cube.{holds}
-use Rattle.cover.specs.Cubes.{AreCubes}
-use Rattle.cover.specs.Outside.{AreNear}
+use Rattle.rows.specs.Cubes.{AreCubes}
+use Rattle.sums.specs.Outside.{AreNear}
 use Rattle.cover.proofs.outside_within_budget.rows_meeting_region.Given as goal
 
 abbrev pub invariant-loop-row : goal.invariant-loop-row

@@ -1,9 +1,9 @@
 use Rattle.std.proofs.Common.{◌∙◌, ap, sym, subst}
 use Rattle.std.proofs.lemmas.Option.{MatchOption-at_some}
 use Rattle.cube.specs.Cube.{IsPlace, difference}
-use Rattle.cover.specs.Cubes.{Cubes, AreCubes}
-use Rattle.cover.specs.Places.{places}
-use Rattle.cover.proofs.OffSets.{rest-apart}
+use Rattle.rows.specs.Cubes.{Cubes, AreCubes}
+use Rattle.rows.specs.Places.{places}
+use Rattle.sums.proofs.OffSets.{rest-apart}
 use Rattle.cover.proofs.outside_within_budget.subtract.Goals as goal
 
 pub subtract_by_halves-requires-clause-others : goal.subtract_by_halves-requires-clause-others

@@ -1,9 +1,9 @@
 use Rattle.std.proofs.Common.{subst}
 use Rattle.std.proofs.lemmas.List.{take_all}
 use Rattle.std.proofs.lemmas.Option.{MatchOption-at_some}
-use Rattle.cover.specs.Places.{places}
-use Rattle.cover.specs.Outside.{IsRest}
-use Rattle.cover.proofs.OffSets.{rows-more}
+use Rattle.rows.specs.Places.{places}
+use Rattle.sums.specs.Outside.{IsRest}
+use Rattle.sums.proofs.OffSets.{rows-more}
 use Rattle.cover.proofs.outside_within_budget.subtract_row_by_row.Goals as goal
 
 pub loop-row-preserved : goal.loop-row-preserved

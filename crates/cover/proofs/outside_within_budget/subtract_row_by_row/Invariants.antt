@@ -1,6 +1,6 @@
 use Rattle.std.proofs.Common.{take}
-use Rattle.cover.specs.Places.{places}
-use Rattle.cover.specs.Outside.{IsRest}
+use Rattle.rows.specs.Places.{places}
+use Rattle.sums.specs.Outside.{IsRest}
 use Rattle.cover.proofs.outside_within_budget.subtract_row_by_row.Given as goal
 
 abbrev pub invariant-loop-row : goal.invariant-loop-row

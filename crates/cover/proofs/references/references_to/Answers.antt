@@ -1,7 +1,7 @@
 use Rattle.std.proofs.Common.{◌∙◌, subst}
 use Rattle.std.proofs.lemmas.Result.{IfOk-weaker}
-use Rattle.cover.specs.Cubes.{AreCubes}
-use Rattle.cover.proofs.Lists.{HasSize-references_to}
+use Rattle.rows.specs.Cubes.{AreCubes}
+use Rattle.rows.proofs.Lists.{HasSize-references_to}
 use Rattle.cover.proofs.references.references_to.Goals as goal
 
 pub returns-clause-sizes : goal.returns-clause-sizes

@@ -3,7 +3,7 @@ use Rattle.std.specs.Borrow.{Bor}
 use Rattle.std.proofs.lemmas.List.{map-append}
 use Rattle.std.proofs.lemmas.List.Elements.{All-append}
 use Rattle.cube.specs.Cube.{Cube, HasSize}
-use Rattle.cover.specs.Places.{behind}
+use Rattle.rows.specs.Places.{behind}
 use Rattle.cover.proofs.references.references_to_both.Goals as goal
 
 pub returns-clause-cubes : goal.returns-clause-cubes

@@ -1,6 +1,6 @@
 use Rattle.std.proofs.Common.{◌∙◌, ◌++◌, ◌∷◌, [], ap, sym, map, take, is_none}
 use Rattle.std.proofs.lemmas.List.{map_more, take_all}
-use Rattle.cover.proofs.LeftOut.{none_if_not_some}
+use Rattle.regions.proofs.LeftOut.{none_if_not_some}
 use Rattle.cover.proofs.tautology.are_none.Goals as goal
 
 pub loop-part-preserved : goal.loop-part-preserved

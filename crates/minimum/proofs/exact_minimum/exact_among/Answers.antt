@@ -16,10 +16,13 @@ exact_by_points-requires g c =
     let on = c.on.ensures ∙ ap own c.requires.0 in
     let dc = c.dc.ensures ∙ ap others c.requires.0 in
     let list : Cubes = record { size = lists.size; cubes = primes_of lists } in
-    let on_size = ap (λ (l : Cubes). l.size) on in
-    (ap (λ (l : Cubes). l.size) dc ∙ sym on_size,
-    (subst (λ s. IsSource c.on.result.now.size s) (sym c.requires.1) (subst (λ z. IsSource z (Primes list)) (sym on_size) (primes_among lists list refl)),
-    stands_given lists c.on.result.now c.dc.result.now c.args.source.now on dc (subst (StandsFor lists lists) (sym c.requires.1) (stands_among lists list refl))))
+    let on_size = ap (λ (l : Cubes). l.size) on in (
+      ap (λ (l : Cubes). l.size) dc ∙ sym on_size,
+      (
+        subst (λ s. IsSource c.on.result.now.size s) (sym c.requires.1) (subst (λ z. IsSource z (Primes list)) (sym on_size) (primes_among lists list refl)),
+        stands_given lists c.on.result.now c.dc.result.now c.args.source.now on dc (subst (StandsFor lists lists) (sym c.requires.1) (stands_among lists list refl)),
+      ),
+    )
 
 pub returns : goal.returns
 returns g c =

@@ -23,10 +23,13 @@ exact_by_points-requires g c =
     let same = places_same given.cubes off.cubes c.in_ok-large_first.ensures.cubes in
     let outside : (p : Place) → IsPlace lists.size p → places given.cubes p ≡ not (places lists.on p || places lists.dc p) =
     subst (λ (s : SetLists). (p : Place) → IsPlace s.size p → places given.cubes p ≡ not (places s.on p || places s.dc p)) c.requires (rw c.in-Some.is at c.in_ok-off.ensures.places) in
-    let on_size = ap (λ (l : Cubes). l.size) on in
-    (ap (λ (l : Cubes). l.size) dc ∙ sym on_size,
-    (subst (λ z. IsSource z (Outside off)) (sym on_size) (primes_outside lists off sized),
-    stands_given lists c.on.result.now c.dc.result.now (Outside off) on dc (stands_outside lists off sized (λ p place. same p ∙ outside p place))))
+    let on_size = ap (λ (l : Cubes). l.size) on in (
+      ap (λ (l : Cubes). l.size) dc ∙ sym on_size,
+      (
+        subst (λ z. IsSource z (Outside off)) (sym on_size) (primes_outside lists off sized),
+        stands_given lists c.on.result.now c.dc.result.now (Outside off) on dc (stands_outside lists off sized (λ p place. same p ∙ outside p place)),
+      ),
+    )
 
 pub returns : goal.returns
 returns g c =

@@ -2,10 +2,10 @@ use Rattle.std.proofs.Common.{◌≡◌, ◌∙◌, ◌++◌, ◌↔◌, All, ap
 use Rattle.std.specs.Borrow.{Bor}
 use Rattle.std.proofs.lemmas.Result.{IfOk-weaker}
 use Rattle.cube.specs.Cube.{Cube, HasSize, IsSubset, intersection}
-use Rattle.cover.specs.Cubes.{AreCubes}
-use Rattle.cover.specs.Places.{places, behind}
-use Rattle.cover.proofs.Agreement.{IsSubset-either}
-use Rattle.cover.proofs.MeetsWithin.{AreCubes-rest, IsSubset-rest_where}
+use Rattle.rows.specs.Cubes.{AreCubes}
+use Rattle.rows.specs.Places.{places, behind}
+use Rattle.rows.proofs.Agreement.{IsSubset-either}
+use Rattle.regions.proofs.MeetsWithin.{AreCubes-rest, IsSubset-rest_where}
 use Rattle.cover.proofs.compare.meets_within.are_meets_within_either.Goals as goal
 
 pub are_meets_held_by_halves-requires-clause-rows : goal.are_meets_held_by_halves-requires-clause-rows

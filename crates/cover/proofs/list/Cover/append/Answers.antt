@@ -1,6 +1,6 @@
 use Rattle.std.proofs.Common.{◌∙◌, ap, sym, subst}
-use Rattle.cover.specs.Cubes.{AreCubes}
-use Rattle.cover.proofs.OffSets.{AreCubes-grown}
+use Rattle.rows.specs.Cubes.{AreCubes}
+use Rattle.sums.proofs.OffSets.{AreCubes-grown}
 use Rattle.cover.proofs.list.Cover.append.Goals as goal
 
 pub invariant_of-self : goal.invariant_of-self

@@ -4,10 +4,10 @@ use Rattle.cube.specs.Cofactor.{cofactor}
 use Rattle.std.proofs.lemmas.List.{take_all}
 use Rattle.cube.specs.Size.{Size}
 use Rattle.cube.specs.Cube.{Cube, holds, IsSubset, HasSize, IsCube}
-use Rattle.cover.specs.Cubes.{AreCubes, Cubes}
+use Rattle.rows.specs.Cubes.{AreCubes, Cubes}
 use Rattle.cover.specs.Cofactor.{cofactors}
-use Rattle.cover.specs.Places.{places, holds_all}
-use Rattle.cover.proofs.OverRegion.{size_of-is}
+use Rattle.rows.specs.Places.{places, holds_all}
+use Rattle.sums.proofs.OverRegion.{size_of-is}
 use Rattle.cover.proofs.Cofactors.{AreCubes-cofactors, cofactors-keep, cofactors-skip, holds_all-cofactors}
 use Rattle.cover.proofs.list.Cover.cofactor.Goals as goal
 use Rattle.cover.proofs.list.Cover.cofactor.Goals.{in-Some+in_ok-push-in-Some, in-None}

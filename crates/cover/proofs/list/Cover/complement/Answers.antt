@@ -1,7 +1,7 @@
 use Rattle.std.proofs.Common.{◌∙◌, ap, not}
 use Rattle.cube.specs.Cube.{difference}
-use Rattle.cover.specs.Places.{places, universal}
-use Rattle.cover.proofs.SumStep.{AreCubes-complete_sum, Cubes-sum, sum_of_outside}
+use Rattle.rows.specs.Places.{places, universal}
+use Rattle.sums.proofs.SumStep.{AreCubes-complete_sum, Cubes-sum, sum_of_outside}
 use Rattle.cover.proofs.list.Cover.complement.Goals as goal
 
 pub from_cubes-requires : goal.from_cubes-requires

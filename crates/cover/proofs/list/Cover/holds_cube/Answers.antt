@@ -1,9 +1,9 @@
 use Rattle.std.proofs.Common.{◌∙◌, is_none}
 use Rattle.cube.specs.Cube.{holds}
 use Rattle.cube.specs.Sum.{is_subset}
-use Rattle.cover.specs.Places.{places}
-use Rattle.cover.proofs.Everywhere.{same_test, is_subset-iff}
-use Rattle.cover.proofs.LeftOut.{none_if_held, none_if_not_some}
+use Rattle.rows.specs.Places.{places}
+use Rattle.rows.proofs.Everywhere.{same_test, is_subset-iff}
+use Rattle.regions.proofs.LeftOut.{none_if_held, none_if_not_some}
 use Rattle.cover.proofs.list.Cover.holds_cube.Goals as goal
 
 pub returns : goal.returns

@@ -1,6 +1,6 @@
 use Rattle.std.proofs.Common.{◌∙◌, ap, map, is_none}
 use Rattle.std.proofs.lemmas.Result.{IfOk-weaker}
-use Rattle.cover.proofs.LeftOut.{nones_if_held}
+use Rattle.regions.proofs.LeftOut.{nones_if_held}
 use Rattle.cover.proofs.list.Cover.holds_cubes.Goals as goal
 
 pub returns : goal.returns

@@ -1,8 +1,8 @@
 use Rattle.std.proofs.Common.{◌≡◌, ◌∙◌, ◌↔◌, ap, subst, IsTrue}
 use Rattle.cube.specs.Cube.{IsDisjoint}
-use Rattle.cover.specs.Cubes.{AreCubes}
-use Rattle.cover.specs.Places.{places, behind}
-use Rattle.cover.proofs.Agreement.{share_place-from_answer}
+use Rattle.rows.specs.Cubes.{AreCubes}
+use Rattle.rows.specs.Places.{places, behind}
+use Rattle.rows.proofs.Agreement.{share_place-from_answer}
 use Rattle.cover.proofs.list.Cover.intersects.Goals as goal
 
 pub returns : goal.returns

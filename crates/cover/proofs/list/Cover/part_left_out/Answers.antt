@@ -1,11 +1,11 @@
 use Rattle.std.proofs.Common.{◌≡◌, ◌∙◌, List, ap, subst}
 use Rattle.std.proofs.lemmas.Result.{IfOk-weaker}
 use Rattle.cube.specs.Cube.{Cube, size_of}
-use Rattle.cover.specs.Cubes.{AreCubes}
-use Rattle.cover.specs.LeftOut.{LeavesOut}
-use Rattle.cover.specs.Places.{behind}
-use Rattle.cover.proofs.LeftOut.{leaves_out_at, held_by_none, left_out_by_some}
-use Rattle.cover.proofs.Lists.{sizes_of_cubes}
+use Rattle.rows.specs.Cubes.{AreCubes}
+use Rattle.regions.specs.LeftOut.{LeavesOut}
+use Rattle.rows.specs.Places.{behind}
+use Rattle.regions.proofs.LeftOut.{leaves_out_at, held_by_none, left_out_by_some}
+use Rattle.rows.proofs.Lists.{sizes_of_cubes}
 use Rattle.cover.proofs.list.Cover.part_left_out.Goals as goal
 
 pub part_left_out-requires : goal.part_left_out-requires

@@ -3,9 +3,9 @@ use Rattle.std.specs.Borrow.{Bor}
 use Rattle.std.specs.List.{AllZip}
 use Rattle.std.proofs.lemmas.Result.{IfOk-weaker}
 use Rattle.cube.specs.Cube.{Cube, HasSize}
-use Rattle.cover.specs.LeftOut.{LeavesOut}
-use Rattle.cover.specs.Places.{behind}
-use Rattle.cover.proofs.LeftOut.{held_by_nones, left_out_by_somes}
+use Rattle.regions.specs.LeftOut.{LeavesOut}
+use Rattle.rows.specs.Places.{behind}
+use Rattle.regions.proofs.LeftOut.{held_by_nones, left_out_by_somes}
 use Rattle.cover.proofs.list.Cover.parts_left_out.Goals as goal
 
 pub part_left_out_of_each-requires-clause-rows : goal.part_left_out_of_each-requires-clause-rows

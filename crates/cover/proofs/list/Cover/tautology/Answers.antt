@@ -1,8 +1,8 @@
 use Rattle.std.proofs.Common.{◌≡◌, ◌∙◌, ap, sym, subst, ◌↔◌, IsTrue}
 use Rattle.std.proofs.lemmas.Result.{IfOk-weaker}
 use Rattle.cube.specs.Cube.{holds, IsSubset, HasSize}
-use Rattle.cover.specs.Places.{places, holds_all, universal}
-use Rattle.cover.proofs.Everywhere.{same_test, holds_all-universal, is_subset-iff, HasSize-universal}
+use Rattle.rows.specs.Places.{places, holds_all, universal}
+use Rattle.rows.proofs.Everywhere.{same_test, holds_all-universal, is_subset-iff, HasSize-universal}
 use Rattle.cover.proofs.list.Cover.tautology.Goals as goal
 
 pub holds_cube-requires : goal.holds_cube-requires

@@ -1,6 +1,0 @@
-use Rattle.std.proofs.Common.{◌≡◌, take}
-use Rattle.cover.specs.Places.{behind}
-use Rattle.cover.proofs.list.clone_referents.Given as goal
-
-abbrev pub invariant-loop-row : goal.invariant-loop-row
-invariant-loop-row l = l.copies.items ≡ behind (take l.row-index l.rows)

@@ -1,7 +1,0 @@
-use Rattle.std.proofs.Common.{take}
-use Rattle.cover.specs.Places.{behind}
-use Rattle.cover.specs.Splits.{CountsLiterals}
-use Rattle.cover.proofs.literal_counts.LiteralCounts.of.Given as goal
-
-abbrev pub invariant-loop-row : goal.invariant-loop-row
-invariant-loop-row l = CountsLiterals l.inputs l.counts.zeros.items l.counts.ones.items (behind (take l.row-index l.rows))

@@ -1,7 +1,0 @@
-use Rattle.std.proofs.Common.{All}
-use Rattle.cube.specs.Cube.{HasSize, IsSubset}
-use Rattle.cover.specs.Places.{places}
-use Rattle.cover.proofs.region.learned.accept_refutation.Given as goal
-
-abbrev pub invariant-loop-k : goal.invariant-loop-k
-invariant-loop-k l = All (λ d. HasSize d l.shape) l.known.items × IsSubset (places l.known.items) (places l.initial.known.items)

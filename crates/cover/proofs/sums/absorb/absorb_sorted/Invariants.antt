@@ -1,6 +1,0 @@
-use Rattle.std.proofs.Common.{take}
-use Rattle.cover.specs.Reduced.{IsAbsorbed}
-use Rattle.cover.proofs.sums.absorb.absorb_sorted.Given as goal
-
-abbrev pub invariant-loop-row : goal.invariant-loop-row
-invariant-loop-row l = IsAbsorbed (take l.row-index l.rows) l.kept.items

@@ -1,8 +1,0 @@
-use Rattle.std.proofs.Common.{IfSome}
-use Rattle.cube.specs.Size.{Size}
-use Rattle.cover.specs.Cubes.{AreCubes}
-use Rattle.cover.specs.Free.{IsFreePart}
-use Rattle.cover.proofs.sums.constant_outputs.constant_row.Given as goal
-
-abbrev pub invariant-loop-row : goal.invariant-loop-row
-invariant-loop-row l = (size : Size) → AreCubes size l.rows → IfSome l.constant (λ c. IsFreePart size l.rows c)

@@ -1,6 +1,0 @@
-use Rattle.std.proofs.Common.{All, take}
-use Rattle.cover.specs.Apart.{IsFree}
-use Rattle.cover.proofs.sums.ends.has_row_without_literals.Given as goal
-
-abbrev pub invariant-loop-row : goal.invariant-loop-row
-invariant-loop-row l = All (λ c. IsFree c → ⊥) (take l.row-index l.rows)

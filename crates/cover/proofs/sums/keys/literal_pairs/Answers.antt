@@ -1,5 +1,0 @@
-use Rattle.cover.proofs.SumKeys.{literal_pairs-key}
-use Rattle.cover.proofs.sums.keys.literal_pairs.Goals as goal
-
-pub returns : goal.returns
-returns c = λ row. literal_pairs-key row c.args.literals

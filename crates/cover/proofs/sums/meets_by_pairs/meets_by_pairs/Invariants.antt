@@ -1,9 +1,0 @@
-use Rattle.std.proofs.Common.{take}
-use Rattle.cube.specs.Size.{Size}
-use Rattle.cover.specs.Cubes.{AreCubes}
-use Rattle.cover.specs.Reduced.{IsMeets}
-use Rattle.cover.proofs.sums.meets_by_pairs.meets_by_pairs.Given as goal
-
-abbrev pub invariant-loop-row : goal.invariant-loop-row
-invariant-loop-row l = (size : Size) → AreCubes size l.rows → AreCubes size l.others
-    → IsMeets size (take l.row-index l.rows) l.others l.all.items

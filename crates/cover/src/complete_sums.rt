@@ -1,0 +1,152 @@
+//! Complete sums of covers: `sums` makes them.
+ghost use Rattle.std.specs.Prelude.{◌≡◌, ◌<◌, IfOk, not, IfSome, filter};
+ghost use Rattle.cube.specs.Cube.{intersection, difference as difference_of, HasSize};
+ghost use Rattle.cube.specs.Sum.{complete_sum as complete_sum_of};
+ghost use Rattle.rows.specs.Places.{places};
+ghost use Rattle.rows.specs.Contained.{is_within};
+ghost use Rattle.sums.specs.Containing.{sum_containing as sum_containing_of};
+
+use crate::list::Cover;
+use cube::Cube;
+use rows::universal_cube;
+use std::alloc::AllocError;
+use sums::{largest_containing, rows_containing, sum_of_both, sum_of_difference};
+
+/// The complete sum of the places of the list: all cubes that hold only such places and lie in no
+/// larger such cube, in row order. These are the primes of a function of several outputs.
+///
+/// There may be exponentially many in the inputs, and time grows at least with their number. Lists
+/// whose sum was made before in the same call cost a copy of it; the sums that are kept for this
+/// are forgotten if they become many.
+///
+/// # Errors
+///
+/// [`AllocError`] if memory is refused.
+pub fn complete_sum(list: &Cover) -> Result<Cover, AllocError>
+    ensures { IfOk result
+        (λ sum. sum
+        ≡ record {
+          size = list.now.size;
+          cubes = complete_sum_of list.now.size (places list.now.cubes);
+        }) }
+{
+    let alloc = list.allocator();
+    let shape = list.shape();
+    let rows = list.try_clone()?.into_cubes();
+    let sum = sum_of_difference(alloc, shape, rows, Vec::new(alloc))?;
+    Ok(Cover::from_cubes(shape, sum))
+}
+
+/// The complete sum of the places that are in both lists, of one shape.
+///
+/// The meets of all pairs of cubes of the two are formed first; the cost of their sum is that of
+/// [`complete_sum`].
+///
+/// # Errors
+///
+/// [`AllocError`] if memory is refused.
+pub fn intersect(list: &Cover, other: &Cover) -> Result<Cover, AllocError>
+    requires { other.now.size ≡ list.now.size }
+    ensures { IfOk result (λ sum. sum ≡ record {
+      size = list.now.size;
+      cubes = complete_sum_of list.now.size
+          (intersection (places list.now.cubes) (places other.now.cubes));
+    }) }
+{
+    let alloc = list.allocator();
+    let shape = list.shape();
+    let mine = list.try_clone()?.into_cubes();
+    let theirs = other.try_clone()?.into_cubes();
+    let sum = sum_of_both(alloc, shape, mine, theirs)?;
+    Ok(Cover::from_cubes(shape, sum))
+}
+
+/// The complete sum of the places that are in the first list and not in the second, of one shape.
+///
+/// Both lists are split together, so no complement is formed. The cost is that of [`complete_sum`],
+/// with the cubes of both lists.
+///
+/// # Errors
+///
+/// [`AllocError`] if memory is refused.
+pub fn difference(list: &Cover, other: &Cover) -> Result<Cover, AllocError>
+    requires { other.now.size ≡ list.now.size }
+    ensures { IfOk result (λ sum. sum ≡ record {
+      size = list.now.size;
+      cubes = complete_sum_of list.now.size
+          (difference_of (places list.now.cubes) (places other.now.cubes));
+    }) }
+{
+    let alloc = list.allocator();
+    let shape = list.shape();
+    let minuend = list.try_clone()?.into_cubes();
+    let subtrahend = other.try_clone()?.into_cubes();
+    let sum = sum_of_difference(alloc, shape, minuend, subtrahend)?;
+    Ok(Cover::from_cubes(shape, sum))
+}
+
+impl Cover {
+    /// The complete sum of the places that are in no cube of the list: the [`difference`] between
+    /// all places and the list, at its cost.
+    ///
+    /// # Errors
+    ///
+    /// [`AllocError`] if memory is refused.
+    pub fn complement(&self) -> Result<Cover, AllocError>
+        ensures { IfOk result (λ sum. sum ≡ record {
+          size = self.now.size;
+          cubes = complete_sum_of self.now.size (λ p. not (places self.now.cubes p));
+        }) }
+    {
+        let alloc = self.allocator();
+        let shape = self.shape();
+        let mut minuend = Vec::new(alloc);
+        let everything = universal_cube(alloc, shape)?;
+        minuend.push(everything)?;
+        let subtrahend = self.try_clone()?.into_cubes();
+        let sum = sum_of_difference(alloc, shape, minuend, subtrahend)?;
+        Ok(Cover::from_cubes(shape, sum))
+    }
+}
+
+/// The cubes of the list that contain the region, in their order.
+///
+/// # Errors
+///
+/// [`AllocError`] if memory is refused.
+pub fn cubes_containing(region: &Cube, list: &Cover) -> Result<Cover, AllocError>
+    requires { HasSize region.now list.now.size }
+    ensures { IfOk result (λ kept. kept ≡ record {
+      size = list.now.size;
+      cubes = filter (is_within list.now.size region.now) list.now.cubes;
+    }) }
+{
+    let shape = list.shape();
+    let kept = rows_containing(list.allocator(), region, list.as_slice())?;
+    Ok(Cover::from_cubes(shape, kept))
+}
+
+/// The cubes of the complete sum of the places outside `off` that contain the region, in row order:
+/// the largest cubes that contain it and have no place of `off`. `None` once the list of cubes so
+/// far is longer than `most`.
+///
+/// Each row of `off` that meets a cube of the list cuts it. The list is never longer than the
+/// number of cubes that are largest beside some of the rows.
+///
+/// # Errors
+///
+/// [`AllocError`] if memory is refused.
+pub fn sum_containing(region: &Cube, off: &Cover, most: usize) -> Result<Option<Cover>, AllocError>
+    requires { HasSize region.now off.now.size }
+    ensures { IfOk result (λ o. IfSome o (λ sum. sum ≡ record {
+      size = off.now.size;
+      cubes = sum_containing_of off.now.size (λ p. not (places off.now.cubes p)) region.now;
+    })) }
+{
+    let alloc = off.allocator();
+    let shape = off.shape();
+    let Some(cubes) = largest_containing(alloc, shape, region, off.as_slice(), most)? else {
+        return Ok(None);
+    };
+    Ok(Some(Cover::from_cubes(shape, cubes)))
+}

@@ -1,0 +1,3 @@
+pub mod Relation
+pub mod LeftOut
+pub mod Reason

@@ -1,0 +1,559 @@
+//! Whether a list holds a region, with the reason: an implicant of the list that contains the
+//! region, or a part of the region that meets no row.
+//!
+//! A region is a cube. A row that contains it is such an implicant. Else the region is split at an
+//! input, and each half is asked for by itself. If the cube for one half has no literal at that
+//! input, it holds the whole region, and the other half is never asked for: so a split that had no
+//! part in an answer is undone at once, wherever it was made (Marques-Silva and Sakallah 1996).
+//! Else the answer is the consensus of both cubes, which has `-` at the input and elsewhere the
+//! literals of both (Brayton et al. 1984). A row with one open literal and all outputs of the
+//! region contains one of the halves, so that the other decides (Davis, Logemann and Loveland
+//! 1962). If a row has no open literal, the region is asked for without the outputs of the row.
+//!
+//! Each question looks at the rows once. The halves of a region look first at the rows alone that
+//! had fewest open literals in it, and at all rows that meet the region once those have more.
+//!
+//! Splits may look at a limited number of rows. Once that is spent,
+//! `part_left_out_by_splits_or_search` asks a search that learns (`learned`).
+pub(crate) mod learned;
+pub(crate) mod nearest_first;
+pub(crate) mod nearest_rows;
+pub(crate) mod passes;
+pub(crate) mod step_hint;
+
+ghost use Rattle.std.specs.Prelude.{◌≡◌, ◌≢◌, ℕ, ◌≤◌, ◌<◌, false, IsTrue, IfOk, IfErr, IfSome, IfNone, OnOk, ◌++◌, ◌∷◌, [], length, slice_get, slice_index_or, Some, Contains, All};
+ghost use Rattle.std.specs.List.{list_any};
+ghost use Rattle.cube.specs.Cube.{Cube as Row, SameSize, IsSubset, IsDisjoint, holds, with_symbol, size_of};
+ghost use Rattle.rows.specs.Places.{places, meeting as meeting_of, behind};
+ghost use Rattle.regions.specs.LeftOut.{IsLeftOut, LeavesOut};
+ghost use Rattle.regions.specs.Reason.{IsReason, Joins, IsClosed, Leads, Share, AreAmong, AreKnown};
+
+use crate::region::learned::{Learned, Shown, shown_by_search};
+use crate::region::step_hint::{Hint, next_step_hint};
+use cube::{Cube, Symbol};
+use rows::{count_open_literals, opposite};
+use std::alloc::{AllocError, Global};
+
+// What one look at each row finds.
+#[derive(Drop)]
+struct Survey<'a> {
+    // A copy of a row that contains the region. If there is one, the other fields say nothing.
+    found: Option<Cube>,
+    // The rows that meet the region.
+    meeting: Vec<&'a Cube>,
+    // The rows of `meeting` with fewest open literals, and how many open literals they have.
+    nearest: Vec<&'a Cube>,
+    fewest: u32,
+}
+
+impl<'a> Survey<'a> {
+    // Adds a row that meets the region and has `open` open literals.
+    fn add(&mut self, row: &'a Cube, open: u32) -> Result<(), AllocError>
+        requires { AreAmong self.old.nearest.items self.old.meeting.items }
+        ensures found { self.new.found ≡ self.old.found }
+        ensures meeting { OnOk result (self.new.meeting.items ≡ self.old.meeting.items
+            ++ row.entry ∷ []) }
+        ensures nearest { OnOk result (AreAmong self.new.nearest.items self.new.meeting.items) }
+        ensures some { OnOk result (1 ≤ length self.new.nearest.items) }
+    {
+        self.meeting.push(row)?;
+        if open > self.fewest && !self.nearest.is_empty() {
+            return Ok(());
+        }
+        if open < self.fewest {
+            self.nearest.clear();
+        }
+        self.fewest = open;
+        self.nearest.push(row)?;
+        Ok(())
+    }
+}
+
+// Looks at each row once, until a row contains the region.
+fn survey_rows<'a>(
+    alloc: Global,
+    rows: &[&'a Cube],
+    region: &Cube,
+) -> Result<Survey<'a>, AllocError>
+    requires { All (λ d. SameSize d.now region.now) rows.now }
+    ensures found { IfOk result
+        (λ s. IfSome s.found (λ c. IsReason region.now (behind rows.now) c)) }
+    ensures meeting { IfOk result
+        (λ s. IfNone s.found
+        (behind s.meeting.items ≡ meeting_of (size_of region.now) region.now (behind rows.now))) }
+    ensures nearest { IfOk result (λ s. AreAmong s.nearest.items s.meeting.items) }
+    ensures some { IfOk result (λ s. 1 ≤ length s.meeting.items → 1 ≤ length s.nearest.items) }
+    ensures output { IfOk result (λ _. IsTrue (list_any (λ b. b) region.now.outputs)) }
+{
+    let shape = region.shape();
+    let mut survey = Survey {
+        found: None,
+        meeting: Vec::new(alloc),
+        nearest: Vec::new(alloc),
+        fewest: u32::MAX,
+    };
+    for row in rows {
+        if !row.disjoint(region) {
+            let open = count_open_literals(shape, row, region, survey.fewest);
+            if open == 0 && row.contains(region) {
+                survey.found = Some(row.try_clone()?);
+                return Ok(survey);
+            }
+            survey.add(*row, open)?;
+        }
+    }
+    Ok(survey)
+}
+
+// The first input at which the row has a literal and the region has none.
+fn first_open_input(row: &Cube, region: &Cube) -> Option<usize>
+    requires { SameSize row.now region.now }
+    ensures dash { IfSome result (λ i. slice_get region.now.symbols i ≡ Some Symbol.Dash) }
+    ensures literal { IfSome result
+        (λ i. slice_index_or row.now.symbols i Symbol.Dash ≢ Symbol.Dash) }
+    ensures none { IfNone result ((i : ℕ) → i < length region.now.symbols
+        → slice_index_or region.now.symbols i Symbol.Dash ≡ Symbol.Dash
+        → slice_index_or row.now.symbols i Symbol.Dash ≡ Symbol.Dash) }
+{
+    let inputs = region.shape().inputs();
+    let mut at = 0;
+    while at < inputs {
+        let Some(i) = row.next_literal(at) else {
+            return None;
+        };
+        if region.symbol(i) == Symbol::Dash {
+            return Some(i);
+        }
+        at = i + 1;
+    }
+    None
+}
+
+// The next step for a region.
+#[derive(Clone, Copy)]
+pub(crate) enum Step {
+    // The row at this index has no open literal: take out its outputs.
+    Row(usize),
+    // Split the region at the input, and ask for the half with this literal first.
+    Split(usize, Symbol),
+}
+
+// The next step for a region that all of the rows `near` meet, where they have `fewest` open
+// literals.
+fn next_step(rows: &[&Cube], near: &[&Cube], fewest: u32, region: &Cube) -> Step
+    requires sizes { All (λ d. SameSize d.now region.now) near.now }
+    requires some { 1 ≤ length near.now }
+    ensures { Leads region.now (behind near.now) result }
+{
+    match next_step_hint(region.shape(), near, rows, fewest, region) {
+        Hint::Row(k) => {
+            if k < near.len() && first_open_input(near[k], region).is_none() {
+                return Step::Row(k);
+            }
+        }
+        Hint::Split(i, literal) => {
+            if i < region.shape().inputs()
+                && region.symbol(i) == Symbol::Dash
+                && literal != Symbol::Dash
+            {
+                return Step::Split(i, literal);
+            }
+        }
+    }
+    match first_open_input(near[0], region) {
+        None => Step::Row(0),
+        Some(i) => Step::Split(i, Symbol::Zero),
+    }
+}
+
+// The consensus at the input: the cube that has `-` there, elsewhere the literals of both, and the
+// outputs that both have.
+fn consensus(i: usize, one: &Cube, other: &Cube) -> Result<Option<Cube>, AllocError>
+    requires input { i < length one.now.symbols }
+    requires size { SameSize other.now one.now }
+    requires sides { Share (slice_index_or one.now.symbols i Symbol.Dash)
+        (slice_index_or other.now.symbols i Symbol.Dash) }
+    ensures { IfOk result (λ found. (region : Row) → IsTrue (list_any (λ b. b) region.outputs)
+        → SameSize one.now region → IsSubset (holds region) (holds (with_symbol one.now i Symbol.Dash))
+        → IsSubset (holds region) (holds (with_symbol other.now i Symbol.Dash))
+        → Joins region one.now other.now found) }
+{
+    let low = one.with_symbol(i, Symbol::Dash)?;
+    let high = other.with_symbol(i, Symbol::Dash)?;
+    low.meet(&high)
+}
+
+/// Why splits found no reason.
+#[derive(Drop)]
+pub(crate) enum Stop {
+    /// A growth of memory was refused.
+    Memory,
+    /// They would look at more rows than they may.
+    Spent,
+    /// The rows hold no place of this part of the region.
+    LeftOut(Cube),
+}
+
+impl From<AllocError> for Stop {
+    ghost use Rattle.regions.specs.declared.region.Stop.TheVariants.{Memory};
+
+    ghost from_gives = { λ _ e. e ≡ Memory };
+
+    fn from(_: AllocError) -> Stop {
+        Stop::Memory
+    }
+}
+
+/// What splits may use.
+#[derive(Clone, Copy)]
+pub(crate) struct Allowance {
+    pub(crate) alloc: Global,
+    // Whether they have to stop once `row_budget` is spent.
+    pub(crate) limited: bool,
+}
+
+// Takes `rows` from the rows that may still be looked at; `Spent` if they are limited and too few.
+fn spend(allowance: Allowance, row_budget: &mut u64, rows: usize) -> Result<(), Stop>
+    ensures spent { IfErr result (λ stop. stop ≡ Stop.Spent) }
+    ensures limited { IfErr result (λ _. IsTrue allowance.limited) }
+{
+    match row_budget.checked_sub(rows as u64) {
+        Some(left) => {
+            *row_budget = left;
+            Ok(())
+        }
+        None => {
+            if allowance.limited {
+                Err(Stop::Spent)
+            } else {
+                Ok(())
+            }
+        }
+    }
+}
+
+// An implicant of the rows that contains the region, or a part of it of which they hold no place.
+// The rows `near`, which are some of the rows, are looked at alone while one of them has at most
+// `bound` open literals.
+#[cycle(reason)]
+pub(crate) fn reason(
+    allowance: Allowance,
+    rows: &[&Cube],
+    near: &[&Cube],
+    bound: u32,
+    region: &Cube,
+    row_budget: &mut u64,
+) -> Result<Cube, Stop>
+    requires sizes { All (λ d. SameSize d.now region.now) rows.now }
+    requires near { AreAmong near.now rows.now }
+    ensures found { IfOk result (IsReason region.now (behind rows.now)) }
+    ensures left_out { IfErr result (λ stop. (part : Row) → stop ≡ Stop.LeftOut part
+        → IsLeftOut (size_of region.now) (behind rows.now) region.now part) }
+    ensures spent { IfErr result (λ stop. stop ≡ Stop.Spent → IsTrue allowance.limited) }
+{
+    spend(allowance, row_budget, near.len())?;
+    let Survey {
+        found,
+        meeting,
+        nearest,
+        fewest,
+    } = survey_rows(allowance.alloc, near, region)?;
+    if let Some(cube) = found {
+        return Ok(cube);
+    }
+    if fewest <= bound && !meeting.is_empty() {
+        let rest = fewest.min(bound.saturating_sub(1));
+        return reason_by_step(allowance, rows, &nearest, fewest, rest, region, row_budget);
+    }
+    reason_by_all_rows(allowance, rows, region, row_budget)
+}
+
+// The reason, found by a look at each row and the next step.
+#[cycle(reason)]
+fn reason_by_all_rows(
+    allowance: Allowance,
+    rows: &[&Cube],
+    region: &Cube,
+    row_budget: &mut u64,
+) -> Result<Cube, Stop>
+    requires { All (λ d. SameSize d.now region.now) rows.now }
+    ensures found { IfOk result (IsReason region.now (behind rows.now)) }
+    ensures left_out { IfErr result (λ stop. (part : Row) → stop ≡ Stop.LeftOut part
+        → IsLeftOut (size_of region.now) (behind rows.now) region.now part) }
+    ensures spent { IfErr result (λ stop. stop ≡ Stop.Spent → IsTrue allowance.limited) }
+{
+    spend(allowance, row_budget, rows.len())?;
+    let Survey {
+        found,
+        meeting,
+        nearest,
+        fewest,
+    } = survey_rows(allowance.alloc, rows, region)?;
+    if let Some(cube) = found {
+        return Ok(cube);
+    }
+    if meeting.is_empty() {
+        return Err(Stop::LeftOut(region.try_clone()?));
+    }
+    reason_by_step(
+        allowance, &meeting, &nearest, fewest, fewest, region, row_budget,
+    )
+}
+
+// The reason, found by the next step. All of the rows `near` meet the region.
+#[cycle(reason)]
+fn reason_by_step(
+    allowance: Allowance,
+    rows: &[&Cube],
+    near: &[&Cube],
+    fewest: u32,
+    bound: u32,
+    region: &Cube,
+    row_budget: &mut u64,
+) -> Result<Cube, Stop>
+    requires output { IsTrue (list_any (λ b. b) region.now.outputs) }
+    requires sizes { All (λ d. SameSize d.now region.now) rows.now }
+    requires near { AreAmong near.now rows.now }
+    requires meets { All (λ d. IsDisjoint (holds d.now) (holds region.now) → ⊥) near.now }
+    requires some { 1 ≤ length near.now }
+    ensures found { IfOk result (IsReason region.now (behind rows.now)) }
+    ensures left_out { IfErr result (λ stop. (part : Row) → stop ≡ Stop.LeftOut part
+        → IsLeftOut (size_of region.now) (behind rows.now) region.now part) }
+    ensures spent { IfErr result (λ stop. stop ≡ Stop.Spent → IsTrue allowance.limited) }
+{
+    match next_step(rows, near, fewest, region) {
+        Step::Row(k) => reason_by_outputs(
+            allowance, rows, near, bound, region, row_budget, near[k],
+        ),
+        Step::Split(i, literal) => reason_by_split(
+            allowance,
+            rows,
+            near,
+            bound,
+            region,
+            row_budget,
+            (i, literal),
+        ),
+    }
+}
+
+// The reason, where the row has no open literal: it holds the region at its outputs, so the region
+// is asked for without these.
+#[cycle(reason)]
+fn reason_by_outputs(
+    allowance: Allowance,
+    rows: &[&Cube],
+    near: &[&Cube],
+    bound: u32,
+    region: &Cube,
+    row_budget: &mut u64,
+    row: &Cube,
+) -> Result<Cube, Stop>
+    requires sizes { All (λ d. SameSize d.now region.now) rows.now }
+    requires near { AreAmong near.now rows.now }
+    requires size { SameSize row.now region.now }
+    requires member { Contains (behind rows.now) row.now }
+    requires meets { IsDisjoint (holds row.now) (holds region.now) → ⊥ }
+    requires closed { IsClosed region.now row.now }
+    ensures found { IfOk result (IsReason region.now (behind rows.now)) }
+    ensures left_out { IfErr result (λ stop. (part : Row) → stop ≡ Stop.LeftOut part
+        → IsLeftOut (size_of region.now) (behind rows.now) region.now part) }
+    ensures spent { IfErr result (λ stop. stop ≡ Stop.Spent → IsTrue allowance.limited) }
+{
+    if !region.has_outputs_beyond(row) {
+        return Ok(row.try_clone()?);
+    }
+    let other = {
+        let rest = region.without_outputs(row)?;
+        reason(allowance, rows, near, bound, &rest, row_budget)?
+    };
+    if other.contains(region) {
+        return Ok(other);
+    }
+    match row.output_consensus(&other)? {
+        Some(cube) => Ok(cube),
+        None => unreachable!(),
+    }
+}
+
+// The reason, found by the two halves of the region at an input, first that with the literal.
+#[cycle(reason)]
+fn reason_by_split(
+    allowance: Allowance,
+    rows: &[&Cube],
+    near: &[&Cube],
+    bound: u32,
+    region: &Cube,
+    row_budget: &mut u64,
+    at: (usize, Symbol),
+) -> Result<Cube, Stop>
+    requires output { IsTrue (list_any (λ b. b) region.now.outputs) }
+    requires sizes { All (λ d. SameSize d.now region.now) rows.now }
+    requires near { AreAmong near.now rows.now }
+    requires dash { slice_get region.now.symbols at.0 ≡ Some Symbol.Dash }
+    requires literal { at.1 ≢ Symbol.Dash }
+    ensures found { IfOk result (IsReason region.now (behind rows.now)) }
+    ensures left_out { IfErr result (λ stop. (part : Row) → stop ≡ Stop.LeftOut part
+        → IsLeftOut (size_of region.now) (behind rows.now) region.now part) }
+    ensures spent { IfErr result (λ stop. stop ≡ Stop.Spent → IsTrue allowance.limited) }
+{
+    let (i, literal) = at;
+    let one = {
+        let first = region.with_symbol(i, literal)?;
+        reason(allowance, rows, near, bound, &first, row_budget)?
+    };
+    if one.contains(region) {
+        return Ok(one);
+    }
+    reason_by_other_half(allowance, rows, near, bound, region, row_budget, at, &one)
+}
+
+// The reason, found by the half with the other literal, where `one` is the reason of the half with
+// the literal: if it has a literal at the input too, the consensus of both reasons.
+#[cycle(reason)]
+fn reason_by_other_half(
+    allowance: Allowance,
+    rows: &[&Cube],
+    near: &[&Cube],
+    bound: u32,
+    region: &Cube,
+    row_budget: &mut u64,
+    at: (usize, Symbol),
+    one: &Cube,
+) -> Result<Cube, Stop>
+    requires output { IsTrue (list_any (λ b. b) region.now.outputs) }
+    requires sizes { All (λ d. SameSize d.now region.now) rows.now }
+    requires near { AreAmong near.now rows.now }
+    requires dash { slice_get region.now.symbols at.0 ≡ Some Symbol.Dash }
+    requires literal { at.1 ≢ Symbol.Dash }
+    requires one_size { SameSize one.now region.now }
+    requires one { IsReason (with_symbol region.now at.0 at.1) (behind rows.now) one.now }
+    ensures found { IfOk result (IsReason region.now (behind rows.now)) }
+    ensures left_out { IfErr result (λ stop. (part : Row) → stop ≡ Stop.LeftOut part
+        → IsLeftOut (size_of region.now) (behind rows.now) region.now part) }
+    ensures spent { IfErr result (λ stop. stop ≡ Stop.Spent → IsTrue allowance.limited) }
+{
+    let (i, literal) = at;
+    let other = {
+        let second = region.with_symbol(i, opposite(literal))?;
+        reason(allowance, rows, near, bound, &second, row_budget)?
+    };
+    if other.contains(region) {
+        return Ok(other);
+    }
+    match consensus(i, one, &other)? {
+        Some(cube) => Ok(cube),
+        None => unreachable!(),
+    }
+}
+
+/// A part of the region of which the rows hold no place, or `None` if they hold the region.
+pub fn part_left_out(
+    alloc: Global,
+    rows: &[&Cube],
+    region: &Cube,
+) -> Result<Option<Cube>, AllocError>
+    requires { All (λ d. SameSize d.now region.now) rows.now }
+    ensures { IfOk result (LeavesOut (size_of region.now) (behind rows.now) region.now) }
+{
+    let mut learned = Learned::new(alloc);
+    part_left_out_by_splits_or_search(alloc, rows, &[], 0, region, &mut learned)
+}
+
+/// Whether splits that look at no more than `row_budget` rows show that the rows hold each place of
+/// the region.
+pub(crate) fn is_seen_to_hold(
+    alloc: Global,
+    rows: &[&Cube],
+    region: &Cube,
+    row_budget: usize,
+) -> Result<bool, AllocError>
+    requires { All (λ d. SameSize d.now region.now) rows.now }
+    ensures { IfOk result
+        (λ held. IsTrue held → IsSubset (holds region.now) (places (behind rows.now))) }
+{
+    let allowance = Allowance {
+        alloc,
+        limited: true,
+    };
+    let mut left = row_budget as u64;
+    match reason(allowance, rows, &[], 0, region, &mut left) {
+        Ok(_) => Ok(true),
+        Err(Stop::Memory) => Err(AllocError),
+        Err(Stop::Spent) => Ok(false),
+        Err(Stop::LeftOut(_)) => Ok(false),
+    }
+}
+
+// A part of the region of which the rows hold no place, if there is one, by as many splits as it
+// takes.
+fn part_left_out_by_unlimited_splits(
+    alloc: Global,
+    rows: &[&Cube],
+    near: &[&Cube],
+    bound: u32,
+    region: &Cube,
+) -> Result<Option<Cube>, AllocError>
+    requires sizes { All (λ d. SameSize d.now region.now) rows.now }
+    requires near { AreAmong near.now rows.now }
+    ensures { IfOk result (LeavesOut (size_of region.now) (behind rows.now) region.now) }
+{
+    let allowance = Allowance {
+        alloc,
+        limited: false,
+    };
+    let mut row_budget = 0;
+    match reason(allowance, rows, near, bound, region, &mut row_budget) {
+        Ok(_) => Ok(None),
+        Err(Stop::LeftOut(part)) => Ok(Some(part)),
+        Err(Stop::Memory) => Err(AllocError),
+        Err(Stop::Spent) => unreachable!(),
+    }
+}
+
+/// A part of the region of which the rows hold no place, or `None` if they hold the region. The
+/// rows `near` are looked at alone while one of them has at most `bound` open literals.
+///
+/// Most questions are answered by splits. Once the splits of all questions about the rows have
+/// spent the row budget of `learned`, a search is asked, and what it learns of the rows is kept. If
+/// it finds no answer within its limits, or one that fails the check, splits begin again without
+/// limit.
+pub(crate) fn part_left_out_by_splits_or_search(
+    alloc: Global,
+    rows: &[&Cube],
+    near: &[&Cube],
+    bound: u32,
+    region: &Cube,
+    learned: &mut Learned,
+) -> Result<Option<Cube>, AllocError>
+    requires sizes { All (λ d. SameSize d.now region.now) rows.now }
+    requires near { AreAmong near.now rows.now }
+    requires known { AreKnown (size_of region.now) learned.old.known.items (behind rows.now) }
+    ensures known { OnOk result
+        (AreKnown (size_of region.now) learned.new.known.items (behind rows.now)) }
+    ensures part { IfOk result (LeavesOut (size_of region.now) (behind rows.now) region.now) }
+{
+    learned.raise_row_budget(rows);
+    let allowance = Allowance {
+        alloc,
+        limited: true,
+    };
+    match reason(
+        allowance,
+        rows,
+        near,
+        bound,
+        region,
+        &mut learned.row_budget,
+    ) {
+        Ok(_) => return Ok(None),
+        Err(Stop::LeftOut(part)) => return Ok(Some(part)),
+        Err(Stop::Memory) => return Err(AllocError),
+        Err(Stop::Spent) => (),
+    }
+    match shown_by_search(alloc, rows, learned, region)? {
+        Shown::Held => Ok(None),
+        Shown::LeftOut(part) => Ok(Some(part)),
+        Shown::Nothing => part_left_out_by_unlimited_splits(alloc, rows, near, bound, region),
+    }
+}

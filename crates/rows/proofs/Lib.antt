@@ -1,0 +1,17 @@
+pub mod Inputs
+pub mod Lists
+pub mod Found
+pub mod Meeting
+pub mod SumSplit
+pub mod SumOrder
+pub mod SumParts
+pub mod SumRows
+pub mod Regions
+pub mod LiteralCounting
+pub mod Everywhere
+pub mod ContainmentLemmas
+pub mod Agreement
+pub mod Chosen
+pub mod SumMeets
+pub mod SumSorted
+pub mod OneOutput

@@ -1,0 +1,9 @@
+pub mod Cubes
+pub mod Sizes
+pub mod Places
+pub mod Contained
+pub mod Splits
+pub mod Marks
+pub mod Complete
+pub mod Parts
+pub mod Reduced

@@ -1,0 +1,230 @@
+//! Complete sums that were made, kept to be found again.
+//!
+//! If inputs are alike, as in symmetric functions and in adders, cofactors by different literals
+//! are often equal. So the two lists of a step are kept with their sum, in a slot that their hash
+//! picks, the newer in place of the older. Packages for decision diagrams keep such a computed
+//! table (Brace, Rudell and Bryant, Efficient Implementation of a BDD Package, 1990).
+ghost use Rattle.std.specs.Prelude.{◌≡◌, IsTrue, IfOk, IfSome};
+ghost use Rattle.cube.specs.Cube.{difference as difference_of};
+ghost use Rattle.cube.specs.Sum.{complete_sum as complete_sum_of};
+ghost use Rattle.rows.specs.Places.{places};
+
+use cube::{Cube, Shape};
+use rows::{clone_cubes, row_hash};
+use std::alloc::{AllocError, Global};
+use std::mem;
+
+// The first table has this many slots. The number is doubled when half of them may be taken.
+const FIRST_SLOTS: usize = 1024;
+
+// There are never more slots than this.
+const SLOTS: usize = 16384;
+
+// The entries together have at most this many rows. If one more would make them too many, all are
+// forgotten.
+const ROWS: usize = 1 << 18;
+
+// At most this many rows of a list go into its hash.
+const HASHED_ROWS: usize = 16;
+
+// Two lists, and the complete sum of the places of the first that are not in the second.
+#[derive(Drop)]
+struct Entry {
+    hash: u64,
+    shape: Shape,
+    minuend: Vec<Cube>,
+    subtrahend: Vec<Cube>,
+    sum: Vec<Cube>,
+    ghost is_sum: { sum.items
+        ≡ complete_sum_of shape (difference_of (places minuend.items) (places subtrahend.items)) },
+}
+
+impl Entry {
+    // How many rows are kept.
+    fn rows(&self) -> usize {
+        self.minuend
+            .len()
+            .saturating_add(self.subtrahend.len())
+            .saturating_add(self.sum.len())
+    }
+
+    // Whether the sum is that of these lists.
+    fn is_of(&self, shape: Shape, hash: u64, minuend: &[Cube], subtrahend: &[Cube]) -> bool
+        ensures { IsTrue result → (self.now.shape ≡ shape) × (self.now.minuend.items ≡ minuend.now)
+            × (self.now.subtrahend.items ≡ subtrahend.now) }
+    {
+        self.hash == hash
+            && self.shape.inputs() == shape.inputs()
+            && self.shape.outputs() == shape.outputs()
+            && are_equal(&self.minuend, minuend)
+            && are_equal(&self.subtrahend, subtrahend)
+    }
+}
+
+/// Sums that were made, and the order in which ties between inputs to split at are broken. No
+/// answer depends on the order or on how many sums are kept, and no contract speaks of them.
+#[derive(Drop)]
+pub(crate) struct ComputedTable {
+    // The number of slots is a power of two, or 0 at first.
+    slots: Vec<Option<Entry>>,
+    // How many sums were put since the slots were made, overwritten ones too.
+    kept: usize,
+    // How many rows all entries have.
+    rows: usize,
+    // The inputs in the order in which ties are broken.
+    order: Vec<usize>,
+}
+
+impl ComputedTable {
+    /// No sum yet. Memory is taken with the first one kept.
+    pub(crate) fn new(alloc: Global, order: Vec<usize>) -> ComputedTable {
+        ComputedTable {
+            slots: Vec::new(alloc),
+            kept: 0,
+            rows: 0,
+            order,
+        }
+    }
+
+    /// The order of the inputs.
+    pub(crate) fn order(&self) -> &[usize] {
+        self.order.as_slice()
+    }
+
+    /// The complete sum of the places of the first list that are not in the second, if it is kept.
+    pub(crate) fn find(
+        &self,
+        alloc: Global,
+        shape: Shape,
+        hash: u64,
+        minuend: &[Cube],
+        subtrahend: &[Cube],
+    ) -> Result<Option<Vec<Cube>>, AllocError>
+        ensures { IfOk result (λ found. IfSome found (λ rows.
+            rows.items ≡ complete_sum_of shape
+            (difference_of (places minuend.now) (places subtrahend.now)))) }
+    {
+        let Some(Some(known)) = self.slots.get(self.slot_of(hash)) else {
+            return Ok(None);
+        };
+        if !known.is_of(shape, hash, minuend, subtrahend) {
+            return Ok(None);
+        }
+        Ok(Some(clone_cubes(alloc, &known.sum)?))
+    }
+
+    /// Keeps a sum with its lists, unless it is longer than all that may be kept.
+    pub(crate) fn keep(
+        &mut self,
+        alloc: Global,
+        shape: Shape,
+        hash: u64,
+        minuend: Vec<Cube>,
+        subtrahend: Vec<Cube>,
+        sum: &[Cube],
+    ) -> Result<(), AllocError>
+        requires { sum.now
+            ≡ complete_sum_of shape
+            (difference_of (places minuend.items) (places subtrahend.items)) }
+    {
+        if sum.len() > ROWS {
+            return Ok(());
+        }
+        let sum = clone_cubes(alloc, sum)?;
+        let known = Entry {
+            hash,
+            shape,
+            minuend,
+            subtrahend,
+            sum,
+        };
+        self.make_room(alloc, known.rows())?;
+        self.put(known);
+        Ok(())
+    }
+
+    // Forgets all sums if `rows` more rows would be too many, and doubles the slots if half of them
+    // may be taken.
+    fn make_room(&mut self, alloc: Global, rows: usize) -> Result<(), AllocError> {
+        if self.rows.saturating_add(rows) > ROWS {
+            self.slots.clear();
+            self.kept = 0;
+            self.rows = 0;
+        }
+        if self.kept >= self.slots.len() / 2 && self.slots.len() < SLOTS {
+            self.double_slots(alloc)?;
+        }
+        Ok(())
+    }
+
+    // Doubles the number of slots, and puts all sums into the new ones.
+    fn double_slots(&mut self, alloc: Global) -> Result<(), AllocError> {
+        let len = self.slots.len().saturating_mul(2).max(FIRST_SLOTS);
+        let mut slots = Vec::with_capacity(alloc, len)?;
+        for _ in 0..len {
+            slots.push(None)?;
+        }
+        let old = mem::replace(&mut self.slots, slots);
+        self.kept = 0;
+        self.rows = 0;
+        for slot in old {
+            if let Some(known) = slot {
+                self.put(known);
+            }
+        }
+        Ok(())
+    }
+
+    // Puts a sum into its slot.
+    fn put(&mut self, known: Entry) {
+        let rows = known.rows();
+        if rows > ROWS {
+            return;
+        }
+        let at = self.slot_of(known.hash);
+        if let Some(slot) = self.slots.get_mut(at) {
+            let old = match mem::replace(slot, Some(known)) {
+                Some(old) => old.rows(),
+                None => 0,
+            };
+            self.kept = self.kept.saturating_add(1);
+            self.rows = self.rows.saturating_sub(old).saturating_add(rows);
+        }
+    }
+
+    // The slot that a hash picks. Their number is a power of two.
+    fn slot_of(&self, hash: u64) -> usize {
+        hash as usize & self.slots.len().saturating_sub(1)
+    }
+}
+
+/// The hash of two lists.
+pub(crate) fn hash_of_lists(shape: Shape, minuend: &[Cube], subtrahend: &[Cube]) -> u64 {
+    let seed = minuend.len() as u64;
+    list_hash(shape, subtrahend, list_hash(shape, minuend, seed))
+}
+
+// The hash of a list, from a seed. Of a long list only some rows are looked at, evenly spread:
+// lists are compared before a sum is used.
+fn list_hash(shape: Shape, rows: &[Cube], seed: u64) -> u64 {
+    let mut hash = seed;
+    for row in rows.iter().step_by(1 + rows.len() / HASHED_ROWS) {
+        hash = row_hash(shape, row, hash);
+    }
+    hash
+}
+
+// Whether the lists are equal.
+fn are_equal(rows: &[Cube], others: &[Cube]) -> bool
+    ensures { IsTrue result → rows.now ≡ others.now }
+{
+    if rows.len() != others.len() {
+        return false;
+    }
+    for k in 0..rows.len() {
+        if !rows[k].is_equal(&others[k]) {
+            return false;
+        }
+    }
+    true
+}
