@@ -15,46 +15,49 @@ sys.dont_write_bytecode = True
 
 import as_rust  # noqa: E402
 
-EXACT, OF_PLA, NEEDED = "minimum/exact_minimum", "minimum/of_pla", "minimum/as_needed"
-POINTS, SOURCE = "minimum/points", "minimum/points/source"
+WAYS, NEEDED = "minimum/ways", "minimum/as_needed"
+POINTS, SOURCE, ROUNDS = "minimum/points", "minimum/points/source", "minimum/points/rounds"
+COLUMNS = "minimum/points/dominating"
 CONSENSUS = "minimum/essential_by_neighbours/consensus_pairs"
 NEAR, MERGING = "minimum/essential_by_neighbours/near_rows", "cover/merging"
 
 # Changes: a file of a crate, a text that stands there, and what stands there in its place.
 POINTS_OF_FEW_INPUTS = [
-    (EXACT, "shape.inputs() > 12", "shape.inputs() > 0"),
-    (EXACT, "uses_points(shape) && shape.outputs() > 1\n", "uses_points(shape)\n"),
+    (WAYS, "shape.inputs() > 12", "shape.inputs() > 0"),
+    (WAYS, "uses_points(shape) && shape.outputs() > 1\n", "uses_points(shape)\n"),
 ]
-GROWTH = [(OF_PLA, "inputs <= 12 {", "inputs < 1 {"), (OF_PLA, "sets.on().shape().outputs() > 1 ||", "true ||")]
-NO_GROWTH = [(OF_PLA, "inputs <= 12 {", "inputs < 2000 {"), (OF_PLA, "return rows < 100;", "return false;")]
+GROWTH = [(WAYS, "inputs <= 12 {", "inputs < 1 {"), (WAYS, "sets.on().shape().outputs() > 1 ||", "true ||")]
+NO_GROWTH = [(WAYS, "inputs <= 12 {", "inputs < 2000 {"), (WAYS, "return rows < 100;", "return false;")]
 NO_CUBES_OUTSIDE = [
-    (EXACT, "MOST_OF_AN_OUTPUT: usize = 250", "MOST_OF_AN_OUTPUT: usize = 0"),
-    (EXACT, "MOST_ROWS_OF_AN_OUTPUT: usize = 1_000_000", "MOST_ROWS_OF_AN_OUTPUT: usize = 0"),
+    (WAYS, "MOST_OF_AN_OUTPUT: usize = 250", "MOST_OF_AN_OUTPUT: usize = 0"),
+    (WAYS, "MOST_ROWS_OF_AN_OUTPUT: usize = 1_000_000", "MOST_ROWS_OF_AN_OUTPUT: usize = 0"),
 ]
 FEW_CUBES_OUTSIDE = [
-    (EXACT, "MOST_OF_AN_OUTPUT: usize = 250", "MOST_OF_AN_OUTPUT: usize = 6"),
-    (EXACT, "MOST_OUTSIDE: usize = 40000", "MOST_OUTSIDE: usize = 12"),
-    (EXACT, "MOST_ROWS_OF_AN_OUTPUT: usize = 1_000_000", "MOST_ROWS_OF_AN_OUTPUT: usize = 100"),
+    (WAYS, "MOST_OF_AN_OUTPUT: usize = 250", "MOST_OF_AN_OUTPUT: usize = 6"),
+    (WAYS, "MOST_OUTSIDE: usize = 40000", "MOST_OUTSIDE: usize = 12"),
+    (WAYS, "MOST_ROWS_OF_AN_OUTPUT: usize = 1_000_000", "MOST_ROWS_OF_AN_OUTPUT: usize = 100"),
 ]
 ALWAYS_AS_NEEDED = [
-    (EXACT, "(shape.outputs() > 1 || have_many_consensus_pairs(sets.on().as_slice()))",
-     "(shape.outputs() > 0 || have_many_consensus_pairs(sets.on().as_slice()))"),
+    (WAYS, "(inputs > 16 && have_several_functions(rows) || have_many_consensus_pairs(rows))",
+     "(inputs < 2000 || have_several_functions(rows) || have_many_consensus_pairs(rows))"),
 ]
 NEVER_AS_NEEDED = [
-    (EXACT, "uses_points(shape) && (shape.outputs() > 1 || have_many_consensus_pairs(sets.on().as_slice()))",
-     "uses_points(shape) && shape.outputs() > 2000 && have_many_consensus_pairs(sets.on().as_slice())"),
+    (WAYS, "(inputs > 16 && have_several_functions(rows) || have_many_consensus_pairs(rows))",
+     "(inputs > 2000 && have_several_functions(rows) && have_many_consensus_pairs(rows))"),
 ]
-POINTS_OF_PRIMES = [(EXACT, "sets.on().shape().inputs() > 20", "sets.on().shape().inputs() > 0")]
-NO_POINTS_OF_PRIMES = [(EXACT, "sets.on().shape().inputs() > 20", "sets.on().shape().inputs() > 2000")]
-FEW_ROUNDS = [(EXACT, "MOST_ROUNDS: usize = 200", "MOST_ROUNDS: usize = 2")]
+POINTS_OF_PRIMES = [(WAYS, "sets.on().shape().inputs() > 20", "sets.on().shape().inputs() > 0")]
+NO_POINTS_OF_PRIMES = [(WAYS, "sets.on().shape().inputs() > 20", "sets.on().shape().inputs() > 2000")]
+FEW_ROUNDS = [(ROUNDS, "MOST_ROUNDS: usize = 200", "MOST_ROUNDS: usize = 2")]
 NO_FEW_PRIMES = [(SOURCE, "FEW_PRIMES: usize = 40", "FEW_PRIMES: usize = 0")]
 FEW_LOOKS = [(POINTS, "[200_000_000, 4_000_000_000]", "[15, 60]")]
 FEW_PRIMES_OF_A_POINT = [(SOURCE, "MOST_PRIMES: usize = 30_000", "MOST_PRIMES: usize = 3")]
 FEW_NEEDED_ROUNDS = [(NEEDED, "MOST_ROUNDS: usize = 2_000", "MOST_ROUNDS: usize = 6")]
+ROWS_AROUND = [(COLUMNS, "MANY_ROWS: usize = 200", "MANY_ROWS: usize = 0"),
+               (COLUMNS, "MANY_POINTS: usize = 100", "MANY_POINTS: usize = 0")]
 FEW_WORDS = [(NEEDED, "MOST_WORDS: usize = 4_000_000_000", "MOST_WORDS: usize = 300")]
-NO_CUBES_OF_OFF = [(OF_PLA, "MOST_OF_OFF: usize = 200_000", "MOST_OF_OFF: usize = 0")]
-FEW_CUBES_OF_OFF = [(OF_PLA, "MOST_OF_OFF: usize = 200_000", "MOST_OF_OFF: usize = 2"),
-                    (OF_PLA, "MOST_ROWS_OF_OFF: usize = 4_000_000", "MOST_ROWS_OF_OFF: usize = 4")]
+NO_CUBES_OF_OFF = [(WAYS, "MOST_OF_OFF: usize = 200_000", "MOST_OF_OFF: usize = 0")]
+FEW_CUBES_OF_OFF = [(WAYS, "MOST_OF_OFF: usize = 200_000", "MOST_OF_OFF: usize = 2"),
+                    (WAYS, "MOST_ROWS_OF_OFF: usize = 4_000_000", "MOST_ROWS_OF_OFF: usize = 4")]
 MERGED = [
     (MERGING, "LEAST_ROWS: usize = 64", "LEAST_ROWS: usize = 2"),
     ("minimum/fewer_rows", "row.literals().saturating_mul(4) < inputs.saturating_mul(3)", "inputs > 2000"),
@@ -63,19 +66,19 @@ MERGED = [
 ]
 NEVER_NEAR = [(NEAR, "near <= far", "near <= far && near == usize::MAX")]
 ALWAYS_NEAR = [(NEAR, "near <= far", "near <= far || near > 0")]
-SEARCH_AT_ONCE = [("cover/region/passes", "root / 2 + 1", "root / 1000"),
-                  ("cover/region/passes", "root.saturating_mul(4)", "root / 1000")]
+SEARCH_AT_ONCE = [("regions/region/passes", "root / 2 + 1", "root / 1000"),
+                  ("regions/region/passes", "root.saturating_mul(4)", "root / 1000")]
 SHORT_LISTS = [
-    ("cover/region/nearest_first", "FEW: usize = 64", "FEW: usize = 1"),
+    ("regions/region/nearest_first", "FEW: usize = 64", "FEW: usize = 1"),
     ("cover/outside_within_budget", "FEW: usize = 16", "FEW: usize = 1"),
-    ("cover/compare/meets_within", "FEW: usize = 16", "FEW: usize = 1"),
+    ("regions/meets_within", "FEW: usize = 16", "FEW: usize = 1"),
     ("cover/containment", "SMALL: usize = 8", "SMALL: usize = 1"),
-    ("cover/compare/pairwise", "SMALL: usize = 8", "SMALL: usize = 1"),
-    ("cover/sums/meets", "FEW: usize = 64", "FEW: usize = 2"),
-    ("cover/sums/meets", "FEWER: usize = 16", "FEWER: usize = 1"),
-    ("cover/sums/absorb", "MANY: usize = 32", "MANY: usize = 2"),
-    ("cover/sums/dependent_outputs", "FEW: usize = 64", "FEW: usize = 2"),
-    ("cover/sums/containing", "MANY: u32 = 6", "MANY: u32 = 3"),
+    ("regions/pairwise", "SMALL: usize = 8", "SMALL: usize = 1"),
+    ("sums/meets", "FEW: usize = 64", "FEW: usize = 2"),
+    ("sums/meets", "FEWER: usize = 16", "FEWER: usize = 1"),
+    ("sums/absorb", "MANY: usize = 32", "MANY: usize = 2"),
+    ("sums/dependent_outputs", "FEW: usize = 64", "FEW: usize = 2"),
+    ("sums/containing", "MANY: u32 = 6", "MANY: u32 = 3"),
     ("minimum/prime_table/halving_input", "FEW: usize = 16", "FEW: usize = 1"),
     ("covering/solver", "FEW: usize = 8", "FEW: usize = 1"),
     ("covering/solver", "BATCH_TABLES: u64 = 600", "BATCH_TABLES: u64 = 2"),
@@ -89,12 +92,12 @@ FEW_PROPOSALS = [
 
 BUILDS = {
     # Points outside a list; the columns of a point are those that dominate, or, where literals count, all primes.
-    "points": [*POINTS_OF_FEW_INPUTS, *GROWTH, *NO_FEW_PRIMES, *SHORT_LISTS],
+    "points": [*POINTS_OF_FEW_INPUTS, *GROWTH, *NO_FEW_PRIMES, *ROWS_AROUND, *SHORT_LISTS],
     # The same within budgets that are spent now and then: by cubes outside, looks, primes of a point, rounds.
     "points-spent": [*POINTS_OF_FEW_INPUTS, *GROWTH, *NO_FEW_PRIMES, *FEW_CUBES_OUTSIDE, *FEW_LOOKS, *FEW_PRIMES_OF_A_POINT,
                      *FEW_ROUNDS, *ALWAYS_AS_NEEDED, *FEW_PROPOSALS, *NEVER_NEAR],
     # Places outside as they are needed.
-    "needed": [*POINTS_OF_FEW_INPUTS, *GROWTH, *NO_CUBES_OUTSIDE, *ALWAYS_AS_NEEDED, *NO_CUBES_OF_OFF, *ALWAYS_NEAR],
+    "needed": [*POINTS_OF_FEW_INPUTS, *GROWTH, *ROWS_AROUND, *NO_CUBES_OUTSIDE, *ALWAYS_AS_NEEDED, *NO_CUBES_OF_OFF, *ALWAYS_NEAR],
     # The same until rounds or looks are spent; then points that are picked by all primes.
     "needed-spent": [*POINTS_OF_FEW_INPUTS, *NO_GROWTH, *NO_CUBES_OUTSIDE, *ALWAYS_AS_NEEDED, *FEW_NEEDED_ROUNDS, *FEW_WORDS,
                      *POINTS_OF_PRIMES, *FEW_CUBES_OF_OFF, *SEARCH_AT_ONCE],

@@ -8,7 +8,7 @@ use crate::descriptions::{
 };
 use crate::rules::{Outputs, Rule};
 use crate::tables::{has_taken, least_is, rings, rings_are_solved};
-use covering::{all_marked, copy_of, is_marked, numbers, unmark};
+use covering::{all_marked, copy_of, is_marked, numbers, short_cover, unmark};
 use minimum::{Choice, Effort, Table, least_cover_plain, least_cover_with_effort, reduce};
 use signature_search::{Proposer, Rows};
 use std::alloc::{AllocError, Global};
@@ -201,11 +201,13 @@ fn is_met_by_the_first(table: Table) -> Result<bool, AllocError> {
     let mut effort = Effort::none();
     let counted = least_cover_with_effort(&table, Choice::Literals, &mut effort)?;
     let is_least = least_is(&table, Choice::First, &[0])?;
+    let short = short_cover(&table)?;
     let reduced = reduce(table, Choice::First)?;
     Ok(
         is_least
             && plain.as_slice() == [0].as_slice()
             && counted.as_slice() == [0].as_slice()
+            && short.as_slice() == [0].as_slice()
             && has_taken(&reduced, &[0]),
     )
 }

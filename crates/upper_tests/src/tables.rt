@@ -1,4 +1,5 @@
 //! Tables of worked functions, written as rows.
+use covering::short_cover;
 use minimum::{
     Choice, Effort, Table, least_cover, least_cover_plain, least_cover_with_effort, reduce,
 };
@@ -252,9 +253,10 @@ pub(crate) fn rings_are_solved(
     let columns = firsts(alloc, count)?;
     let first = least_is(&table, Choice::First, columns.as_slice())?;
     let fewest = least_is(&table, Choice::Literals, columns.as_slice())?;
+    let short = short_cover(&table)?.len();
     let reduced = reduce(table, Choice::First)?;
     let again = least_is(&reduced, Choice::First, columns.as_slice())?;
-    Ok(first && fewest && again && are_all_live(&reduced))
+    Ok(first && fewest && again && short >= columns.len() && are_all_live(&reduced))
 }
 
 /// The next number of a fixed sequence.
@@ -291,16 +293,19 @@ fn drawn(alloc: Global, seed: u64) -> Result<Option<Table>, AllocError> {
     Table::new(alloc, rows, weights)
 }
 
-/// Whether both searches answer the same, on the table as it is and as reduced.
+/// Whether both searches answer the same, on the table as it is and as reduced, and a short cover is
+/// no shorter.
 pub(crate) fn searches_agree(made: Table, choice: Choice) -> Result<bool, AllocError> {
     let plain = least_cover_plain(&made, choice)?;
     let least = least_cover(&made, choice)?;
+    let short = short_cover(&made)?;
     let reduced = reduce(made, choice)?;
     let mut effort = Effort::none();
     let again = least_cover_with_effort(&reduced, choice, &mut effort)?;
     let plainly = least_cover_plain(&reduced, choice)?;
     Ok(
         least.as_slice() == plain.as_slice()
+            && short.len() >= plain.len()
             && again.as_slice() == plain.as_slice()
             && plainly.as_slice() == plain.as_slice(),
     )
