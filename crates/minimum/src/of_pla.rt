@@ -125,5 +125,6 @@ pub(crate) fn exact_of_rows(alloc: Global, pla: &Pla, choice: Choice) -> Result<
             return Ok(list);
         }
     }
-    exact(alloc, &Sets::of(alloc, pla, true, false)?, choice)
+    let sets = Sets::of(alloc, pla, true, false)?;
+    exact(alloc, &sets, choice)
 }

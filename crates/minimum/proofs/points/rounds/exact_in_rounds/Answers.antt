@@ -41,7 +41,7 @@ returns-then-is_least g c =
     λ i. record { size = size i; cubes = cubes i }
 
 pub left_out-requires : goal.left_out-requires
-left_out-requires g c = (c.requires.0, c.in_ok-list.ensures.size ∙ sym c.requires.1.1.0.size)
+left_out-requires g c = record { dc = c.requires.0; list = c.in_ok-list.ensures.size ∙ sym c.requires.1.1.0.size }
 
 pub loop-preserved : goal.loop-preserved
 loop-preserved g c = c.in_ok-add_places.ensures

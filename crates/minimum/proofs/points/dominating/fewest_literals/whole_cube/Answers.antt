@@ -6,7 +6,7 @@ use Rattle.cube.specs.declared.symbol.Symbol.{Symbol}
 use Rattle.cube.specs.declared.symbol.Symbol.TheVariants.{Dash}
 use Rattle.cube.specs.Cube.{Cube}
 use Rattle.cover.proofs.Found.{made_output}
-use Rattle.cover.proofs.OffSets.{all_set}
+use Rattle.cover.proofs.OneOutput.{all_set}
 use Rattle.minimum.proofs.FewestLiterals.{all_dashes}
 use Rattle.minimum.proofs.points.dominating.fewest_literals.whole_cube.Goals as goal
 
