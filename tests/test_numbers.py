@@ -113,7 +113,7 @@ COVERED = {
     "docs/FORMAT.md": (),
     "docs/ARCHITECTURE.md": (),
     "README.md": ("128 inputs, 60 outputs, 600 rows, 4 · 10¹⁵ primes | `exact`: 575 products | 0.12", "300,000 random cubes", "| 0.21 |",
-                  "10 to 15 minutes on four processors", "30 to 45 minutes on two processors", "Python 3.9", "`rattle-kit-13f`"),
+                  "10 to 20 minutes on four processors", "30 to 45 minutes on two processors", "Python 3.9", "`rattle-kit-13f`"),
 }
 
 

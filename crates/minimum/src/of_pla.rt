@@ -81,6 +81,7 @@ fn essential_of_sets(alloc: Global, sets: &Sets) -> Result<Cover, AllocError>
 // The essential primes under fr, outside these places, which OFF alone holds.
 fn essential_outside(alloc: Global, pla: &Pla, off: &Cover) -> Result<Cover, AllocError>
     requires file_type { pla.now.file_type ≡ FileType.Fr }
+    requires size { off.now.size ≡ pla.now.size }
     requires places { (p : Place) → IsPlace pla.now.size p
         → places off.now.cubes p ≡ difference_of (places pla.now.off) (places pla.now.on) p }
     ensures { IfOk result (λ list. list ≡ record {

@@ -19,10 +19,13 @@ exact_by_points-requires g c =
     let outside : (p : Place) → IsPlace d.size p → places off.cubes p ≡ difference (places d.off) (places d.on) p =
     λ p place. places_same c.args.off.cubes off.cubes c.in_ok-large_first.ensures.cubes p ∙ c.requires.1.1.1 p place in
     let none = c.new-none.ensures ∙ ap no_cubes c.shape.ensures in
-    let on_size = ap (λ (l : Cubes). l.size) c.on.ensures in
-    (ap (λ (l : Cubes). l.size) none ∙ sym on_size,
-    (samples_source d off c.requires.1.0 size outside g.sets c.requires.0 c.on.result.now c.new-none.result c.on.ensures none (Outside off) refl refl,
-    samples_stand d off c.requires.1.0 size outside g.sets c.requires.0 c.on.result.now c.new-none.result c.on.ensures none (Outside off) refl))
+    let on_size = ap (λ (l : Cubes). l.size) c.on.ensures in (
+      ap (λ (l : Cubes). l.size) none ∙ sym on_size,
+      (
+        samples_source d off c.requires.1.0 size outside g.sets c.requires.0 c.on.result.now c.new-none.result c.on.ensures none (Outside off) refl refl,
+        samples_stand d off c.requires.1.0 size outside g.sets c.requires.0 c.on.result.now c.new-none.result c.on.ensures none (Outside off) refl,
+      ),
+    )
 
 pub exact_by_points-requires-2 : goal.exact_by_points-requires-2
 exact_by_points-requires-2 g c =
@@ -32,7 +35,10 @@ exact_by_points-requires-2 g c =
     let outside : (p : Place) → IsPlace d.size p → places off.cubes p ≡ difference (places d.off) (places d.on) p =
     λ p place. places_same c.args.off.cubes off.cubes c.in_ok-large_first.ensures.cubes p ∙ c.requires.1.1.1 p place in
     let none = c.new-none.ensures ∙ ap no_cubes c.shape.ensures in
-    let on_size = ap (λ (l : Cubes). l.size) c.on-2.ensures in
-    (ap (λ (l : Cubes). l.size) none ∙ sym on_size,
-    (samples_source d off c.requires.1.0 size outside g.sets c.requires.0 c.on-2.result.now c.new-none.result c.on-2.ensures none c.in_ok-all.all c.in_ok-all.ensures.size c.in_ok-all.ensures.primes,
-    samples_stand d off c.requires.1.0 size outside g.sets c.requires.0 c.on-2.result.now c.new-none.result c.on-2.ensures none c.in_ok-all.all c.in_ok-all.ensures.primes))
+    let on_size = ap (λ (l : Cubes). l.size) c.on-2.ensures in (
+      ap (λ (l : Cubes). l.size) none ∙ sym on_size,
+      (
+        samples_source d off c.requires.1.0 size outside g.sets c.requires.0 c.on-2.result.now c.new-none.result c.on-2.ensures none c.in_ok-all.all c.in_ok-all.ensures.size c.in_ok-all.ensures.primes,
+        samples_stand d off c.requires.1.0 size outside g.sets c.requires.0 c.on-2.result.now c.new-none.result c.on-2.ensures none c.in_ok-all.all c.in_ok-all.ensures.primes,
+      ),
+    )
