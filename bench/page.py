@@ -114,7 +114,7 @@ def logic_summary(logic):
 
 def largest_with_time(result, tool):
     row = next((row for row in reversed(result.rows) if time_of(row, tool) is not None), None)
-    return [f"{row.label}, {row.rows} rows", figure(time_of(row, tool))] if row else ["none", ""]
+    return [f"{row.listing.shape}, {row.rows} rows", figure(time_of(row, tool))] if row else ["none", ""]
 
 
 def faster_there(rows, tools):
