@@ -1,7 +1,7 @@
 #!/usr/bin/env python3
 """Makes plain Rust of the crates and builds it, so that a change can be timed before it is proved.
 
-    bench/as_rust.py FOLDER [PROGRAM ..]     writes FOLDER/crates, and builds FOLDER/PROGRAM (none named: espresso)
+    bench/as_rust.py FOLDER [CRATE ..]       writes FOLDER/crates, and builds FOLDER/CRATE (none named: FOLDER/espresso)
     bench/as_rust.py FOLDER --lines ..       likewise, with the lines of the sources for callgrind and perf
     bench/as_rust.py FOLDER --write ..       writes the sources and builds nothing
 
@@ -18,6 +18,7 @@ import sys
 
 TOP = os.path.dirname(os.path.dirname(os.path.realpath(__file__)))
 SHIM = os.path.join(TOP, "bench/rust_shim")
+MAIN = "espresso_program"          # the crate of the program, whose file is called espresso
 PORTS = ("smallvec", "memchr", "itoa", "itertools", "clap")          # each is a file of the shim
 
 # What is no code: comments, texts, characters and lifetimes.
@@ -204,7 +205,7 @@ def main():
     places = [word for word in words if not word.startswith("--")]
     if not places or not options <= {"--lines", "--write"}:
         sys.exit(__doc__)
-    target, programs = os.path.realpath(places[0]), places[1:] or ["espresso"]
+    target, programs = os.path.realpath(places[0]), places[1:] or [MAIN]
     folder = os.path.join(target, "crates")
     write_all(folder, programs)
     if "--write" in options:
@@ -212,7 +213,7 @@ def main():
     profile = "lines" if "--lines" in options else "release"
     build(folder, programs, profile)
     for name in programs:
-        shutil.copy2(os.path.join(folder, "target", profile, name), os.path.join(target, name))
+        shutil.copy2(os.path.join(folder, "target", profile, name), os.path.join(target, "espresso" if name == MAIN else name))
 
 
 if __name__ == "__main__":

@@ -26,168 +26,22 @@ import sys
 import tempfile
 import time
 
+from arithmetic import (CLASSICS, adder, arithmetic_unit, comparison, function_rows, leading_noughts, multiplier, ones_within, parity,
+                        sensor_display, square)
 from control import (DECODED, KNOWN, WIDE, control, first_request, grants, joined_rings, operation_lines, samples, selector,
                      shifter)
+from rows import (consensus_cubes, contained_rows, partition, pla, random_points, random_rows, rings, rings_side_by_side, short_cubes,
+                  shuffled, sparse_rows, split_rows, split_twice, two_of, with_literal_dropped, write)
 
-DATA = os.path.join(os.path.dirname(os.path.abspath(__file__)), "data")
-
-
-def write(name, lines):
-    """The path of a file of these lines, written once."""
-    os.makedirs(DATA, exist_ok=True)
-    path = os.path.join(DATA, name)
-    if not os.path.exists(path):
-        part = f"{path}.{os.getpid()}.part"
-        with open(part, "w") as out:
-            out.writelines(line + "\n" for line in lines)
-        os.rename(part, path)
-    return path
-
-
-def pla(inputs, outputs, rows):
-    yield f".i {inputs}"
-    yield f".o {outputs}"
-    yield from rows
-    yield ".e"
-
-
-def random_rows(count, inputs, outputs, seed):
-    """Rows of random symbols, each with an output."""
-    chance = random.Random(seed)
-    for _ in range(count):
-        symbols = "".join(chance.choices("01-", k=inputs))
-        bits = chance.randrange(1, 2 ** outputs)
-        yield f"{symbols} {bits:0{outputs}b}"
-
-
-def split_rows(cubes, count, seed):
-    """The same places in more cubes: they are cut in two until there are so many."""
-    chance = random.Random(seed)
-    cubes = list(cubes)
-    while len(cubes) < count:
-        at = chance.randrange(len(cubes))
-        free = [i for i, symbol in enumerate(cubes[at]) if symbol == "-"]
-        if free:
-            i = chance.choice(free)
-            cube = cubes[at]
-            cubes[at] = cube[:i] + "0" + cube[i + 1:]
-            cubes.append(cube[:i] + "1" + cube[i + 1:])
-    chance.shuffle(cubes)
-    return cubes
-
-
-def partition(leaves, inputs, seed):
-    """The leaves of a random decision tree: cubes that split the whole space among them."""
-    return split_rows(["-" * inputs], leaves, seed)
-
-
-def short_cubes(count, inputs, literals, seed):
-    """Random cubes of so many literals each."""
-    chance = random.Random(seed)
-    for _ in range(count):
-        cube = ["-"] * inputs
-        for i in chance.sample(range(inputs), literals):
-            cube[i] = chance.choice("01")
-        yield "".join(cube)
-
-
-def halves(cube, chance):
-    """The cube cut in two at a random input."""
-    i = chance.choice([i for i, symbol in enumerate(cube) if symbol == "-"])
-    return [cube[:i] + "0" + cube[i + 1:], cube[:i] + "1" + cube[i + 1:]]
-
-
-def split_twice(cubes, chance):
-    """Each cube cut into four."""
-    return [part for cube in cubes for half in halves(cube, chance) for part in halves(half, chance)]
-
-
-def consensus(one, other):
-    """The consensus of two cubes with opposite literals at one input alone, or nothing."""
-    if sum(a != b and "-" not in (a, b) for a, b in zip(one, other)) != 1:
-        return []
-    return ["".join(b if a == "-" else a if b in ("-", a) else "-" for a, b in zip(one, other))]
-
-
-def consensus_cubes(cubes, count, chance):
-    """So many consensus cubes of random pairs."""
-    found = []
-    while len(found) < count:
-        found += consensus(*chance.sample(cubes, 2))
-    return found
-
-
-def with_literal_dropped(cubes, chance):
-    """The cubes, one of them without one of its literals."""
-    at = chance.randrange(len(cubes))
-    i = chance.choice([i for i, symbol in enumerate(cubes[at]) if symbol != "-"])
-    return cubes[:at] + [cubes[at][:i] + "-" + cubes[at][i + 1:]] + cubes[at + 1:]
-
-
-def contained_rows(count, inputs, seed):
-    """Random cubes, one in four of them cut out of an earlier one."""
-    chance = random.Random(seed)
-    cubes = []
-    for _ in range(count):
-        if cubes and chance.random() < 0.25:
-            cube = list(chance.choice(cubes))
-            for i in range(inputs):
-                if cube[i] == "-" and chance.random() < 0.2:
-                    cube[i] = chance.choice("01")
-            cubes.append("".join(cube))
-        else:
-            cubes.append("".join(chance.choices("01-", weights=(3, 3, 4), k=inputs)))
-    chance.shuffle(cubes)
-    return [cube + " 1" for cube in cubes]
-
-
-def function_rows(inputs, outputs, value):
-    """A row for each point at which some output is 1; `value` gives the outputs of the input bits as a number."""
-    for point in range(2 ** inputs):
-        bits = [point >> (inputs - 1 - i) & 1 for i in range(inputs)]
-        out = value(bits)
-        if out:
-            yield f"{point:0{inputs}b} {out:0{outputs}b}"
-
-
-def number(bits):
-    return int("".join(map(str, bits)), 2) if bits else 0
-
-
-def adder(width):
-    """Two numbers of `width` bits added: the sum has a bit more."""
-    return 2 * width, width + 1, lambda bits: number(bits[:width]) + number(bits[width:])
-
-
-def ones_within(inputs, low, high):
-    """1 where the number of ones is in the range."""
-    return inputs, 1, lambda bits: int(low <= sum(bits) <= high)
-
-
-def life(bits):
-    """The next state of the first cell of nine, by the number of its living neighbours."""
-    alive = sum(bits[1:])
-    return int(alive == 3 or (bits[0] == 1 and alive == 2))
-
-
-# Functions that the literature on two-level minimisation is measured by: inputs, outputs, value.
+# Functions that the literature on two-level minimisation is measured by, and larger ones of their kind: inputs, outputs, value.
 FUNCTIONS = {
-    "rd53": (5, 3, sum),
-    "rd73": (7, 3, sum),
-    "rd84": (8, 4, sum),
-    "xor5": (5, 1, lambda bits: sum(bits) % 2),
+    **{classic.name: classic.function for classic in CLASSICS},
     "maj9": ones_within(9, 5, 9),
-    "life": (9, 1, life),
-    "adr4": adder(4),
     "adr5": adder(5),
     "adr6": adder(6),
-    "mlp4": (8, 8, lambda bits: number(bits[:4]) * number(bits[4:])),
-    "mlp5": (10, 10, lambda bits: number(bits[:5]) * number(bits[5:])),
-    "sqr6": (6, 12, lambda bits: number(bits) ** 2),
-    "sqr7": (7, 14, lambda bits: number(bits) ** 2),
-    "sqr8": (8, 16, lambda bits: number(bits) ** 2),
-    "9sym": ones_within(9, 3, 6),
-    "sym10": ones_within(10, 3, 6),
+    "mlp5": multiplier(5),
+    "sqr7": square(7),
+    "sqr8": square(8),
     "sym11": ones_within(11, 4, 7),
     "sym12": ones_within(12, 4, 8),
 }
@@ -196,47 +50,7 @@ FUNCTIONS = {
 def function(name):
     """The path of a file that lists the points of a known function."""
     inputs, outputs, value = FUNCTIONS[name]
-    return write(f"{name}.pla", pla(inputs, outputs, function_rows(inputs, outputs, value)))
-
-
-def rings(count):
-    """Rings of six points side by side, each of six primes and no essential one: a selector of even parity picks the ring."""
-    width = (count - 1).bit_length() + 1
-    words = [f"{word:0{width}b}" for word in range(2 ** width) if bin(word).count("1") % 2 == 0]
-    ring = ("000", "001", "010", "101", "110", "111")
-    return width + 3, [f"{word}{point} 1" for word in words[:count] for point in ring]
-
-
-def rings_side_by_side(count):
-    """Rings of six points in one output, each over three inputs of its own, with six primes each."""
-    ring = ("000", "001", "010", "101", "110", "111")
-    for k in range(count):
-        for point in ring:
-            yield "-" * 3 * k + point + "-" * 3 * (count - 1 - k) + " 1"
-
-
-def random_points(inputs, on, free, seed):
-    """Each point, with this chance to be in the ON-set and this chance to be in the DC-set."""
-    chance = random.Random(seed)
-    for point in range(2 ** inputs):
-        drawn = chance.random()
-        if drawn < on + free:
-            yield f"{point:0{inputs}b} {'1' if drawn < on else '-'}"
-
-
-def sparse_rows(count, inputs, outputs, dashes, seed):
-    """Random cubes, of whose symbols this share are dashes."""
-    chance = random.Random(seed)
-    for _ in range(count):
-        symbols = "".join("-" if chance.random() < dashes else chance.choice("01") for _ in range(inputs))
-        bits = chance.randrange(1, 2 ** outputs)
-        yield f"{symbols} {bits:0{outputs}b}"
-
-
-def shuffled(rows, seed):
-    rows = list(rows)
-    random.Random(seed).shuffle(rows)
-    return rows
+    return write(f"known-{name}.pla", pla(inputs, outputs, function_rows(inputs, outputs, value)))
 
 
 def ran(words, feed=None):
@@ -373,13 +187,6 @@ def written_pair(name, inputs, cubes, seed, more, dropped):
         others = with_literal_dropped(others, chance)
     return (write(f"{name}.pla", pla(inputs, 1, [c + " 1" for c in cubes])),
             write(f"{name}-{dropped:d}.pla", pla(inputs, 1, [c + " 1" for c in others])))
-
-
-def two_of(inputs):
-    """At least two of the inputs are 1."""
-    for i in range(inputs):
-        for k in range(i):
-            yield "".join("1" if at in (i, k) else "-" for at in range(inputs))
 
 
 def wide_verifies():
@@ -550,46 +357,14 @@ def sample_cases():
         yield f"essen-{name}", file_case(["-Dessen"], lambda both=both: both()[0], 0.1)
 
 
-def comparison(width):
-    """Whether one number of `width` bits is above another, equal to it, or below it."""
-    def value(bits):
-        one, other = number(bits[:width]), number(bits[width:])
-        return 4 if one > other else 2 if one == other else 1
-    return 2 * width, 3, value
-
-
-def leading_noughts(inputs):
-    """How many of the first inputs are 0."""
-    return inputs, inputs.bit_length(), lambda bits: bits.index(1) if 1 in bits else inputs
-
-
-def arithmetic_unit(width):
-    """By an operation of two bits, the sum of two numbers, their difference, what both have, or what one has."""
-    def value(bits):
-        operation, one, other = number(bits[:2]), number(bits[2:2 + width]), number(bits[2 + width:])
-        return (one + other, (one - other) % 2 ** (width + 1), one & other, one ^ other)[operation]
-    return 2 + 2 * width, width + 1, value
-
-
-SEGMENTS = (0x7E, 0x30, 0x6D, 0x79, 0x33, 0x5B, 0x5F, 0x70, 0x7F, 0x7B)
-
-
-def sensor_display(width):
-    """The seven segments of a digit for each of two sensors of `width` bits."""
-    def value(bits):
-        one, other = (SEGMENTS[min(9, number(part) * 10 // 2 ** width)] for part in (bits[:width], bits[width:]))
-        return one << 7 | other
-    return 2 * width, 14, value
-
-
 # Functions whose tables of truth are read, with the goals for `exact` and `essen`, if there are any.
 TABLES = [
     ("sum-8", adder(4), 0.1, 0.1), ("sum-12", adder(6), 0.3, 0.2), ("sum-14", adder(7), 1, 0.3), ("sum-16", adder(8), 3, 0.5),
-    ("product-8", (8, 8, lambda bits: number(bits[:4]) * number(bits[4:])), 0.5, 0.1),
+    ("product-8", multiplier(4), 0.5, 0.1),
     ("comparison-14", comparison(7), 0.2, 0.2), ("comparison-16", comparison(8), 0.4, 0.4),
     ("leading-12", leading_noughts(12), 0.1, 0.1), ("leading-16", leading_noughts(16), 0.2, 0.2),
     ("ones-11", (11, 4, sum), 0.5, 0.5), ("ones-13", (13, 4, sum), 1, 5),
-    ("parity-12", (12, 1, lambda bits: sum(bits) & 1), 0.2, 0.2),
+    ("parity-12", parity(12), 0.2, 0.2),
     ("arithmetic-unit-14", arithmetic_unit(6), 0.5, 0.5), ("display-14", sensor_display(7), 0.5, 0.2),
 ]
 

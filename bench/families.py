@@ -1,16 +1,17 @@
-"""Families of functions that grow: for each comparison its name, what it is, and its sizes with their files.
+"""Families of functions that grow, for `verify`, `tautology` and functions of one output; those for `exact` are in exact_families.py.
 
-Every file is made by a fixed seed. The generators of single functions are those of bench.py.
+Every file is made by a fixed seed. Generators are in rows.py, arithmetic.py, users.py and control.py.
 """
 import itertools
 import random
 from dataclasses import dataclass
-from typing import Callable
 
-from bench import (adder, consensus_cubes, function_rows, number, ones_within, partition, pla, rings, short_cubes,
-                   shuffled, sparse_rows, split_rows, split_twice, two_of, with_literal_dropped, write)
-from control import (DECODED, KNOWN, WIDE, Listing, control, first_request, grants, joined_rings, operation_lines, samples,
-                     selector, shifter)
+from arithmetic import adder, function_rows, joined, middle_ones, multiplier, output_of, parity, square
+from control import Listing
+from rows import (consensus_cubes, one_output, partition, pla, products, random_function, rings, short_cubes, shuffled, sparse_rows,
+                  split_rows, split_twice, two_of, with_literal_dropped, write)
+
+DRAWS = 5                          # functions a size, where one that is drawn may be much harder than the next
 
 
 @dataclass(frozen=True)
@@ -20,6 +21,7 @@ class Size:
     label: str
     files: list
     listing: Listing = None        # of functions of many outputs: the shape, and the number of primes
+    least: int = None              # rows of a least cover, where they are printed elsewhere
 
 
 @dataclass(frozen=True)
@@ -27,23 +29,16 @@ class Family:
     name: str
     told: str                      # what its members are
     sizes: list
+    stops: str = ""                # what larger ones than those that are answered fail of, for `exact`
+    grows: bool = True             # each size is larger than the last, so that a tool is asked up to the first that it does not answer
 
 
 def file_of(name, inputs, outputs, rows, head=()):
-    return write(f"{name.replace(' ', '-')}.pla", pla(inputs, outputs, itertools.chain(head, rows)))
+    plain = name.replace(" ", "-").replace(",", "").replace("'", "")
+    return write(f"{plain}.pla", pla(inputs, outputs, itertools.chain(head, rows)))
 
 
 # Their files.
-
-def one_output(cubes):
-    return (cube + " 1" for cube in cubes)
-
-
-def products(inputs, count, symbol="1"):
-    """All products of so many inputs, or of their negations."""
-    for chosen in itertools.combinations(range(inputs), count):
-        yield "".join(symbol if i in chosen else "-" for i in range(inputs))
-
 
 def rewritten(name, inputs, cubes, more=0, dropped=False):
     """Files of these cubes and of the same places: each cube in four, and so many consensus cubes, shuffled. Where a
@@ -103,48 +98,9 @@ def pigeonholes(holes):
 
 # Functions that are listed point by point.
 
-def multiplier(width):
-    return 2 * width, 2 * width, lambda bits: number(bits[:width]) * number(bits[width:])
-
-
-def square(inputs):
-    return inputs, 2 * inputs, lambda bits: number(bits) ** 2
-
-
-def count_of_ones(inputs):
-    return inputs, inputs.bit_length(), sum
-
-
-def middle_ones(inputs):
-    """1 where about the middle third of the inputs is 1."""
-    return ones_within(inputs, inputs // 3, (2 * inputs + 2) // 3)
-
-
-def output_of(function, which):
-    """One output of a function, counted from the last."""
-    inputs, _, value = function
-    return inputs, 1, lambda bits: value(bits) >> which & 1
-
-
 def points_of(name, function):
     inputs, outputs, value = function
     return file_of(f"peers-{name}", inputs, outputs, function_rows(inputs, outputs, value))
-
-
-def joined(inputs, outputs, value):
-    """The same places in other cubes: those of each output alone, and where two differ at one input they are put
-    together, an input at a time."""
-    points = [[number >> (inputs - 1 - i) & 1 for i in range(inputs)] for number in range(2 ** inputs)]
-    values = [value(point) for point in points]
-    for j in range(outputs):
-        found = {"".join(map(str, point)) for point, bits in zip(points, values) if bits >> (outputs - 1 - j) & 1}
-        for i in range(inputs):
-            kept = set()
-            for cube in found:
-                other = cube[:i] + ("1" if cube[i] == "0" else "0") + cube[i + 1:]
-                kept.add(cube[:i] + "-" + cube[i + 1:] if other in found else cube)
-            found = kept
-        yield from (f"{cube} {1 << (outputs - 1 - j):0{outputs}b}" for cube in sorted(found))
 
 
 def points_and_joined(name, function):
@@ -153,20 +109,10 @@ def points_and_joined(name, function):
     return points_of(name, function), file_of(f"peers-{name}-joined", inputs, outputs, joined(*function))
 
 
-DRAWS = 5                          # functions a size, where one that is drawn may be much harder than the next
-
-
 def random_points(inputs, outputs, ones, dashes, draw):
     """Each output of each point is 1 or a don't-care, in these shares."""
-    chance = random.Random(inputs + 1000 * draw)
-
-    def rows():
-        for point in range(2 ** inputs):
-            symbols = "".join("1" if share < ones else "-" if share < ones + dashes else "0"
-                              for share in (chance.random() for _ in range(outputs)))
-            if symbols.strip("0"):
-                yield f"{point:0{inputs}b} {symbols}"
-    return file_of(f"peers-points-{inputs}-{outputs}-{ones}-{dashes}-{draw}", inputs, outputs, rows(), (".type fd",))
+    return file_of(f"peers-points-{inputs}-{outputs}-{ones}-{dashes}-{draw}", inputs, outputs,
+                   random_function(inputs, outputs, ones, dashes, inputs + 1000 * draw), (".type fd",))
 
 
 def random_cubes(rows, draw):
@@ -186,15 +132,15 @@ def shuffled_cubes(rows):
             file_of(f"peers-rows-{rows}-shuffled", 30, 4, shuffled(cubes, 9)))
 
 
-def family(name, told, sizes, label, files):
-    return Family(name, told, [Size(label(size), [lambda size=size: files(size)]) for size in sizes])
+def family(name, told, sizes, label, files, stops=""):
+    return Family(name, told, [Size(label(size), [lambda size=size: files(size)]) for size in sizes], stops)
 
 
-def drawn_family(name, told, sizes, label, files):
+def drawn_family(name, told, sizes, label, files, stops="", grows=True):
     """A family of some functions a size: `files` has the number of the draw too."""
     return Family(name, f"{told}; {DRAWS} functions a size",
                   [Size(label(size), [lambda size=size, draw=draw: files(size, draw) for draw in range(DRAWS)])
-                   for size in sizes])
+                   for size in sizes], stops, grows)
 
 
 def inputs_label(inputs):
@@ -272,35 +218,6 @@ def for_tautology():
     ]
 
 
-def for_exact():
-    """Each size is a file whose points can be listed."""
-    points = [
-        ("adders", "the points of a sum", range(1, 8), width_label("+"), adder),
-        ("multipliers", "the points of a product", range(1, 7), width_label("×"), multiplier),
-        ("squares", "the points of a square", range(3, 10), inputs_label, square),
-        ("symmetric functions", "the points with about a third to two thirds ones", range(4, 13), inputs_label,
-         middle_ones),
-        ("ones counted", "the number of ones (rd53, rd73, rd84 are among them)", range(3, 11), inputs_label,
-         count_of_ones),
-    ]
-    return [
-        *(family(name, told, sizes, label, lambda n, name=name, make=make: (points_of(f"{name}-{n}", make(n)),))
-          for name, told, sizes, label, make in points),
-        drawn_family("random points", "one output: 40 % are 1 and 20 % don't-cares", range(5, 14), inputs_label,
-                     lambda n, draw: (random_points(n, 1, 0.4, 0.2, draw),)),
-        drawn_family("random points, two outputs", "30 % are 1 and 30 % don't-cares", range(4, 12), inputs_label,
-                     lambda n, draw: (random_points(n, 2, 0.3, 0.3, draw),)),
-        drawn_family("random points, ten outputs", "15 % are 1 and 70 % don't-cares: the bound is far below the least cover",
-                     range(4, 10), inputs_label, lambda n, draw: (random_points(n, 10, 0.15, 0.7, draw),)),
-        drawn_family("random points, twenty outputs", "20 % are 1 and 60 % don't-cares", range(3, 8), inputs_label,
-                     lambda n, draw: (random_points(n, 20, 0.2, 0.6, draw),)),
-        drawn_family("random cubes", "ten inputs and two outputs, four symbols in ten are dashes",
-                     (5, 10, 20, 30, 40, 60, 80, 120, 160), cubes_label, lambda n, draw: (random_cubes(n, draw),)),
-        family("rings", "six points of three inputs, side by side: six primes each, none essential",
-               (1, 2, 4, 8, 16, 32, 64, 128, 256), ring_label, lambda n: (ring_file(n),)),
-    ]
-
-
 def for_single_outputs():
     """Each size is a file of one output whose points are listed."""
     points = [
@@ -309,8 +226,7 @@ def for_single_outputs():
         ("carries", "the highest output of a sum", range(1, 7), width_label("+"), lambda n: output_of(adder(n), n)),
         ("products", "the middle output of a product", range(2, 7), width_label("×"),
          lambda n: output_of(multiplier(n), n)),
-        ("parity", "1 where the number of ones is odd", range(3, 13), inputs_label,
-         lambda n: (n, 1, lambda bits: sum(bits) % 2)),
+        ("parity", "1 where the number of ones is odd", range(3, 13), inputs_label, parity),
     ]
     return [
         *(family(name, told, sizes, label, lambda n, name=name, make=make: (points_of(f"one-{name}-{n}", make(n)),))
@@ -319,72 +235,4 @@ def for_single_outputs():
                lambda n: (random_points(n, 1, 0.4, 0.2, 0),)),
         family("rings", "six points of three inputs, side by side: six primes each, none essential",
                (1, 2, 4, 8, 16, 32, 64, 128), ring_label, lambda n: (ring_file(n),)),
-    ]
-
-
-# Functions of many outputs.
-
-def listed(name, listing):
-    """A file of these rows, and one of the same rows in another order."""
-    name = f"{name}-{listing.inputs}-{listing.outputs}-{len(listing.rows)}"
-    return tuple(file_of(f"{name}{end}", listing.inputs, listing.outputs, rows, listing.head())
-                 for end, rows in (("", listing.rows), ("-shuffled", shuffled(listing.rows, 9))))
-
-
-def listing_family(name, told, listings):
-    return Family(name, told, [Size(f"{len(it.rows)} rows", [lambda it=it: listed(name, it)], it) for it in listings])
-
-
-# Inputs, outputs and rows of control logic, and how many primes it has; with don't-cares, and how many it has then.
-CONTROL = [
-    ((10, 5, 30), 51, 79), ((14, 8, 50), 355, 307), ((20, 10, 60), 1083, 866), ((24, 16, 80), 9304, 11316),
-    ((36, 24, 110), 115790, 77776), ((48, 17, 120), 779034, 1766589), ((60, 30, 160), 6896262, 27308719),
-    ((94, 43, 200), 1.4e11, 6.7e11), ((83, 60, 250), 3.2e11, 8.3e11), ((128, 60, 400), 2.8e17, 1.5e17)]
-DECODED_CONTROL = [((24, 16, 120), None), ((47, 40, 220), None), ((83, 60, 400), 3.6e10), ((128, 60, 600), 4.1e15)]
-WIDE_CONTROL = [((24, 16, 120), 118000), ((47, 40, 220), None), ((83, 60, 400), None), ((128, 60, 600), 5.1e18)]
-
-# Those of known files that are hard to minimise: misg, ibm, mish, x2dn, ti, jbp, soar and ex4.
-KNOWN_CONTROL = [
-    ((56, 23, 75), 263327), ((48, 17, 173), 4726571), ((94, 43, 91), 12567076), ((82, 56, 112), 20909756),
-    ((47, 72, 241), 6.9e9), ((36, 57, 166), None), ((83, 94, 529), 3.1e17), ((128, 28, 620), 9.9e15)]
-
-
-def for_control():
-    """Each size is a pair of files: a function of many outputs, and the same rows in another order."""
-    def drawn(listings, **how):
-        return [control(*shape, primes=primes, **how) for shape, primes in listings]
-
-    return [
-        listing_family("control logic",
-                       "clusters of outputs, each with a window of the inputs and an opcode that most rows decode",
-                       [*drawn((shape, primes) for shape, primes, _ in CONTROL), control(83, 60, 500)]),
-        listing_family("control logic with don't-cares", "the same, three rows in twenty of don't-cares",
-                       [*drawn(((shape, primes) for shape, _, primes in CONTROL), free=0.15), control(83, 60, 500, free=0.15)]),
-        listing_family("decoded control logic", "wider opcodes, fewer outputs a row", drawn(DECODED_CONTROL, style=DECODED)),
-        listing_family("shapes of known files",
-                       "as many inputs, outputs and rows as misg, ibm, mish, x2dn, ti, jbp, soar and ex4; the rows are drawn",
-                       drawn(KNOWN_CONTROL, seed=11, style=KNOWN)),
-        listing_family("widely shared control logic", "more inputs in common and few literals a row: many ways to meet",
-                       drawn(WIDE_CONTROL, style=WIDE)),
-        listing_family("samples", "type fr: rows of control logic that fix the inputs of a cluster; all else is free",
-                       [samples(*shape) for shape in (*(shape for shape, *_ in CONTROL), (128, 60, 800), (128, 60, 1600))]),
-        listing_family("rotators", "a word, rotated by a number",
-                       [shifter(*size, rotate=True, primes=primes) for size, primes in (
-                           ((4, 2), 69), ((8, 3), 2757), ((16, 3), 636357), ((16, 4), 1269957), ((32, 5), None),
-                           ((64, 6), None))]),
-        listing_family("selectors", "one of some words, by its address",
-                       [selector(*size) for size in (
-                           (1, 2), (2, 4), (3, 4), (4, 4), (3, 12), (6, 12), (4, 16), (5, 16), (2, 24))]),
-        listing_family("grants", "groups of requests with an enable each: the first request of a group",
-                       [grants(*size) for size in (
-                           (2, 3), (4, 4), (6, 6), (8, 8), (12, 8), (16, 12), (24, 16), (32, 20))]),
-        listing_family("first requests", "the number of the first request, and whether there is one",
-                       [first_request(*size) for size in (
-                           (4, 9), (8, 27), (16, 81), (32, None), (64, 729), (128, 2187), (256, None))]),
-        listing_family("operation lines", "decoded lines of an arithmetic unit, three steps an operation",
-                       [operation_lines(*size, primes=primes) for size, primes in (
-                           ((3, 4, 16), 70), ((4, 6, 24), 139), ((5, 6, 28), 329), ((6, 8, 32, 2), 693), ((7, 8, 40), 1520),
-                           ((8, 8, 48), 2880))]),
-        listing_family("joined rings", "rings of six points, each over three inputs of its own, in one output",
-                       [joined_rings(count) for count in (1, 2, 4, 8, 16, 32, 64, 128, 300)]),
     ]

@@ -47,6 +47,8 @@ NEVER_AS_NEEDED = [
 ]
 POINTS_OF_PRIMES = [(WAYS, "sets.on().shape().inputs() > 20", "sets.on().shape().inputs() > 0")]
 NO_POINTS_OF_PRIMES = [(WAYS, "sets.on().shape().inputs() > 20", "sets.on().shape().inputs() > 2000")]
+SHORT_COVERS = [(ROUNDS, "FEW_LEFT_OUT: usize = 20", "FEW_LEFT_OUT: usize = 0"),
+                (ROUNDS, "MANY_POINTS: usize = 1_200", "MANY_POINTS: usize = 2")]
 FEW_ROUNDS = [(ROUNDS, "MOST_ROUNDS: usize = 200", "MOST_ROUNDS: usize = 2")]
 NO_FEW_PRIMES = [(SOURCE, "FEW_PRIMES: usize = 40", "FEW_PRIMES: usize = 0")]
 FEW_LOOKS = [(POINTS, "[200_000_000, 4_000_000_000]", "[15, 60]")]
@@ -60,6 +62,7 @@ FEW_CUBES_OF_OFF = [(WAYS, "MOST_OF_OFF: usize = 200_000", "MOST_OF_OFF: usize =
                     (WAYS, "MOST_ROWS_OF_OFF: usize = 4_000_000", "MOST_ROWS_OF_OFF: usize = 4")]
 MERGED = [
     (MERGING, "LEAST_ROWS: usize = 64", "LEAST_ROWS: usize = 2"),
+    ("minimum/fewer_rows", "MANY_ROWS: usize = 2_000", "MANY_ROWS: usize = 0"),
     ("minimum/fewer_rows", "row.literals().saturating_mul(4) < inputs.saturating_mul(3)", "inputs > 2000"),
     ("cover/merging/input_order", "count.saturating_mul(4).saturating_mul(step) >= rows.len()",
      "count.saturating_add(step) > 0"),
@@ -92,7 +95,7 @@ FEW_PROPOSALS = [
 
 BUILDS = {
     # Points outside a list; the columns of a point are those that dominate, or, where literals count, all primes.
-    "points": [*POINTS_OF_FEW_INPUTS, *GROWTH, *NO_FEW_PRIMES, *ROWS_AROUND, *SHORT_LISTS],
+    "points": [*POINTS_OF_FEW_INPUTS, *GROWTH, *NO_FEW_PRIMES, *ROWS_AROUND, *SHORT_COVERS, *SHORT_LISTS],
     # The same within budgets that are spent now and then: by cubes outside, looks, primes of a point, rounds.
     "points-spent": [*POINTS_OF_FEW_INPUTS, *GROWTH, *NO_FEW_PRIMES, *FEW_CUBES_OUTSIDE, *FEW_LOOKS, *FEW_PRIMES_OF_A_POINT,
                      *FEW_ROUNDS, *ALWAYS_AS_NEEDED, *FEW_PROPOSALS, *NEVER_NEAR],
@@ -102,8 +105,8 @@ BUILDS = {
     "needed-spent": [*POINTS_OF_FEW_INPUTS, *NO_GROWTH, *NO_CUBES_OUTSIDE, *ALWAYS_AS_NEEDED, *FEW_NEEDED_ROUNDS, *FEW_WORDS,
                      *POINTS_OF_PRIMES, *FEW_CUBES_OF_OFF, *SEARCH_AT_ONCE],
     # Points that are picked by all primes, until rounds are spent; then the table of all primes.
-    "primes": [*POINTS_OF_FEW_INPUTS, *NO_GROWTH, *NO_CUBES_OUTSIDE, *NEVER_AS_NEEDED, *POINTS_OF_PRIMES, *SHORT_LISTS,
-               *FEW_PROPOSALS],
+    "primes": [*POINTS_OF_FEW_INPUTS, *NO_GROWTH, *NO_CUBES_OUTSIDE, *NEVER_AS_NEEDED, *POINTS_OF_PRIMES, *SHORT_COVERS,
+               *SHORT_LISTS, *FEW_PROPOSALS],
     "primes-spent": [*POINTS_OF_FEW_INPUTS, *GROWTH, *NO_CUBES_OUTSIDE, *NEVER_AS_NEEDED, *POINTS_OF_PRIMES, *FEW_ROUNDS,
                      *NO_CUBES_OF_OFF, *NEVER_NEAR, *SEARCH_AT_ONCE],
     # The table of all primes, also of many inputs.
@@ -129,12 +132,12 @@ def changed_by(changes, used):
 
 def build(target, name):
     folder, used = os.path.join(target, "crates"), set()
-    as_rust.write_all(folder, ["espresso"], changed_by(BUILDS[name], used))
+    as_rust.write_all(folder, [as_rust.MAIN], changed_by(BUILDS[name], used))
     lost = [change for change in BUILDS[name] if change[:2] not in used]
     if lost:
         sys.exit(f"bench/low_budgets.py: no such file: {lost[0][0]}")
-    as_rust.build(folder, ["espresso"], "release")
-    shutil.copy2(os.path.join(folder, "target/release/espresso"), os.path.join(target, name))
+    as_rust.build(folder, [as_rust.MAIN], "release")
+    shutil.copy2(os.path.join(folder, "target/release", as_rust.MAIN), os.path.join(target, name))
 
 
 def main():

@@ -1,70 +1,79 @@
-"""Writes docs/PERFORMANCE.md, its pictures and its tables from the results of a run of peers.py."""
+"""Writes docs/PERFORMANCE.md, its pictures and its tables from what a run of peers.py found."""
 import math
 import os
 import platform
-import shutil
-import subprocess
 import textwrap
 
-from peers import MEMORY, SHORT, once
 from picture import Panel, Series, picture, power
+from tools import JOBS, LIMIT, MEMORY, SHORT, is_installed, start, version
 
 DOCS = os.path.join(os.path.dirname(os.path.dirname(os.path.abspath(__file__))), "docs")
-OURS = [("#56b4e9", "triangle"), ("#0072b2", "circle")]      # the last for the tool that the other is compared with
-THEIRS = ("#d55e00", "square")
-COMMANDS = {"primes": THEIRS, "literals": ("#56b4e9", "triangle"), "exact": ("#0072b2", "circle"),
-            "essen": ("#009e73", "circle")}
-PACKAGES = {"berkeley-abc": "berkeley-abc", "minisat": "minisat", "cbc": "coinor-cbc"}
-SHORTLY_ASKED = ("exact", "essen")  # the commands of which the largest sizes stand at the head
+LOOKS = {                          # colour, mark and dashes of the lines: they differ in black and white too
+    "exact": ("#0072b2", "circle", ""), "espresso": ("#0072b2", "circle", ""), "minimised": ("#56b4e9", "triangle", "6 3"),
+    "primes": ("#d55e00", "square", "8 3"), "literals": ("#56b4e9", "triangle", "2 2"), "essen": ("#009e73", "diamond", "8 3 2 3"),
+    "cbc": ("#d55e00", "square", "8 3"), "HiGHS": ("#009e73", "diamond", "2 2"), "minisat": ("#d55e00", "square", "8 3"),
+    "cadical": ("#009e73", "diamond", "2 2"), "cec": ("#d55e00", "square", "8 3"), "SOPform": ("#009e73", "diamond", "2 2")}
 SAME = 1.25                        # ratios up to this count as the same time
 NOTED = 0.005                      # seconds from which on it is noted that another tool is faster
+SECOND = 1.0
 
 
 # Figures.
 
 def figure(number):
     """Two digits that count, or all before the point."""
-    return f"{number:.{max(0, 1 - math.floor(math.log10(number)))}f}"
-
-
-def ratio(number):
-    """In bold where the other tool is faster."""
-    return f"**{figure(number)}**" if number < 1 / SAME else figure(number)
-
-
-def time_of(row, tool):
-    """The seconds of a tool at a size, None where it gave no answer or was not asked."""
-    total = row.totals.get(tool.label) if tool else None
-    return total.seconds if total else None
-
-
-def ours(tools):
-    return [tool for tool in tools if not tool.needs]
-
-
-def main_tool(tools):
-    """The one of ours that the other is compared with."""
-    return ours(tools)[-1]
-
-
-def other_tool(tools):
-    """The tool beside ours, None where it is not installed."""
-    return next((tool for tool in tools if tool.needs), None)
-
-
-def ratio_at(row, tools):
-    """How many times as long the other tool takes, None where one of the two did not answer."""
-    here, there = time_of(row, main_tool(tools)), time_of(row, other_tool(tools))
-    return there / here if here and there else None
+    return f"{number:.{max(0, 1 - math.floor(math.log10(number)))}f}" if number else "0"
 
 
 def capital(text):
     return text[0].upper() + text[1:]
 
 
+def main_tool(comparison):
+    """The one of ours that others are compared with."""
+    return next(tool for tool in comparison.tools if tool.main)
+
+
+def others(comparison):
+    return [tool for tool in comparison.tools if tool.needs]
+
+
+def time_of(row, tool):
+    """The seconds of a tool at a size, None where it gave no answer or was not asked."""
+    total = row.totals.get(tool.label)
+    return total.seconds if total else None
+
+
+def fastest_other(row, comparison):
+    """The other tool that took the least time, None where none answered."""
+    answered = [tool for tool in others(comparison) if time_of(row, tool) is not None]
+    return min(answered, key=lambda tool: time_of(row, tool), default=None)
+
+
+def ratio_at(row, comparison):
+    """How many times as long the fastest other tool takes, None where none or this one did not answer."""
+    other, here = fastest_other(row, comparison), time_of(row, main_tool(comparison))
+    return time_of(row, other) / here if other and here else None
+
+
+def is_loss(row, tool, comparison):
+    """Another tool is faster, and the time of some function is not too short to count."""
+    here, there = time_of(row, main_tool(comparison)), time_of(row, tool)
+    return here is not None and there is not None and there * SAME < here and row.totals[main_tool(comparison).label].longest >= NOTED
+
+
+def ratio_cell(row, comparison):
+    """In bold where another tool is faster."""
+    ratio = ratio_at(row, comparison)
+    if ratio is None:
+        return ""
+    return f"**{figure(ratio)}**" if is_loss(row, fastest_other(row, comparison), comparison) else figure(ratio)
+
+
 # Tables.
 
 def table(head, lines, left=1):
+    """Lines of cells, of which the first so many stand at the left and the others at the right."""
     yield "| " + " | ".join(head) + " |"
     yield "|" + "|".join("---" if i < left else "---:" for i in range(len(head))) + "|"
     for line in lines:
@@ -78,71 +87,167 @@ def cell(row, tool):
     return "*none*" if time_of(row, tool) is None else figure(time_of(row, tool))
 
 
-def family_table(comparison, tools, result):
-    yield f"**{capital(result.family.name)}**: {result.family.told}."
+def count_of_primes(row):
+    """All digits, or two and a power of ten."""
+    if row.primes is None or row.primes < 1e8:
+        return str(row.primes or "")
+    tens = math.floor(math.log10(row.primes))
+    return f"{row.primes / 10 ** tens:.1f} · {power(10 ** tens)}"
+
+
+def family_table(comparison, family, rows):
+    """All sizes of a family."""
+    yield f"**{capital(family.name)}**: {family.told}."
     yield ""
-    cells = []
-    for row in result.rows:
-        times = ratio_at(row, tools)
-        cells.append([row.label, str(row.rows), *(cell(row, tool) for tool in tools), ratio(times) if times else "",
-                      row.shown])
-    yield from table(["Size", "Rows", *(tool.label for tool in tools), "Ratio", comparison.counted], cells)
+    tools = [tool for tool in comparison.tools if any(tool.label in row.totals for row in rows)]
+    listed = any(row.shape for row in rows)
+    beside = bool(others(comparison))
+    cells = [[row.shape or row.label, str(row.rows), *([count_of_primes(row)] if listed else []), *(cell(row, tool) for tool in tools),
+              *([ratio_cell(row, comparison)] if beside else []), row.shown] for row in rows]
+    head = ["Inputs / outputs" if listed else "Size", "Rows", *(["Primes"] if listed else []), *(tool.label for tool in tools),
+            *(["Ratio"] if beside else []), comparison.counted]
+    yield from table(head, cells)
 
 
-def largest(result, tool):
-    """The largest size of a family that a tool answered."""
-    return next((row.label for row in reversed(result.rows) if time_of(row, tool) is not None), "none")
+def largest(rows, tool, within=math.inf):
+    """The last row of which a tool answered each function within these seconds."""
+    return next((row for row in reversed(rows) if time_of(row, tool) is not None and row.totals[tool.label].longest <= within), None)
 
 
-def summary(found):
-    """For each family the largest size that each side answered, and the ratio at the largest that both did."""
-    for comparison, tools, results in found:
-        other = other_tool(tools)
-        for result in results:
-            both = [row for row in result.rows if ratio_at(row, tools)][-1:]
-            yield [comparison.name, result.family.name, largest(result, main_tool(tools)),
-                   other.label if other else "left out", largest(result, other),
-                   "".join(row.label for row in both), "".join(ratio(ratio_at(row, tools)) for row in both)]
+def answered(rows, tool, within=math.inf):
+    """How many of the members of a family that does not grow a tool answered."""
+    found = [row for row in rows if time_of(row, tool) is not None and row.totals[tool.label].longest <= within]
+    return f"{len(found)} of {len(rows)}"
 
 
-def logic_summary(logic):
-    """For each family of functions of many outputs the largest size that each command answered, and its seconds."""
-    _, tools, results = logic
-    for result in results:
-        yield [capital(result.family.name), *(part for tool in tools if tool.label in SHORTLY_ASKED for part in largest_with_time(result, tool))]
+def reach(family, rows, tool, within=math.inf):
+    """How far a tool came in these seconds."""
+    if not family.grows:
+        return answered(rows, tool, within)
+    row = largest(rows, tool, within)
+    return row.label if row else "none"
 
 
-def largest_with_time(result, tool):
-    row = next((row for row in reversed(result.rows) if time_of(row, tool) is not None), None)
-    return [f"{row.listing.shape}, {row.rows} rows", figure(time_of(row, tool))] if row else ["none", ""]
+def others_reach(comparison, family, rows):
+    """How far the other tools came, in words."""
+    found = {}
+    for tool in others(comparison):
+        if any(tool.label in row.totals for row in rows):
+            found.setdefault(reach(family, rows, tool), []).append(tool.label)
+    return "; ".join(f"{' and '.join(labels)} {size}" for size, labels in found.items())
 
 
-def faster_there(rows, tools):
-    """In words: the sizes at which the other tool takes less time."""
-    faster = [row for row in rows if (ratio_at(row, tools) or 1) < 1 / SAME and time_of(row, main_tool(tools)) >= NOTED]
+def last_ratio(comparison, rows):
+    return "".join([ratio_cell(row, comparison) for row in rows if ratio_at(row, comparison)][-1:])
+
+
+def stopped(comparison, family, rows):
+    """What stopped our tool, in words."""
+    left = [row.label.split(":")[0] for row in rows if time_of(row, main_tool(comparison)) is None]
+    if not left:
+        return "no larger one was tried" if family.grows else ""
+    return family.stops if family.grows else f"{', '.join(left)}: {family.stops}"
+
+
+def shorter_files(compared, run):
+    """In words: the sizes at which a file in few rows takes longer than the table of truth."""
+    for comparison in compared:
+        for family, rows in of_comparison(comparison, run):
+            times = [(row, row.totals["minimised"].seconds, time_of(row, main_tool(comparison))) for row in rows if "minimised" in row.totals]
+            slower = [f"{row.label.split(':')[0]} ({figure(few)} s and {figure(many)} s)" for row, few, many in times
+                      if few and many and few >= NOTED and few > SAME * many]
+            if slower:
+                yield f"{family.name} of {', '.join(slower)}"
+
+
+def seconds_of_largest(family, rows, tool):
+    """The longest time of one function, at the largest size that was answered."""
+    row = largest(rows, tool) if family.grows else None
+    return figure(row.totals[tool.label].longest) if row else ""
+
+
+def reach_line(comparison, family, rows):
+    tool = main_tool(comparison)
+    return [capital(family.name), reach(family, rows, tool, SECOND), reach(family, rows, tool), seconds_of_largest(family, rows, tool),
+            *([stopped(comparison, family, rows)] if comparison.is_exact else []),
+            others_reach(comparison, family, rows), last_ratio(comparison, rows)]
+
+
+def reach_table(compared, run):
+    """How far each family came: our tool and the others, and for `exact` what stopped it. A line for each comparison stands before
+    its families."""
+    stops = ["What stops larger ones"] if compared[0].is_exact else []
+    head = ["Family", "Within a second", f"Within {run.limit:g} s", "Seconds", *stops, "Others", "Ratio"]
+    lines = []
+    for comparison in compared:
+        lines.append([f"**{capital(comparison.name)}**", *[""] * (len(head) - 1)])
+        lines += [reach_line(comparison, family, rows) for family, rows in of_comparison(comparison, run)]
+    return table(head, lines, left=len(head) - 1)
+
+
+def of_comparison(comparison, run):
+    """Its families and their rows."""
+    return [(family, run.rows[comparison.name, family.name]) for family in comparison.families if (comparison.name, family.name) in run.rows]
+
+
+# Where others are faster, and what is open.
+
+def faster_there(comparison, rows, tool):
+    """In words: the sizes at which another tool takes less time."""
+    faster = [row for row in rows if is_loss(row, tool, comparison)]
     if faster:
-        least = min(faster, key=lambda row: ratio_at(row, tools))
-        others = ", ".join(row.label for row in faster if row is not least)
-        share = f"{other_tool(tools).label} takes {figure(ratio_at(least, tools))} of the time at {least.label}"
-        yield share + (f", and less time also at {others}" if others else "")
+        shares = {row.label: time_of(row, tool) / time_of(row, main_tool(comparison)) for row in faster}
+        least = min(shares, key=shares.get)
+        rest = ", ".join(label.split(":")[0] for label in shares if label != least)
+        yield (f"{tool.label} takes {figure(shares[least])} of the time at {least.split(':')[0]}"
+               + (f", and less time also at {rest}" if rest else ""))
 
 
-def answered_there(rows, tools):
-    """In words: the sizes that the other tool alone answers."""
-    other = other_tool(tools)
-    alone = [row for row in rows if time_of(row, other) is not None and time_of(row, main_tool(tools)) is None]
+def answered_there(comparison, rows, tool):
+    """In words: the sizes that another tool answers, and this one does not."""
+    alone = [row for row in rows if time_of(row, tool) is not None and time_of(row, main_tool(comparison)) is None]
     if alone:
-        sizes = " to ".join(dict.fromkeys((alone[0].label, alone[-1].label)))
-        yield (f"only {other.label} answers {sizes}, {'the last ' if len(alone) > 1 else ''}"
-               f"in {figure(time_of(alone[-1], other))} s")
+        sizes = ", ".join(row.label.split(":")[0] for row in alone)
+        yield f"{tool.label} alone answers {sizes}, {'the last ' if len(alone) > 1 else ''}in {figure(time_of(alone[-1], tool))} s"
 
 
-def losses(found):
-    for comparison, tools, results in found:
-        for result in results:
-            told = [*faster_there(result.rows, tools), *answered_there(result.rows, tools)]
+def losses(compared, run):
+    for comparison in compared:
+        for family, rows in of_comparison(comparison, run):
+            told = [part for tool in others(comparison)
+                    for part in (*faster_there(comparison, rows, tool), *answered_there(comparison, rows, tool))]
             if told:
-                yield f"- **{comparison.name}, {result.family.name}**: " + "; ".join(told) + "."
+                yield f"- **{capital(comparison.name)}, {family.name}**: " + "; ".join(told) + "."
+
+
+def bounds_told(comparison, row):
+    """What another tool knew of the size of a least cover when it was stopped, of the first function that it did not answer."""
+    for tool in others(comparison):
+        low, high = (row.totals[tool.label].bounds if tool.label in row.totals else None) or (None, None)
+        if low is not None and high is not None:
+            yield f"{tool.label} knew of {low} to {high} rows"
+
+
+def unanswered(comparison, family, rows):
+    """In words: the sizes that `exact` was asked of and did not answer."""
+    for row in rows:
+        if main_tool(comparison).label in row.totals and time_of(row, main_tool(comparison)) is None:
+            nobody = ["nobody"] if others(comparison) and not fastest_other(row, comparison) else []
+            known = ", ".join([*nobody, *bounds_told(comparison, row)])
+            yield f"{family.name} at {row.label.split(':')[0]}" + (f" ({known})" if known else "")
+
+
+def open_lines(compared, run):
+    """For each thing that stops `exact` what it did not answer."""
+    found = {}
+    for comparison in compared:
+        for family, rows in of_comparison(comparison, run) if comparison.is_exact else []:
+            told = list(unanswered(comparison, family, rows))
+            if told:
+                found.setdefault(family.stops, {}).setdefault(comparison.name, []).extend(told)
+    for why, groups in found.items():
+        yield f"- **{capital(why)}**"
+        yield from (f"  - {name}: {'; '.join(told)}" for name, told in groups.items())
 
 
 # Pictures.
@@ -151,232 +256,205 @@ def picture_name(comparison):
     return comparison.name.replace(" ", "-") + ".svg"
 
 
-def series_of(tools):
-    looks = iter(OURS[-len(ours(tools)):])
-    return [Series(tool.label, *THEIRS) if tool.needs else Series(" ".join(tool.told.split()[:2]), *next(looks))
-            for tool in tools]
+def drawn(comparison, run):
+    tools = [tool for tool in comparison.tools if tool.label != comparison.unseen]
 
-
-def drawn(comparison, tools, results, limit):
-    def line(result, tool):
-        return [(row.rows, time_of(row, tool)) for row in result.rows if tool.label in row.totals]
-    panels = [Panel(result.family.name, [line(result, tool) for tool in tools]) for result in results]
-    return picture(f"{capital(comparison.title)}: seconds over rows", series_of(tools), panels, limit)
-
-
-# Functions of many outputs: commands side by side, over the number of primes.
-
-def primes_of(row):
-    """How many primes there are: as many as were found, or as are known; None where neither is."""
-    listed = row.totals["primes"].answers if "primes" in row.totals else None
-    return row.listing.primes if listed is None else len(listed[0])
-
-
-def count_of_primes(row):
-    """All digits, or two and a power of ten."""
-    count = primes_of(row)
-    if count is None or count < 1e8:
-        return str(count or "")
-    tens = math.floor(math.log10(count))
-    return f"{count / 10 ** tens:.1f} · {power(10 ** tens)}"
-
-
-def logic_table(comparison, tools, result):
-    yield f"**{capital(result.family.name)}**: {result.family.told}."
-    yield ""
-    cells = [[row.listing.shape, str(row.rows), count_of_primes(row), *(cell(row, tool) for tool in tools), row.shown]
-             for row in result.rows]
-    yield from table(["Inputs / outputs", "Rows", "Primes", *(tool.label for tool in tools), comparison.counted], cells)
-
-
-def over_primes(result, label):
-    """The seconds of a command over the number of primes, by that number."""
-    points = [(primes_of(row), row.totals[label].seconds) for row in result.rows
-              if primes_of(row) and label in row.totals]
-    return sorted(points, key=lambda point: point[0])
-
-
-def logic_drawn(comparison, results, limit):
-    panels = [Panel(result.family.name, [over_primes(result, label) for label in COMMANDS], "primes") for result in results]
-    panels = [panel for panel in panels if any(len(line) > 1 for line in panel.lines)]
-    series = [Series(label, *look) for label, look in COMMANDS.items()]
-    return picture(f"{capital(comparison.title)}: seconds over primes", series, panels, limit)
+    def line(rows, tool):
+        points = [(getattr(row, comparison.picture), time_of(row, tool)) for row in rows if tool.label in row.totals]
+        return sorted(((size, seconds) for size, seconds in points if size), key=lambda point: point[0])
+    panels = [Panel(family.name, [line(rows, tool) for tool in tools], comparison.picture) for family, rows in of_comparison(comparison, run)]
+    panels = [panel for panel in panels if any(len(points) > 1 for points in panel.lines)]
+    series = [Series(tool.label, *LOOKS[tool.label]) for tool in tools]
+    return picture(f"{capital(comparison.title)}: seconds over {comparison.picture}", series, panels, run.limit)
 
 
 # The machine.
 
-def processor():
+def told_by_processor(name, value, otherwise):
+    """What the system tells of the processor under this name."""
     try:
         with open("/proc/cpuinfo") as told:
-            return next(line.split(":", 1)[1].strip() for line in told if line.startswith("model name"))
-    except (OSError, StopIteration):
-        return platform.processor() or "a processor that does not tell its name"
-
-
-def megahertz():
-    try:
-        with open("/proc/cpuinfo") as told:
-            return next(f" at {float(line.split(':', 1)[1]) / 1000:.1f} GHz" for line in told if line.startswith("cpu MHz"))
+            return next(value(line.split(":", 1)[1].strip()) for line in told if line.startswith(name))
     except (OSError, StopIteration, ValueError):
-        return ""
+        return otherwise
 
 
-def memory():
-    return f"{os.sysconf('SC_PAGE_SIZE') * os.sysconf('SC_PHYS_PAGES') / 2 ** 30:.0f} GiB"
+def facts(compared):
+    """What is to be told of the machine and of the other tools, for the page."""
+    tools = {tool.label: tool for comparison in compared for tool in others(comparison)}
+    found = {}
+    for label, tool in tools.items():
+        begin = start(tool) if is_installed(tool) else None
+        found[label] = (version(tool), "" if begin is None else figure(begin)) if is_installed(tool) else ("left out: not installed", "")
+    return {
+        "cores": os.cpu_count(), "system": platform.system(), "load": f"{os.getloadavg()[0]:.1f}",
+        "processor": told_by_processor("model name", str, platform.processor()),
+        "speed": told_by_processor("cpu MHz", lambda text: f" at {float(text) / 1000:.1f} GHz", ""),
+        "memory": f"{os.sysconf('SC_PAGE_SIZE') * os.sysconf('SC_PHYS_PAGES') / 2 ** 30:.0f} GiB", "tools": found}
 
 
-def version(tool):
-    if tool.needs == "sympy":
-        import sympy
-        return f"sympy {sympy.__version__}, Python {platform.python_version()}"
-    package = PACKAGES[tool.needs]
-    if shutil.which("dpkg-query"):
-        told = subprocess.run(["dpkg-query", "-W", "-f", "${Version}", package], capture_output=True, text=True).stdout
-        return f"{package} {told}".strip()
-    return package
+def tools_table(compared, run):
+    lines = {}
+    for comparison in compared:
+        for tool in others(comparison):
+            names, _ = lines.setdefault(tool.label, ([], tool))
+            names.append(comparison.name)
+    cells = [[label, ", ".join(names), f"`{tool.told}`", *run.facts["tools"][label]] for label, (names, tool) in lines.items()]
+    return table(["Tool", "Beside", "Run as", "Package", "Its start alone"], cells, left=4)
 
 
-def start(tool):
-    return min(once(list(tool.empty), 60)[0] for _ in range(3)) if tool.empty else None
-
-
-def tools_table(found):
-    lines = []
-    for comparison, tools, _ in found:
-        other = other_tool(tools)
-        if other is None:
-            missing = other_tool(comparison.tools)
-            lines.append([comparison.name, f"`{missing.told}`", f"left out: {missing.needs} is not installed", ""])
-        else:
-            begin = start(other)
-            lines.append([comparison.name, f"`{other.told}`", version(other), "" if begin is None else figure(begin)])
-    return table(["Compared", "Beside", "Version", "Its start alone"], lines, left=3)
-
+# The page.
 
 HEAD = """# Performance
 
-How long `verify`, `tautology`, `exact` and `primes` take on growing functions, beside tools that answer the same questions; and on
-control logic, which has many outputs and too many primes to list. [All sizes](performance/tables.md) stand in tables of their own.
-One command writes this page, its pictures and the tables:
+How long a file of your kind takes, and which is the largest that `exact` answers: the first table. Then `verify`, `tautology` and
+functions of one output, and where other tools are faster. [All sizes](performance/tables.md) stand in tables of their own.
+
+## The largest files that `exact` answers"""
+
+REACH = """The largest size of each family that was answered within a second, and within the limit of this run, {limit:g} seconds; and the seconds
+there. Where a size has several functions, each was answered in that time, and the seconds are those of the longest. *Others* is how
+far they came within the limit, and *ratio* the time of the fastest of them divided by this one's, at the largest size that both
+answered, in bold where the other is faster. This one's time is that of the whole; cbc and HiGHS have to solve the covering problem alone,
+and cadical to find the size alone. Of *state machines* and *classic functions* it is told how many were answered, as one is not always
+harder than the one before. A size of 83 / 60 has 83 inputs and 60 outputs."""
+
+OTHERS = """## verify, tautology and functions of one output"""
+
+ENDS = "The same; a family also ends where no larger size was tried."
+
+LOSSES = """## Where others are faster"""
+
+FASTER = """All sizes at which this tool takes {noted:g} milliseconds or more for a function and another one less than four fifths of its time, or only
+another one answers. cbc and HiGHS are given the primes and the table, which this tool has to find in its time."""
+
+OPEN = """## Open"""
+
+UNANSWERED = """The first size of each family that `exact` did not answer within {limit:g} seconds, by what takes the time. *Nobody* is said where no other
+tool answered all functions of that size either, with the bounds that HiGHS then had on a least cover of the first that it left open."""
+
+HARDEST = "In an hour of one processor, subgradient steps, cbc and a local search came to these bounds on least covers: {told}."
+
+SHORTER = "Files that are minimised already are not always answered sooner than their tables of truth: {told}."
+
+COMMAND = """## How it was measured
+
+One command writes this page, its pictures and the tables, and took {minutes:.0f} minutes:
 
     bench/peers.py PROGRAM --write{options}
-
-It took {minutes:.0f} minutes. PROGRAM is the built program, `crates/espresso/out/espresso`; the files come from fixed
-seeds and are written to `bench/data`. `--only WORD` runs the families with the word in their names, and `--quick` sets a limit of two
-seconds. `bench/bench.py PROGRAM` times single functions, memory and long files. `--only "control logic" --write` measures
-and writes the sections on control logic alone.
 """
 
-HOW = """## How it was measured
+FILES = """PROGRAM is the built program, `crates/espresso_program/out/espresso`; the files come from fixed seeds and are written to `bench/data`. `--only WORD`
+runs the families with the word in their names, `--quick` sets a limit of two seconds, and `--page` writes the page of the last run anew.
+`bench/bench.py PROGRAM` times single functions, memory and long files."""
 
-On a machine of {cores} cores ({processor}{speed}) and {memory} of memory, under {system}; its load was {load} at the end.
-{running} at a time, each on one core. The time of a process is from its start to its end, including the reading
-of the files: the least of three runs, or that of one run if it takes more than {short:g} seconds. A tool is dropped from a
-family at the first size that it does not answer within {limit:g} seconds and {bytes:.0f} GiB. Where a size has several functions,
-the limit holds for each, and times, rows and answers are sums.
+MACHINE = """A machine of {cores} processors ({processor}{speed}) and {memory} of memory, under {system}; its load was {load} at the end. {running}. The time of
+a process is from its start to its end, including the reading of the files: the least of three runs, or that of one run if it takes more
+than {short:g} seconds; HiGHS and SOPform tell their own time, and run once. A tool is dropped from a family that grows at the first size that it does not answer within {limit:g} seconds and
+{bytes:.0f} GiB. Where a size has several functions, the limit holds for each, and times, rows and answers in the tables are sums."""
 
-In the tables, times are in seconds, *none* means no answer within these limits, and – a size on which a tool was not run. The
-ratio is the other tool's time divided by this one's, in bold where the other is faster; times count as the same where the
-longer is less than 1.25 times the other. Wherever two tools answered, their answers were compared: {agreed}.
-"""
+CELLS = """In the tables, times are in seconds, *none* means no answer within these limits, and – a size on which a tool was not run. Times count as the
+same where the longer is less than 1.25 times the other. Wherever two tools answered, their answers were compared: {agreed}."""
 
-LOGIC_SHORTLY = """## In short: functions of many outputs
+GIVEN = """cbc and HiGHS are given the covering table: a column for each prime, a row for each place of the ON-set outside the DC-set, of equal rows
+one, where it has at most a million entries. They find the size of a least cover alone; `exact` reads the file, finds the primes, builds the
+table, and answers the first of the least covers. Finding the primes and making the table do not count as their time, nor do HiGHS's
+start and its reading; *primes* is the time of `espresso -Dprimes`."""
 
-The largest size of each family that each command answered, in inputs / outputs and rows, and the seconds that it took. A family also
-ends where no larger size was tried.
-"""
-
-SHORTLY = """## In short: beside other tools
-
-The largest size of each family that each tool answered, and the ratio at the largest size that both answered. A family also ends
-where no larger size was tried. For one output, *here* is `exact`.
-"""
-
-LOSSES = """## Where others are faster
-
-All sizes at which this tool takes {noted:g} milliseconds or more and the other is faster, or only the other answers.
-"""
-
-OPEN = """## Open
-
-Two functions of the families above have no answer yet, here or from cbc. Their least covers have
-
-- squares of 8 inputs: 166 to 170 products;
-- multipliers, 5 × 5 bits: 453 to 457 products.
-
-The lower bounds are those of subgradient steps and of cbc on the reduced tables, and the covers those of a local search with row
-weights, in an hour of one processor.
-"""
-
-COMPARED = """## {title}
-
-{told}
-
-![{title}: seconds over rows](performance/{picture})
-"""
-
-
-LOGIC = """## {title}
-
-{told}
-
-![{title}: seconds over primes](performance/{picture})"""
+PACKAGES = """The other tools are Debian's, and sympy is Python's: `apt-get install berkeley-abc minisat cadical coinor-cbc python3-scipy` and
+`pip install sympy`. One that is not installed is left out."""
 
 TABLES = """# Times by family
 
 The tables of [PERFORMANCE.md](../PERFORMANCE.md), which says how they were measured.
 """
 
-COUNTED = ("The primes were counted with decision diagrams or by a formula, where that could be done; `primes` finds as many. "
-           "The covers were compared with the file, by `verify`, and all answers with each other: {agreed}. The limit was "
-           "{limit:g} seconds.")
+# Bounds that took an hour, of functions that may have no answer.
+HARD = {("tables of truth", "squares", "8 inputs"): "squares of 8 inputs 166 to 170 rows",
+        ("tables of truth", "products", "5 × 5 bits"): "products of 5 × 5 bits 453 to 457 rows"}
 
 
-def agreement(found):
-    rows = [row for _, _, results in found for result in results for row in result.rows if row.agree is not None]
+def filled(text, **parts):
+    """A paragraph, and an empty line."""
+    return textwrap.fill(" ".join(text.format(**parts).split()), 130, break_on_hyphens=False) + "\n"
+
+
+def agreed(run):
+    rows = [row for rows in run.rows.values() for row in rows if row.agree is not None]
     wrong = [row for row in rows if not row.agree]
     return f"{len(rows)} times, and {'they agreed each time' if not wrong else f'{len(wrong)} TIMES THEY DIFFER'}"
 
 
-def how(found, limit, jobs):
-    running = "One process ran" if jobs == 1 else f"{jobs} processes ran"
-    return HOW.format(cores=os.cpu_count(), processor=processor(), speed=megahertz(), memory=memory(),
-                      system=platform.system(), load=f"{os.getloadavg()[0]:.1f}", running=running, short=SHORT,
-                      limit=limit, bytes=MEMORY / 2 ** 30, agreed=agreement(found))
+def hardest(compared, run):
+    """Bounds on functions that have no answer."""
+    return [HARD[comparison.name, family.name, row.label]
+            for comparison in compared for family, rows in of_comparison(comparison, run) for row in rows
+            if (comparison.name, family.name, row.label) in HARD and time_of(row, main_tool(comparison)) is None]
 
 
-def logic_section(logic, limit):
-    comparison, _, _ = logic
-    told = f"{comparison.told} {COUNTED.format(agreed=agreement([logic]), limit=limit)}"
-    return LOGIC.format(title=capital(comparison.title), told=textwrap.fill(told, 120), picture=picture_name(comparison))
-
-
-def logic_shortly(logic):
-    head = [part for command in SHORTLY_ASKED for part in (f"`{command}`", "Seconds")]
-    return "\n".join([LOGIC_SHORTLY, *table(["Family", *head], logic_summary(logic))]).rstrip()
-
-
-def section_of_tables(comparison, tools, results, table_of):
-    """A heading, and the table of each family."""
-    found = [line for result in results for line in table_of(comparison, tools, result)]
-    return "\n".join([f"## {capital(comparison.title)}", "", *found]).rstrip()
-
-
-def lines(found, logic, limit, jobs, minutes):
-    options = ("" if limit == 60 else f" --limit {limit:g}") + ("" if jobs == 1 else f" --jobs {jobs}")
-    yield HEAD.format(options=options, minutes=minutes)
-    yield how(found, limit, jobs)
-    yield from tools_table(found)
-    yield logic_shortly(logic) + "\n"
-    yield SHORTLY
-    yield from table(["Compared", "Family", "Largest here", "Other", "Its largest", "Both", "Ratio"], summary(found), left=6)
-    yield LOSSES.format(noted=NOTED * 1000)
-    yield from list(losses(found)) or ["None in this run."]
+def open_section(compared, run):
+    yield OPEN + "\n"
+    yield filled(UNANSWERED, limit=run.limit)
+    yield from list(open_lines(compared, run)) or ["- nothing in this run."]
     yield ""
-    yield OPEN
-    for comparison, _, _ in found:
-        yield COMPARED.format(title=capital(comparison.title), told=textwrap.fill(comparison.told, 120),
-                              picture=picture_name(comparison))
+    for text, told in ((HARDEST, hardest(compared, run)), (SHORTER, list(shorter_files(compared, run)))):
+        if told:
+            yield filled(text, told="; ".join(told))
+
+
+def how(compared, run):
+    options = ("" if run.limit == LIMIT else f" --limit {run.limit:g}") + ("" if run.jobs == JOBS else f" --jobs {run.jobs}")
+    count = {2: "Two", 3: "Three", 4: "Four"}.get(run.jobs, run.jobs)
+    running = "One process ran at a time" if run.jobs == 1 else f"{count} processes ran at a time, each on a processor of its own"
+    machine = {name: value for name, value in run.facts.items() if name != "tools"}
+    yield COMMAND.format(minutes=run.minutes, options=options)
+    yield filled(FILES)
+    yield filled(MACHINE, running=running, short=SHORT, limit=run.limit, bytes=MEMORY / 2 ** 30, **machine)
+    yield filled(CELLS, agreed=agreed(run))
+    yield filled(GIVEN)
+    yield filled(PACKAGES)
+    yield from tools_table(compared, run)
+
+
+def printed_sizes(comparison, run):
+    """The functions of a comparison of which the size of a least cover is printed elsewhere, and was found."""
+    for family, rows in of_comparison(comparison, run):
+        found = [f"{row.label.split(':')[0]} {size.least}" for size, row in zip(family.sizes, rows)
+                 if size.least and time_of(row, main_tool(comparison)) is not None]
+        if found:
+            yield filled("Answered with as many rows as the literature prints: {told}.", told=", ".join(found))
+
+
+def section(comparison, run):
+    yield f"## {capital(comparison.title)}\n"
+    yield filled(comparison.told)
+    yield from printed_sizes(comparison, run)
+    if comparison.picture:
+        yield f"![{capital(comparison.title)}: seconds over {comparison.picture}](performance/{picture_name(comparison)})\n"
+
+
+def lines(compared, run):
+    exact = [comparison for comparison in compared if comparison.is_exact]
+    yield HEAD + "\n"
+    yield filled(REACH, limit=run.limit)
+    yield from reach_table(exact, run)
+    yield OTHERS + "\n"
+    yield filled(ENDS)
+    yield from reach_table([comparison for comparison in compared if comparison not in exact], run)
+    yield LOSSES + "\n"
+    yield filled(FASTER, noted=NOTED * 1000)
+    yield from list(losses(compared, run)) or ["None in this run."]
+    yield ""
+    yield from open_section(compared, run)
+    yield from how(compared, run)
+    for comparison in compared:
+        yield from section(comparison, run)
+
+
+def tables_of(comparison, run):
+    """A heading, and the table of each family."""
+    found = [line for family, rows in of_comparison(comparison, run) for line in family_table(comparison, family, rows)]
+    return "\n".join([f"## {capital(comparison.title)}", "", *found]).rstrip()
 
 
 def put(name, text):
@@ -384,39 +462,15 @@ def put(name, text):
         out.write(text)
 
 
-def read(name):
-    with open(os.path.join(DOCS, name)) as file:
-        return file.read()
-
-
-def put_last(name, section):
-    """Puts a section at the end of a page, in place of the one with its heading if there is one."""
-    before = read(name).split(section.split("\n")[0])[0]
-    put(name, f"{before.rstrip()}\n\n{section}\n")
-
-
-def put_in_place(name, section):
-    """Puts a section in place of the one with its heading."""
-    before, heading, rest = read(name).partition(section.split("\n")[0] + "\n")
-    if heading:
-        put(name, f"{before}{section}\n\n## {rest.partition(chr(10) + '## ')[2]}")
-
-
-def write_logic(logic, limit):
-    """Puts the sections of `logic`, what ran by itself, in their places on the page and in the tables; and its picture."""
-    comparison, tools, results = logic
-    os.makedirs(os.path.join(DOCS, "performance"), exist_ok=True)
-    put(f"performance/{picture_name(comparison)}", logic_drawn(comparison, results, limit))
-    put_in_place("PERFORMANCE.md", logic_shortly(logic))
-    put_last("PERFORMANCE.md", logic_section(logic, limit))
-    put_last("performance/tables.md", section_of_tables(comparison, tools, results, logic_table))
-
-
-def write(found, logic, limit, jobs, minutes):
-    """The page of what ran beside other tools, and of `logic`."""
-    os.makedirs(os.path.join(DOCS, "performance"), exist_ok=True)
-    for comparison, tools, results in found:
-        put(f"performance/{picture_name(comparison)}", drawn(comparison, tools, results, limit))
-    put("PERFORMANCE.md", "\n".join(lines(found, logic, limit, jobs, minutes)))
-    put("performance/tables.md", "\n\n".join([TABLES.rstrip(), *(section_of_tables(*compared, family_table) for compared in found)]))
-    write_logic(logic, limit)
+def write(compared, run):
+    """The page of a run, its tables, and its pictures in place of all others."""
+    folder = os.path.join(DOCS, "performance")
+    os.makedirs(folder, exist_ok=True)
+    for name in os.listdir(folder):
+        if name.endswith(".svg"):
+            os.remove(os.path.join(folder, name))
+    for comparison in compared:
+        if comparison.picture:
+            put(f"performance/{picture_name(comparison)}", drawn(comparison, run))
+    put("PERFORMANCE.md", "\n".join(lines(compared, run)).rstrip() + "\n")
+    put("performance/tables.md", "\n\n".join([TABLES.rstrip(), *(tables_of(comparison, run) for comparison in compared)]) + "\n")

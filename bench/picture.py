@@ -1,4 +1,4 @@
-"""Pictures of time over size on logarithmic axes, as SVG."""
+"""Pictures of time over size on logarithmic axes, as SVG. Lines differ by dashes and marks as well as by colour."""
 import math
 from dataclasses import dataclass
 from html import escape
@@ -17,7 +17,8 @@ TICKS = 9                          # about as many powers of ten as an axis show
 class Series:
     label: str
     colour: str
-    shape: str                     # circle, square or triangle
+    shape: str                     # circle, square, diamond or triangle
+    dashes: str = ""               # of its line, as SVG has them
 
 
 @dataclass(frozen=True)
@@ -38,7 +39,8 @@ def mark(series, x, y, passed=False):
         return f'<circle cx="{x:.1f}" cy="{y:.1f}" r="3.6" {paint}/>'
     if series.shape == "square":
         return f'<rect x="{x - 3.4:.1f}" y="{y - 3.4:.1f}" width="6.8" height="6.8" {paint}/>'
-    return f'<path d="M{x:.1f} {y - 4.6:.1f}l4.3 7.4h-8.6z" {paint}/>'
+    outline = "l4.6 4.6l-4.6 4.6l-4.6 -4.6z" if series.shape == "diamond" else "l4.3 7.4h-8.6z"
+    return f'<path d="M{x:.1f} {y - 4.6:.1f}{outline}" {paint}/>'
 
 
 def power(number):
@@ -88,23 +90,26 @@ def axes(panel, x, y, limit):
     for tick in ticks(x.low, x.high):
         yield f'<path d="M{x.at(tick):.1f} {y.begin:.1f}V{y.end:.1f}" stroke="#ececec"/>'
         yield text(x.at(tick), y.begin + 14, short(tick), 10, "middle")
-    yield f'<path d="M{x.begin:.1f} {y.at(limit):.1f}H{x.end:.1f}" stroke="#555555" stroke-dasharray="5 3"/>'
+    yield f'<path d="M{x.begin:.1f} {y.at(limit):.1f}H{x.end:.1f}" stroke="#111111" stroke-width="1.4"/>'
     yield text((x.begin + x.end) / 2, y.begin + 28, panel.across, 10, "middle", ' fill="#444444"')
 
 
+def stroke(series, width=1.8):
+    dashes = f' stroke-dasharray="{series.dashes}"' if series.dashes else ""
+    return f'fill="none" stroke="{series.colour}" stroke-width="{width}"{dashes}'
+
+
 def curve(series, points, x, y, past):
-    """A line through the points of a series; a broken line leads to one past the limit at its end. Such a one stands at this
+    """A line through the points of a series; a thin one leads to one past the limit at its end. Such a one stands at this
     height."""
     places = [(x.at(size), past if seconds is None else y.at(seconds)) for size, seconds in points]
     passed = bool(points) and points[-1][1] is None
     solid = [place for place, (_, seconds) in zip(places, points) if seconds is not None]
     if solid:
-        yield (f'<polyline points="{" ".join(f"{a:.1f},{b:.1f}" for a, b in solid)}" fill="none" '
-               f'stroke="{series.colour}" stroke-width="1.8"/>')
+        yield f'<polyline points="{" ".join(f"{a:.1f},{b:.1f}" for a, b in solid)}" {stroke(series)}/>'
     if passed and len(places) > 1:
         (a, b), (c, d) = places[-2:]
-        yield (f'<path d="M{a:.1f} {b:.1f}L{c:.1f} {d:.1f}" stroke="{series.colour}" stroke-width="1.4" '
-               'stroke-dasharray="3 3"/>')
+        yield f'<path d="M{a:.1f} {b:.1f}L{c:.1f} {d:.1f}" {stroke(series, 0.7)}/>'
     for (a, b), (_, seconds) in zip(places, points):
         yield mark(series, a, b, seconds is None)
 
@@ -129,11 +134,11 @@ def lowest_line(panels):
 def legend(series, limit):
     x = 14
     for one in series:
-        yield f'<path d="M{x} 45h26" stroke="{one.colour}" stroke-width="1.8"/>'
-        yield mark(one, x + 13, 45)
-        yield text(x + 33, 49, one.label, 12)
-        x += 52 + 6.7 * len(one.label)
-    yield f'<path d="M{x} 45h26" stroke="#555555" stroke-dasharray="5 3"/>'
+        yield f'<path d="M{x:.1f} 45h36" {stroke(one)}/>'
+        yield mark(one, x + 18, 45)
+        yield text(x + 43, 49, one.label, 12)
+        x += 62 + 6.7 * len(one.label)
+    yield f'<path d="M{x:.1f} 45h26" stroke="#111111" stroke-width="1.4"/>'
     yield text(x + 33, 49, f"limit of {limit:g} s; a hollow mark: no answer in that time", 12)
 
 

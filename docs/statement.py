@@ -18,11 +18,11 @@ sys.path.insert(0, HERE)
 from definitions import Book, Entry, parts  # noqa: E402
 
 # The contracts that are to be believed of the program.
-CONTRACTS = ("tool::execute", "tool::Status::code")
+CONTRACTS = ("espresso::execute", "espresso::Status::code")
 
 # The libraries, of whose public calls the second page has the contracts, each with its subject and what it says.
 LIBRARIES = (
-    ("tool", "The parts of a process", """For callers who have words and sources of their own. `Line::read` and `refuse` treat words as the process does, and `run` runs a
+    ("espresso", "The parts of a process", """For callers who have words and sources of their own. `Line::read` and `refuse` treat words as the process does, and `run` runs a
 line on two sources that are there, with the contract of a run."""),
     ("minimum", "Primes and covers", """`primes` are the complete sum of the ON-set with the DC-set. `essential` and `find_essential` return the primes that hold a place of
 the ON-set outside the DC-set that no other prime holds, the latter without a list of all primes; `find_essential_outside` does so of
@@ -41,7 +41,7 @@ number in which they differ (`least_difference_decides`). A reduced table comes 
 column or drop a column; none applies any more, and the least cover stays. No contract speaks of the figures of an `Effort`."""),
     ("pla", "The format", """`read_pla` returns a description, with its shape, names, type and lists, exactly if no line has a fault, nothing is missing at its
 end, and no read fails before that; else the first line with a fault and the first kind on it, or one of the other two. The bytes may come in any pieces. It has written the echoes that are due up to there, and at most 4,096 bytes are delivered beyond the line that ends the description or has the fault. `Scan` promises the same, piece by
-piece, for every text that its state stands for. `Sets::of` keeps given lists; a computed one is the complete sum of its places where
+piece, for every text that its state stands for. `sets` keeps given lists; a computed one is the complete sum of its places where
 it is asked for, else empty. `write_pla` and `write_covers` print the text for each output type and any three lists, or a prefix of it
 if the output failed; they are refused no memory. `Reading` and `Writing` deliver and take what the reader or writer inside reports.
 
@@ -69,10 +69,10 @@ first that was read without a fault. Output, message and status are those of `to
 
 This is a claim for every input and output that reports its bytes. The code is the same for those that report none, as the system's
 files and streams: no contract says anything of their bytes.""",
-     ("tool::execute", "tool.Program")),
+     ("espresso::execute", "espresso.Program")),
     ("The tool", """What a run prints, says and answers, as a function of the words and of what the files give. The first file is read whole before the
 second. The echoes of both come first, in order; then sizes are compared, and then the command answers.""",
-     ("tool.Tool",)),
+     ("espresso.Tool",)),
     ("How a run ends", """In one of three ways. As `tool` says: no write failed, and with status 0 or 1 no flush failed and standard error is left alone. Without
 memory: status 3, and the output took a prefix of what was due. With an output that failed: status 2, and either one write failed, none
 came after it, and the output took a prefix of what was due; or all of it was taken, and the flush failed.
@@ -80,14 +80,14 @@ came after it, and the output took a prefix of what was due; or all of it was ta
 Each time the output is flushed once, last, and standard error takes the message, or a prefix of it if a write failed. No read follows
 a failed one, and at most 4,096 bytes are delivered beyond the line that ends a description or has a fault. Every source keeps its
 case and name. A second source is asked for only after a first one without a fault, and else stays as it was.""",
-     ("tool.Run",)),
+     ("espresso.Run",)),
     ("The words of a command line", """Which words say which line. All others are refused: standard error gets the usage line, or a prefix of it if it fails, and the status
-is 2. Apart from that, the only answer is that memory ran out.""", ("tool.Words",)),
-    ("Messages and statuses", "", ("tool::Status::code", "tool.Messages")),
+is 2. Apart from that, the only answer is that memory ran out.""", ("espresso.Words",)),
+    ("Messages and statuses", "", ("espresso::Status::code", "espresso.Messages")),
     ("What each command answers", """`primes` prints all primes once, in row order; `essen` the essential ones; `exact` the first of the smallest covers by primes, or with
 `--literals` of those of fewest literals. `verify` says equal exactly where each place that is in neither file's DC-set is in both ON-sets or
 in neither. `intersect` and `sharp` print the complete sum of the places in both ON-sets, or in the first alone, under the first
-file's names.""", ("tool.Answer", "tool.Check")),
+file's names.""", ("espresso.Answer", "espresso.Check")),
     ("Lines of a file", "", ("pla.Lines", "pla.Keywords", "pla.Symbols", "pla.Header")),
     ("Faults, and what is passed on", """A file is read exactly where no line has a fault, nothing is missing at its end, and no read fails before that. Else the first line that
 has a fault is reported, with the first kind on it; where no line has one, the read that failed, with the line that was being read, or
@@ -102,7 +102,7 @@ what is missing, with the last line.""",
     ("The printed text", "", ("pla.Text",)),
     ("Devices", """What a contract sees of files, of outputs, and of the calls to them. `start` gives `execute` the files and streams of the system, of which
 no contract says what they hold.""",
-     ("tool::Opener", "pla::Input", "pla::Output", "pla::Broken", "pla::ReadCalls", "pla::WriteCalls", "pla::Counts",
+     ("espresso::Opener", "pla::Input", "pla::Output", "pla::Broken", "pla::ReadCalls", "pla::WriteCalls", "pla::Counts",
       "pla.Device", "pla.Reads")),
 )
 

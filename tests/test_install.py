@@ -13,9 +13,9 @@ BUILD = b"""#!/bin/sh
 cd "$(dirname "$0")/.." || exit 2
 echo built >> log
 [ ! -e fails ] || exit 2
-mkdir -p crates/espresso/out
-printf '#!/bin/sh\\ncat\\n' > crates/espresso/out/espresso
-chmod 755 crates/espresso/out/espresso
+mkdir -p crates/espresso_program/out
+printf '#!/bin/sh\\ncat\\n' > crates/espresso_program/out/espresso
+chmod 755 crates/espresso_program/out/espresso
 """
 PROGRAM = os.path.join("bin", "espresso")
 PAGE = os.path.join("share", "man", "man1", "espresso.1")
@@ -48,7 +48,7 @@ class Install(unittest.TestCase):
 
     def check(self, prefix, said):
         """The program and the page are there, and the answer says where."""
-        for name, mode, source in ((PROGRAM, 0o755, "crates/espresso/out/espresso"), (PAGE, 0o644, "docs/espresso.1")):
+        for name, mode, source in ((PROGRAM, 0o755, "crates/espresso_program/out/espresso"), (PAGE, 0o644, "docs/espresso.1")):
             path = os.path.join(prefix, name)
             self.assertIn(f"installed {path}\n", said)
             self.assertEqual(os.stat(path).st_mode & 0o777, mode)

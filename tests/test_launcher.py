@@ -13,6 +13,7 @@ from support import folder_of
 
 TOP = os.path.dirname(os.path.dirname(os.path.abspath(__file__)))
 BUILD = os.path.join("tools", "build")
+MAIN = "espresso_program"
 
 # The command `rt` tells where the kit is.
 RT = b"""#!/bin/sh
@@ -50,10 +51,10 @@ CRATES = b"""# The crates.
 low: smallvec
 left: low
 right: low itoa
-espresso: left right clap
+espresso_program: left right clap
 not_of_the_program: low
 """
-ORDER = ["low", "left", "right", "espresso"]
+ORDER = ["low", "left", "right", MAIN]
 
 
 def sides():
@@ -71,6 +72,11 @@ def runs(process):
             return file.read().rpartition(") ")[2][0] != "Z"
     except (FileNotFoundError, ProcessLookupError):
         return False
+
+
+def heed_interrupts():
+    """A shell has the calls that it starts in the background ignore interrupts, and so what these call: tests may run so."""
+    signal.signal(signal.SIGINT, signal.SIG_DFL)
 
 
 class Launcher(unittest.TestCase):
@@ -105,7 +111,7 @@ class Launcher(unittest.TestCase):
     def started(self, *words, path=None, script="espresso"):
         environment = dict(os.environ, PATH=path or self.path("bin") + os.pathsep + os.environ["PATH"])
         return subprocess.Popen([self.path(script), *words], cwd="/", env=environment, stdin=subprocess.PIPE,
-                                stdout=subprocess.PIPE, stderr=subprocess.PIPE)
+                                stdout=subprocess.PIPE, stderr=subprocess.PIPE, preexec_fn=heed_interrupts)
 
     def called(self, *words, status=1, output=None, path=None, script="espresso"):
         """The messages of a call, which gives the program's output and status, or else these."""
@@ -136,9 +142,9 @@ class Launcher(unittest.TestCase):
         said = self.called("-Decho", "a b")
         self.assertRegex(said, r"4 crates are proved and built first(.|\n)*proving low \(1 of 4\)(.|\n)*built in [0-9.]+ minutes\n\Z")
         log = self.log()
-        self.assertEqual(sorted(log), sorted(f"begin {name} build src/{'main' if name == 'espresso' else 'lib'}.rt" for name in ORDER) +
+        self.assertEqual(sorted(log), sorted(f"begin {name} build src/{'main' if name == MAIN else 'lib'}.rt" for name in ORDER) +
                          sorted(f"end {name}" for name in ORDER))
-        for name, needs in (("left", "low"), ("right", "low"), ("espresso", "left"), ("espresso", "right")):
+        for name, needs in (("left", "low"), ("right", "low"), (MAIN, "left"), (MAIN, "right")):
             self.assertLess(log.index(f"end {needs}"), next(k for k, line in enumerate(log) if line.startswith(f"begin {name}")))
         if sides() > 1:
             self.assertLess(next(k for k, line in enumerate(log) if line.startswith("begin right")), log.index("end left"), "left and right need not wait for one another")
@@ -162,7 +168,7 @@ class Launcher(unittest.TestCase):
                    lambda: self.replace(b"edoc", "crates", "low", "src", "lib.rt"),
                    lambda: os.rename(self.path("crates", "low", "src", "lib.rt"), self.path("crates", "low", "src", "bil.rt")),
                    lambda: os.remove(self.path("crates", "low", "specs", "Lib.antt")),
-                   lambda: os.remove(self.path("crates", "espresso", "out", "espresso"))]
+                   lambda: os.remove(self.path("crates", MAIN, "out", "espresso"))]
         for number, change in enumerate(changes):
             with self.subTest(number=number):
                 self.log()
@@ -177,8 +183,8 @@ class Launcher(unittest.TestCase):
         changes = [lambda: self.write(b"a test", "crates", "low", "other"),
                    lambda: os.utime(self.path("crates", "low", "src", "lib.rt"), (1, 1)),
                    lambda: self.write(b"code", "crates", "low", "src", "lib.rt"),
-                   lambda: self.write(b"", "crates", "espresso", "out", "espresso.look"),
-                   lambda: os.remove(self.path("crates", "espresso", "out", "espresso.seen"))]
+                   lambda: self.write(b"", "crates", MAIN, "out", "espresso.look"),
+                   lambda: os.remove(self.path("crates", MAIN, "out", "espresso.seen"))]
         for number, change in enumerate(changes):
             with self.subTest(number=number):
                 change()
@@ -206,7 +212,7 @@ class Launcher(unittest.TestCase):
         os.rename(self.path("kit", "bin", "rattle"), self.path("kit", "bin", "rattle.quick"))
         os.rename(self.path("slow", "rattle"), self.path("kit", "bin", "rattle"))
         call = self.started("first")
-        while not os.path.exists(self.path("crates", "espresso", "out", "proved")):
+        while not os.path.exists(self.path("crates", MAIN, "out", "proved")):
             time.sleep(0.01)
         self.write(b"more", "crates", "right", "src", "lib.rt")
         found, said = call.communicate(b"", timeout=support.SECONDS)
@@ -229,7 +235,7 @@ class Launcher(unittest.TestCase):
                 self.assertEqual(call.returncode, status)
                 while runs(proof):
                     time.sleep(0.01)
-                self.assertEqual(os.listdir(self.path("crates", "espresso", "out")), [])
+                self.assertEqual(os.listdir(self.path("crates", MAIN, "out")), [])
 
     def test_building_alone(self):
         said = self.called(status=0, output=b"", script=BUILD)
@@ -242,15 +248,15 @@ class Launcher(unittest.TestCase):
 
     def test_a_failed_proof_leaves_no_program(self):
         self.called()
-        for name in ("low", "right", "espresso"):
+        for name in ("low", "right", MAIN):
             with self.subTest(name):
                 self.log()
                 self.write(b"", "crates", name, "src", "fails")
                 for _ in range(2):
                     said = self.called("-Decho", status=2, output=b"")
                     self.assertIn(f"{name} is wrong\nespresso: the proof of crate {name} failed, so the program is not built\n", said)
-                    self.assertEqual(os.listdir(self.path("crates", "espresso", "out")), [])
-                self.assertNotIn("end espresso", self.log())
+                    self.assertEqual(os.listdir(self.path("crates", MAIN, "out")), [])
+                self.assertNotIn(f"end {MAIN}", self.log())
                 os.remove(self.path("crates", name, "src", "fails"))
         self.called()
 
@@ -264,8 +270,8 @@ class Launcher(unittest.TestCase):
             self.write(b"more", "crates", "low", "src", f"more{os.urandom(4).hex()}.rt")
 
     def test_crates_that_wait_for_one_another(self):
-        self.write(b"low: left\nleft: low\nespresso: left\n", "crates.txt")
-        self.assertIn("low, left, espresso wait for one another", self.called(status=2, output=b""))
+        self.write(b"low: left\nleft: low\nespresso_program: left\n", "crates.txt")
+        self.assertIn("low, left, espresso_program wait for one another", self.called(status=2, output=b""))
 
     def test_without_the_command_that_proves(self):
         self.called()

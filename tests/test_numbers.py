@@ -40,8 +40,13 @@ CONSTANTS = {
     "rows of wide growth": ("crates/minimum/src", "if inputs > 40 { # } else"),
     "wide": ("crates/minimum/src", "if inputs > # { 100_000 }"),
     "batch": ("crates/covering/src", "const BATCH_TABLES: u64 = #;"),
-    "first drop": ("crates/sat_search/src", "const FIRST_DROP: (u64, u64) = (#, 2000);"),
-    "last first drop": ("crates/sat_search/src", "const FIRST_DROP: (u64, u64) = (100, #);"),
+    "quick tables": ("crates/heuristics/src/warm_start.rt", "const TABLES: u64 = #;"),
+    "few quick tables": ("crates/heuristics/src/warm_start.rt", "const FEW_TABLES: u64 = #;"),
+    "tables to reduce": ("crates/covering/src", "const TABLES_TO_REDUCE: u64 = #;"),
+    "relaxed rows": ("crates/heuristics/src/relaxation.rt", "const MOST_ROWS: usize = #;"),
+    "relaxed columns": ("crates/heuristics/src/relaxation.rt", "const MOST_COLUMNS: usize = #;"),
+    "many points": ("crates/minimum/src/points/rounds.rt", "const MANY_POINTS: usize = #;"),
+    "merged rows": ("crates/minimum/src/fewer_rows.rt", "const MANY_ROWS: usize = #;"),
     "kept numbers": ("crates", "const SIZE: usize = #;"),
     "proof memory": ("tools/build", "MEMORY = # * 10 ** 9"),
     "gate": (".ci/run", "minutes=$((# - SECONDS / 60))"),
@@ -72,6 +77,8 @@ SENTENCES = (
     ("docs/espresso.1", "the rounds: at most # on the first way, # on the second", "rounds", "rounds as needed"),
     ("docs/espresso.1", "at most # cubes of one row", "outside of a row"),
     ("docs/espresso.1", "at most # an output on average and # in all are made", "outside of an output", "outside"),
+    ("docs/espresso.1", "in tables of up to # rows and # columns", "relaxed rows", "relaxed columns"),
+    ("docs/espresso.1", "two of three hold: more than # inputs, several outputs, # rows or more", "many inputs", "merged rows"),
     ("docs/espresso.1", "a SAT search, which may need # GB more", "kept numbers"),
     ("docs/FORMAT.md", "| inputs | 0 to # |", "inputs"),
     ("docs/FORMAT.md", "| outputs | 1 to # |", "outputs"),
@@ -87,7 +94,10 @@ SENTENCES = (
     ("docs/ARCHITECTURE.md", "(# looks for the columns of a point; # and # rounds)", "most looks", "rounds", "rounds as needed"),
     ("docs/ARCHITECTURE.md", "Then, with more than # inputs, points are picked by these primes", "very many inputs"),
     ("docs/DECISIONS.md", "puts its text together in # bytes", "print buffer"),
-    ("docs/DECISIONS.md", "but not before # and not after #.", "first drop", "last first drop"),
+    ("docs/DECISIONS.md", "a round of more than # points takes a short cover", "many points"),
+    ("docs/DECISIONS.md", "two of three hold: more than # inputs, several outputs, # rows or more", "many inputs", "merged rows"),
+    ("docs/DECISIONS.md", "after # tables of the search by subgradient steps, and after # once", "quick tables", "few quick tables"),
+    ("docs/DECISIONS.md", "is reduced as the order goes on**, after # tables", "tables to reduce"),
     ("docs/DECISIONS.md", "is given up after # tables", "batch"),
     ("docs/DECISIONS.md", "Each gets # GB", "proof memory"),
     ("docs/DECISIONS.md", "a chain of # inputs did not end", "inputs"),
@@ -101,6 +111,7 @@ SENTENCES = (
     ("docs/statement.py", "# inputs and outputs and lines of # bytes", "older inputs", "older line bytes"),
     ("mutants/run", "processors and # GB of memory for each", "proof memory"),
     ("crates/cover/src/lib.rt", "before it takes # GB", "kept numbers"),
+    ("crates/heuristics/src/lib.rt", "//! linear relaxation for two square matrices with as many rows as the table, which has up to #", "relaxed rows"),
 )
 
 # What a page names where the code has another unit: a list that grows takes its old and its new place, of four bytes a number.
@@ -112,8 +123,10 @@ COVERED = {
     "docs/TRUSTED.md": (),
     "docs/FORMAT.md": (),
     "docs/ARCHITECTURE.md": (),
-    "README.md": ("128 inputs, 60 outputs, 600 rows, 4 · 10¹⁵ primes | `exact`: 575 products | 0.12", "300,000 random cubes", "| 0.21 |",
-                  "10 to 20 minutes on four processors", "30 to 45 minutes on two processors", "Python 3.9", "`rattle-kit-13f`"),
+    "README.md": ("128 inputs, 60 outputs, 600 rows, 4 · 10¹⁵ primes | `exact`: 575 products | 0.30",
+                  "two numbers of eight bits added, 65,535 rows | `exact`: 1,499 products | 1.3",
+                  "100 points of 30 inputs, of type fr | `exact`: 4 products | 0.27",
+                  "10 to 20 minutes on four processors", "Python 3.9", "`rattle-kit-13f`"),
 }
 
 

@@ -113,7 +113,7 @@ class Statement(unittest.TestCase):
                     folder = os.path.join("crates", crate, part)
                     if os.path.isdir(os.path.join(TOP, folder)):
                         shutil.copytree(os.path.join(TOP, folder), os.path.join(copy, folder))
-            path = os.path.join(copy, "crates", "tool", "specs", "Tool.antt")
+            path = os.path.join(copy, "crates", "espresso", "specs", "Tool.antt")
             with open(path, encoding="utf-8") as file:
                 text = file.read()
             with open(path, "w", encoding="utf-8") as file:

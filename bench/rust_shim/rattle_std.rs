@@ -3,7 +3,23 @@
 #![allow(warnings)]
 #![feature(portable_simd)]
 
-pub use std::{cell, cmp, marker, mem, ops, process, simd, slice, fmt, convert, iter, num, option, result};
+pub use std::{cell, cmp, marker, mem, ops, process, simd, slice, fmt, convert, iter, option, result};
+
+pub mod num {
+    pub use std::num::*;
+
+    pub fn nearest_i64_to_f64(number: i64) -> f64 {
+        number as f64
+    }
+
+    pub fn nearest_u64_to_f64(number: u64) -> f64 {
+        number as f64
+    }
+
+    pub fn saturating_f64_to_u64(number: f64) -> u64 {
+        number as u64
+    }
+}
 
 pub mod prelude {
     pub use crate::string::String;

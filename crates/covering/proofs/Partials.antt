@@ -6,10 +6,11 @@ use Rattle.std.proofs.lemmas.Bool.{cases_Bool, cases_eq, cases_lt, both_ways, tr
 use Rattle.covering.specs.declared.choice.Choice.{Choice}
 use Rattle.covering.specs.Table.{Table, has, RisesFrom, IsWithin, IsTable}
 use Rattle.covering.specs.Cover.{meets, counted, sum_over, IsLeast}
-use Rattle.covering.specs.Steps.{without, take_column, drop_column, with_rows}
+use Rattle.covering.specs.Steps.{without, take_column, drop_column, with_rows, Step, row_leaves, only_column, column_leaves, Steps, done, more}
 use Rattle.covering.specs.Search.{NoneWithin, NoneBelow, IsAnswer, IsForced, IsOutside, IsPartial, Continues, keep_columns, is_blank, marked}
 use Rattle.covering.proofs.Sets.{has_here, without_only, filter_parts, meets_from}
-use Rattle.covering.proofs.Covers.{take_cover, take_back}
+use Rattle.covering.proofs.Covers.{take_cover, take_back, drop_back}
+use Rattle.covering.proofs.Keeps.{row_back, row_live, steps_keep}
 use Rattle.covering.proofs.Branches.{blank_forced, later, taken_least, kept_back, kept_cover, split, none_blank, leaf, no_live}
 use Rattle.covering.proofs.Lagrange.{marks_at}
 use Rattle.covering.proofs.Made.{table_same}
@@ -133,6 +134,33 @@ next_self choice t = record { least = λ _ l. l; live = λ _ l. l }
 
 pub next_join : (choice : Choice) (t u v : Table) → Continues choice t u → Continues choice u v → Continues choice t v
 next_join choice t u v h g = record { least = λ x l. h.least x (g.least x l); live = λ n l. h.live n (g.live n l) }
+
+-- ---- the table reduced
+
+none_step : (choice : Choice) (t u : Table) (k w : ℕ) → IsTable t → Step choice t u → NoneBelow choice t k w → NoneBelow choice u k w
+none_step choice t _ k w wt (row_leaves _ front back row other e i h) none = λ x g. none x (row_back t front back row other e i h x g)
+none_step choice t _ k w wt (only_column _ c h) none = λ x g. none x (take_back t c x (row_live t c wt h) g).0
+none_step choice t _ k w wt (column_leaves _ a b p la lb d) none = λ x g. none x (drop_back t a x wt.live_rises (wt.apart a la) g).0
+
+none_steps : (choice : Choice) (t u : Table) (k w : ℕ) → IsTable t → Steps choice t u → NoneBelow choice t k w → NoneBelow choice u k w
+none_steps choice t _ k w wt (done _) none = none
+none_steps choice t _ k w wt (more _ u v h s) none = none_step choice u v k w (steps_keep choice t u wt h).0 s (none_steps choice t u k w wt h none)
+
+live_step : (choice : Choice) (t u : Table) (n : ℕ) → Step choice t u → has n u.live ≡ true → has n t.live ≡ true
+live_step choice t _ n (row_leaves _ front back row other e i h) l = l
+live_step choice t _ n (only_column _ c h) l = without_only n c t.live l
+live_step choice t _ n (column_leaves _ a b p la lb d) l = without_only n a t.live l
+
+live_steps : (choice : Choice) (t u : Table) (n : ℕ) → Steps choice t u → has n u.live ≡ true → has n t.live ≡ true
+live_steps choice t _ n (done _) l = l
+live_steps choice t _ n (more _ u v h s) l = live_steps choice t u n h (live_step choice u v n s l)
+
+module _ (choice : Choice) (t u : Table) (wt : IsTable t) (steps : Steps choice t u) where
+  pub partial_reduced : (k w : ℕ) (s : List ℕ) → NoneBelow choice t k w → IsAnswer choice u k w s → IsPartial choice k w u s
+  partial_reduced k w s none a = record { none = none_steps choice t u k w wt steps none; witness = a }
+
+  pub next_reduced : Continues choice t u
+  next_reduced = record { least = λ x. ((steps_keep choice t u wt steps).1 x).1; live = λ n. live_steps choice t u n steps }
 
 -- ---- marks
 

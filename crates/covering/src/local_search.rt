@@ -16,6 +16,9 @@ use crate::table::Table;
 use heuristics::{Goal, local_search, marks_of};
 use std::alloc::{AllocError, Global};
 
+/// The most steps of a local search.
+const MOST_STEPS: usize = 1_000_000;
+
 /// Whether the column is taken, or live and marked.
 fn is_chosen(taken: &[usize], live: &[usize], marks: &[bool], column: usize) -> bool
     requires taken { RisesFrom 0 taken.now }
@@ -92,7 +95,7 @@ impl Table {
             budget.cost v.items)) }
     {
         let compact = self.compact(alloc, choice)?;
-        let steps = steps.saturating_mul(self.row_lists().len()).min(100000);
+        let steps = steps.saturating_mul(self.row_lists().len()).min(MOST_STEPS);
         let live = self.live_columns();
         let found = local_search(alloc, &compact, live, self.columns(), hint, goal, steps)?;
         let marks = marks_of(alloc, self.live_columns(), &found, self.columns())?;

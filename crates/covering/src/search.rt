@@ -18,7 +18,9 @@ use crate::columns::{contains, copy_of};
 use crate::lagrangian::lagrangian;
 use crate::marks::{all_kept, all_marked};
 use crate::table::Table;
-use heuristics::{Compact, Goal, Multipliers, WarmStart, is_worth_a_bound, likeliest, row_counts};
+use heuristics::{
+    Compact, Goal, Multipliers, WarmStart, is_worth_a_bound, likeliest, many_steps, row_counts,
+};
 use std::alloc::{AllocError, Global};
 
 /// More tables than any search looks at.
@@ -47,6 +49,14 @@ impl From<AllocError> for Stop {
 
     fn from(_: AllocError) -> Stop {
         Stop::Memory
+    }
+}
+
+/// Whether a search ended because it looked at as many tables as it may.
+fn is_spent(found: &Result<Option<Vec<usize>>, Stop>) -> bool {
+    match found {
+        Err(Stop::Spent) => true,
+        _ => false,
     }
 }
 
@@ -93,7 +103,7 @@ impl Table {
     }
 
     /// What is left of the budget, as hints take it.
-    fn goal(&self, choice: Choice, budget: Budget) -> Goal {
+    pub(crate) fn goal(&self, choice: Choice, budget: Budget) -> Goal {
         let rest = self.remaining_budget(choice, budget);
         Goal {
             columns: i64::try_from(rest.columns).unwrap_or(i64::MAX),
@@ -179,6 +189,7 @@ impl Table {
             alloc,
             &compact,
             self.live_columns(),
+            self.taken_columns(),
             self.row_lists(),
             self.columns(),
             goal,
@@ -236,16 +247,25 @@ impl Table {
         }
     }
 
-    /// A live column to branch on: the likeliest one of a short row whose columns are in many rows.
+    /// A live column to branch on: one that the linear relaxation tells, or the likeliest one of a
+    /// short row whose columns are in many rows.
     fn branching_column(
         &self,
         alloc: Global,
-        warm_start: &WarmStart,
+        goal: Goal,
+        warm_start: &mut WarmStart,
     ) -> Result<Option<usize>, AllocError>
         ensures live { IfOk result (λ o. MatchOption o (self.now.live ≡ [])
             (λ c. has c self.now.live ≡ true)) }
         ensures table { IsTable self.now }
     {
+        let live = self.live_columns();
+        let hint = warm_start.branching_column(alloc, live, self.taken_columns(), goal)?;
+        if let Some(column) = hint {
+            if contains(live, column) {
+                return Ok(Some(column));
+            }
+        }
         let numbers = row_counts(alloc, self.row_lists(), self.columns())?;
         let hint = likeliest(self.row_lists(), warm_start.likely(), &numbers);
         if contains(self.live_columns(), hint) {
@@ -276,11 +296,13 @@ impl Table {
         *tables_left = rest;
         let mut own = warm_start.copy(alloc)?;
         own.count_table();
+        own.take_relaxation(warm_start);
         let found = match self.prune(alloc, choice, budget, &mut own, lists)? {
             None => Ok(None),
             Some(table) => table.branch(alloc, choice, budget, &mut own, tables_left, lists),
         };
         warm_start.learn(&own);
+        warm_start.take_relaxation(&mut own);
         found
     }
 
@@ -305,17 +327,136 @@ impl Table {
         if self.is_solved() {
             return Ok(Some(copy_of(alloc, self.taken_columns())?));
         }
-        let Some(column) = self.branching_column(alloc, warm_start)? else {
+        let goal = self.goal(choice, budget);
+        let Some(column) = self.branching_column(alloc, goal, warm_start)? else {
             return Ok(None);
         };
+        let mark = warm_start.branch(alloc, column)?;
         let with = self.take(alloc, column)?;
         if let Some(cover) = with.search(alloc, choice, budget, warm_start, tables_left, lists)? {
             return Ok(Some(cover));
         }
+        warm_start.go_back(alloc, mark)?;
         match self.drop_live(alloc, column)? {
             None => Ok(None),
             Some(rest) => rest.search(alloc, choice, budget, warm_start, tables_left, lists),
         }
+    }
+
+    /// How many tables a search looks at before it is begun anew with the linear relaxation: all it
+    /// needs if columns have different costs.
+    fn quick_tables(&self, choice: Choice, warm_start: &WarmStart) -> u64 {
+        match choice {
+            Choice::First => {
+                warm_start.quick_tables(self.row_lists().len(), self.live_columns().len())
+            }
+            Choice::Literals => UNLIMITED,
+        }
+    }
+
+    /// From now on the tables of a search from this one are bounded by their linear relaxation.
+    fn relax(
+        &self,
+        alloc: Global,
+        choice: Choice,
+        warm_start: &mut WarmStart,
+    ) -> Result<(), AllocError> {
+        let compact = self.compact(alloc, choice)?;
+        let (live, rows) = (self.live_columns(), self.row_lists());
+        warm_start.relax(alloc, &compact, live, rows, self.columns())
+    }
+
+    /// A cover within the budget, or none if there is none: a search with the linear relaxation.
+    fn search_with_relaxation(
+        self,
+        alloc: Global,
+        choice: Choice,
+        budget: Budget,
+        warm_start: &mut WarmStart,
+        most_tables: u64,
+        lists: &mut Vec<Vec<usize>>,
+    ) -> Result<Option<Vec<usize>>, Stop>
+        ensures { IfOk result (λ o. Answers choice self budget.columns budget.cost
+            (option_map (λ v. v.items) o)) }
+    {
+        self.relax(alloc, choice, warm_start)?;
+        let mut tables_left = most_tables;
+        let found = match self.prune(alloc, choice, budget, warm_start, lists)? {
+            None => Ok(None),
+            Some(table) => {
+                table.branch(alloc, choice, budget, warm_start, &mut tables_left, lists)
+            }
+        };
+        warm_start.stop_relaxing();
+        found
+    }
+
+    /// A cover within the budget, or none if there is none, where a search did not end soon: a long
+    /// local search looks for one, and then a search with the linear relaxation.
+    fn find_or_refute_anew(
+        self,
+        alloc: Global,
+        choice: Choice,
+        budget: Budget,
+        warm_start: &mut WarmStart,
+        most_tables: u64,
+    ) -> Result<Option<Vec<usize>>, Stop>
+        ensures { IfOk result (λ o. Answers choice self budget.columns budget.cost
+            (option_map (λ v. v.items) o)) }
+    {
+        let mut lists = Vec::new(alloc);
+        let Some(table) = self.prune(alloc, choice, budget, warm_start, &mut lists)? else {
+            return Ok(None);
+        };
+        let goal = table.goal(choice, budget);
+        let steps = many_steps(table.row_lists(), table.live_columns().len());
+        let hint = warm_start.hint();
+        let found = table.find_by_local_search(alloc, choice, budget, goal, hint, steps)?;
+        if let Some(cover) = found {
+            return Ok(Some(cover));
+        }
+        table.search_with_relaxation(alloc, choice, budget, warm_start, most_tables, &mut lists)
+    }
+
+    /// A cover within the budget, or none if there is none: if a search does not end soon, it is
+    /// begun anew with the linear relaxation, and branches into no more than `most_tables` tables.
+    pub(crate) fn find_or_refute_hard(
+        &self,
+        alloc: Global,
+        choice: Choice,
+        budget: Budget,
+        warm_start: &mut WarmStart,
+        most_tables: u64,
+    ) -> Result<Option<Vec<usize>>, Stop>
+        ensures { IfOk result (λ o. Answers choice self.now budget.columns budget.cost
+            (option_map (λ v. v.items) o)) }
+    {
+        let quick_tables = self.quick_tables(choice, warm_start).min(most_tables);
+        let found = self.find_or_refute(alloc, choice, budget, warm_start, quick_tables);
+        if quick_tables == most_tables || !is_spent(&found) {
+            return found;
+        }
+        let copy = self.copy(alloc)?;
+        copy.find_or_refute_anew(alloc, choice, budget, warm_start, most_tables)
+    }
+
+    /// A cover within the budget, or none if there is none, once the length is known: with the linear
+    /// relaxation if that was wanted to find the length.
+    pub(crate) fn find_or_refute_next(
+        &self,
+        alloc: Global,
+        choice: Choice,
+        budget: Budget,
+        warm_start: &mut WarmStart,
+        most_tables: u64,
+    ) -> Result<Option<Vec<usize>>, Stop>
+        ensures { IfOk result (λ o. Answers choice self.now budget.columns budget.cost
+            (option_map (λ v. v.items) o)) }
+    {
+        if warm_start.is_hard() {
+            return self.find_or_refute_hard(alloc, choice, budget, warm_start, most_tables);
+        }
+        self.find_or_refute(alloc, choice, budget, warm_start, most_tables)
     }
 
     /// A cover within the budget, or none if there is none: local searches look for one first, and

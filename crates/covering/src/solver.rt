@@ -6,7 +6,8 @@
 //! least cover; else it is asked whether some cover within the budget has it, which gives a new
 //! witness or drops the column. A batch of columns is asked for at once, by a further row of them:
 //! if then no cover is within the budget, all are dropped. Such a question may look at a few tables
-//! only; if they do not suffice the first column is asked for alone.
+//! only; if they do not suffice the first column is asked for alone. From time to time what is left is
+//! reduced: without the columns that were dropped, more of them are dominated.
 
 ghost use Rattle.std.specs.Prelude.{◌≡◌, ◌≢◌, ◌≤◌, ◌<◌, ◌+◌, ◌++◌, ◌∷◌, [], ℕ, List, IfOk, IfSome, MatchOption, filter, length, map, option_map, ◌==◌, true, false};
 ghost use Rattle.std.specs.List.{list_all, list_any};
@@ -30,6 +31,12 @@ const FEW: usize = 8;
 
 /// A question about a batch of columns is given up after this many tables.
 const BATCH_TABLES: u64 = 600;
+
+/// The undecided columns are reduced again after this many tables.
+const TABLES_TO_REDUCE: u64 = 8;
+
+/// How many steps a row a local search takes that looks for a cover of a reduced table.
+const WITNESS_STEPS: usize = 12;
 
 /// How many columns the first batch has.
 const FIRST_BATCH: usize = 4;
@@ -57,6 +64,10 @@ struct Questions {
     warm_start: WarmStart,
     /// How many columns the next batch has at most.
     batch_size: usize,
+    /// How many tables had been looked at when the undecided columns were last reduced.
+    tables: u64,
+    /// How many live columns were left then.
+    live: usize,
 }
 
 // Written out for the same reason.
@@ -65,11 +76,26 @@ impl Drop for Questions {
         let Questions {
             warm_start: _,
             batch_size: _,
+            tables: _,
+            live: _,
         } = self;
     }
 }
 
 impl Questions {
+    /// Whether to reduce the undecided columns, so many of which are live: after some tables, or
+    /// once an eighth of the columns is gone.
+    fn is_worth_a_reduction(&self, live: usize) -> bool {
+        let tables = self.warm_start.effort().tables.saturating_sub(self.tables);
+        tables >= TABLES_TO_REDUCE || is_worth_a_bound(self.live, live)
+    }
+
+    /// Notes a reduction, which left so many live columns.
+    fn note_reduction(&mut self, live: usize) {
+        self.tables = self.warm_start.effort().tables;
+        self.live = live;
+    }
+
     /// After a cover the next batch has a quarter as many columns, and the next cover is looked for
     /// near this one; after none it has twice as many.
     fn adapt(&mut self, alloc: Global, witness: &Option<Vec<usize>>) -> Result<(), AllocError> {
@@ -100,7 +126,13 @@ impl Questions {
     {
         let answer = {
             let mut warm_start = self.warm_start.copy(alloc)?;
-            let answer = table.find_or_refute(alloc, choice, budget, &mut warm_start, most_tables);
+            let answer = table.find_or_refute_next(
+                alloc,
+                choice,
+                budget,
+                &mut warm_start,
+                most_tables,
+            );
             self.warm_start.learn(&warm_start);
             answer
         };
@@ -298,6 +330,32 @@ impl Partial {
         }
     }
 
+    /// The reduced table, where it is worth a reduction and a local search finds a cover of it.
+    fn reduce(
+        self,
+        alloc: Global,
+        choice: Choice,
+        budget: Budget,
+        questions: &mut Questions,
+    ) -> Result<Partial, AllocError>
+        requires { IsPartial choice budget.columns budget.cost self.table self.witness.items }
+        ensures partial { IfOk result (λ s. IsPartial choice budget.columns budget.cost s.table
+            s.witness.items) }
+        ensures next { IfOk result (λ s. Continues choice self.table s.table) }
+    {
+        if !questions.is_worth_a_reduction(self.table.live_columns().len()) {
+            return Ok(self);
+        }
+        let table = self.table.cyclic_core(alloc, choice)?;
+        questions.note_reduction(table.live_columns().len());
+        let goal = table.goal(choice, budget);
+        let steps = WITNESS_STEPS;
+        match table.find_by_local_search(alloc, choice, budget, goal, &self.witness, steps)? {
+            Some(witness) => Ok(Partial { table, witness }),
+            None => Ok(self),
+        }
+    }
+
     /// Takes or drops the column, which is the first that may be live.
     fn decide_column(
         self,
@@ -381,6 +439,7 @@ impl Table {
                 return copy_of(alloc, partial.table.taken_columns());
             }
             partial = partial.decide_column(alloc, choice, budget, column, questions)?;
+            partial = partial.reduce(alloc, choice, budget, questions)?;
         }
         copy_of(alloc, partial.table.taken_columns())
     }
@@ -467,7 +526,7 @@ impl Table {
         warm_start.set_hint(alloc, &cover)?;
         while let Some(columns) = cover.len().checked_sub(1) {
             let budget = Budget { columns, cost: 0 };
-            match self.find_or_refute(alloc, Choice::First, budget, warm_start, UNLIMITED)? {
+            match self.find_or_refute_hard(alloc, Choice::First, budget, warm_start, UNLIMITED)? {
                 Some(shorter) => cover = shorter,
                 None => return Ok(cover),
             }
@@ -568,6 +627,8 @@ impl Table {
         let mut questions = Questions {
             warm_start: WarmStart::new(alloc, *effort),
             batch_size: FIRST_BATCH,
+            tables: 0,
+            live: usize::MAX,
         };
         let shortest = self.shortest_cover(alloc, deciding, &mut questions.warm_start)?;
         let best = match deciding {

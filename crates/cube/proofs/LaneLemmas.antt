@@ -1,14 +1,16 @@
 -- Four words at a time.
-use Rattle.std.proofs.Common.{◌≡◌, ℕ, zero, suc, ◌+◌, ◌-◌, ◌*◌, ◌/◌, ◌^◌, ◌<◌, eqb, eq-eqb, List, [], ◌∷◌, length, drop, map, get_or, refl, ap, sym, subst, ◌∙◌, arith, inl, inr, Bool, IsTrue, ◌↔◌, bit_and, bit_or}
+use Rattle.std.proofs.Common.{◌≡◌, ◌≢◌, ℕ, zero, suc, ◌+◌, ◌-◌, ◌*◌, ◌/◌, ◌^◌, ◌<◌, ◌≤◌, eqb, eq-eqb, List, [], ◌∷◌, ◌++◌, length, take, drop, map, get_or, refl, ap, sym, subst, ◌∙◌, arith, inl, inr, Bool, IsTrue, ◌↔◌, bit_and, bit_or}
 use Rattle.std.specs.Int.{bit_not, w64}
 use Rattle.std.specs.Simd.{first_chunks}
 use Rattle.std.specs.Simd.Lanes.{fold_l, zip2}
 use Rattle.std.proofs.lemmas.Bool.{eqb-true, cases_lt}
 use Rattle.std.proofs.lemmas.Nat.{le_or_l, le_or_r, and_le_l, or_lt}
-use Rattle.std.proofs.lemmas.Nat.Bits.{bit_at_and, bit_at-lt}
+use Rattle.std.proofs.lemmas.Nat.Bits.{bit_at_and, bit_at-lt, bit_at-zero}
 use Rattle.std.specs.Int.{bit_at}
-use Rattle.std.proofs.lemmas.List.{get_or-take, get_or-drop, length-drop}
-use Rattle.cube.specs.Words.{IsBitSubset, HasNoEmptyPair}
+use Rattle.std.proofs.lemmas.List.{get_or-take, get_or-drop, length-drop, length-append, length-take-le, take-append-drop, get_or_append_left, get_or-append_right}
+use Rattle.std.proofs.lemmas.Slice.{take-put_mid, drop-put_mid}
+use borrow.Rule.Slice.PartMut.{put_mid}
+use Rattle.cube.specs.Words.{IsBitSubset, HasNoEmptyPair, ShareBit}
 use Rattle.cube.proofs.WordLemmas.{bits_from_covers, covers_from_bits, test_from_pairs, folded_bit, lower_bit_even}
 
 -- an `or` of numbers is 0 where each is
@@ -94,6 +96,38 @@ pairs_four-iff a b ea eb =
     (λ s t u v. four-iff _ _ _ _ (λ k. empty_pairs (get_or (w ∷ x ∷ y ∷ z ∷ []) k 0) (get_or (s ∷ t ∷ u ∷ v ∷ []) k 0)) refl refl refl refl) b eb)
     a ea
 
+pub common_four-iff : (a b : List ℕ) → length a ≡ 4 → length b ≡ 4
+    → IsTrue (eqb (fold_l bit_or 0 (zip2 bit_and a b)) 0) ↔ ((k : ℕ) → k < 4 → bit_and (get_or a k 0) (get_or b k 0) ≡ 0)
+common_four-iff a b ea eb =
+    four (λ l. IsTrue (eqb (fold_l bit_or 0 (zip2 bit_and l b)) 0) ↔ ((k : ℕ) → k < 4 → bit_and (get_or l k 0) (get_or b k 0) ≡ 0))
+    (λ w x y z. four (λ m. IsTrue (eqb (fold_l bit_or 0 (zip2 bit_and (w ∷ x ∷ y ∷ z ∷ []) m)) 0)
+    ↔ ((k : ℕ) → k < 4 → bit_and (get_or (w ∷ x ∷ y ∷ z ∷ []) k 0) (get_or m k 0) ≡ 0))
+    (λ s t u v. four-iff _ _ _ _ (λ k. bit_and (get_or (w ∷ x ∷ y ∷ z ∷ []) k 0) (get_or (s ∷ t ∷ u ∷ v ∷ []) k 0)) refl refl refl refl) b eb)
+    a ea
+
+-- of four numbers that are not all 0, one that is not
+pub one_of_four : (f : ℕ → ℕ) → (((k : ℕ) → k < 4 → f k ≡ 0) → ⊥) → (k : ℕ) × (k < 4) × (f k ≢ 0)
+one_of_four f h = elim (cases_lt 0 (f 0)) [
+  | inl some ↦ (0, omega arith, λ e. omega (arith, some, e))
+  | inr none_0 ↦ elim (cases_lt 0 (f 1)) [
+    | inl some ↦ (1, omega arith, λ e. omega (arith, some, e))
+    | inr none_1 ↦ elim (cases_lt 0 (f 2)) [
+      | inl some ↦ (2, omega arith, λ e. omega (arith, some, e))
+      | inr none_2 ↦ elim (cases_lt 0 (f 3)) [
+        | inl some ↦ (3, omega arith, λ e. omega (arith, some, e))
+        | inr none_3 ↦ absurd (h (each (omega (arith, none_0)) (omega (arith, none_1)) (omega (arith, none_2)) (omega (arith, none_3))))
+      ]
+    ]
+  ]
+]
+  where
+    each : f 0 ≡ 0 → f 1 ≡ 0 → f 2 ≡ 0 → f 3 ≡ 0 → (k : ℕ) → k < 4 → f k ≡ 0
+    each a b c d zero lt = a
+    each a b c d (suc zero) lt = b
+    each a b c d (suc (suc zero)) lt = c
+    each a b c d (suc (suc (suc zero))) lt = d
+    each a b c d (suc (suc (suc (suc k)))) lt = absurd (omega arith)
+
 -- what the tests of a word say of its bits
 pub subset-iff : (a b : ℕ) → a < 2 ^ 64 → b < 2 ^ 64 → beyond a b ≡ 0 ↔ IsBitSubset b a
 subset-iff a b fits_a fits_b = (bits_from_covers a b fits_a, covers_from_bits a b fits_a fits_b)
@@ -167,3 +201,64 @@ module _ (P : ℕ → ℕ → Type 0) (a b : List ℕ) (same : length a ≡ leng
         λ h. says.1 (λ v lt.
             subst (λ x. P x (get_or ys v 0)) (sym (of_a v)) (subst (λ y. P (get_or a (q * 4 + v) 0) y) (sym (of_b v)) (h (q * 4 + v) (omega (arith, long))))),
       )
+
+-- ---- bits in both of two rows
+
+-- some bit is in both, where none is in the blocks
+pub share-rest-iff : (a b xs ys : List ℕ) (q : ℕ) (r : Bool) → xs ≡ drop (q * 4) a → ys ≡ drop (q * 4) b
+    → ((j : ℕ) → j < 4 * q → bit_and (get_or a j 0) (get_or b j 0) ≡ 0) → IsTrue r ↔ ShareBit xs ys → IsTrue r ↔ ShareBit a b
+share-rest-iff a b xs ys q r ex ey front says =
+    let long : length xs ≡ length a - q * 4 = ap length ex ∙ length-drop (q * 4) a in
+    let at : (v : ℕ) → bit_and (get_or xs v 0) (get_or ys v 0) ≡ bit_and (get_or a (q * 4 + v) 0) (get_or b (q * 4 + v) 0) =
+    λ v. ap (λ l. bit_and (get_or l v 0) (get_or ys v 0)) ex ∙ ap (λ x. bit_and x (get_or ys v 0)) (get_or-drop (q * 4) a v 0)
+    ∙ ap (λ l. bit_and (get_or a (q * 4 + v) 0) (get_or l v 0)) ey ∙ ap (λ y. bit_and (get_or a (q * 4 + v) 0) y) (get_or-drop (q * 4) b v 0) in (
+      λ t.
+          let found = says.0 t in
+          (q * 4 + found.0, omega (arith, long, found.1), (found.2.0, found.2.1, ap (λ x. bit_at x found.2.0) (sym (at found.0)) ∙ found.2.2)),
+      λ found. elim (cases_lt found.0 (4 * q)) [
+        | inl early ↦ absurd (omega (arith, ap (λ x. bit_at x found.2.0) (front found.0 early), bit_at-zero found.2.0, found.2.2))
+        | inr late ↦
+            let back : q * 4 + (found.0 - 4 * q) ≡ found.0 = omega arith in
+            says.1 (
+              found.0 - 4 * q,
+              omega (arith, long, found.1),
+              (
+                found.2.0,
+                found.2.1,
+                ap (λ x. bit_at x found.2.0) (at (found.0 - 4 * q)) ∙ ap (λ i. bit_at (bit_and (get_or a i 0) (get_or b i 0)) found.2.0) back
+                    ∙ found.2.2,
+              ),
+            )
+      ],
+    )
+
+-- four more words are put in
+pub put_four_more : (P : ℕ → ℕ → Type 0) (row four : List ℕ) (i n : ℕ) → i + 4 ≤ length row → n ≡ 4 → length four ≡ 4
+    → ((j : ℕ) → j < i → P j (get_or row j 0)) → ((j : ℕ) → j < 4 → P (i + j) (get_or four j 0))
+    → (length (put_mid i n row four) ≡ length row) × ((j : ℕ) → j < i + 4 → P j (get_or (put_mid i n row four) j 0))
+put_four_more P row four i n within width len before here =
+    let fits : i ≤ length row = omega arith in
+    let front : take (i + 4) (put_mid i n row four) ≡ take i row ++ four = take-put_mid i n row four (i + 4) (omega (arith, len)) fits in
+    let rest : drop (i + 4) (put_mid i n row four) ≡ drop (i + 4) row =
+    drop-put_mid i n row four (i + 4) (omega (arith, width)) fits (omega (arith, len, width)) in
+    let long : length (take i row) ≡ i = length-take-le i row fits in
+    let whole : length (put_mid i n row four) ≡ length (take i row ++ four) + length (drop (i + 4) row) =
+    ap length (sym (take-append-drop (i + 4) (put_mid i n row four))) ∙ length-append (take (i + 4) (put_mid i n row four)) (drop (i + 4) (put_mid i n row four))
+    ∙ ap (λ l. length l + length (drop (i + 4) (put_mid i n row four))) front ∙ ap (λ l. length (take i row ++ four) + length l) rest in
+    let same : length (put_mid i n row four) ≡ length row =
+    omega (arith, whole, length-append (take i row) four, long, len, length-drop (i + 4) row) in
+    let word : (j : ℕ) → j < i + 4 → get_or (put_mid i n row four) j 0 ≡ get_or (take i row ++ four) j 0 =
+    λ j lt. sym (get_or-take (i + 4) (put_mid i n row four) j 0 lt) ∙ ap (λ l. get_or l j 0) front in (
+      same,
+      λ j lt. elim (cases_lt j i) [
+        | inl early ↦
+            subst (λ x. P j x)
+            (sym (word j lt ∙ get_or_append_left (take i row) four 0 j (omega (arith, long)) ∙ get_or-take i row j 0 early))
+            (before j early)
+        | inr late ↦
+            let back : i + (j - i) ≡ j = omega arith in
+            let x_is : get_or (put_mid i n row four) j 0 ≡ get_or four (j - i) 0 =
+            word j lt ∙ get_or-append_right (take i row) four i j 0 long late in
+            subst (λ x. P j x) (sym x_is) (subst (λ k. P k (get_or four (j - i) 0)) back (here (j - i) (omega arith)))
+      ],
+    )

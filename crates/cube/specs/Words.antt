@@ -29,6 +29,11 @@ abbrev pub ShareBit : List ℕ → List ℕ → Type 0
 ShareBit a b = (v : ℕ) × (v < length a)
     × ((k : ℕ) × (k < 64) × (bit_at (bit_and (slice_index a v) (slice_index b v)) k ≡ 1))
 
+-- the bits that are in both rows, word by word
+pub record AreCommon (a b words : List ℕ) : Type 0 where
+  pub len : length words ≡ length a
+  pub each : (v : ℕ) → v < length a → slice_index words v ≡ bit_and (slice_index a v) (slice_index b v)
+
 -- the bits of a that are not in b
 abbrev pub IsBitDifference : ℕ → ℕ → ℕ → Type 0
 IsBitDifference word a b = (k : ℕ) → k < 64 → bit_at word k ≡ bit_at a k - bit_at b k

@@ -17,13 +17,15 @@ ghost use Rattle.cube.specs.Packing.{Packs, PacksInputs, PacksOutputs, input_wor
 
 use crate::bytes::{has_any_mark, two_words_of, words_of};
 use crate::groups::{byte_by_bits, group_by_bits};
-use crate::lanes::{covers_by_lanes, has_no_empty_pair, pairs_meet_by_lanes};
+use crate::lanes::{
+    common_words, covers_by_lanes, has_no_empty_pair, pairs_meet_by_lanes, share_bit_by_lanes,
+};
 use crate::pack::{input_word, input_words, is_in_two_words, output_word, output_words};
 use crate::shape::Shape;
 use crate::symbol::Symbol;
 use crate::words::{
     copied_words, covers_word_by_word, first_difference, freed_word, has_all, minus_word,
-    or_not_word, reversal, share_bit, with_bit, zip_words,
+    or_not_word, reversal, with_bit, zip_words,
 };
 use smallvec::SmallVec;
 use std::alloc::{AllocError, Global};
@@ -253,7 +255,7 @@ impl Cube {
         if !pairs_meet_by_lanes(self.input_part(), other.input_part()) {
             return true;
         }
-        !share_bit(self.output_part(), other.output_part())
+        !share_bit_by_lanes(self.output_part(), other.output_part())
     }
 
     /// The cube of the places that are in both, or `None` if there is none.
@@ -272,12 +274,7 @@ impl Cube {
         if self.disjoint(other) {
             return Ok(None);
         }
-        let words = zip_words(
-            *self.words.allocator(),
-            self.words(),
-            other.words(),
-            |_, mine, theirs| mine & theirs,
-        )?;
+        let words = common_words(*self.words.allocator(), self.words(), other.words())?;
         Ok(Some(Cube {
             shape: self.shape,
             words,

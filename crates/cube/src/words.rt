@@ -1,7 +1,7 @@
 //! Kernels over words, which know nothing of symbols. Each looks at each word once.
-ghost use Rattle.std.specs.Prelude.{◌≡◌, ◌==◌, ℕ, ◌↔◌, ◌≤◌, ◌<◌, ◌+◌, ◌^◌, IsTrue, IsOk, IfOk, IfSome, IfNone, length, slice_index, ◌≢◌, if◌then◌else◌, max, ◌-◌, ◌*◌, ◌/◌, sum_by};
+ghost use Rattle.std.specs.Prelude.{◌≡◌, ◌==◌, ℕ, ◌↔◌, ◌≤◌, ◌<◌, ◌+◌, ◌^◌, IsTrue, IsOk, IfOk, IfSome, IfNone, length, slice_index, bit_and, ◌≢◌, if◌then◌else◌, max, ◌-◌, ◌*◌, ◌/◌, sum_by};
 ghost use Rattle.std.specs.Int.{bit_at, count_zeros, w64};
-ghost use Rattle.cube.specs.Words.{CoversWords, PairsMeetFrom, ShareBit, IsBitDifference, IsExchangeMask, exchanged, freed_bit, HasAll, DiffersFirstAt, IsFirstClear, bit_of_words};
+ghost use Rattle.cube.specs.Words.{CoversWords, PairsMeetFrom, ShareBit, AreCommon, IsBitDifference, IsExchangeMask, exchanged, freed_bit, HasAll, DiffersFirstAt, IsFirstClear, bit_of_words};
 
 use smallvec::SmallVec;
 use std::alloc::{AllocError, Global};
@@ -37,7 +37,7 @@ pub(crate) fn pairs_meet_word_by_word(a: &[u64], b: &[u64], from: usize) -> bool
 }
 
 /// Whether some bit is in both.
-pub(crate) fn share_bit(a: &[u64], b: &[u64]) -> bool
+pub(crate) fn share_bit_word_by_word(a: &[u64], b: &[u64]) -> bool
     requires { length a.now ≡ length b.now }
     ensures { IsTrue result ↔ ShareBit a.now b.now }
 {
@@ -47,6 +47,19 @@ pub(crate) fn share_bit(a: &[u64], b: &[u64]) -> bool
         }
     }
     false
+}
+
+/// Puts the bits that are in both over the words from number `from` on.
+pub(crate) fn put_common_word_by_word(a: &[u64], b: &[u64], from: usize, words: &mut [u64])
+    requires same { length a.now ≡ length b.now }
+    requires room { length words.old ≡ length a.now }
+    requires front { (k : ℕ) → k < from → k < length a.now → slice_index words.old k
+        ≡ bit_and (slice_index a.now k) (slice_index b.now k) }
+    ensures { AreCommon a.now b.now words.new }
+{
+    for k in from..a.len() {
+        words[k] = a[k] & b[k];
+    }
 }
 
 /// What `op` makes of the words of both lists, number by number.

@@ -9,7 +9,7 @@
 #![tactic(auto)]
 
 use minimum::{Choice, Effort, OfPrimes, Table, least_cover_with_effort, primes, reduce};
-use pla::{Echo, Pla, ReadFault, ReadKind, Reading, Sets, Writing, read_pla};
+use pla::{Echo, Pla, ReadFault, ReadKind, Reading, Writing, read_pla};
 use std::alloc::{AllocError, AllocGlobal, Global};
 use std::env::Env;
 use std::io::ErrorKind;
@@ -61,7 +61,7 @@ fn description(rt: &HostRuntime) -> Result<Pla, Failure> {
 
 /// The reduced table of the primes.
 fn table_of(alloc: Global, pla: &Pla, choice: Choice) -> Result<Table, AllocError> {
-    let sets = Sets::of(alloc, pla, true, false)?;
+    let sets = pla::sets(alloc, pla, true, false)?;
     let table = Table::build(alloc, &primes(&sets)?, &sets)?;
     reduce(table, choice)
 }

@@ -437,6 +437,17 @@ fn first_scores(alloc: Global, table: &Compact) -> Result<Vec<i64>, AllocError> 
     Ok(scores)
 }
 
+/// How many steps a row a long local search takes: up to a thousand, fewer where a step costs more
+/// since rows and columns are long.
+pub fn many_steps(rows: &[Vec<usize>], columns: usize) -> usize {
+    let mut entries: usize = 0;
+    for row in rows {
+        entries = entries.saturating_add(row.len());
+    }
+    let step = entries.saturating_mul(entries) / columns.max(1);
+    (100_000_000 / step.max(1)).clamp(12, 1000)
+}
+
 /// The best list of columns that a search of `steps` steps finds, as indices of `live`; it stops
 /// once a list reaches the goal. It starts with the live columns of the hint; columns are below
 /// `columns`. A step reads some rows of two columns.

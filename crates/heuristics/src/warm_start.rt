@@ -12,6 +12,7 @@ use crate::effort::Effort;
 use crate::goal::Goal;
 use crate::lists::Lists;
 use crate::numbers::{SEED, at, flag, marked, next_random, number, put, set};
+use crate::relaxation::{Mark, Relaxation, is_small_enough};
 use crate::subgradient::{
     Ascent, Course, FEW_STEPS, Multipliers, NEAR_PACE, NEAR_REACH, PACE, REACH, STEPS, UNIT,
 };
@@ -70,6 +71,12 @@ fn first_weights(alloc: Global, table: &Compact) -> Result<Vec<i64>, AllocError>
     Ok(weights)
 }
 
+/// So many tables are looked at before the relaxation is wanted,
+const TABLES: u64 = 200;
+
+/// and so many once a question was hard.
+const FEW_TABLES: u64 = 20;
+
 /// What a search remembers from table to table, and how much work it did.
 pub struct WarmStart {
     /// The rows of the last bound; none before the first.
@@ -90,6 +97,10 @@ pub struct WarmStart {
     hint: Vec<usize>,
     /// The work so far.
     effort: Effort,
+    /// The linear relaxation, where it is what bounds tables.
+    relaxation: Option<Relaxation>,
+    /// Whether a question was so hard that the relaxation was wanted.
+    hard: bool,
 }
 
 // Written out, so that where one ends a proof has one call, and not one for each of its lists.
@@ -105,6 +116,8 @@ impl Drop for WarmStart {
             steps: _,
             hint: _,
             effort: _,
+            relaxation: _,
+            hard: _,
         } = self;
     }
 }
@@ -122,6 +135,8 @@ impl WarmStart {
             steps: STEPS,
             hint: Vec::new(alloc),
             effort,
+            relaxation: None,
+            hard: false,
         }
     }
 
@@ -168,11 +183,12 @@ impl WarmStart {
         self.missing
     }
 
-    /// A copy of what is remembered.
+    /// A copy of what is remembered, without the relaxation.
     pub fn copy(&self, alloc: Global) -> Result<WarmStart, AllocError> {
         let mut copy = WarmStart::new(alloc, self.effort);
         copy.column = self.column;
         copy.missing = self.missing;
+        copy.hard = self.hard;
         copy.rows.extend_from(&self.rows)?;
         copy.numbers.extend_from_slice(&self.numbers)?;
         copy.weights.extend_from_slice(&self.weights)?;
@@ -189,6 +205,80 @@ impl WarmStart {
         }
         self.column = branch.column;
         self.effort = branch.effort;
+        self.hard = branch.hard;
+    }
+
+    /// Whether a question was so hard that the relaxation was wanted.
+    pub fn is_hard(&self) -> bool {
+        self.hard
+    }
+
+    /// How many tables a search looks at before it is begun anew with the linear relaxation of its
+    /// first one, which has so many rows and columns.
+    pub fn quick_tables(&self, rows: usize, columns: usize) -> u64 {
+        if !is_small_enough(rows, columns) {
+            u64::MAX
+        } else if self.hard {
+            FEW_TABLES
+        } else {
+            TABLES
+        }
+    }
+
+    /// From now on tables are bounded by their linear relaxation. This is the first, each column of
+    /// which costs one; the arguments are those of `multipliers`.
+    pub fn relax(
+        &mut self,
+        alloc: Global,
+        table: &Compact,
+        live: &[usize],
+        rows: &[Vec<usize>],
+        columns: usize,
+    ) -> Result<(), AllocError> {
+        self.hard = true;
+        self.relaxation = Some(Relaxation::new(alloc, table, rows, live, columns)?);
+        Ok(())
+    }
+
+    /// Gives the relaxation up.
+    pub fn stop_relaxing(&mut self) {
+        self.relaxation = None;
+    }
+
+    /// Takes the relaxation over.
+    pub fn take_relaxation(&mut self, from: &mut WarmStart) {
+        self.relaxation = from.relaxation.take();
+    }
+
+    /// A column to branch on, if the relaxation of the table with these live and taken columns tells
+    /// one; it may be none of them.
+    pub fn branching_column(
+        &mut self,
+        alloc: Global,
+        live: &[usize],
+        taken: &[usize],
+        goal: Goal,
+    ) -> Result<Option<usize>, AllocError> {
+        match &mut self.relaxation {
+            None => Ok(None),
+            Some(relaxation) => relaxation.branching_column(alloc, live, taken, goal.columns),
+        }
+    }
+
+    /// Marks where a search is that branches on the column, first taking it.
+    pub fn branch(&mut self, alloc: Global, column: usize) -> Result<Mark, AllocError> {
+        match &mut self.relaxation {
+            None => Ok(Mark::none(alloc)),
+            Some(relaxation) => relaxation.branch(alloc, column),
+        }
+    }
+
+    /// Returns to where a search branched, to go on without the column.
+    pub fn go_back(&mut self, alloc: Global, to: Mark) -> Result<(), AllocError> {
+        match &mut self.relaxation {
+            None => Ok(()),
+            Some(relaxation) => relaxation.go_back(alloc, &to),
+        }
     }
 
     /// The number of the remembered row that each row comes from; columns are below `columns`.
@@ -310,18 +400,27 @@ impl WarmStart {
     /// that does.
     ///
     /// `rows` are the rows of the table before its columns, which are below `columns`, were
-    /// renumbered, and `live` its live columns in their order. Up to 1,202 steps, each of which
-    /// reads all rows some times.
+    /// renumbered, `live` its live columns in their order, and `taken` those that every cover of the
+    /// search has. Up to 1,202 steps, each of which reads all rows some times; or the linear
+    /// relaxation.
     pub fn multipliers(
         &mut self,
         alloc: Global,
         table: &Compact,
         live: &[usize],
+        taken: &[usize],
         rows: &[Vec<usize>],
         columns: usize,
         goal: Goal,
     ) -> Result<Multipliers, AllocError> {
         self.effort.rounds = self.effort.rounds.saturating_add(1);
+        if let Some(relaxation) = &mut self.relaxation {
+            return Ok(Multipliers {
+                weights: relaxation.multipliers(alloc, rows, live, taken, goal.columns)?,
+                column: u32::try_from(UNIT).unwrap_or(u32::MAX),
+                cost: 0,
+            });
+        }
         let numbers = self.row_ids(alloc, rows, live, columns)?;
         let mut ascent = self.ascent(alloc, table, &numbers)?;
         if !rows.is_empty() {

@@ -1,6 +1,7 @@
 //! Reads and writes of the devices for tests.
-use pla::{Ending, Given, Input, Output, Taken};
+use pla::{Ending, Input, Output};
 use std::test::Fail;
+use test_devices::{Given, Taken};
 
 /// Whether the device delivers just these bytes into a room of three, and leaves the rest of it.
 fn delivers(given: &mut Given, room: &[u8; 3], length: usize) -> bool {

@@ -1,9 +1,10 @@
 //! Long files, wide rows and long names, read and printed.
 use crate::reading::read;
 use crate::sets::are_open;
-use pla::{Echo, Ending, Given, OutType, Scan, Sets, Taken, read_pla, write_covers, write_pla};
+use pla::{Echo, Ending, OutType, Scan, read_pla, write_covers, write_pla};
 use std::alloc::{AllocError, Global};
 use std::test::Fail;
+use test_devices::{Given, Taken};
 
 // More room than any text takes.
 const ROOM: usize = 2_000_000;
@@ -191,7 +192,7 @@ fn lists_that_long_ones_leave_open(rt: HostRuntime) -> Result<(), Fail> {
 fn sets_of_long_lists_are_printed(rt: HostRuntime) -> Result<(), Fail> {
     let alloc = rt.alloc();
     let pla = read(alloc, &samples(alloc)?)?;
-    let sets = Sets::of(alloc, &pla, true, true)?;
+    let sets = pla::sets(alloc, &pla, true, true)?;
     let mut out = Taken::new(alloc, ROOM, ROOM, false)?;
     write_pla(&pla, &sets, OutType::Fdr, &mut out)?;
     assert!(rt; out.bytes() == with_rest(alloc)?.as_slice());

@@ -1,4 +1,4 @@
-//! Tests of the public calls of `cube`, `cover` and `pla`.
+//! Tests of the public calls of `cube`, `rows`, `regions`, `sums`, `cover` and `pla`.
 //!
 //! They stand in a crate of their own, since the crate that a test stands in is proved a second
 //! time with it. Each public function is called once with ample memory, each generic one at a
@@ -9,6 +9,7 @@
 //! - Cubes and lists, from rows of text (`rows`): `cubes`, `covers`, `reasons`, `wide`;
 //!   from rules (`rules`): `places`, `place_cases`, and `large` for each call on long lists and
 //!   wide rows.
+//! - Lists of rows (`lists`): `row_calls`, `row_questions`, `region_calls` and `sum_calls`.
 //! - The format: `devices`, `over_std` and `writing` of its devices, `reading`, `sets`, `printing`
 //!   and `laws` of its files, `large_files` with long names too.
 #![tactic(auto)]
@@ -26,6 +27,8 @@ mod large_files;
 #[cfg(test)]
 mod laws;
 #[cfg(test)]
+mod lists;
+#[cfg(test)]
 mod over_std;
 #[cfg(test)]
 mod place_cases;
@@ -38,11 +41,19 @@ mod reading;
 #[cfg(test)]
 mod reasons;
 #[cfg(test)]
+mod region_calls;
+#[cfg(test)]
+mod row_calls;
+#[cfg(test)]
+mod row_questions;
+#[cfg(test)]
 mod row_texts;
 #[cfg(test)]
 mod rules;
 #[cfg(test)]
 mod sets;
+#[cfg(test)]
+mod sum_calls;
 #[cfg(test)]
 mod wide;
 #[cfg(test)]

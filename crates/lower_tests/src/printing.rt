@@ -1,8 +1,9 @@
 //! Lists printed on an output that takes them and on one that fails.
 use crate::reading::read;
-use pla::{OutType, Taken, write_covers};
+use pla::{OutType, write_covers};
 use std::alloc::Global;
 use std::test::Fail;
+use test_devices::Taken;
 
 const TEXT: &[u8] = b".i 2\n.o 2\n.ilb a bb\n.ob f g#1\n.type fdr\n11 1-\n0- 00\n.e\n";
 

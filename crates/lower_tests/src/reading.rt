@@ -2,9 +2,10 @@
 //! program.
 ghost use Rattle.std.specs.Prelude.{◌<◌};
 
-use pla::{Echo, Ending, FileType, Given, Pla, ReadFault, ReadKind, Scan, Taken, read_pla};
+use pla::{Echo, Ending, FileType, Pla, ReadFault, ReadKind, Scan, read_pla};
 use std::alloc::Global;
 use std::test::Fail;
+use test_devices::{Given, Taken};
 
 /// What a file describes.
 pub(crate) fn read(alloc: Global, text: &[u8]) -> Result<Pla, Fail> {

@@ -1,14 +1,15 @@
 //! The lists of the four types, asked for and not.
 use crate::reading::read;
 use cover::Cover;
-use pla::{OutType, Pla, Sets, Taken, dc_unless_given, off_unless_given, write_pla};
+use pla::{OutType, Pla, Sets, dc_unless_given, off_unless_given, write_pla};
 use std::alloc::Global;
 use std::test::Fail;
+use test_devices::Taken;
 
 // Whether the lists of the text, computed where they are asked for, are printed so behind the head.
 fn prints(alloc: Global, text: &[u8], dc: bool, off: bool, rows: &[u8]) -> Result<bool, Fail> {
     let pla = read(alloc, text)?;
-    let sets = Sets::of(alloc, &pla, dc, off)?;
+    let sets = pla::sets(alloc, &pla, dc, off)?;
     let mut out = Taken::new(alloc, 200, 200, false)?;
     write_pla(&pla, &sets, OutType::Fdr, &mut out)?;
     let head = b".i 2\n.o 1\n.type fdr\n".len();

@@ -1,7 +1,8 @@
 //! Texts on an output that takes them and on one that fails.
 
-use pla::{Taken, WriteFault, write_bytes, write_next};
+use pla::{WriteFault, write_bytes, write_next};
 use std::test::Fail;
+use test_devices::Taken;
 
 #[test]
 fn parts_are_written_one_behind_another(rt: HostRuntime) -> Result<(), Fail> {

@@ -60,7 +60,7 @@ pub fn primes_of_pla(alloc: Global, pla: &Pla) -> Result<Cover, AllocError>
 {
     match off_alone(pla)? {
         Some(off) => primes_outside(&off),
-        None => primes(&Sets::of(alloc, pla, true, false)?),
+        None => primes(&pla::sets(alloc, pla, true, false)?),
     }
 }
 
@@ -105,7 +105,7 @@ pub(crate) fn essential_of_rows(alloc: Global, pla: &Pla) -> Result<Cover, Alloc
 {
     match off_alone(pla)? {
         Some(off) => essential_outside(alloc, pla, &off),
-        None => essential_of_sets(alloc, &Sets::of(alloc, pla, true, false)?),
+        None => essential_of_sets(alloc, &pla::sets(alloc, pla, true, false)?),
     }
 }
 
@@ -126,6 +126,6 @@ pub(crate) fn exact_of_rows(alloc: Global, pla: &Pla, choice: Choice) -> Result<
             return Ok(list);
         }
     }
-    let sets = Sets::of(alloc, pla, true, false)?;
+    let sets = pla::sets(alloc, pla, true, false)?;
     exact(alloc, &sets, choice)
 }

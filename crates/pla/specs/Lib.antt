@@ -1,6 +1,5 @@
 pub mod Device
 pub mod OverStd
-pub mod Memory
 pub mod Names
 pub mod Sets
 pub mod Completed

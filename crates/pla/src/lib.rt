@@ -4,13 +4,12 @@
 //! - [`read_pla`] reads a description through a fixed buffer, in one pass, and passes comments and
 //!   unknown keywords on; it reports a fault with its line. [`Scan`] does so for bytes that come in
 //!   pieces from elsewhere.
-//! - [`Sets::of`] gives the lists of a description's three sets, and computes lists that its type
-//!   does not give; [`dc_unless_given`] and [`off_unless_given`] give such lists alone, and copy
-//!   none.
+//! - [`sets`] gives the lists of a description's three sets, and computes lists that its type does
+//!   not give; [`dc_unless_given`] and [`off_unless_given`] give such lists alone, and copy none.
+//!   [`Sets`] are such lists.
 //! - [`write_pla`] prints a description with such lists.
 //! - [`Input`] and [`Output`] are what is read from and written to; [`Reading`] and [`Writing`]
-//!   make them of std's readers and writers; [`Given`] and [`Taken`] are an input and an output in
-//!   memory, for tests.
+//!   make them of std's readers and writers, files, streams and bytes in memory among them.
 //!
 //! The text
 //!
@@ -34,6 +33,7 @@
 #![tactic(auto)]
 
 mod calls;
+mod completed;
 mod description;
 mod device;
 mod echo;
@@ -44,7 +44,6 @@ mod file_type;
 mod header;
 pub mod laws;
 mod line;
-mod memory;
 mod out_type;
 mod over_std;
 mod parser;
@@ -53,22 +52,22 @@ mod printed_row;
 mod reading;
 mod row_lines;
 mod scan;
-mod sets;
+mod set_lists;
 mod text;
 mod writing;
 
 pub use calls::{Counts, ReadCalls, WriteCalls};
+pub use completed::{dc_unless_given, off_unless_given, sets};
 pub use description::Pla;
 pub use device::{Broken, Input, Output};
 pub use echo::Echo;
 pub use ending::Ending;
 pub use fault::{ReadFault, ReadKind};
 pub use file_type::FileType;
-pub use memory::{Given, Taken};
 pub use out_type::OutType;
 pub use over_std::{Reading, Writing};
 pub use reading::read_pla;
 pub use scan::Scan;
-pub use sets::{Sets, dc_unless_given, off_unless_given};
+pub use set_lists::Sets;
 pub use text::{write_covers, write_pla};
 pub use writing::{WriteFault, write_bytes, write_next};

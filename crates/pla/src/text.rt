@@ -13,7 +13,7 @@ use crate::description::Pla;
 use crate::device::Output;
 use crate::out_type::OutType;
 use crate::print_buffer::PrintBuffer;
-use crate::sets::Sets;
+use crate::set_lists::Sets;
 use crate::writing::WriteFault;
 use cover::Cover;
 use itoa::Buffer;

@@ -52,7 +52,7 @@ pub fn clone_referents(alloc: Global, rows: &[&Cube]) -> Result<Vec<Cube>, Alloc
 /// Whether some cube has a place of the row.
 pub fn any_meets(cubes: &[Cube], row: &Cube) -> bool
     requires { All (λ d. SameSize d row.now) cubes.now }
-    ensures { result ≡ false → All (λ d. IsDisjoint (holds d) (holds row.now)) cubes.now }
+    ensures { result ≡ false ↔ All (λ d. IsDisjoint (holds d) (holds row.now)) cubes.now }
 {
     for cube in cubes {
         if !cube.disjoint(row) {

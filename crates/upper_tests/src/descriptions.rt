@@ -52,11 +52,11 @@ pub(crate) fn answer(alloc: Global, call: Call, pla: &Pla) -> Result<Cover, Allo
         Call::Primes => primes_of_pla(alloc, pla),
         Call::Essential => essential_of_pla(alloc, pla),
         Call::Exact(choice) => exact_of_pla(alloc, pla, choice),
-        Call::OfSets => find_essential(alloc, &Sets::of(alloc, pla, true, false)?),
-        Call::ExactOfSets(choice) => exact(alloc, &Sets::of(alloc, pla, true, false)?, choice),
+        Call::OfSets => find_essential(alloc, &pla::sets(alloc, pla, true, false)?),
+        Call::ExactOfSets(choice) => exact(alloc, &pla::sets(alloc, pla, true, false)?, choice),
         Call::Outside => find_essential_outside(alloc, pla.on(), pla.off()),
-        Call::OfPrimes => essential_of_primes(alloc, &Sets::of(alloc, pla, true, false)?),
-        Call::OutsideSets => essential_outside(alloc, &Sets::of(alloc, pla, true, false)?),
+        Call::OfPrimes => essential_of_primes(alloc, &pla::sets(alloc, pla, true, false)?),
+        Call::OutsideSets => essential_outside(alloc, &pla::sets(alloc, pla, true, false)?),
     }
 }
 

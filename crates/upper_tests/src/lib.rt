@@ -1,7 +1,7 @@
 //! Tests of the public calls of `covering`, `minimum` and `signature_search`.
 //!
 //! They stand in a crate of their own, as those of the crates below (`lower_tests`) and above
-//! (`tool_tests`) do, since the crate that a test stands in is proved a second time with it.
+//! (`process_tests`) do, since the crate that a test stands in is proved a second time with it.
 //!
 //! - Minima: `primes`, `tables` of rows, `solutions` of whole files; `descriptions` by `rules`, in
 //!   `small_cases` and `wide`, which also sets functions of a few inputs among many; `signatures`

@@ -2,7 +2,7 @@
 use crate::tables::read;
 use cube::{Cube, Symbol};
 use minimum::primes;
-use pla::{Pla, Sets};
+use pla::Pla;
 use std::alloc::Global;
 use std::test::Fail;
 
@@ -13,7 +13,7 @@ fn is_pair(cube: &Cube, first: Symbol, second: Symbol) -> bool {
 
 /// Whether the file has one prime alone, of these two symbols.
 fn has_one_prime(alloc: Global, pla: &Pla, first: Symbol, second: Symbol) -> Result<bool, Fail> {
-    let found = primes(&Sets::of(alloc, pla, true, false)?)?;
+    let found = primes(&pla::sets(alloc, pla, true, false)?)?;
     match found.get(0) {
         Some(prime) => Ok(found.len() == 1 && is_pair(prime, first, second)),
         None => Ok(false),

@@ -4,14 +4,15 @@ ghost use Rattle.std.specs.Prelude.{◌≡◌};
 use crate::tables::{read, rings_are_solved, searches_agree};
 use cover::Cover;
 use minimum::{Choice, OfPrimes, Table, essential, exact, primes};
-use pla::{OutType, Pla, Sets, Taken, write_covers};
+use pla::{OutType, Pla, write_covers};
 use std::alloc::{AllocError, Global};
 use std::test::Fail;
+use test_devices::Taken;
 
 /// The table of a file's primes.
 fn table(alloc: Global, text: &[u8]) -> Result<Table, Fail> {
     let pla = read(alloc, text)?;
-    let sets = Sets::of(alloc, &pla, true, false)?;
+    let sets = pla::sets(alloc, &pla, true, false)?;
     Ok(Table::build(alloc, &primes(&sets)?, &sets)?)
 }
 
@@ -102,13 +103,13 @@ const THREE_POINTS: &[u8] = b".i 3\n.o 1\n000 1\n001 1\n011 1\n100 -\n.e\n";
 
 /// Whether the file's minimum is printed so.
 fn minimum_is(alloc: Global, pla: &Pla, text: &[u8]) -> Result<bool, Fail> {
-    let sets = Sets::of(alloc, pla, true, false)?;
+    let sets = pla::sets(alloc, pla, true, false)?;
     is_printed(alloc, pla, &exact(alloc, &sets, Choice::First)?, text)
 }
 
 /// Whether the file's essential primes are printed so.
 fn essential_primes_are(alloc: Global, pla: &Pla, text: &[u8]) -> Result<bool, Fail> {
-    let sets = Sets::of(alloc, pla, true, false)?;
+    let sets = pla::sets(alloc, pla, true, false)?;
     let found = essential(alloc, &sets, &primes(&sets)?)?;
     is_printed(alloc, pla, &found, text)
 }
@@ -137,7 +138,7 @@ fn a_wide_cube_alone_is_essential(rt: HostRuntime) -> Result<(), Fail> {
     }
     text.extend_from_slice(b" 1\n.e\n")?;
     let pla = read(rt.alloc(), &text)?;
-    let sets = Sets::of(rt.alloc(), &pla, true, false)?;
+    let sets = pla::sets(rt.alloc(), &pla, true, false)?;
     let found = essential(rt.alloc(), &sets, &primes(&sets)?)?;
     assert!(rt; found.len() == 1);
     Ok(())

@@ -3,9 +3,10 @@ use covering::short_cover;
 use minimum::{
     Choice, Effort, Table, least_cover, least_cover_plain, least_cover_with_effort, reduce,
 };
-use pla::{Echo, Ending, Given, Pla, Taken, read_pla};
+use pla::{Echo, Ending, Pla, read_pla};
 use std::alloc::{AllocError, Global};
 use std::test::Fail;
+use test_devices::{Given, Taken};
 
 /// What a file describes.
 pub(crate) fn read(alloc: Global, text: &[u8]) -> Result<Pla, Fail> {

@@ -30,6 +30,7 @@ use cube::Cube;
 use std::alloc::{AllocError, Global};
 
 pub(crate) mod best_cube;
+pub(crate) mod conflicts;
 pub(crate) mod fewest_literals;
 pub(crate) mod literal_search;
 pub(crate) mod open_points;

@@ -1,10 +1,10 @@
 //! The least cover by primes of picked points.
 //!
 //! Points are picked in rounds: a cover of the table so far is made, and points are added for what it
-//! leaves out of the ON cubes. While much is left out a short cover serves, and the least is asked for
-//! where little is. The last table was seen to have one to seven times as many rows as the cover has
-//! primes, and one to three columns a row. A round costs what the cover does, and a look at the ON
-//! cubes that are left out.
+//! leaves out of the ON cubes. Where points are very many, and much is left out, a short cover serves.
+//! The last table was seen to have one to seven times as many rows as the cover has primes, and one to
+//! three columns a row. A round costs what the cover does, and a look at the ON cubes that are left
+//! out.
 
 ghost use Rattle.std.specs.Prelude.{◌≡◌, ◌||◌, [], IfOk, IfSome, true};
 ghost use Rattle.std.specs.List.{Contains};
@@ -88,6 +88,15 @@ const MOST_ROUNDS: usize = 200;
 // Where at most this many ON cubes are left out, the least cover is asked for: it may be the last.
 const FEW_LEFT_OUT: usize = 20;
 
+// Up to this many points it is asked for too. It leaves out less than a short one, so that rounds and
+// points are fewer.
+const MANY_POINTS: usize = 1_200;
+
+/// Whether to ask for the least cover of so many points, where the last one left out so much.
+fn asks_for_least(left: &Cover, points: &[Cube]) -> bool {
+    left.len() <= FEW_LEFT_OUT || points.len() <= MANY_POINTS
+}
+
 /// The least cover by the primes of points from these points on: where a cover of their table leaves
 /// out a place, points are added for what it leaves out.
 fn exact_in_rounds(
@@ -116,7 +125,7 @@ fn exact_in_rounds(
         if left.is_empty() && is_least {
             return Ok(Some(list));
         }
-        is_least = left.len() <= FEW_LEFT_OUT;
+        is_least = asks_for_least(&left, &found.points);
         if left.is_empty() {
             continue;
         }

@@ -9,6 +9,7 @@
 //!
 //! What it tried is written down in steps, so that they can be looked at one by one.
 
+use crate::points::dominating::conflicts::{conflicts, share_output};
 use cover::Cover;
 use cube::Cube;
 use std::alloc::{AllocError, Global};
@@ -23,9 +24,6 @@ pub(crate) enum Step {
     /// None is better than the best: too many literals are kept, or they come no earlier.
     Late,
 }
-
-// The lower bit of each pair: a set of 32 inputs has these alone.
-const EVEN: u64 = 0x5555_5555_5555_5555;
 
 /// The sets of literals in conflict, and how far the search has come.
 #[derive(Drop)]
@@ -55,22 +53,6 @@ pub(crate) struct LiteralSearch {
 // The word at this index, or none of its bits past the end.
 fn word(list: &[u64], at: usize) -> u64 {
     if at < list.len() { list[at] } else { 0 }
-}
-
-// The inputs from `32 w` on at which the two have opposite literals, as a set of 32.
-fn conflicts(cube: &Cube, row: &Cube, w: usize) -> u64 {
-    let (mine, theirs) = (cube.literal_bits(w), row.literal_bits(w));
-    (((mine >> 1) & theirs) | (mine & (theirs >> 1))) & EVEN
-}
-
-// Whether the two have an output in common.
-fn share_output(cube: &Cube, row: &Cube) -> bool {
-    for w in 0..cube.shape().outputs() / 64 + 1 {
-        if cube.output_bits(w) & row.output_bits(w) != 0 {
-            return true;
-        }
-    }
-    false
 }
 
 // How many are in both sets.
@@ -103,7 +85,7 @@ fn is_within(one: &[u64], other: &[u64]) -> bool {
 }
 
 // Whether the first input that is in one of the sets alone is in the first one, if there is one.
-fn comes_no_earlier(one: &[u64], other: &[u64]) -> bool {
+fn has_first_apart(one: &[u64], other: &[u64]) -> bool {
     for w in 0..one.len() {
         let apart = one[w] ^ word(other, w);
         if apart != 0 {
@@ -249,7 +231,7 @@ impl LiteralSearch {
     // Whether none with so many literals more than are kept is better than the best.
     fn are_too_many(&self, more: usize) -> bool {
         let count = count_common(&self.kept, &self.kept).saturating_add(more);
-        count > self.fewest || count == self.fewest && comes_no_earlier(&self.kept, &self.best)
+        count > self.fewest || count == self.fewest && has_first_apart(&self.kept, &self.best)
     }
 
     // Writes down that each literal of a set is one too many.

@@ -14,7 +14,7 @@ use Rattle.sums.proofs.containing.cut_by_row.Goals.{then-disjoint+in_ok-push_cop
 pub returns-then-not-any_meets-clause-cuts : goal.returns-then-not-any_meets-clause-cuts
 returns-then-not-any_meets-clause-cuts c =
     Cuts-none c.args.shape c.args.region.now c.args.row.now c.args.cubes.items
-    (subst (All (λ d. IsDisjoint (holds d) (holds c.args.row.now))) c.deref.ensures.value (c.any_meets.ensures c.if-not-any_meets.true))
+    (subst (All (λ d. IsDisjoint (holds d) (holds c.args.row.now))) c.deref.ensures.value (c.any_meets.ensures.0 c.if-not-any_meets.true))
 
 pub loop-cube-init : goal.loop-cube-init
 loop-cube-init c =

@@ -22,7 +22,7 @@ loop-row-preserved c = λ size cubes.
       | else-any_meets w ↦
           subst (λ v. AreNear size s (take (at + 1) rows) v.items) (sym w.meeting-is)
           (near-left size s rows at row meeting cubes c.loop-row-test.true c.row-item.is (c.loop-row.invariant size cubes)
-          (apart_from_all c.args.cubes.now row (c.any_meets.ensures w.if-any_meets.false)))
+          (apart_from_all c.args.cubes.now row (c.any_meets.ensures.0 w.if-any_meets.false)))
     ]
 
 pub returns : goal.returns

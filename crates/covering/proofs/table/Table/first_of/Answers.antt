@@ -11,10 +11,14 @@ returns-then-is_solved c = IfOk-weaker c.copy_of.result _ _
 
 pub loop-column-preserved : goal.loop-column-preserved
 loop-column-preserved c = record {
-  partial = c.in_ok-partial-2.ensures.partial;
-  next = next_join c.args.choice c.args.self.now c.loop-column.partial.table c.in_ok-partial-2.partial.table c.loop-column.invariant.next c.in_ok-partial-2.ensures.next;
-  first = first_next c.loop-column.partial.table c.in_ok-partial-2.partial.table c.loop-column.column c.in_ok-partial-2.ensures.next.live c.loop-column.invariant.first c.in_ok-partial-2.ensures.gone;
+  partial = c.in_ok-partial-3.ensures.partial;
+  next = next_join c.args.choice c.args.self.now c.in_ok-partial-2.partial.table c.in_ok-partial-3.partial.table
+      (next_join c.args.choice c.args.self.now c.loop-column.partial.table c.in_ok-partial-2.partial.table c.loop-column.invariant.next c.in_ok-partial-2.ensures.next) c.in_ok-partial-3.ensures.next;
+  first = λ d h. first_next c.loop-column.partial.table c.in_ok-partial-2.partial.table c.loop-column.column c.in_ok-partial-2.ensures.next.live c.loop-column.invariant.first c.in_ok-partial-2.ensures.gone d (c.in_ok-partial-3.ensures.next.live d h);
 }
+
+pub reduce-requires : goal.reduce-requires
+reduce-requires c = c.in_ok-partial-2.ensures.partial
 
 pub returns : goal.returns
 returns c =

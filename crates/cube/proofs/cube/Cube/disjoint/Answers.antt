@@ -11,4 +11,4 @@ returns-then-not-pairs_meet_by_lanes c = (
 pub returns : goal.returns
 returns c =
     IsDisjoint-iff_outputs _ _ c.requires _ _ _ _ c.input_part.ensures.packs c.input_part-2.ensures.packs c.output_part.ensures.packs c.output_part-2.ensures.packs
-    _ _ c.pairs_meet_by_lanes.ensures c.if-not-pairs_meet_by_lanes.false c.share_bit.ensures
+    _ _ c.pairs_meet_by_lanes.ensures c.if-not-pairs_meet_by_lanes.false c.share_bit_by_lanes.ensures

@@ -1,4 +1,4 @@
-use Rattle.std.proofs.Common.{refl, ap, sym, ◌∙◌, rules}
+use Rattle.std.proofs.Common.{refl, ap, sym, ◌∙◌}
 use Rattle.std.proofs.lemmas.Bool.{false≢true}
 use Rattle.cube.specs.Cube.{holds}
 use Rattle.cube.specs.Packing.{input_words, output_words}
@@ -10,20 +10,20 @@ pub invariant_of-result : goal.invariant_of-result
 invariant_of-result c =
     let both = meet-from_not_disjoint _ _ c.requires _ c.disjoint.ensures c.if-disjoint.false in
     (IsPacked-common_row _ _ c.requires _ _ _ _ _ (length-symbols _ _ _ _ c.self.view_is) (length-outputs _ _ _ _ c.self.view_is)
-    c.words.ensures.packs c.words-2.ensures.packs both.0 both.1 c.in_ok-words.ensures.len
-    (λ k lt. let h = c.in_ok-words.ensures.words k lt in search (rules, h))).0
+    c.words.ensures.packs c.words-2.ensures.packs both.0 both.1 c.in_ok-words.ensures.words.len
+    c.in_ok-words.ensures.words.each).0
 
 pub returns-clause-places : goal.returns-clause-places
 returns-clause-places c p =
     let both = meet-from_not_disjoint _ _ c.requires _ c.disjoint.ensures c.if-disjoint.false in
     ap (λ v. holds v p)
     (IsPacked-common_row _ _ c.requires _ _ _ _ _ (length-symbols _ _ _ _ c.self.view_is) (length-outputs _ _ _ _ c.self.view_is)
-    c.words.ensures.packs c.words-2.ensures.packs both.0 both.1 c.in_ok-words.ensures.len
-    (λ k lt. let h = c.in_ok-words.ensures.words k lt in search (rules, h))).1
+    c.words.ensures.packs c.words-2.ensures.packs both.0 both.1 c.in_ok-words.ensures.words.len
+    c.in_ok-words.ensures.words.each).1
     ∙ holds-common_row _ _ c.requires both.0 p
 
-pub zip_words-requires-clause-same_len : goal.zip_words-requires-clause-same_len
-zip_words-requires-clause-same_len c = same_words _ _ _ _ c.requires c.words.ensures.packs c.words-2.ensures.packs
+pub common_words-requires : goal.common_words-requires
+common_words-requires c = same_words _ _ _ _ c.requires c.words.ensures.packs c.words-2.ensures.packs
 
 pub returns-then-disjoint-clause-none : goal.returns-then-disjoint-clause-none
 returns-then-disjoint-clause-none c = (λ _. c.disjoint.ensures.0 c.if-disjoint.true, λ _. refl)

@@ -1,0 +1,5 @@
+use Rattle.std.proofs.Common.{◌≡◌, ℕ, ◌<◌, ◌*◌, get_or, bit_and}
+use Rattle.cube.proofs.lanes.bits_of_many_are_shared.Given as goal
+
+abbrev pub invariant-loop-k : goal.invariant-loop-k
+invariant-loop-k l = (j : ℕ) → j < 4 * l.k → bit_and (get_or l.a j 0) (get_or l.b j 0) ≡ 0

@@ -1,0 +1,381 @@
+//! The linear relaxation over a search: bounds of its tables, and columns to branch on.
+//!
+//! A table of the search is the first one with some columns fixed: the taken ones at 1, those that
+//! are no longer live at 0. Only rows of the table are active. The steps go on from table to table;
+//! where a search returns to a table, a [`Mark`] tells its basis.
+
+use crate::compact::Compact;
+use crate::floats::{add_float, float, put_float};
+use crate::lists::Lists;
+use crate::numbers::{flag, mark, marked, number, set};
+use crate::reliability::PseudoCosts;
+use crate::simplex::{Basis, End, NONE, Simplex};
+use crate::subgradient::UNIT;
+use std::alloc::{AllocError, Global};
+use std::num::{nearest_i64_to_f64, saturating_f64_to_u64};
+
+/// The most rows.
+const MOST_ROWS: usize = 800;
+
+/// The most columns.
+const MOST_COLUMNS: usize = 20000;
+
+/// The most steps at a table.
+const MOST_STEPS: u32 = 5000;
+
+/// How far past the goal an objective shows that no cover reaches it.
+const MARGIN: f64 = 1e-3;
+
+/// A column that was branched on, with what it was like before.
+#[derive(Clone, Copy)]
+pub(crate) struct Branching {
+    /// The index of the column, or `NONE`.
+    pub(crate) index: usize,
+    /// Its value.
+    pub(crate) value: f64,
+    /// The objective.
+    pub(crate) objective: f64,
+}
+
+/// A basis to which a search returns.
+pub struct Mark {
+    /// Its variables.
+    basic: Vec<bool>,
+    /// The rows that were looked at.
+    active: Vec<bool>,
+    /// The column that was branched on.
+    branching: Branching,
+}
+
+// Written out, so that where one ends a proof has one call, and not one for each of its lists.
+impl Drop for Mark {
+    fn drop(self) {
+        let Mark {
+            basic: _,
+            active: _,
+            branching: _,
+        } = self;
+    }
+}
+
+impl Mark {
+    /// No basis.
+    pub(crate) fn none(alloc: Global) -> Mark {
+        Mark {
+            basic: Vec::new(alloc),
+            active: Vec::new(alloc),
+            branching: Branching {
+                index: NONE,
+                value: 0.0,
+                objective: 0.0,
+            },
+        }
+    }
+}
+
+/// The linear relaxation of the tables of a search.
+pub(crate) struct Relaxation {
+    /// The relaxation of the present table.
+    pub(crate) simplex: Simplex,
+    /// The column of each index.
+    pub(crate) columns: Vec<usize>,
+    /// The index of each column, or `NONE`.
+    indices: Vec<usize>,
+    /// The rows of the first table.
+    rows: Lists,
+    /// The live columns of the present table.
+    live: Vec<bool>,
+    /// The taken columns of the present table.
+    taken: Vec<bool>,
+    /// How much branches gain.
+    pub(crate) gains: PseudoCosts,
+    /// Where the last column was branched on, and whether it was taken then; its gain is not noted
+    /// yet.
+    branched: Option<(Branching, bool)>,
+    /// The basis to which trials return.
+    pub(crate) saved: Basis,
+    /// How the last steps ended.
+    end: End,
+    /// The objective past which no cover reaches the goal.
+    pub(crate) cutoff: f64,
+}
+
+// Written out, so that where one ends a proof has one call, and not one for each of its lists.
+impl Drop for Relaxation {
+    fn drop(self) {
+        let Relaxation {
+            simplex: _,
+            columns: _,
+            indices: _,
+            rows: _,
+            live: _,
+            taken: _,
+            gains: _,
+            branched: _,
+            saved: _,
+            end: _,
+            cutoff: _,
+        } = self;
+    }
+}
+
+/// Whether a table is small enough for the relaxation.
+pub(crate) fn is_small_enough(rows: usize, columns: usize) -> bool {
+    rows <= MOST_ROWS && columns <= MOST_COLUMNS
+}
+
+/// The index of each live column, or `NONE`.
+fn indices_of(alloc: Global, live: &[usize], columns: usize) -> Result<Vec<usize>, AllocError> {
+    let mut indices = vec![in alloc; NONE; columns]?;
+    for (index, column) in live.iter().enumerate() {
+        set(&mut indices, *column, index);
+    }
+    Ok(indices)
+}
+
+/// Whether the row is the other list without the columns that are not live.
+fn is_live_part_of(row: &[usize], other: &[u32], live: &[bool]) -> bool {
+    let mut met = 0;
+    for column in other {
+        if flag(live, *column as usize) {
+            if met >= row.len() || row[met] != *column as usize {
+                return false;
+            }
+            met += 1;
+        }
+    }
+    met == row.len()
+}
+
+/// Whether all columns of the row are marked.
+fn is_marked_throughout(row: &[usize], marks: &[bool]) -> bool {
+    for column in row {
+        if !flag(marks, *column) {
+            return false;
+        }
+    }
+    true
+}
+
+/// Whether a column of the list is marked.
+fn has_marked(list: &[u32], marks: &[bool]) -> bool {
+    for column in list {
+        if flag(marks, *column as usize) {
+            return true;
+        }
+    }
+    false
+}
+
+/// Marks the columns of the list, or clears their marks.
+fn mark_each(marks: &mut Vec<bool>, list: &[u32], to: bool) {
+    for column in list {
+        mark(marks, *column as usize, to);
+    }
+}
+
+/// The first of the rows whose columns are all marked; their number if there is none.
+fn first_inside(rows: &[Vec<usize>], marks: &[bool]) -> usize {
+    for (index, row) in rows.iter().enumerate() {
+        if is_marked_throughout(row, marks) {
+            return index;
+        }
+    }
+    rows.len()
+}
+
+/// The weights in whole numbers.
+fn whole(alloc: Global, weights: &[f64]) -> Result<Vec<u64>, AllocError> {
+    let mut numbers = Vec::with_capacity(alloc, weights.len())?;
+    for weight in weights {
+        numbers.push(saturating_f64_to_u64(*weight * nearest_i64_to_f64(UNIT)))?;
+    }
+    Ok(numbers)
+}
+
+impl Relaxation {
+    /// The relaxation of a table with these rows and live columns, which are below `columns`.
+    pub(crate) fn new(
+        alloc: Global,
+        table: &Compact,
+        rows: &[Vec<usize>],
+        live: &[usize],
+        columns: usize,
+    ) -> Result<Relaxation, AllocError> {
+        Ok(Relaxation {
+            simplex: Simplex::new(alloc, table)?,
+            columns: live.to_vec(alloc)?,
+            indices: indices_of(alloc, live, columns)?,
+            rows: Lists::of(alloc, rows)?,
+            live: vec![in alloc; false; columns]?,
+            taken: vec![in alloc; false; columns]?,
+            gains: PseudoCosts::new(alloc, live.len())?,
+            branched: None,
+            saved: Basis::new(alloc, rows.len(), &vec![in alloc; 0.0; live.len()]?)?,
+            end: End::Spent,
+            cutoff: 0.0,
+        })
+    }
+
+    /// Takes a table for the present one.
+    pub(crate) fn look_at(
+        &mut self,
+        alloc: Global,
+        live: &[usize],
+        taken: &[usize],
+    ) -> Result<(), AllocError> {
+        let columns = self.indices.len();
+        self.live = marked(alloc, live, columns)?;
+        self.taken = marked(alloc, taken, columns)?;
+        Ok(())
+    }
+
+    /// Fixes the columns that are not live; answers how many of them are taken.
+    fn fix_columns(&mut self) -> i64 {
+        let mut ones: i64 = 0;
+        for index in 0..self.columns.len() {
+            let column = number(&self.columns, index);
+            if flag(&self.live, column) {
+                self.simplex.set_bounds(index, 0.0, 1.0);
+            } else if flag(&self.taken, column) {
+                ones = ones.saturating_add(1);
+                self.simplex.set_bounds(index, 1.0, 1.0);
+            } else {
+                self.simplex.set_bounds(index, 0.0, 0.0);
+            }
+        }
+        ones
+    }
+
+    /// Solves the relaxation of the present table, unless no cover within `goal` columns is left.
+    pub(crate) fn solve(&mut self, alloc: Global, goal: i64) -> Result<(), AllocError> {
+        let ones = self.fix_columns();
+        self.cutoff = nearest_i64_to_f64(goal.saturating_add(ones)) + MARGIN;
+        self.simplex.list_open(alloc)?;
+        self.simplex.settle();
+        self.end = self.simplex.optimize(alloc, self.cutoff, MOST_STEPS)?;
+        Ok(())
+    }
+
+    /// The active row of the first table, from an index on, that this row is the live part of; the
+    /// number of rows if there is none.
+    fn matching_row(&self, row: &[usize], from: usize) -> usize {
+        for index in from..self.rows.len() {
+            if self.simplex.is_active(index)
+                && is_live_part_of(row, self.rows.list(index), &self.live)
+            {
+                return index;
+            }
+        }
+        self.rows.len()
+    }
+
+    /// The row of the first table that each row is the live part of.
+    fn first_rows(&self, alloc: Global, rows: &[Vec<usize>]) -> Result<Vec<usize>, AllocError> {
+        let mut origins = vec![in alloc; NONE; rows.len()]?;
+        let mut from: usize = 0;
+        for (index, row) in rows.iter().enumerate() {
+            let origin = self.matching_row(row, from);
+            if origin < self.rows.len() {
+                set(&mut origins, index, origin);
+                from = origin.saturating_add(1);
+            }
+        }
+        Ok(origins)
+    }
+
+    /// The weights of the rows of the table, in whole numbers: those of the relaxation, solved until
+    /// its objective is past `goal` more columns.
+    pub(crate) fn multipliers(
+        &mut self,
+        alloc: Global,
+        rows: &[Vec<usize>],
+        live: &[usize],
+        taken: &[usize],
+        goal: i64,
+    ) -> Result<Vec<u64>, AllocError> {
+        self.look_at(alloc, live, taken)?;
+        let origins = self.first_rows(alloc, rows)?;
+        let used = marked(alloc, &origins, self.rows.len())?;
+        self.simplex.set_active(&used);
+        self.solve(alloc, goal)?;
+        self.note_gain();
+        let mut weights = self.own_weights(alloc, &origins)?;
+        self.hand_over(alloc, rows, &used, &mut weights)?;
+        whole(alloc, &weights)
+    }
+
+    /// The weights of these rows of the first table.
+    fn own_weights(&self, alloc: Global, origins: &[usize]) -> Result<Vec<f64>, AllocError> {
+        let all = self.simplex.weights(self.end);
+        let mut weights = Vec::with_capacity(alloc, origins.len())?;
+        for origin in origins {
+            weights.push(float(all, *origin).max(0.0))?;
+        }
+        Ok(weights)
+    }
+
+    /// Hands the weights of rows that are not in the table over to rows inside them.
+    fn hand_over(
+        &mut self,
+        alloc: Global,
+        rows: &[Vec<usize>],
+        used: &[bool],
+        weights: &mut [f64],
+    ) -> Result<(), AllocError> {
+        let mut marks = vec![in alloc; false; self.indices.len()]?;
+        for index in 0..self.rows.len() {
+            let weight = float(self.simplex.weights(self.end), index);
+            let list = self.rows.list(index);
+            if !flag(used, index) && weight > 1e-9 && !has_marked(list, &self.taken) {
+                mark_each(&mut marks, list, true);
+                add_float(weights, first_inside(rows, &marks), weight);
+                mark_each(&mut marks, list, false);
+            }
+        }
+        Ok(())
+    }
+
+    /// Notes what the last branch gained.
+    fn note_gain(&mut self) {
+        let Some((branching, taken)) = self.branched else {
+            return;
+        };
+        self.branched = None;
+        let room = (self.cutoff - branching.objective).max(MARGIN);
+        let gain = match self.end {
+            End::Optimal => {
+                (self.simplex.basis.objective - branching.objective)
+                    .max(0.0)
+                    .min(room)
+            }
+            End::Spent => return,
+            _ => room,
+        };
+        self.gains
+            .note(branching.index, branching.value, taken, gain);
+    }
+
+    /// Marks the present basis, from which the search branches on the column, first taking it.
+    pub(crate) fn branch(&mut self, alloc: Global, column: usize) -> Result<Mark, AllocError> {
+        let index = number(&self.indices, column);
+        let branching = Branching {
+            index,
+            value: self.simplex.value(index),
+            objective: self.simplex.basis.objective,
+        };
+        self.branched = Some((branching, true));
+        Ok(Mark {
+            basic: self.simplex.basis.marks(alloc)?,
+            active: self.simplex.active().to_vec(alloc)?,
+            branching,
+        })
+    }
+
+    /// Returns to a basis, from which the search goes on without the column.
+    pub(crate) fn go_back(&mut self, alloc: Global, to: &Mark) -> Result<(), AllocError> {
+        self.simplex.go_to(alloc, &to.basic, &to.active)?;
+        self.branched = Some((to.branching, false));
+        Ok(())
+    }
+}

@@ -1,0 +1,437 @@
+//! The linear relaxation of a covering table, by the bounded dual simplex method.
+//!
+//! Each column has a value from 0 to 1, or is fixed at one of these, and each row wants values of at
+//! least 1 together. A basis is kept dual feasible: a column outside it is at the bound that its
+//! reduced cost tells. A step takes the position whose value is furthest outside its bounds by steepest
+//! edge (Forrest and Goldfarb, Steepest-edge simplex algorithms for linear programming, 1992; the
+//! norms are computed anew with the rows of the inverse), and a ratio test with a tolerance (Harris,
+//! Pivot selection methods of the Devex LP code, 1973) names the variable that enters. Costs are
+//! perturbed downwards a little against ties, so that weights stay within the true costs.
+//!
+//! The inverse is kept entry by entry, and computed anew from time to time. Its rows for surpluses of
+//! rows that are not looked at now, the inactive ones, are not kept up, and computed when they are
+//! active again.
+//!
+//! Nothing depends on the figures but hints. With m rows a step takes up to m * m sums, and the
+//! matrix as many numbers.
+
+mod basis;
+mod factor;
+mod pricing;
+
+use crate::compact::Compact;
+use crate::floats::{add_float, float, put_float};
+use crate::lists::Lists;
+use crate::numbers::{SEED, flag, mark, next_random, number};
+pub(crate) use basis::{Basis, NONE};
+use std::alloc::{AllocError, Global};
+use std::num::nearest_u64_to_f64;
+
+/// By how much a value may be outside its bounds.
+const FEASIBLE: f64 = 1e-7;
+
+/// Smaller entries of the tableau are no pivots.
+const LEAST_PIVOT: f64 = 1e-7;
+
+/// The inverse is computed anew after so many pivots.
+const PIVOTS_TO_FACTOR: u32 = 400;
+
+/// So many pivots that turned out wrong end the steps.
+const MOST_TROUBLE: u32 = 5;
+
+/// How the steps ended.
+#[derive(Clone, Copy, PartialEq, Eq)]
+pub(crate) enum End {
+    /// At the optimum.
+    Optimal,
+    /// Past the cutoff.
+    Past,
+    /// There are no values within the bounds.
+    Infeasible,
+    /// After as many steps as they may take.
+    Spent,
+}
+
+/// A variable that may enter the basis.
+#[derive(Clone, Copy)]
+struct Candidate {
+    /// The variable.
+    variable: usize,
+    /// Its entry of the tableau.
+    entry: f64,
+    /// How far it is from 0.
+    size: f64,
+    /// How far its reduced cost is from 0.
+    slack: f64,
+}
+
+/// The relaxation of a table.
+pub(crate) struct Simplex {
+    /// The columns of each row.
+    rows: Lists,
+    /// The rows of each column.
+    column_rows: Lists,
+    /// What each column costs, perturbed.
+    costs: Vec<f64>,
+    /// The least value of each column.
+    lower: Vec<f64>,
+    /// The highest value of each column.
+    upper: Vec<f64>,
+    /// The basis.
+    pub(crate) basis: Basis,
+    /// The rows that are looked at.
+    active: Vec<bool>,
+    /// The columns that were not fixed when the steps began.
+    open: Vec<usize>,
+    /// Those of each row.
+    open_rows: Lists,
+    /// A row of the tableau: an entry for each column.
+    tableau_row: Vec<f64>,
+    /// A column of the tableau: an entry for each position.
+    entering: Vec<f64>,
+    /// Room for a number for each row.
+    room: Vec<f64>,
+    /// What each row wants from the columns in the basis.
+    wanted: Vec<f64>,
+    /// The variables that may enter.
+    candidates: Vec<Candidate>,
+    /// Weights that show that there are no values within the bounds.
+    ray: Vec<f64>,
+    /// How many pivots there were since the inverse was computed.
+    pivots: u32,
+}
+
+// Written out, so that where one ends a proof has one call, and not one for each of its lists.
+impl Drop for Simplex {
+    fn drop(self) {
+        let Simplex {
+            rows: _,
+            column_rows: _,
+            costs: _,
+            lower: _,
+            upper: _,
+            basis: _,
+            active: _,
+            open: _,
+            open_rows: _,
+            tableau_row: _,
+            entering: _,
+            room: _,
+            wanted: _,
+            candidates: _,
+            ray: _,
+            pivots: _,
+        } = self;
+    }
+}
+
+/// What came of a step.
+#[derive(Clone, Copy)]
+enum Step {
+    /// A pivot.
+    Pivoted,
+    /// Figures that were too inexact; the inverse is computed anew.
+    Inexact,
+    /// The end.
+    Ended(End),
+}
+
+/// The costs of columns that each cost one, perturbed downwards by at most a ten thousandth.
+fn perturbed_costs(alloc: Global, columns: usize) -> Result<Vec<f64>, AllocError> {
+    let mut costs = Vec::with_capacity(alloc, columns)?;
+    let mut seed = SEED;
+    for _ in 0..columns {
+        seed = next_random(seed);
+        let part = nearest_u64_to_f64(seed >> 11) / 9007199254740992.0;
+        costs.push(1.0 - 0.0001 * (0.5 + 0.5 * part))?;
+    }
+    Ok(costs)
+}
+
+impl Simplex {
+    /// The relaxation of the table, each of whose columns costs one. None of them is fixed, all are
+    /// at 0, and all rows are active.
+    pub(crate) fn new(alloc: Global, table: &Compact) -> Result<Simplex, AllocError> {
+        let rows = table.rows.len();
+        let columns = table.column_rows.len();
+        let costs = perturbed_costs(alloc, columns)?;
+        let basis = Basis::new(alloc, rows, &costs)?;
+        let mut all_rows = Lists::new(alloc);
+        all_rows.extend_from(&table.rows)?;
+        let mut column_rows = Lists::new(alloc);
+        column_rows.extend_from(&table.column_rows)?;
+        Ok(Simplex {
+            rows: all_rows,
+            column_rows,
+            costs,
+            lower: vec![in alloc; 0.0; columns]?,
+            upper: vec![in alloc; 1.0; columns]?,
+            basis,
+            active: vec![in alloc; true; rows]?,
+            open: Vec::new(alloc),
+            open_rows: Lists::new(alloc),
+            tableau_row: vec![in alloc; 0.0; columns]?,
+            entering: vec![in alloc; 0.0; rows]?,
+            room: vec![in alloc; 0.0; rows]?,
+            wanted: vec![in alloc; 0.0; rows]?,
+            candidates: Vec::new(alloc),
+            ray: vec![in alloc; 0.0; rows]?,
+            pivots: 0,
+        })
+    }
+
+    /// How many rows there are.
+    pub(crate) fn row_count(&self) -> usize {
+        self.rows.len()
+    }
+
+    /// How many columns there are.
+    pub(crate) fn column_count(&self) -> usize {
+        self.costs.len()
+    }
+
+    /// The value of a column.
+    pub(crate) fn value(&self, column: usize) -> f64 {
+        self.basis.value(column)
+    }
+
+    /// Whether a column is not fixed.
+    pub(crate) fn is_free(&self, column: usize) -> bool {
+        float(&self.lower, column) < float(&self.upper, column)
+    }
+
+    /// Whether a row is looked at.
+    pub(crate) fn is_active(&self, row: usize) -> bool {
+        flag(&self.active, row)
+    }
+
+    /// The rows that are looked at.
+    pub(crate) fn active(&self) -> &[bool] {
+        &self.active
+    }
+
+    /// The weights of rows that the last steps ended with.
+    pub(crate) fn weights(&self, end: End) -> &[f64] {
+        match end {
+            End::Infeasible => &self.ray,
+            _ => &self.basis.weights,
+        }
+    }
+
+    /// Copies the basis.
+    pub(crate) fn save(&self, to: &mut Basis) -> Result<(), AllocError> {
+        to.copy_from(&self.basis, &self.active)
+    }
+
+    /// Returns to a copy of a basis that was made with the same active rows.
+    pub(crate) fn restore(&mut self, from: &Basis) -> Result<(), AllocError> {
+        self.basis.copy_from(from, &self.active)
+    }
+
+    /// Sets the bounds of a column; `settle` has to follow.
+    pub(crate) fn set_bounds(&mut self, column: usize, lower: f64, upper: f64) {
+        put_float(&mut self.lower, column, lower);
+        put_float(&mut self.upper, column, upper);
+    }
+
+    /// Lists the columns that are not fixed, for the steps that follow.
+    pub(crate) fn list_open(&mut self, alloc: Global) -> Result<(), AllocError> {
+        self.list_open_columns()?;
+        self.open_rows = Lists::with_capacity(alloc, self.rows.len(), self.rows.size())?;
+        for row in 0..self.rows.len() {
+            self.list_open_of(row)?;
+        }
+        Ok(())
+    }
+
+    /// Lists the columns that are not fixed.
+    fn list_open_columns(&mut self) -> Result<(), AllocError> {
+        self.open.clear();
+        for column in 0..self.costs.len() {
+            if self.is_free(column) {
+                self.open.push(column)?;
+            }
+        }
+        Ok(())
+    }
+
+    /// Lists the columns of a row that are not fixed.
+    fn list_open_of(&mut self, row: usize) -> Result<(), AllocError> {
+        for column in self.rows.list(row) {
+            let place = *column as usize;
+            if float(&self.lower, place) < float(&self.upper, place) {
+                self.open_rows.push(*column)?;
+            }
+        }
+        self.open_rows.end()
+    }
+
+    /// Moves the columns outside the basis to the bounds that their reduced costs tell, and computes
+    /// the values of the others.
+    pub(crate) fn settle(&mut self) {
+        for column in 0..self.costs.len() {
+            if !self.basis.is_basic(column) {
+                let is_high = if self.is_free(column) {
+                    float(&self.basis.reduced_costs, column) < -1e-9
+                } else {
+                    float(&self.lower, column) > 0.5
+                };
+                mark(&mut self.basis.at_one, column, is_high);
+            }
+        }
+        self.compute_values();
+    }
+
+    /// Fixes a column at a value, from where the steps go on.
+    pub(crate) fn fix(&mut self, column: usize, value: f64) {
+        self.set_bounds(column, value, value);
+        if !self.basis.is_basic(column) {
+            self.settle();
+        }
+    }
+
+    /// Makes steps until the optimum or until the objective is past the cutoff.
+    pub(crate) fn optimize(
+        &mut self,
+        alloc: Global,
+        cutoff: f64,
+        most_steps: u32,
+    ) -> Result<End, AllocError> {
+        let mut trouble: u32 = 0;
+        for _ in 0..most_steps {
+            if self.basis.objective > cutoff {
+                return Ok(End::Past);
+            }
+            match self.step(alloc, cutoff)? {
+                Step::Ended(end) => return Ok(end),
+                Step::Inexact => trouble = trouble.saturating_add(1),
+                Step::Pivoted => {}
+            }
+            if trouble > MOST_TROUBLE {
+                return Ok(End::Spent);
+            }
+        }
+        Ok(End::Spent)
+    }
+
+    /// One step of the dual simplex method.
+    fn step(&mut self, alloc: Global, cutoff: f64) -> Result<Step, AllocError> {
+        if self.pivots > PIVOTS_TO_FACTOR {
+            self.factor(alloc)?;
+        }
+        let Some(position) = self.leaving_position() else {
+            return Ok(Step::Ended(End::Optimal));
+        };
+        let (bound, sign) = self.broken_bound(position);
+        let Some(entering) = self.entering_candidate(position, sign)? else {
+            self.fill_ray(position, sign, bound, cutoff);
+            return Ok(Step::Ended(End::Infeasible));
+        };
+        self.basis
+            .fill_entering(&self.column_rows, entering.variable, &mut self.entering);
+        let pivot = float(&self.entering, position);
+        let error = (pivot - entering.entry).abs();
+        if pivot.abs() < LEAST_PIVOT || error > 1e-6 * (1.0 + pivot.abs()) {
+            self.factor(alloc)?;
+            return Ok(Step::Inexact);
+        }
+        self.exchange(position, bound, entering.variable, pivot)?;
+        Ok(Step::Pivoted)
+    }
+
+    /// Lets the variable at the position leave for its bound, and another one enter.
+    fn exchange(
+        &mut self,
+        position: usize,
+        bound: f64,
+        variable: usize,
+        pivot: f64,
+    ) -> Result<(), AllocError> {
+        let leaving = number(&self.basis.basic, position);
+        let reduced_cost = self.reduced_cost(variable);
+        self.move_duals(position, reduced_cost / pivot);
+        self.set_reduced_cost(leaving, 0.0 - reduced_cost / pivot);
+        self.set_reduced_cost(variable, 0.0);
+        let step = (float(&self.basis.values, position) - bound) / pivot;
+        let value = self.nonbasic_value(variable) + step;
+        self.move_values(step);
+        mark(&mut self.basis.at_one, leaving, bound > 0.5);
+        self.basis.objective += reduced_cost * step;
+        self.pivots = self.pivots.saturating_add(1);
+        self.basis.pivot(
+            position,
+            variable,
+            &self.entering,
+            &self.active,
+            &mut self.room,
+        )?;
+        put_float(&mut self.basis.values, position, value);
+        Ok(())
+    }
+
+    /// The value of a variable outside the basis.
+    fn nonbasic_value(&self, variable: usize) -> f64 {
+        if flag(&self.basis.at_one, variable) {
+            1.0
+        } else {
+            0.0
+        }
+    }
+
+    /// The reduced cost of a variable: that of a surplus is the weight of its row.
+    fn reduced_cost(&self, variable: usize) -> f64 {
+        match self.basis.row_of(variable) {
+            None => float(&self.basis.reduced_costs, variable),
+            Some(row) => float(&self.basis.weights, row).max(0.0),
+        }
+    }
+
+    /// Sets the reduced cost of a variable.
+    fn set_reduced_cost(&mut self, variable: usize, reduced_cost: f64) {
+        match self.basis.row_of(variable) {
+            None => put_float(&mut self.basis.reduced_costs, variable, reduced_cost),
+            Some(row) => put_float(&mut self.basis.weights, row, reduced_cost),
+        }
+    }
+
+    /// Moves the reduced costs of open columns and the weights of tight rows by a multiple of the
+    /// row of the tableau.
+    fn move_duals(&mut self, position: usize, multiple: f64) {
+        if multiple == 0.0 {
+            return;
+        }
+        self.move_reduced_costs(multiple);
+        for slot in 0..self.basis.tight.len() {
+            let more = multiple * self.basis.inverse.entry(position, slot);
+            add_float(
+                &mut self.basis.weights,
+                number(&self.basis.tight, slot),
+                more,
+            );
+        }
+    }
+
+    /// Moves the reduced costs of open columns outside the basis.
+    fn move_reduced_costs(&mut self, multiple: f64) {
+        for index in 0..self.open.len() {
+            let column = number(&self.open, index);
+            let entry = float(&self.tableau_row, column);
+            if entry != 0.0 && !self.basis.is_basic(column) {
+                let moved = float(&self.basis.reduced_costs, column) - multiple * entry;
+                let kept = if moved.abs() < 1e-10 { 0.0 } else { moved };
+                put_float(&mut self.basis.reduced_costs, column, kept);
+            }
+        }
+    }
+
+    /// Moves the values of the basis by a multiple of the column of the tableau.
+    fn move_values(&mut self, step: f64) {
+        for position in 0..self.basis.values.len() {
+            add_float(
+                &mut self.basis.values,
+                position,
+                0.0 - step * float(&self.entering, position),
+            );
+        }
+    }
+}

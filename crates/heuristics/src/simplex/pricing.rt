@@ -1,0 +1,190 @@
+//! Which variable leaves the basis, and which one enters.
+
+use super::basis::TINY;
+use super::{Candidate, FEASIBLE, LEAST_PIVOT, Simplex};
+use crate::floats::{
+    add_float, add_float_to_each, fill_floats, float, overwrite_floats, put_float,
+};
+use crate::numbers::number;
+use std::alloc::AllocError;
+
+/// What is added to reduced costs in the ratio test.
+const TOLERANCE: f64 = 1e-9;
+
+/// The least step with the tolerance, over the variables that may enter.
+fn least_step(candidates: &[Candidate]) -> f64 {
+    let mut least = f64::INFINITY;
+    for candidate in candidates {
+        least = least.min((candidate.slack + TOLERANCE) / candidate.size);
+    }
+    least
+}
+
+/// The largest pivot within the step.
+fn largest_pivot(candidates: &[Candidate], step: f64) -> Option<Candidate> {
+    let mut largest = None;
+    let mut size = 0.0;
+    for candidate in candidates {
+        if candidate.size > size && candidate.slack <= step * candidate.size {
+            size = candidate.size;
+            largest = Some(*candidate);
+        }
+    }
+    largest
+}
+
+impl Simplex {
+    /// The bounds of a variable.
+    fn bounds(&self, variable: usize) -> (f64, f64) {
+        if self.basis.row_of(variable).is_some() {
+            (0.0, f64::INFINITY)
+        } else {
+            (float(&self.lower, variable), float(&self.upper, variable))
+        }
+    }
+
+    /// By how much the value at a position is outside its bounds; 0 if it is not, or not kept up.
+    fn excess(&self, position: usize) -> f64 {
+        if !self.basis.is_kept(position, &self.active) {
+            return 0.0;
+        }
+        let (lower, upper) = self.bounds(number(&self.basis.basic, position));
+        let value = float(&self.basis.values, position);
+        if value < lower - FEASIBLE {
+            lower - value
+        } else if value > upper + FEASIBLE {
+            value - upper
+        } else {
+            0.0
+        }
+    }
+
+    /// The position whose value is furthest outside its bounds, measured by the norm of its row.
+    pub(super) fn leaving_position(&self) -> Option<usize> {
+        let mut best = None;
+        let mut highest = 0.0;
+        for position in 0..self.basis.basic.len() {
+            let excess = self.excess(position);
+            let score = excess * excess / float(&self.basis.norms, position);
+            if score > highest {
+                highest = score;
+                best = Some(position);
+            }
+        }
+        best
+    }
+
+    /// The bound that the value at the position breaks, and the sign of the step to it.
+    pub(super) fn broken_bound(&self, position: usize) -> (f64, f64) {
+        let (lower, upper) = self.bounds(number(&self.basis.basic, position));
+        if float(&self.basis.values, position) < lower {
+            (lower, -1.0)
+        } else {
+            (upper, 1.0)
+        }
+    }
+
+    /// Fills in the row of the tableau at the position, for open columns.
+    fn fill_tableau_row(&mut self, position: usize) {
+        fill_floats(&mut self.tableau_row, 0.0);
+        for slot in 0..self.basis.tight.len() {
+            let entry = self.basis.inverse.entry(position, slot);
+            if entry.abs() > TINY {
+                let columns = self.open_rows.list(number(&self.basis.tight, slot));
+                add_float_to_each(&mut self.tableau_row, columns, entry);
+            }
+        }
+        if let Some(row) = self.basis.surplus_row(position) {
+            add_float_to_each(&mut self.tableau_row, self.open_rows.list(row), -1.0);
+        }
+    }
+
+    /// A column outside the basis, if it may enter.
+    fn column_candidate(&self, column: usize, sign: f64) -> Option<Candidate> {
+        let entry = float(&self.tableau_row, column);
+        if entry.abs() <= LEAST_PIVOT || self.basis.is_basic(column) || !self.is_free(column) {
+            return None;
+        }
+        let high = self.nonbasic_value(column) > 0.5;
+        let size = if high {
+            0.0 - sign * entry
+        } else {
+            sign * entry
+        };
+        if size <= LEAST_PIVOT {
+            return None;
+        }
+        Some(Candidate {
+            variable: column,
+            entry,
+            size,
+            slack: float(&self.basis.reduced_costs, column).abs(),
+        })
+    }
+
+    /// The surplus of the tight row with the slot, if it may enter.
+    fn surplus_candidate(&self, position: usize, slot: usize, sign: f64) -> Option<Candidate> {
+        let entry = 0.0 - self.basis.inverse.entry(position, slot);
+        let size = sign * entry;
+        if size <= LEAST_PIVOT {
+            return None;
+        }
+        let row = number(&self.basis.tight, slot);
+        Some(Candidate {
+            variable: self.basis.surplus_of(row),
+            entry,
+            size,
+            slack: float(&self.basis.weights, row).max(0.0),
+        })
+    }
+
+    /// Lists the open columns that may enter.
+    fn list_columns(&mut self, sign: f64) -> Result<(), AllocError> {
+        self.candidates.clear();
+        for index in 0..self.open.len() {
+            let column = number(&self.open, index);
+            if let Some(candidate) = self.column_candidate(column, sign) {
+                self.candidates.push(candidate)?;
+            }
+        }
+        Ok(())
+    }
+
+    /// Lists the tight rows whose surplus may enter.
+    fn list_surpluses(&mut self, position: usize, sign: f64) -> Result<(), AllocError> {
+        for slot in 0..self.basis.tight.len() {
+            if let Some(candidate) = self.surplus_candidate(position, slot, sign) {
+                self.candidates.push(candidate)?;
+            }
+        }
+        Ok(())
+    }
+
+    /// The variable that enters where the one at the position leaves, if there is one.
+    pub(super) fn entering_candidate(
+        &mut self,
+        position: usize,
+        sign: f64,
+    ) -> Result<Option<Candidate>, AllocError> {
+        self.fill_tableau_row(position);
+        self.list_columns(sign)?;
+        self.list_surpluses(position, sign)?;
+        Ok(largest_pivot(&self.candidates, least_step(&self.candidates)))
+    }
+
+    /// Fills in weights that show that no values are within the bounds: far along the row of the
+    /// inverse, past the cutoff.
+    pub(super) fn fill_ray(&mut self, position: usize, sign: f64, bound: f64, cutoff: f64) {
+        let excess = (float(&self.basis.values, position) - bound).abs();
+        let missing = (cutoff + 0.1 - self.basis.objective).max(0.0);
+        let multiple = sign * missing / excess.max(FEASIBLE);
+        overwrite_floats(&mut self.ray, &self.basis.weights);
+        for slot in 0..self.basis.tight.len() {
+            let more = multiple * self.basis.inverse.entry(position, slot);
+            add_float(&mut self.ray, number(&self.basis.tight, slot), more);
+        }
+        if let Some(row) = self.basis.surplus_row(position) {
+            put_float(&mut self.ray, row, 0.0 - multiple);
+        }
+    }
+}

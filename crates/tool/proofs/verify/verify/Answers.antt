@@ -1,5 +1,0 @@
-use Rattle.tool.specs.Answer.{agree}
-use Rattle.tool.proofs.verify.verify.Goals as goal
-
-pub returns : goal.returns
-returns g c = c.judge.ensures (agree c.args.pla.now c.args.other.now) c.agree.ensures
