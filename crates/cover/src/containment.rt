@@ -13,7 +13,7 @@ ghost use Rattle.rows.specs.Marks.{cube_at, is_contained_at, is_absorbed_by, sym
 
 use crate::list::Cover;
 use cube::Symbol;
-use rows::{LiteralCounts, is_same_symbol, references, symbol_contains};
+use rows::{LiteralCounts, is_same_symbol, references_to_cubes, symbol_contains};
 use std::alloc::{AllocError, Global};
 
 // Parts of at most this many cubes are not split: a look at their pairs costs no more.
@@ -206,7 +206,7 @@ fn ranked_inputs(alloc: Global, list: &Cover) -> Result<Vec<(u64, usize)>, Alloc
     ensures { IfOk result (λ weighed. All (λ p. p.1 < list.now.size.inputs) weighed.items) }
 {
     let inputs = list.shape().inputs();
-    let rows = references(alloc, list.as_slice())?;
+    let rows = references_to_cubes(alloc, list.as_slice())?;
     let counts = LiteralCounts::of(alloc, &rows, inputs)?;
     let all = list.len() as u64;
     let mut weighed: Vec<(u64, usize)> = Vec::new(alloc);

@@ -5,7 +5,7 @@ ghost use Rattle.rows.specs.Places.{behind};
 
 use crate::list::Cover;
 use cube::Cube;
-use rows::references;
+use rows::references_to_cubes;
 use std::alloc::AllocError;
 
 // References to the cubes of a cover.
@@ -13,7 +13,7 @@ pub(crate) fn references_to(list: &Cover) -> Result<Vec<&Cube>, AllocError>
     ensures cubes { IfOk result (λ refs. behind refs.items ≡ list.now.cubes) }
     ensures sizes { IfOk result (λ refs. All (λ d. HasSize d.now list.now.size) refs.items) }
 {
-    references(list.allocator(), list.as_slice())
+    references_to_cubes(list.allocator(), list.as_slice())
 }
 
 // References to the cubes of two covers.

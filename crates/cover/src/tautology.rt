@@ -12,7 +12,7 @@ use crate::list::Cover;
 use crate::references::references_to;
 use cube::Cube;
 use regions::{part_left_out, part_left_out_of_each};
-use rows::{references, universal_cube};
+use rows::{references_to_cubes, universal_cube};
 use std::alloc::{AllocError, Global};
 
 // Which of the parts are none.
@@ -64,7 +64,7 @@ impl Cover {
             (λ found. IfSome found (IsLeftOut self.now.size self.now.cubes cube.now)) }
     {
         let alloc = self.allocator();
-        let rows = references(alloc, self.as_slice())?;
+        let rows = references_to_cubes(alloc, self.as_slice())?;
         part_left_out(alloc, &rows, cube)
     }
 

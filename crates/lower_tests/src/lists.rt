@@ -8,7 +8,7 @@ use crate::row_texts::same_shape;
 use crate::rules::{Rows, Rule};
 use cover::Cover;
 use cube::{Cube, Shape};
-use rows::{clone_cubes, references};
+use rows::{clone_cubes, references_to_cubes};
 use std::alloc::{AllocError, Global};
 use std::test::Fail;
 
@@ -62,7 +62,7 @@ pub(crate) fn references_to(alloc: Global, list: &Cover) -> Result<Vec<&Cube>, A
     ensures cubes { IfOk result (λ refs. behind refs.items ≡ list.now.cubes) }
     ensures sizes { IfOk result (λ refs. All (λ d. HasSize d.now list.now.size) refs.items) }
 {
-    references(alloc, list.as_slice())
+    references_to_cubes(alloc, list.as_slice())
 }
 
 // Copies of the cubes of a list.

@@ -9,9 +9,10 @@ use crate::rules::{Rows, Rule, cube_of_rule, list_of};
 use cover::Cover;
 use cube::{Cube, Shape, Symbol};
 use rows::{
-    LiteralCounts, agrees_at, any_meets, count_bits, count_open_literals, first_open_literal,
-    first_row_not_below, has_symbol_at, is_disjoint_from_all, is_same_symbol, lacks_output,
-    literal_of_value, mix, open_bits, opposite, row_hash, sample_size, symbol_contains,
+    LiteralCounts, agrees_at, any_meets, count_bits, count_open_literals, cube_of_output,
+    first_open_literal, first_row_not_below, has_symbol_at, is_disjoint_from_all, is_same_symbol,
+    lacks_output, literal_of_value, open_bits, opposite, row_hash, sample_size, share_output,
+    symbol_contains, universal_cube, word_hash,
 };
 use std::alloc::Global;
 use std::test::Fail;
@@ -270,6 +271,28 @@ fn open_literals_are_found(rt: HostRuntime) -> Result<(), Fail> {
     Ok(())
 }
 
+// Whether the cube of an output has it in common with the cube of all places, and with that of
+// another output only if the outputs are one.
+fn output_is_shared(alloc: Global, shape: Shape, j: usize, other: usize) -> Result<bool, Fail> {
+    if j >= shape.outputs() || other >= shape.outputs() {
+        return Ok(false);
+    }
+    let cube = cube_of_output(alloc, shape, j)?;
+    let all = universal_cube(alloc, shape)?;
+    let shares = share_output(&cube, &cube_of_output(alloc, shape, other)?);
+    Ok(share_output(&cube, &all) && shares == (j == other))
+}
+
+#[test]
+fn outputs_are_shared(rt: HostRuntime) -> Result<(), Fail> {
+    let shape = Shape::new(300, 130).ok_or("limits")?;
+    for j in [0usize, 63, 64, 129] {
+        assert!(rt; output_is_shared(rt.alloc(), shape, j, 64)?);
+        assert!(rt; output_is_shared(rt.alloc(), shape, j, 129)?);
+    }
+    Ok(())
+}
+
 #[test]
 fn equal_rows_have_equal_hashes(rt: HostRuntime) -> Result<(), Fail> {
     let shape = Shape::new(300, 130).ok_or("limits")?;
@@ -278,6 +301,6 @@ fn equal_rows_have_equal_hashes(rt: HostRuntime) -> Result<(), Fail> {
     let other = cube_of_rule(rt.alloc(), shape, Rule::Stairs, 151)?;
     assert!(rt; row_hash(shape, &row, 1) == row_hash(shape, &same, 1));
     assert!(rt; row_hash(shape, &row, 1) != row_hash(shape, &other, 1));
-    assert!(rt; mix(1) != mix(2));
+    assert!(rt; word_hash(1) != word_hash(2));
     Ok(())
 }

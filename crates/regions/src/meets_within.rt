@@ -11,7 +11,7 @@ ghost use Rattle.rows.specs.Places.{places, behind};
 
 use crate::pairwise::{Relation, are_disjoint, are_related};
 use cube::{Cube, Shape};
-use rows::{meets_by_pairs, references};
+use rows::{meets_by_pairs, references_to_cubes};
 use std::alloc::{AllocError, Global};
 
 // Lists of at most this many rows are not halved.
@@ -33,7 +33,7 @@ fn are_meets_held(
         (places (behind others.now))) }
 {
     let meets = meets_by_pairs(alloc, rows, mask)?;
-    let met = references(alloc, &meets)?;
+    let met = references_to_cubes(alloc, &meets)?;
     let depth = shape.inputs();
     are_related(alloc, shape, Relation::Contained, depth, &met, others)
 }

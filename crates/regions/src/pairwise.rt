@@ -16,7 +16,7 @@ ghost use Rattle.rows.specs.Cubes.{AreCubes};
 use crate::region::nearest_first::{are_both_long, are_held_one_by_one};
 use cube::{Cube, Shape, Symbol};
 use rows::{
-    LiteralCounts, is_disjoint_from_all, references, rows_with_compatible_symbol, rows_with_symbol,
+    LiteralCounts, is_disjoint_from_all, references_to_cubes, rows_with_compatible_symbol, rows_with_symbol,
     sample_size,
 };
 use std::alloc::{AllocError, Global};
@@ -223,8 +223,8 @@ pub fn are_disjoint(
     requires mask { AreCubes shape mask.now }
     ensures { IfOk result (λ apart. IsTrue apart ↔ IsDisjoint (places rows.now) (places mask.now)) }
 {
-    let mine = references(alloc, rows)?;
-    let theirs = references(alloc, mask)?;
+    let mine = references_to_cubes(alloc, rows)?;
+    let theirs = references_to_cubes(alloc, mask)?;
     let depth = shape.inputs();
     are_related(alloc, shape, Relation::Disjoint, depth, &mine, &theirs)
 }

@@ -63,7 +63,7 @@ pub fn any_meets(cubes: &[Cube], row: &Cube) -> bool
 }
 
 /// References to the cubes of a list.
-pub fn references(alloc: Global, cubes: &[Cube]) -> Result<Vec<&Cube>, AllocError>
+pub fn references_to_cubes(alloc: Global, cubes: &[Cube]) -> Result<Vec<&Cube>, AllocError>
     ensures { IfOk result (λ refs. behind refs.items ≡ cubes.now) }
 {
     cubes.iter().collect(alloc)

@@ -7,7 +7,7 @@
 //! - [`meets_by_pairs`], the meets of the rows of two lists;
 //! - [`rows_with_symbol`] and [`rows_with_compatible_symbol`], the rows by their symbol at an input.
 //!
-//! The others copy lists, make references to their rows, test symbols, count literals
+//! The others copy lists, make references to their rows, test symbols and outputs, count literals
 //! ([`LiteralCounts`]) and hash rows. Lists of the program's own have a shape, and are covers, in
 //! the crate `cover`; `regions` asks what a list holds, and `sums` makes complete sums.
 //!
@@ -26,19 +26,21 @@ mod hashes;
 mod literal_counts;
 mod meets;
 mod open_literals;
+mod outputs;
 mod sorting;
 mod symbols;
 
 pub use copies::{
-    any_meets, clone_cubes, clone_referents, is_disjoint_from_all, references, with_copies,
+    any_meets, clone_cubes, clone_referents, is_disjoint_from_all, references_to_cubes, with_copies,
 };
 pub use cubes::{cube_of_output, universal_cube};
-pub use hashes::{mix, row_hash};
+pub use hashes::{row_hash, word_hash};
 pub use literal_counts::{LiteralCounts, sample_size};
 pub use meets::{meets_by_pairs, push_meets};
 pub use open_literals::{
     count_bits, count_open_literals, first_open_literal, lacks_output, open_bits,
 };
+pub use outputs::share_output;
 pub use sorting::{first_row_not_below, merge, push_copy, rows_of_both, sort_rows};
 pub use symbols::{
     agrees_at, has_symbol_at, is_same_symbol, literal_of_value, opposite,

@@ -24,7 +24,7 @@ ghost use Rattle.sums.specs.Containing.{ArePieces, Cuts, lies_in_larger as is_in
 
 use crate::absorb::{absorb, drop_absorbed_by};
 use cube::{Cube, Shape};
-use rows::{any_meets, push_copy, rows_of_both, universal_cube};
+use rows::{any_meets, push_copy, rows_of_both, share_output, universal_cube};
 use std::alloc::{AllocError, Global};
 
 // Rows at a distance less than this come before all others, as a cut by them makes few pieces.
@@ -192,16 +192,6 @@ fn cut_by_rows(
         }
     }
     Ok(Some(left))
-}
-
-// Whether the cubes have an output in common.
-fn share_output(cube: &Cube, other: &Cube) -> bool {
-    for w in 0..cube.shape().outputs().div_ceil(64) {
-        if cube.output_bits(w) & other.output_bits(w) != 0 {
-            return true;
-        }
-    }
-    false
 }
 
 // The distance of two cubes: the number of inputs at which they have opposite literals, and one

@@ -10,7 +10,7 @@
 //! low bits, which all outputs depend on, come first, and then many branches are equal.
 
 use cube::{Cube, Shape};
-use rows::mix;
+use rows::word_hash;
 use std::alloc::{AllocError, Global};
 
 // Lists of fewer rows than this are not looked at: what they gain is less than what this costs.
@@ -42,7 +42,7 @@ fn hash_of_other_words(row: &Cube, w: usize) -> u64 {
     let mut hash = 0u64;
     for other in 0..row.shape().inputs() / 32 + 1 {
         if other != w {
-            hash = mix(hash ^ row.literal_bits(other));
+            hash = word_hash(hash ^ row.literal_bits(other));
         }
     }
     hash
@@ -57,7 +57,7 @@ fn add_codes(row: &Cube, w: usize, left_out: u64, sums: &mut [u64]) {
     let mut left = inputs;
     for _ in 0..inputs.count_ones() {
         let input = left.trailing_zeros() as usize / 2;
-        let code = mix(others ^ (literals & !(3 << (2 * (input % 32)))));
+        let code = word_hash(others ^ (literals & !(3 << (2 * (input % 32)))));
         if code & left_out == 0 {
             add_code(input, row.output_bits(0), code, sums);
         }

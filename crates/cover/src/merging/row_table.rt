@@ -1,7 +1,7 @@
 //! Where rows stand in a list, by hashes of their symbols: a hint, looked at before it counts.
 
 use cube::{Cube, Symbol};
-use rows::mix;
+use rows::word_hash;
 use std::alloc::{AllocError, Global};
 
 // At most this many slots are looked at for a hash, from the one that it picks.
@@ -19,8 +19,8 @@ pub(crate) fn symbol_hash(i: usize, symbol: Symbol) -> u64 {
     let number = (i as u64).wrapping_mul(2);
     match symbol {
         Symbol::Dash => 0,
-        Symbol::Zero => mix(mix(number.wrapping_add(1))),
-        Symbol::One => mix(mix(number.wrapping_add(2))),
+        Symbol::Zero => word_hash(word_hash(number.wrapping_add(1))),
+        Symbol::One => word_hash(word_hash(number.wrapping_add(2))),
     }
 }
 

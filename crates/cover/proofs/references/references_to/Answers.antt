@@ -7,7 +7,7 @@ use Rattle.cover.proofs.references.references_to.Goals as goal
 pub returns-clause-sizes : goal.returns-clause-sizes
 returns-clause-sizes c =
     let size = c.args.list.now.size in
-    IfOk-weaker c.references.result _ _
+    IfOk-weaker c.references_to_cubes.result _ _
     (λ refs h. HasSize-references_to size c.args.list.now.cubes (subst (AreCubes size) c.as_slice.ensures.value c.as_slice.ensures.cubes) refs.items
     (h ∙ c.as_slice.ensures.value))
-    c.references.ensures
+    c.references_to_cubes.ensures

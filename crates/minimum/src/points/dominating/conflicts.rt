@@ -10,13 +10,3 @@ pub(crate) fn conflicts(cube: &Cube, row: &Cube, w: usize) -> u64 {
     let (mine, theirs) = (cube.literal_bits(w), row.literal_bits(w));
     (((mine >> 1) & theirs) | (mine & (theirs >> 1))) & EVEN
 }
-
-/// Whether the two have an output in common.
-pub(crate) fn share_output(cube: &Cube, row: &Cube) -> bool {
-    for w in 0..cube.shape().outputs() / 64 + 1 {
-        if cube.output_bits(w) & row.output_bits(w) != 0 {
-            return true;
-        }
-    }
-    false
-}

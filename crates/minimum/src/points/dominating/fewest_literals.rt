@@ -10,27 +10,15 @@ ghost use Rattle.std.specs.Prelude.{◌≡◌, true, IfOk, IfSome, OnOk};
 ghost use Rattle.cube.specs.Cube.{IsCube, IsSubset, SameSize, holds};
 ghost use Rattle.covering.specs.declared.choice.Choice.TheVariants.{Literals};
 ghost use Rattle.minimum.specs.Points.{IsUpTo};
-ghost use Rattle.minimum.specs.Dominating.{HasNoLiteral, IsBestFreed, IsNoWorse, AreNoBetter};
+ghost use Rattle.minimum.specs.Dominating.{IsBestFreed, IsNoWorse, AreNoBetter};
 
 use crate::points::dominating::literal_search::{LiteralSearch, Step, has_input};
 use crate::points::dominating::open_points::meets_row;
 use cover::Cover;
-use cube::{Cube, Shape, Symbol};
+use cube::{Cube, Symbol};
+use rows::universal_cube;
 use std::alloc::{AllocError, Global};
 use std::cmp::Ordering;
-
-/// The cube of all places.
-fn whole_cube(alloc: Global, shape: Shape) -> Result<Cube, AllocError>
-    ensures none { IfOk result HasNoLiteral }
-    ensures cube { IfOk result (IsCube shape) }
-{
-    let symbols = vec![in alloc; Symbol::Dash; shape.inputs()]?;
-    let outputs = vec![in alloc; true; shape.outputs()]?;
-    match Cube::from_symbols(alloc, shape, &symbols, &outputs)? {
-        Some(cube) => Ok(cube),
-        None => unreachable!(),
-    }
-}
 
 /// The cube without its literals at the inputs that are not in a set.
 fn with_literals_in(off: &Cover, cube: &Cube, kept: &[u64]) -> Result<Cube, AllocError>
@@ -135,7 +123,7 @@ pub(crate) fn fewest_literals(
         return Ok(None);
     };
     let best = with_literals_in(off, cube, &search.best)?;
-    let wide = whole_cube(alloc, off.shape())?;
+    let wide = universal_cube(alloc, off.shape())?;
     let depth = off.shape().inputs().saturating_add(2);
     if !is_best_between(off, cube, &wide, &best, &search.steps, &mut 0, depth)? {
         return Ok(None);

@@ -9,9 +9,10 @@
 //!
 //! What it tried is written down in steps, so that they can be looked at one by one.
 
-use crate::points::dominating::conflicts::{conflicts, share_output};
+use crate::points::dominating::conflicts::conflicts;
 use cover::Cover;
 use cube::Cube;
+use rows::share_output;
 use std::alloc::{AllocError, Global};
 
 /// A step of a search among the cubes that contain a cube and keep some literals.
