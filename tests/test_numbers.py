@@ -40,11 +40,11 @@ CONSTANTS = {
     "rows of wide growth": ("crates/minimum/src", "if inputs > 40 { # } else"),
     "wide": ("crates/minimum/src", "if inputs > # { 100_000 }"),
     "batch": ("crates/covering/src", "const BATCH_TABLES: u64 = #;"),
-    "quick tables": ("crates/heuristics/src/warm_start.rt", "const TABLES: u64 = #;"),
-    "few quick tables": ("crates/heuristics/src/warm_start.rt", "const FEW_TABLES: u64 = #;"),
+    "quick tables": ("crates/warm_start/src/warm_start.rt", "const TABLES: u64 = #;"),
+    "few quick tables": ("crates/warm_start/src/warm_start.rt", "const FEW_TABLES: u64 = #;"),
     "tables to reduce": ("crates/covering/src", "const TABLES_TO_REDUCE: u64 = #;"),
-    "relaxed rows": ("crates/heuristics/src/relaxation.rt", "const MOST_ROWS: usize = #;"),
-    "relaxed columns": ("crates/heuristics/src/relaxation.rt", "const MOST_COLUMNS: usize = #;"),
+    "relaxed rows": ("crates/relaxation/src/relaxation.rt", "const MOST_ROWS: usize = #;"),
+    "relaxed columns": ("crates/relaxation/src/relaxation.rt", "const MOST_COLUMNS: usize = #;"),
     "many points": ("crates/minimum/src/points/rounds.rt", "const MANY_POINTS: usize = #;"),
     "merged rows": ("crates/minimum/src/fewer_rows.rt", "const MANY_ROWS: usize = #;"),
     "kept numbers": ("crates", "const SIZE: usize = #;"),
@@ -111,7 +111,7 @@ SENTENCES = (
     ("docs/statement.py", "# inputs and outputs and lines of # bytes", "older inputs", "older line bytes"),
     ("mutants/run", "processors and # GB of memory for each", "proof memory"),
     ("crates/cover/src/lib.rt", "before it takes # GB", "kept numbers"),
-    ("crates/heuristics/src/lib.rt", "//! linear relaxation for two square matrices with as many rows as the table, which has up to #", "relaxed rows"),
+    ("crates/relaxation/src/lib.rt", "//! relaxation memory for two square matrices of m rows; m is at most #", "relaxed rows"),
 )
 
 # What a page names where the code has another unit: a list that grows takes its old and its new place, of four bytes a number.

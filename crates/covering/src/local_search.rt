@@ -13,7 +13,8 @@ use crate::choice::{Choice, total_cost};
 use crate::columns::{rising_contains, rising_meets_all};
 use crate::marks::is_marked;
 use crate::table::Table;
-use heuristics::{Goal, local_search, marks_of};
+use heuristics::{Goal, local_search};
+use number_lists::marks_of;
 use std::alloc::{AllocError, Global};
 
 /// The most steps of a local search.

@@ -18,8 +18,9 @@ use crate::choice::Choice;
 use crate::columns::{copy_of, union_of};
 use crate::marks::{all_kept, marked_columns, others, untouched_rows};
 use crate::table::Table;
-use heuristics::{Effort, side_hint};
+use heuristics::side_hint;
 use std::alloc::{AllocError, Global};
+use warm_start::Effort;
 
 /// Two tables of parts that share no column.
 #[derive(Drop)]

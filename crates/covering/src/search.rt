@@ -18,10 +18,10 @@ use crate::columns::{contains, copy_of};
 use crate::lagrangian::lagrangian;
 use crate::marks::{all_kept, all_marked};
 use crate::table::Table;
-use heuristics::{
-    Compact, Goal, Multipliers, WarmStart, is_worth_a_bound, likeliest, many_steps, row_counts,
-};
+use heuristics::{Goal, Multipliers, likeliest, many_steps, row_counts};
+use number_lists::Compact;
 use std::alloc::{AllocError, Global};
+use warm_start::{WarmStart, is_worth_a_bound};
 
 /// More tables than any search looks at.
 pub(crate) const UNLIMITED: u64 = u64::MAX;

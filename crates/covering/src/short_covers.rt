@@ -5,8 +5,8 @@ ghost use Rattle.covering.specs.Cover.{IsCover};
 
 use crate::choice::Choice;
 use crate::table::Table;
-use heuristics::{Effort, WarmStart};
 use std::alloc::{AllocError, Global};
+use warm_start::{Effort, WarmStart};
 
 /// A short cover: the best of a local search, on the table as a search reduces it. It costs these
 /// reductions and some steps a row, and never a branch.

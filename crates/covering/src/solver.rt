@@ -23,8 +23,9 @@ use crate::exhaustive::least_cover_plain;
 use crate::marks::{all_but, marked_columns, others};
 use crate::search::{Stop, UNLIMITED};
 use crate::table::Table;
-use heuristics::{Effort, Goal, WarmStart, batch, is_worth_a_bound};
+use heuristics::{Goal, batch};
 use std::alloc::{AllocError, Global};
+use warm_start::{Effort, WarmStart, is_worth_a_bound};
 
 /// A table with so few live columns is solved by trying all choices.
 const FEW: usize = 8;

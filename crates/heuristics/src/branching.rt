@@ -1,7 +1,7 @@
 //! Which column a search branches on, and which columns it asks for together; also how many rows
 //! each column is in.
 
-use crate::numbers::{at, mark};
+use number_lists::{at, mark};
 use std::alloc::{AllocError, Global};
 
 /// Adds one at each column of the row.

@@ -4,7 +4,7 @@
 //! structure (Tarjan, Efficiency of a good but not linear set union algorithm, 1975), and whole
 //! components are put on one side until it has half of the rows.
 
-use crate::numbers::{mark, number, set};
+use number_lists::{mark, number, set};
 use std::alloc::{AllocError, Global};
 
 /// The column that stands for the component of this one. The path to it is halved.

@@ -9,40 +9,35 @@
 //! short of the goal, they go on from weights a quarter of the way to their mean. A step reads all
 //! rows some times.
 
-use crate::compact::Compact;
 use crate::goal::Goal;
-use crate::lists::Lists;
-use crate::numbers::{add_at, add_to_each, at, flag, number, overwrite, put, total};
+use number_lists::{Compact, Lists, UNIT, add_at, add_to_each, at, flag, number, overwrite, put, total};
 use std::alloc::{AllocError, Global};
 
 /// The highest likelihood of a column.
 const LIKELIEST: i64 = 1048576;
 
-/// The multiplier of a column where columns cost the same.
-pub(crate) const UNIT: i64 = 16777216;
-
 /// The most steps for a bound.
-pub(crate) const STEPS: u32 = 600;
+pub const STEPS: u32 = 600;
 
 /// The most for a bound that continues from another and only drops columns.
-pub(crate) const FEW_STEPS: u32 = 30;
+pub const FEW_STEPS: u32 = 30;
 
 /// The first length of a step.
-pub(crate) const PACE: i64 = 4096;
+pub const PACE: i64 = 4096;
 
 /// The first length where the steps continue from another table's and columns cost the same.
-pub(crate) const NEAR_PACE: i64 = 2048;
+pub const NEAR_PACE: i64 = 2048;
 
 /// Once in this many steps the weights are polished, and it is tested whether the goal is within
 /// reach.
 const SPAN: u32 = 25;
 
 /// The steps are given up if this many times the last gain would not reach the goal.
-pub(crate) const REACH: i64 = 20;
+pub const REACH: i64 = 20;
 
 /// The same number as `REACH`, where the steps continue from another table's and columns cost the
 /// same.
-pub(crate) const NEAR_REACH: i64 = 4;
+pub const NEAR_REACH: i64 = 4;
 
 /// The least length of a step; shorter ones gain nothing.
 const LAST_PACE: i64 = 16;
@@ -67,13 +62,13 @@ pub struct Multipliers {
 
 /// Weights of rows and the multiplier of a column, with their value.
 #[derive(Drop)]
-pub(crate) struct Point {
+pub struct Point {
     /// The Lagrangian bound less the goal.
-    pub(crate) value: i64,
+    pub value: i64,
     /// The weight of each row.
-    pub(crate) weights: Vec<i64>,
+    pub weights: Vec<i64>,
     /// The multiplier of a column.
-    pub(crate) column: i64,
+    pub column: i64,
 }
 
 /// Which columns are overloaded, and what this means for rows.
@@ -92,13 +87,13 @@ struct Marks {
 }
 
 /// The state of the steps: the present weights, their direction, and the best weights so far.
-pub(crate) struct Ascent {
+pub struct Ascent {
     /// The weight of each row.
     weights: Vec<i64>,
     /// The multiplier of a column.
     column: i64,
     /// The multiplier of each unit of a column's cost; 0 where columns cost the same.
-    pub(crate) cost: i64,
+    pub cost: i64,
     /// The direction of each weight.
     direction: Vec<i64>,
     /// The direction of the multiplier of a column.
@@ -110,9 +105,9 @@ pub(crate) struct Ascent {
     /// Which columns are overloaded.
     marks: Marks,
     /// The step with the best value.
-    pub(crate) top: Point,
+    pub top: Point,
     /// The polished weights with the best value.
-    pub(crate) best: Point,
+    pub best: Point,
     /// The length of a step.
     pace: i64,
     /// How many steps there were without a gain.
@@ -141,7 +136,7 @@ impl Drop for Ascent {
 
 /// How long the steps go on.
 #[derive(Clone, Copy)]
-pub(crate) struct Course {
+pub struct Course {
     /// The last step.
     last: u32,
     /// How many steps there are before a restart.
@@ -156,7 +151,7 @@ pub(crate) struct Course {
 
 impl Course {
     /// The course of the first steps.
-    pub(crate) fn new(steps: u32, reach: i64) -> Course {
+    pub fn new(steps: u32, reach: i64) -> Course {
         Course {
             last: steps,
             steps,
@@ -438,7 +433,7 @@ fn clear(numbers: &mut [i64]) {
 impl Ascent {
     /// The start of the steps, from these weights, with steps of this length. `column` is the
     /// multiplier of a column where columns have different costs.
-    pub(crate) fn new(
+    pub fn new(
         alloc: Global,
         table: &Compact,
         weights: Vec<i64>,
@@ -575,7 +570,7 @@ impl Ascent {
 
     /// Notes the present weights, and goes on from them to the next; answers whether the steps are
     /// over.
-    pub(crate) fn go_on(
+    pub fn go_on(
         &mut self,
         alloc: Global,
         table: &Compact,
@@ -672,12 +667,12 @@ impl Ascent {
     }
 
     /// How likely each column is in a cover, as far as the steps tell.
-    pub(crate) fn likely(&self) -> &[i64] {
+    pub fn likely(&self) -> &[i64] {
         &self.marks.likely
     }
 
     /// The best multipliers, as the caller checks them.
-    pub(crate) fn multipliers(&self, alloc: Global) -> Result<Multipliers, AllocError> {
+    pub fn multipliers(&self, alloc: Global) -> Result<Multipliers, AllocError> {
         let mut weights = Vec::with_capacity(alloc, self.best.weights.len())?;
         for weight in &self.best.weights {
             weights.push(u64::try_from((*weight).max(0)).unwrap_or(0))?;

@@ -6,10 +6,9 @@
 //! only after another column of its rows was added (Cai, Su, Luo and Sattar, NuMVC: an efficient
 //! local search algorithm for minimum vertex cover, 2013).
 
-use crate::compact::Compact;
 use crate::goal::Goal;
-use crate::numbers::{
-    SEED, add_at, add_to, add_to_each, at, flag, mark, marked, next_random, number, put, set,
+use number_lists::{
+    Compact, SEED, add_at, add_to, add_to_each, at, flag, mark, marked, next_random, number, put, set,
 };
 use std::alloc::{AllocError, Global};
 

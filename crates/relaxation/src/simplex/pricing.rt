@@ -5,7 +5,7 @@ use super::{Candidate, FEASIBLE, LEAST_PIVOT, Simplex};
 use crate::floats::{
     add_float, add_float_to_each, fill_floats, float, overwrite_floats, put_float,
 };
-use crate::numbers::number;
+use number_lists::number;
 use std::alloc::AllocError;
 
 /// What is added to reduced costs in the ratio test.

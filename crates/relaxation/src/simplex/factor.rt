@@ -6,7 +6,7 @@ use super::basis::NONE;
 use crate::floats::{
     add_float_to_each, add_multiple, fill_floats, float, inner_product, put_float, sum_at,
 };
-use crate::numbers::{flag, mark, number};
+use number_lists::{flag, mark, number};
 use std::alloc::{AllocError, Global};
 
 /// Smaller entries are no pivots of a factorization.

@@ -4,13 +4,10 @@
 //! are no longer live at 0. Only rows of the table are active. The steps go on from table to table;
 //! where a search returns to a table, a [`Mark`] tells its basis.
 
-use crate::compact::Compact;
 use crate::floats::{add_float, float, put_float};
-use crate::lists::Lists;
-use crate::numbers::{flag, mark, marked, number, set};
 use crate::reliability::PseudoCosts;
 use crate::simplex::{Basis, End, NONE, Simplex};
-use crate::subgradient::UNIT;
+use number_lists::{Compact, Lists, UNIT, flag, mark, marked, number, set};
 use std::alloc::{AllocError, Global};
 use std::num::{nearest_i64_to_f64, saturating_f64_to_u64};
 
@@ -60,7 +57,7 @@ impl Drop for Mark {
 
 impl Mark {
     /// No basis.
-    pub(crate) fn none(alloc: Global) -> Mark {
+    pub fn none(alloc: Global) -> Mark {
         Mark {
             basic: Vec::new(alloc),
             active: Vec::new(alloc),
@@ -74,7 +71,7 @@ impl Mark {
 }
 
 /// The linear relaxation of the tables of a search.
-pub(crate) struct Relaxation {
+pub struct Relaxation {
     /// The relaxation of the present table.
     pub(crate) simplex: Simplex,
     /// The column of each index.
@@ -120,7 +117,7 @@ impl Drop for Relaxation {
 }
 
 /// Whether a table is small enough for the relaxation.
-pub(crate) fn is_small_enough(rows: usize, columns: usize) -> bool {
+pub fn is_small_enough(rows: usize, columns: usize) -> bool {
     rows <= MOST_ROWS && columns <= MOST_COLUMNS
 }
 
@@ -195,7 +192,7 @@ fn whole(alloc: Global, weights: &[f64]) -> Result<Vec<u64>, AllocError> {
 
 impl Relaxation {
     /// The relaxation of a table with these rows and live columns, which are below `columns`.
-    pub(crate) fn new(
+    pub fn new(
         alloc: Global,
         table: &Compact,
         rows: &[Vec<usize>],
@@ -286,7 +283,7 @@ impl Relaxation {
 
     /// The weights of the rows of the table, in whole numbers: those of the relaxation, solved until
     /// its objective is past `goal` more columns.
-    pub(crate) fn multipliers(
+    pub fn multipliers(
         &mut self,
         alloc: Global,
         rows: &[Vec<usize>],
@@ -357,7 +354,7 @@ impl Relaxation {
     }
 
     /// Marks the present basis, from which the search branches on the column, first taking it.
-    pub(crate) fn branch(&mut self, alloc: Global, column: usize) -> Result<Mark, AllocError> {
+    pub fn branch(&mut self, alloc: Global, column: usize) -> Result<Mark, AllocError> {
         let index = number(&self.indices, column);
         let branching = Branching {
             index,
@@ -373,7 +370,7 @@ impl Relaxation {
     }
 
     /// Returns to a basis, from which the search goes on without the column.
-    pub(crate) fn go_back(&mut self, alloc: Global, to: &Mark) -> Result<(), AllocError> {
+    pub fn go_back(&mut self, alloc: Global, to: &Mark) -> Result<(), AllocError> {
         self.simplex.go_to(alloc, &to.basic, &to.active)?;
         self.branched = Some((to.branching, false));
         Ok(())

@@ -6,9 +6,8 @@
 //! the columns of the full inverse for other rows are those of their surpluses.
 
 use crate::floats::{eliminate, fill_floats, float, overwrite_floats, put_float, scale};
-use crate::lists::Lists;
 use crate::matrix::Matrix;
-use crate::numbers::{flag, mark, number, set};
+use number_lists::{Lists, flag, mark, number, set};
 use std::alloc::{AllocError, Global};
 
 /// No variable, position or slot.

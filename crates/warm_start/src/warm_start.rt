@@ -7,15 +7,14 @@
 //! from, row by row. A row keeps its number from table to table, so that a branch hands back what
 //! it has learned.
 
-use crate::compact::Compact;
 use crate::effort::Effort;
-use crate::goal::Goal;
-use crate::lists::Lists;
-use crate::numbers::{SEED, at, flag, marked, next_random, number, put, set};
-use crate::relaxation::{Mark, Relaxation, is_small_enough};
-use crate::subgradient::{
-    Ascent, Course, FEW_STEPS, Multipliers, NEAR_PACE, NEAR_REACH, PACE, REACH, STEPS, UNIT,
+use heuristics::{
+    Ascent, Course, FEW_STEPS, Goal, Multipliers, NEAR_PACE, NEAR_REACH, PACE, REACH, STEPS,
 };
+use number_lists::{
+    Compact, Lists, SEED, UNIT, at, flag, marked, next_random, number, put, set,
+};
+use relaxation::{Mark, Relaxation, is_small_enough};
 use std::alloc::{AllocError, Global};
 
 /// Whether to compute a bound again: `before` is how many columns there were at the last one, `now`

@@ -7,9 +7,9 @@
 //! from the most promising one on, until some in a row are no better.
 
 use crate::floats::{add_float, float};
-use crate::numbers::{add_to, number};
 use crate::relaxation::Relaxation;
 use crate::simplex::{End, NONE};
+use number_lists::{add_to, number};
 use std::alloc::{AllocError, Global};
 use std::num::{nearest_u64_to_f64, saturating_f64_to_u64};
 
@@ -144,7 +144,7 @@ enum Look {
 
 impl Relaxation {
     /// A live column to branch on, if one can be told.
-    pub(crate) fn branching_column(
+    pub fn branching_column(
         &mut self,
         alloc: Global,
         live: &[usize],

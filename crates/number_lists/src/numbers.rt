@@ -4,22 +4,22 @@
 use std::alloc::{AllocError, Global};
 
 /// The seed of the sequence.
-pub(crate) const SEED: u64 = 0x9E3779B97F4A7C15;
+pub const SEED: u64 = 0x9E3779B97F4A7C15;
 
 /// The next number of the sequence (Marsaglia, Xorshift RNGs, 2003).
-pub(crate) fn next_random(seed: u64) -> u64 {
+pub fn next_random(seed: u64) -> u64 {
     let a = seed ^ (seed << 13);
     let b = a ^ (a >> 7);
     b ^ (b << 17)
 }
 
 /// The number in 32 bits; a larger one becomes the largest of these.
-pub(crate) fn small(number: usize) -> u32 {
+pub fn small(number: usize) -> u32 {
     u32::try_from(number).unwrap_or(u32::MAX)
 }
 
 /// The number at the index, or 0 past the end.
-pub(crate) fn at(numbers: &[i64], index: usize) -> i64 {
+pub fn at(numbers: &[i64], index: usize) -> i64 {
     if index < numbers.len() {
         numbers[index]
     } else {
@@ -28,21 +28,21 @@ pub(crate) fn at(numbers: &[i64], index: usize) -> i64 {
 }
 
 /// Sets the number at the index; does nothing past the end.
-pub(crate) fn put(numbers: &mut Vec<i64>, index: usize, number: i64) {
+pub fn put(numbers: &mut Vec<i64>, index: usize, number: i64) {
     if index < numbers.len() {
         numbers[index] = number;
     }
 }
 
 /// Adds `amount` to the number at the index; does nothing past the end.
-pub(crate) fn add_at(numbers: &mut Vec<i64>, index: usize, amount: i64) {
+pub fn add_at(numbers: &mut Vec<i64>, index: usize, amount: i64) {
     if index < numbers.len() {
         numbers[index] = numbers[index].wrapping_add(amount);
     }
 }
 
 /// Adds `amount` to the number of each of the row's columns.
-pub(crate) fn add_to_each(numbers: &mut [i64], row: &[u32], amount: i64) {
+pub fn add_to_each(numbers: &mut [i64], row: &[u32], amount: i64) {
     for column in row {
         let column = *column as usize;
         if column < numbers.len() {
@@ -52,14 +52,14 @@ pub(crate) fn add_to_each(numbers: &mut [i64], row: &[u32], amount: i64) {
 }
 
 /// Overwrites `numbers` with `others`, if there are as many.
-pub(crate) fn overwrite(numbers: &mut [i64], others: &[i64]) {
+pub fn overwrite(numbers: &mut [i64], others: &[i64]) {
     if numbers.len() == others.len() {
         numbers.copy_from_slice(others);
     }
 }
 
 /// The sum of the numbers.
-pub(crate) fn total(numbers: &[i64]) -> i64 {
+pub fn total(numbers: &[i64]) -> i64 {
     let mut sum: i64 = 0;
     for number in numbers {
         sum = sum.wrapping_add(*number);
@@ -68,7 +68,7 @@ pub(crate) fn total(numbers: &[i64]) -> i64 {
 }
 
 /// The number at the index, or 0 past the end.
-pub(crate) fn number(numbers: &[usize], index: usize) -> usize {
+pub fn number(numbers: &[usize], index: usize) -> usize {
     if index < numbers.len() {
         numbers[index]
     } else {
@@ -77,37 +77,33 @@ pub(crate) fn number(numbers: &[usize], index: usize) -> usize {
 }
 
 /// Sets the number at the index; does nothing past the end.
-pub(crate) fn set(numbers: &mut Vec<usize>, index: usize, number: usize) {
+pub fn set(numbers: &mut Vec<usize>, index: usize, number: usize) {
     if index < numbers.len() {
         numbers[index] = number;
     }
 }
 
 /// Adds `amount` to the number at the index, which is 0 past the end; answers the sum.
-pub(crate) fn add_to(numbers: &mut Vec<usize>, index: usize, amount: usize) -> usize {
+pub fn add_to(numbers: &mut Vec<usize>, index: usize, amount: usize) -> usize {
     let sum = number(numbers, index).wrapping_add(amount);
     set(numbers, index, sum);
     sum
 }
 
 /// Whether the index is marked.
-pub(crate) fn flag(flags: &[bool], index: usize) -> bool {
+pub fn flag(flags: &[bool], index: usize) -> bool {
     index < flags.len() && flags[index]
 }
 
 /// Sets or clears the mark at the index; does nothing past the end.
-pub(crate) fn mark(flags: &mut Vec<bool>, index: usize, to: bool) {
+pub fn mark(flags: &mut Vec<bool>, index: usize, to: bool) {
     if index < flags.len() {
         flags[index] = to;
     }
 }
 
 /// `end` marks, of which those at the indices are set.
-pub(crate) fn marked(
-    alloc: Global,
-    indices: &[usize],
-    end: usize,
-) -> Result<Vec<bool>, AllocError> {
+pub fn marked(alloc: Global, indices: &[usize], end: usize) -> Result<Vec<bool>, AllocError> {
     let mut marks = vec![in alloc; false; end]?;
     for index in indices {
         mark(&mut marks, *index, true);

@@ -19,11 +19,9 @@ mod basis;
 mod factor;
 mod pricing;
 
-use crate::compact::Compact;
 use crate::floats::{add_float, float, put_float};
-use crate::lists::Lists;
-use crate::numbers::{SEED, flag, mark, next_random, number};
 pub(crate) use basis::{Basis, NONE};
+use number_lists::{Compact, Lists, SEED, flag, mark, next_random, number};
 use std::alloc::{AllocError, Global};
 use std::num::nearest_u64_to_f64;
 

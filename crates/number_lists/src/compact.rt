@@ -4,14 +4,17 @@ use crate::lists::Lists;
 use crate::numbers::{at, small};
 use std::alloc::{AllocError, Global};
 
+/// What a column that costs one counts in whole numbers, by which weights of rows are measured.
+pub const UNIT: i64 = 16777216;
+
 /// A table whose live columns are renumbered from 0 on, in their order.
 pub struct Compact {
     /// The columns of each row.
-    pub(crate) rows: Lists,
+    pub rows: Lists,
     /// The rows of each column.
-    pub(crate) column_rows: Lists,
+    pub column_rows: Lists,
     /// What each column costs.
-    pub(crate) costs: Vec<i64>,
+    pub costs: Vec<i64>,
 }
 
 // Written out, so that where one ends a proof has one call, and not one for each of its lists.
@@ -94,7 +97,7 @@ impl Compact {
     }
 
     /// Whether the columns have different costs.
-    pub(crate) fn is_uneven(&self) -> bool {
+    pub fn is_uneven(&self) -> bool {
         let mut uneven = false;
         for cost in &self.costs {
             uneven = uneven || *cost != at(&self.costs, 0);
