@@ -15,7 +15,7 @@ sys.dont_write_bytecode = True
 
 import as_rust  # noqa: E402
 
-WAYS, NEEDED = "minimum/ways", "minimum/as_needed"
+WAYS, NEEDED = "minimum/way_hints", "minimum/as_needed"
 POINTS, SOURCE, ROUNDS = "minimum/points", "minimum/points/source", "minimum/points/rounds"
 COLUMNS = "minimum/points/dominating"
 CONSENSUS = "minimum/essential_by_neighbours/consensus_pairs"
@@ -48,21 +48,21 @@ NEVER_AS_NEEDED = [
 POINTS_OF_PRIMES = [(WAYS, "sets.on().shape().inputs() > 20", "sets.on().shape().inputs() > 0")]
 NO_POINTS_OF_PRIMES = [(WAYS, "sets.on().shape().inputs() > 20", "sets.on().shape().inputs() > 2000")]
 SHORT_COVERS = [(ROUNDS, "FEW_LEFT_OUT: usize = 20", "FEW_LEFT_OUT: usize = 0"),
-                (ROUNDS, "MANY_POINTS: usize = 1_200", "MANY_POINTS: usize = 2")]
+                (ROUNDS, "MOST_POINTS_FOR_LEAST: usize = 1_200", "MOST_POINTS_FOR_LEAST: usize = 2")]
 FEW_ROUNDS = [(ROUNDS, "MOST_ROUNDS: usize = 200", "MOST_ROUNDS: usize = 2")]
 NO_FEW_PRIMES = [(SOURCE, "FEW_PRIMES: usize = 40", "FEW_PRIMES: usize = 0")]
 FEW_LOOKS = [(POINTS, "[200_000_000, 4_000_000_000]", "[15, 60]")]
 FEW_PRIMES_OF_A_POINT = [(SOURCE, "MOST_PRIMES: usize = 30_000", "MOST_PRIMES: usize = 3")]
 FEW_NEEDED_ROUNDS = [(NEEDED, "MOST_ROUNDS: usize = 2_000", "MOST_ROUNDS: usize = 6")]
-ROWS_AROUND = [(COLUMNS, "MANY_ROWS: usize = 200", "MANY_ROWS: usize = 0"),
-               (COLUMNS, "MANY_POINTS: usize = 100", "MANY_POINTS: usize = 0")]
+ROWS_AROUND = [(COLUMNS, "LEAST_ROWS_AROUND: usize = 200", "LEAST_ROWS_AROUND: usize = 0"),
+               (COLUMNS, "LEAST_POINTS_AROUND: usize = 100", "LEAST_POINTS_AROUND: usize = 0")]
 FEW_WORDS = [(NEEDED, "MOST_WORDS: usize = 4_000_000_000", "MOST_WORDS: usize = 300")]
 NO_CUBES_OF_OFF = [(WAYS, "MOST_OF_OFF: usize = 200_000", "MOST_OF_OFF: usize = 0")]
 FEW_CUBES_OF_OFF = [(WAYS, "MOST_OF_OFF: usize = 200_000", "MOST_OF_OFF: usize = 2"),
                     (WAYS, "MOST_ROWS_OF_OFF: usize = 4_000_000", "MOST_ROWS_OF_OFF: usize = 4")]
 MERGED = [
     (MERGING, "LEAST_ROWS: usize = 64", "LEAST_ROWS: usize = 2"),
-    ("minimum/fewer_rows", "MANY_ROWS: usize = 2_000", "MANY_ROWS: usize = 0"),
+    ("minimum/fewer_rows", "LONG_LIST: usize = 2_000", "LONG_LIST: usize = 0"),
     ("minimum/fewer_rows", "row.literals().saturating_mul(4) < inputs.saturating_mul(3)", "inputs > 2000"),
     ("cover/merging/input_order", "count.saturating_mul(4).saturating_mul(step) >= rows.len()",
      "count.saturating_add(step) > 0"),

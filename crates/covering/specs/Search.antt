@@ -1,7 +1,10 @@
 -- What a search within a budget answers.
-use Rattle.std.specs.Prelude.{◌≡◌, ℕ, ◌<◌, ◌≤◌, ◌+◌, ◌⊎◌, Bool, true, false, ◌==◌, List, length, map, filter, slice_index_or, Option, Some, None}
+use Rattle.std.specs.Prelude.{◌≡◌, ℕ, ◌<◌, ◌≤◌, ◌+◌, ◌⊎◌, Bool, true, false, ◌==◌, List, length, map, filter, slice_index_or, Option, Some, None, Vec}
+use Rattle.std.specs.Option.{option_map}
+use Rattle.covering.specs.declared.bound.Budget.{Budget}
 use Rattle.covering.specs.declared.choice.Choice.{Choice}
 use Rattle.covering.specs.declared.choice.Choice.TheVariants.{Literals}
+use Rattle.covering.specs.declared.solver.Partial.{Partial}
 use Rattle.covering.specs.Table.{Table, has}
 use Rattle.covering.specs.Cover.{IsCover, IsLeast, counted, sum_over}
 
@@ -28,6 +31,11 @@ pub record IsAnswer (choice : Choice) (t : Table) (k w : ℕ) (s : List ℕ) : T
 abbrev pub Answers : Choice → Table → ℕ → ℕ → Option (List ℕ) → Type 0
 Answers choice t k w None = NoneWithin choice t k w
 Answers choice t k w (Some s) = IsAnswer choice t k w s
+
+-- the same, of the list that a search within a budget gives
+abbrev pub AnswersWithin : {Z : Type 0} → Choice → Table → Budget → Option (Vec ℕ Z) → Type 0
+AnswersWithin choice t budget found =
+    Answers choice t budget.columns budget.cost (option_map (λ v. v.items) found)
 
 -- what is answered for the second table is right for the first
 abbrev pub Leads : Choice → ℕ → ℕ → Table → Table → Type 0
@@ -102,6 +110,11 @@ pub record IsWeakStep (choice : Choice) (t u : Table) : Type 0 where
 pub record IsPartial (choice : Choice) (k w : ℕ) (t : Table) (s : List ℕ) : Type 0 where
   pub none : NoneBelow choice t k w
   pub witness : IsAnswer choice t k w s
+
+-- the same, of a partial solution and its witness
+abbrev pub IsPartialWithin : Choice → Budget → Partial → Type 0
+IsPartialWithin choice budget p =
+    IsPartial choice budget.columns budget.cost p.table p.witness.items
 
 -- what is least in the second table is least in the first, which has all its live columns
 pub record Continues (choice : Choice) (t u : Table) : Type 0 where

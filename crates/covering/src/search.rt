@@ -7,10 +7,10 @@
 //! budget there is no cover within it, and a column with more slack than the remaining gap is in
 //! none. Any cover within the budget is a right answer, so any order of branches serves.
 
-ghost use Rattle.std.specs.Prelude.{◌≡◌, ◌≤◌, ◌-◌, ℕ, [], IfOk, MatchOption, MatchBool, option_map, length, true, false};
+ghost use Rattle.std.specs.Prelude.{◌≡◌, ◌≤◌, ◌-◌, ℕ, [], IfOk, MatchOption, MatchBool, length, true, false};
 ghost use Rattle.covering.specs.Table.{IsTable, has};
 ghost use Rattle.covering.specs.Cover.{counted, sum_over};
-ghost use Rattle.covering.specs.Search.{NoneWithin, Answers, IsPruned, IsOutside, marked};
+ghost use Rattle.covering.specs.Search.{NoneWithin, AnswersWithin, IsPruned, IsOutside, marked};
 
 use crate::bound::{Budget, columns_within_gap, limit_of, scaled_costs};
 use crate::choice::{Choice, cost, total_cost};
@@ -18,7 +18,7 @@ use crate::columns::{contains, copy_of};
 use crate::lagrangian::lagrangian;
 use crate::marks::{all_kept, all_marked};
 use crate::table::Table;
-use heuristics::{Goal, Multipliers, likeliest, many_steps, row_counts};
+use heuristics::{Goal, Multipliers, likeliest, row_counts, steps_of_long_search};
 use number_lists::Compact;
 use std::alloc::{AllocError, Global};
 use warm_start::{WarmStart, is_worth_a_bound};
@@ -169,8 +169,9 @@ impl Table {
         Ok(Some(columns_within_gap(alloc, &scaled_costs, &loads.loads, limit - loads.total)?))
     }
 
-    /// Marks the columns that a cover within the budget may have, as far as the multipliers that
-    /// subgradient steps find show it; `None` if they show that there is no such cover.
+    /// Marks the columns that a cover within the budget may have, as far as the multipliers show that
+    /// subgradient steps find, or the linear relaxation where the search has one; `None` if they show
+    /// that there is no such cover.
     pub(crate) fn columns_within_budget(
         &self,
         alloc: Global,
@@ -287,8 +288,7 @@ impl Table {
         tables_left: &mut u64,
         lists: &mut Vec<Vec<usize>>,
     ) -> Result<Option<Vec<usize>>, Stop>
-        ensures { IfOk result (λ o. Answers choice self budget.columns budget.cost
-            (option_map (λ v. v.items) o)) }
+        ensures { IfOk result (AnswersWithin choice self budget) }
     {
         let Some(rest) = tables_left.checked_sub(1) else {
             return Err(Stop::Spent);
@@ -318,8 +318,7 @@ impl Table {
         tables_left: &mut u64,
         lists: &mut Vec<Vec<usize>>,
     ) -> Result<Option<Vec<usize>>, Stop>
-        ensures { IfOk result (λ o. Answers choice self.now budget.columns budget.cost
-            (option_map (λ v. v.items) o)) }
+        ensures { IfOk result (AnswersWithin choice self.now budget) }
     {
         if self.is_over_budget(choice, budget) {
             return Ok(None);
@@ -331,12 +330,12 @@ impl Table {
         let Some(column) = self.branching_column(alloc, goal, warm_start)? else {
             return Ok(None);
         };
-        let mark = warm_start.branch(alloc, column)?;
+        let basis = warm_start.branch(alloc, column)?;
         let with = self.take(alloc, column)?;
         if let Some(cover) = with.search(alloc, choice, budget, warm_start, tables_left, lists)? {
             return Ok(Some(cover));
         }
-        warm_start.go_back(alloc, mark)?;
+        warm_start.go_back(alloc, basis)?;
         match self.drop_live(alloc, column)? {
             None => Ok(None),
             Some(rest) => rest.search(alloc, choice, budget, warm_start, tables_left, lists),
@@ -376,8 +375,7 @@ impl Table {
         most_tables: u64,
         lists: &mut Vec<Vec<usize>>,
     ) -> Result<Option<Vec<usize>>, Stop>
-        ensures { IfOk result (λ o. Answers choice self budget.columns budget.cost
-            (option_map (λ v. v.items) o)) }
+        ensures { IfOk result (AnswersWithin choice self budget) }
     {
         self.relax(alloc, choice, warm_start)?;
         let mut tables_left = most_tables;
@@ -393,7 +391,7 @@ impl Table {
 
     /// A cover within the budget, or none if there is none, where a search did not end soon: a long
     /// local search looks for one, and then a search with the linear relaxation.
-    fn find_or_refute_anew(
+    fn find_or_refute_with_relaxation(
         self,
         alloc: Global,
         choice: Choice,
@@ -401,15 +399,14 @@ impl Table {
         warm_start: &mut WarmStart,
         most_tables: u64,
     ) -> Result<Option<Vec<usize>>, Stop>
-        ensures { IfOk result (λ o. Answers choice self budget.columns budget.cost
-            (option_map (λ v. v.items) o)) }
+        ensures { IfOk result (AnswersWithin choice self budget) }
     {
         let mut lists = Vec::new(alloc);
         let Some(table) = self.prune(alloc, choice, budget, warm_start, &mut lists)? else {
             return Ok(None);
         };
         let goal = table.goal(choice, budget);
-        let steps = many_steps(table.row_lists(), table.live_columns().len());
+        let steps = steps_of_long_search(table.row_lists(), table.live_columns().len());
         let hint = warm_start.hint();
         let found = table.find_by_local_search(alloc, choice, budget, goal, hint, steps)?;
         if let Some(cover) = found {
@@ -418,9 +415,10 @@ impl Table {
         table.search_with_relaxation(alloc, choice, budget, warm_start, most_tables, &mut lists)
     }
 
-    /// A cover within the budget, or none if there is none: if a search does not end soon, it is
-    /// begun anew with the linear relaxation, and branches into no more than `most_tables` tables.
-    pub(crate) fn find_or_refute_hard(
+    /// A cover within the budget, or none if there is none, as the length is found: if a search does not
+    /// end soon, it is begun anew with the linear relaxation, and branches into no more than
+    /// `most_tables` tables.
+    pub(crate) fn find_or_refute_for_length(
         &self,
         alloc: Global,
         choice: Choice,
@@ -428,8 +426,7 @@ impl Table {
         warm_start: &mut WarmStart,
         most_tables: u64,
     ) -> Result<Option<Vec<usize>>, Stop>
-        ensures { IfOk result (λ o. Answers choice self.now budget.columns budget.cost
-            (option_map (λ v. v.items) o)) }
+        ensures { IfOk result (AnswersWithin choice self.now budget) }
     {
         let quick_tables = self.quick_tables(choice, warm_start).min(most_tables);
         let found = self.find_or_refute(alloc, choice, budget, warm_start, quick_tables);
@@ -437,12 +434,12 @@ impl Table {
             return found;
         }
         let copy = self.copy(alloc)?;
-        copy.find_or_refute_anew(alloc, choice, budget, warm_start, most_tables)
+        copy.find_or_refute_with_relaxation(alloc, choice, budget, warm_start, most_tables)
     }
 
-    /// A cover within the budget, or none if there is none, once the length is known: with the linear
-    /// relaxation if that was wanted to find the length.
-    pub(crate) fn find_or_refute_next(
+    /// A cover within the budget, or none if there is none, as columns are decided in order: with the
+    /// linear relaxation only if the length wanted it.
+    pub(crate) fn find_or_refute_for_order(
         &self,
         alloc: Global,
         choice: Choice,
@@ -450,11 +447,10 @@ impl Table {
         warm_start: &mut WarmStart,
         most_tables: u64,
     ) -> Result<Option<Vec<usize>>, Stop>
-        ensures { IfOk result (λ o. Answers choice self.now budget.columns budget.cost
-            (option_map (λ v. v.items) o)) }
+        ensures { IfOk result (AnswersWithin choice self.now budget) }
     {
         if warm_start.is_hard() {
-            return self.find_or_refute_hard(alloc, choice, budget, warm_start, most_tables);
+            return self.find_or_refute_for_length(alloc, choice, budget, warm_start, most_tables);
         }
         self.find_or_refute(alloc, choice, budget, warm_start, most_tables)
     }
@@ -469,8 +465,7 @@ impl Table {
         warm_start: &mut WarmStart,
         most_tables: u64,
     ) -> Result<Option<Vec<usize>>, Stop>
-        ensures { IfOk result (λ o. Answers choice self.now budget.columns budget.cost
-            (option_map (λ v. v.items) o)) }
+        ensures { IfOk result (AnswersWithin choice self.now budget) }
     {
         warm_start.count_question();
         warm_start.count_table();

@@ -9,11 +9,11 @@
 //! only; if they do not suffice the first column is asked for alone. From time to time what is left is
 //! reduced: without the columns that were dropped, more of them are dominated.
 
-ghost use Rattle.std.specs.Prelude.{◌≡◌, ◌≢◌, ◌≤◌, ◌<◌, ◌+◌, ◌++◌, ◌∷◌, [], ℕ, List, IfOk, IfSome, MatchOption, filter, length, map, option_map, ◌==◌, true, false};
+ghost use Rattle.std.specs.Prelude.{◌≡◌, ◌≢◌, ◌≤◌, ◌<◌, ◌+◌, ◌++◌, ◌∷◌, [], ℕ, List, IfOk, IfSome, MatchOption, filter, length, map, ◌==◌, true, false};
 ghost use Rattle.std.specs.List.{list_all, list_any};
 ghost use Rattle.covering.specs.Table.{has, IsWithin, RisesFrom};
 ghost use Rattle.covering.specs.Cover.{IsCover, IsLeast, counted};
-ghost use Rattle.covering.specs.Search.{Answers, Continues, HasFewer, IsBest, IsFewest, IsOutside, IsPartial, is_blank, keep_columns, marked};
+ghost use Rattle.covering.specs.Search.{AnswersWithin, Continues, HasFewer, IsBest, IsFewest, IsPartialWithin, is_blank, keep_columns, marked};
 ghost use Rattle.covering.specs.Steps.{with_rows};
 
 use crate::bound::Budget;
@@ -122,12 +122,11 @@ impl Questions {
         table: &Table,
         most_tables: u64,
     ) -> Result<Option<Vec<usize>>, Stop>
-        ensures { IfOk result (λ o. Answers choice table.now budget.columns budget.cost
-            (option_map (λ v. v.items) o)) }
+        ensures { IfOk result (AnswersWithin choice table.now budget) }
     {
         let answer = {
             let mut warm_start = self.warm_start.copy(alloc)?;
-            let answer = table.find_or_refute_next(
+            let answer = table.find_or_refute_for_order(
                 alloc,
                 choice,
                 budget,
@@ -152,8 +151,7 @@ impl Questions {
         budget: Budget,
         table: &Table,
     ) -> Result<Option<Option<Vec<usize>>>, AllocError>
-        ensures { IfOk result (λ r. IfSome r (λ o. Answers choice table.now budget.columns
-            budget.cost (option_map (λ v. v.items) o))) }
+        ensures { IfOk result (λ r. IfSome r (AnswersWithin choice table.now budget)) }
     {
         match self.ask(alloc, choice, budget, table, BATCH_TABLES) {
             Ok(witness) => Ok(Some(witness)),
@@ -175,9 +173,8 @@ impl Questions {
         table: &Table,
         marks: &[bool],
     ) -> Result<Option<Option<Vec<usize>>>, AllocError>
-        ensures { IfOk result (λ r. IfSome r (λ o. Answers choice (with_rows table.now
-            (table.now.rows ++ filter (marked marks.now) table.now.live ∷ [])) budget.columns
-            budget.cost (option_map (λ v. v.items) o))) }
+        ensures { IfOk result (λ r. IfSome r (AnswersWithin choice (with_rows table.now
+            (table.now.rows ++ filter (marked marks.now) table.now.live ∷ [])) budget)) }
     {
         match table.with_marked_row(alloc, marks)? {
             None => Ok(None),
@@ -222,9 +219,8 @@ impl Partial {
         column: usize,
         questions: &mut Questions,
     ) -> Result<Partial, AllocError>
-        requires { IsPartial choice budget.columns budget.cost self.table self.witness.items }
-        ensures partial { IfOk result (λ s. IsPartial choice budget.columns budget.cost s.table
-            s.witness.items) }
+        requires { IsPartialWithin choice budget self }
+        ensures partial { IfOk result (IsPartialWithin choice budget) }
         ensures next { IfOk result (λ s. Continues choice self.table s.table) }
     {
         let marks = batch(
@@ -260,11 +256,10 @@ impl Partial {
         column: usize,
         questions: &mut Questions,
     ) -> Result<Partial, AllocError>
-        requires partial { IsPartial choice budget.columns budget.cost self.table self.witness.items }
+        requires partial { IsPartialWithin choice budget self }
         requires live { has column self.table.live ≡ true }
         requires first { (c : ℕ) → has c self.table.live ≡ true → column ≤ c }
-        ensures partial { IfOk result (λ s. IsPartial choice budget.columns budget.cost s.table
-            s.witness.items) }
+        ensures partial { IfOk result (IsPartialWithin choice budget) }
         ensures next { IfOk result (λ s. Continues choice self.table s.table) }
         ensures gone { IfOk result (λ s. has column s.table.live ≡ false) }
     {
@@ -293,9 +288,8 @@ impl Partial {
         budget: Budget,
         questions: &mut Questions,
     ) -> Result<Partial, AllocError>
-        requires { IsPartial choice budget.columns budget.cost self.table self.witness.items }
-        ensures partial { IfOk result (λ s. IsPartial choice budget.columns budget.cost s.table
-            s.witness.items) }
+        requires { IsPartialWithin choice budget self }
+        ensures partial { IfOk result (IsPartialWithin choice budget) }
         ensures next { IfOk result (λ s. Continues choice self.table s.table) }
     {
         match self
@@ -315,9 +309,8 @@ impl Partial {
         budget: Budget,
         questions: &mut Questions,
     ) -> Result<Partial, AllocError>
-        requires { IsPartial choice budget.columns budget.cost self.table self.witness.items }
-        ensures partial { IfOk result (λ s. IsPartial choice budget.columns budget.cost s.table
-            s.witness.items) }
+        requires { IsPartialWithin choice budget self }
+        ensures partial { IfOk result (IsPartialWithin choice budget) }
         ensures next { IfOk result (λ s. Continues choice self.table s.table) }
     {
         let mut partial = self;
@@ -339,9 +332,8 @@ impl Partial {
         budget: Budget,
         questions: &mut Questions,
     ) -> Result<Partial, AllocError>
-        requires { IsPartial choice budget.columns budget.cost self.table self.witness.items }
-        ensures partial { IfOk result (λ s. IsPartial choice budget.columns budget.cost s.table
-            s.witness.items) }
+        requires { IsPartialWithin choice budget self }
+        ensures partial { IfOk result (IsPartialWithin choice budget) }
         ensures next { IfOk result (λ s. Continues choice self.table s.table) }
     {
         if !questions.is_worth_a_reduction(self.table.live_columns().len()) {
@@ -366,10 +358,9 @@ impl Partial {
         column: usize,
         questions: &mut Questions,
     ) -> Result<Partial, AllocError>
-        requires partial { IsPartial choice budget.columns budget.cost self.table self.witness.items }
+        requires partial { IsPartialWithin choice budget self }
         requires first { (c : ℕ) → has c self.table.live ≡ true → column ≤ c }
-        ensures partial { IfOk result (λ s. IsPartial choice budget.columns budget.cost s.table
-            s.witness.items) }
+        ensures partial { IfOk result (IsPartialWithin choice budget) }
         ensures next { IfOk result (λ s. Continues choice self.table s.table) }
         ensures gone { IfOk result (λ s. has column s.table.live ≡ false) }
     {
@@ -527,7 +518,7 @@ impl Table {
         warm_start.set_hint(alloc, &cover)?;
         while let Some(columns) = cover.len().checked_sub(1) {
             let budget = Budget { columns, cost: 0 };
-            match self.find_or_refute_hard(alloc, Choice::First, budget, warm_start, UNLIMITED)? {
+            match self.find_or_refute_for_length(alloc, Choice::First, budget, warm_start, UNLIMITED)? {
                 Some(shorter) => cover = shorter,
                 None => return Ok(cover),
             }

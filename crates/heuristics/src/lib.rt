@@ -14,8 +14,14 @@
 //! - [`likeliest`] proposes a column to branch on, and [`batch`] columns that one question asks for
 //!   together.
 //!
+//! Of the rows {0,1}, {1,2} and {3,4} [`row_counts`] says that column 1 is in two rows and each other
+//! one in one, [`local_search`] finds the cover 1, 3, and [`side_hint`] marks the columns 0, 1 and 2,
+//! which share no row with the others.
+//!
 //! Sums wrap or saturate, and each index is checked before it is used: no call has a precondition.
-//! Each call takes memory for a few numbers for each row, each column and each entry of a row.
+//! Each call takes memory for a few numbers for each row, each column and each entry of a row. A step
+//! of an [`Ascent`] reads all rows some times, one of [`local_search`] some rows of two columns, and
+//! the other calls take some passes over the rows.
 #![tactic(auto)]
 
 mod branching;
@@ -30,4 +36,4 @@ pub use goal::Goal;
 pub use subgradient::{
     Ascent, Course, FEW_STEPS, Multipliers, NEAR_PACE, NEAR_REACH, PACE, Point, REACH, STEPS,
 };
-pub use swaps::{local_search, many_steps};
+pub use swaps::{local_search, steps_of_long_search};

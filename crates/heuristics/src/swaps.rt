@@ -438,7 +438,7 @@ fn first_scores(alloc: Global, table: &Compact) -> Result<Vec<i64>, AllocError> 
 
 /// How many steps a row a long local search takes: up to a thousand, fewer where a step costs more
 /// since rows and columns are long.
-pub fn many_steps(rows: &[Vec<usize>], columns: usize) -> usize {
+pub fn steps_of_long_search(rows: &[Vec<usize>], columns: usize) -> usize {
     let mut entries: usize = 0;
     for row in rows {
         entries = entries.saturating_add(row.len());

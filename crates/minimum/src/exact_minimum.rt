@@ -5,7 +5,7 @@
 //! cubes are too many, and with one output where primes are thought many, places outside are made as
 //! they are needed (`as_needed`). Else all primes are listed: points are picked by them where the
 //! inputs are many, and else the rows of their table come from regions. Which way is taken is a hint
-//! (`ways`); where one has spent its budget, the next one follows.
+//! (`way_hints`); where one has spent its budget, the next one follows.
 
 ghost use Rattle.std.specs.Prelude.{◌≡◌, ◌||◌, IfOk, IfSome, not, true};
 ghost use Rattle.cube.specs.Cube.{IsPlace, Place, difference as difference_of};
@@ -22,7 +22,7 @@ use crate::points::rounds::exact_by_points;
 use crate::points::source::{Source, large_first};
 use crate::prime_implicants::{on_and_dc, primes};
 use crate::prime_table::OfPrimes;
-use crate::ways::{
+use crate::way_hints::{
     budget_outside, uses_outside, uses_places_as_needed, uses_points, uses_points_of_primes,
 };
 use cover::{Cover, outside};

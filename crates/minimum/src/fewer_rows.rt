@@ -12,7 +12,7 @@ ghost use Rattle.minimum.specs.Primes.{essential_of, exact_of, primes_of};
 ghost use Rattle.minimum.specs.SamePlaces.{HasSamePlaces};
 
 use crate::of_pla::{essential_of_rows, exact_of_rows};
-use crate::ways::uses_points;
+use crate::way_hints::uses_points;
 use cover::{Cover, merge_rows};
 use covering::Choice;
 use pla::Pla;
@@ -52,14 +52,14 @@ fn are_nearly_points(list: &Cover) -> bool {
 }
 
 // A list of so many rows is a long one.
-const MANY_ROWS: usize = 2_000;
+const LONG_LIST: usize = 2_000;
 
-// Whether rows may be enough for merging to pay: with many inputs where the list is long or outputs
+// Whether merging rows may pay: with many inputs where the list is long or outputs
 // are several, and with few where both is so. Else what the rows take is little, beside primes or
 // points and the search.
-fn are_many(list: &Cover) -> bool {
+fn is_worth_merging(list: &Cover) -> bool {
     let has_outputs = list.shape().outputs() > 1;
-    let is_long = list.len() >= MANY_ROWS;
+    let is_long = list.len() >= LONG_LIST;
     if uses_points(list.shape()) {
         return has_outputs || is_long;
     }
@@ -72,7 +72,7 @@ fn merged_points(list: &Cover) -> Result<Option<Cover>, AllocError>
     ensures places { IfOk result (λ found. IfSome found
         (λ fewer. (p : Place) → places fewer.cubes p ≡ places list.now.cubes p)) }
 {
-    if !are_many(list) || !are_nearly_points(list) {
+    if !is_worth_merging(list) || !are_nearly_points(list) {
         return Ok(None);
     }
     merge_rows(list)

@@ -32,6 +32,11 @@
 //! and its least cover is 0, 2, 5.
 //!
 //! Lists of many points are merged before anything else is asked of them, but for their primes.
+//!
+//! There may be exponentially many primes in the inputs, and the least cover may take exponentially many
+//! branches of its table. Where points are picked, memory is for their columns and not for the primes.
+//! [`find_essential`] looks at all rows for each prime that it grows, of which there are at most as many as
+//! ON cubes.
 #![tactic(auto)]
 
 mod as_needed;
@@ -46,7 +51,7 @@ mod of_pla;
 mod points;
 mod prime_implicants;
 mod prime_table;
-mod ways;
+mod way_hints;
 
 pub use covering::{
     Choice, Effort, Table, least_cover, least_cover_plain, least_cover_with_effort,

@@ -11,7 +11,7 @@ use crate::essential_by_neighbours::{find_essential, find_essential_outside};
 use crate::essential_primes::essential;
 use crate::exact_minimum::{exact, exact_of_samples};
 use crate::prime_implicants::primes;
-use crate::ways::{budget_of_off, uses_growth};
+use crate::way_hints::{budget_of_off, uses_growth};
 use cover::{Cover, subtract};
 use covering::Choice;
 use pla::{FileType, Pla, Sets};

@@ -20,7 +20,7 @@ mod lists;
 mod numbers;
 
 pub use compact::{Compact, UNIT};
-pub use lists::Lists;
+pub use lists::{Lists, is_live_part_of};
 pub use numbers::{
     SEED, add_at, add_to, add_to_each, at, flag, mark, marked, marks_of, next_random, number,
     overwrite, put, set, small, total,

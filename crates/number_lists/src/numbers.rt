@@ -51,11 +51,10 @@ pub fn add_to_each(numbers: &mut [i64], row: &[u32], amount: i64) {
     }
 }
 
-/// Overwrites `numbers` with `others`, if there are as many.
-pub fn overwrite(numbers: &mut [i64], others: &[i64]) {
-    if numbers.len() == others.len() {
-        numbers.copy_from_slice(others);
-    }
+/// Overwrites entries with others, as far as there are as many.
+pub fn overwrite<T: Copy>(entries: &mut [T], others: &[T]) {
+    let length = entries.len().min(others.len());
+    entries[..length].copy_from_slice(&others[..length]);
 }
 
 /// The sum of the numbers.

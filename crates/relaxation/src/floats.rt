@@ -49,12 +49,6 @@ pub(crate) fn fill_floats(numbers: &mut [f64], to: f64) {
     }
 }
 
-/// Overwrites numbers with others, as far as there are as many.
-pub(crate) fn overwrite_floats(numbers: &mut [f64], others: &[f64]) {
-    let length = numbers.len().min(others.len());
-    numbers[..length].copy_from_slice(&others[..length]);
-}
-
 /// Adds a multiple of the other numbers.
 pub(crate) fn add_multiple(numbers: &mut [f64], others: &[f64], factor: f64) {
     for index in 0..numbers.len().min(others.len()) {

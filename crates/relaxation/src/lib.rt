@@ -28,4 +28,4 @@ mod relaxation;
 mod reliability;
 mod simplex;
 
-pub use relaxation::{Mark, Relaxation, is_small_enough};
+pub use relaxation::{BranchBasis, Relaxation, is_small_enough};

@@ -2,12 +2,12 @@
 //!
 //! A table of the search is the first one with some columns fixed: the taken ones at 1, those that
 //! are no longer live at 0. Only rows of the table are active. The steps go on from table to table;
-//! where a search returns to a table, a [`Mark`] tells its basis.
+//! where a search returns to a table, a [`BranchBasis`] tells its basis.
 
 use crate::floats::{add_float, float, put_float};
 use crate::reliability::PseudoCosts;
 use crate::simplex::{Basis, End, NONE, Simplex};
-use number_lists::{Compact, Lists, UNIT, flag, mark, marked, number, set};
+use number_lists::{Compact, Lists, UNIT, flag, is_live_part_of, mark, marked, number, set};
 use std::alloc::{AllocError, Global};
 use std::num::{nearest_i64_to_f64, saturating_f64_to_u64};
 
@@ -15,13 +15,17 @@ use std::num::{nearest_i64_to_f64, saturating_f64_to_u64};
 const MOST_ROWS: usize = 800;
 
 /// The most columns.
-const MOST_COLUMNS: usize = 20000;
+const MOST_COLUMNS: usize = 20_000;
 
 /// The most steps at a table.
-const MOST_STEPS: u32 = 5000;
+const MOST_STEPS: u32 = 5_000;
 
 /// How far past the goal an objective shows that no cover reaches it.
-const MARGIN: f64 = 1e-3;
+pub(crate) const MARGIN: f64 = 1e-3;
+
+/// A weight of a row that is not in the table is handed over only if it is more than this, which in whole
+/// numbers is less than one.
+const LEAST_WEIGHT: f64 = 1e-9;
 
 /// A column that was branched on, with what it was like before.
 #[derive(Clone, Copy)]
@@ -34,8 +38,8 @@ pub(crate) struct Branching {
     pub(crate) objective: f64,
 }
 
-/// A basis to which a search returns.
-pub struct Mark {
+/// A basis from which a search branched, and to which it returns.
+pub struct BranchBasis {
     /// Its variables.
     basic: Vec<bool>,
     /// The rows that were looked at.
@@ -45,9 +49,9 @@ pub struct Mark {
 }
 
 // Written out, so that where one ends a proof has one call, and not one for each of its lists.
-impl Drop for Mark {
+impl Drop for BranchBasis {
     fn drop(self) {
-        let Mark {
+        let BranchBasis {
             basic: _,
             active: _,
             branching: _,
@@ -55,10 +59,10 @@ impl Drop for Mark {
     }
 }
 
-impl Mark {
+impl BranchBasis {
     /// No basis.
-    pub fn none(alloc: Global) -> Mark {
-        Mark {
+    pub fn none(alloc: Global) -> BranchBasis {
+        BranchBasis {
             basic: Vec::new(alloc),
             active: Vec::new(alloc),
             branching: Branching {
@@ -128,20 +132,6 @@ fn indices_of(alloc: Global, live: &[usize], columns: usize) -> Result<Vec<usize
         set(&mut indices, *column, index);
     }
     Ok(indices)
-}
-
-/// Whether the row is the other list without the columns that are not live.
-fn is_live_part_of(row: &[usize], other: &[u32], live: &[bool]) -> bool {
-    let mut met = 0;
-    for column in other {
-        if flag(live, *column as usize) {
-            if met >= row.len() || row[met] != *column as usize {
-                return false;
-            }
-            met += 1;
-        }
-    }
-    met == row.len()
 }
 
 /// Whether all columns of the row are marked.
@@ -324,7 +314,7 @@ impl Relaxation {
         for index in 0..self.rows.len() {
             let weight = float(self.simplex.weights(self.end), index);
             let list = self.rows.list(index);
-            if !flag(used, index) && weight > 1e-9 && !has_marked(list, &self.taken) {
+            if !flag(used, index) && weight > LEAST_WEIGHT && !has_marked(list, &self.taken) {
                 mark_each(&mut marks, list, true);
                 add_float(weights, first_inside(rows, &marks), weight);
                 mark_each(&mut marks, list, false);
@@ -353,8 +343,8 @@ impl Relaxation {
             .note(branching.index, branching.value, taken, gain);
     }
 
-    /// Marks the present basis, from which the search branches on the column, first taking it.
-    pub fn branch(&mut self, alloc: Global, column: usize) -> Result<Mark, AllocError> {
+    /// The present basis, from which the search branches on the column, first taking it.
+    pub fn branch(&mut self, alloc: Global, column: usize) -> Result<BranchBasis, AllocError> {
         let index = number(&self.indices, column);
         let branching = Branching {
             index,
@@ -362,7 +352,7 @@ impl Relaxation {
             objective: self.simplex.basis.objective,
         };
         self.branched = Some((branching, true));
-        Ok(Mark {
+        Ok(BranchBasis {
             basic: self.simplex.basis.marks(alloc)?,
             active: self.simplex.active().to_vec(alloc)?,
             branching,
@@ -370,7 +360,7 @@ impl Relaxation {
     }
 
     /// Returns to a basis, from which the search goes on without the column.
-    pub fn go_back(&mut self, alloc: Global, to: &Mark) -> Result<(), AllocError> {
+    pub fn go_back(&mut self, alloc: Global, to: &BranchBasis) -> Result<(), AllocError> {
         self.simplex.go_to(alloc, &to.basic, &to.active)?;
         self.branched = Some((to.branching, false));
         Ok(())

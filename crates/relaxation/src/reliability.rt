@@ -7,7 +7,7 @@
 //! from the most promising one on, until some in a row are no better.
 
 use crate::floats::{add_float, float};
-use crate::relaxation::Relaxation;
+use crate::relaxation::{MARGIN, Relaxation};
 use crate::simplex::{End, NONE};
 use number_lists::{add_to, number};
 use std::alloc::{AllocError, Global};
@@ -27,6 +27,13 @@ const LEAST_GAIN: f64 = 1e-4;
 
 /// A value is fractional if it is at least so far from 0 and 1.
 const FRACTION: f64 = 1e-4;
+
+/// A gain is noted only of a value at least so far from 0 and 1: it is divided by how far it moved.
+const LEAST_MOVE: f64 = 1e-3;
+
+/// The unit of scores as whole numbers, by which columns are put in order: of the least gains either way
+/// the product is some ten thousand.
+const SCORE_UNIT: f64 = 1e12;
 
 /// The gains of one direction, for each unit that a value moved.
 struct Direction {
@@ -110,7 +117,7 @@ impl PseudoCosts {
 
     /// Notes what it gained to move a column from its value to 1 or to 0.
     pub(crate) fn note(&mut self, column: usize, value: f64, up: bool, gain: f64) {
-        if value < 1e-3 || value > 1.0 - 1e-3 {
+        if value < LEAST_MOVE || value > 1.0 - LEAST_MOVE {
             return;
         }
         if up {
@@ -172,7 +179,7 @@ impl Relaxation {
             if self.simplex.is_free(index) && value > FRACTION && value < 1.0 - FRACTION {
                 let gain_up = self.gains.up.cost(index, up) * (1.0 - value);
                 let gain_down = self.gains.down.cost(index, down) * value;
-                let score = score_of(gain_up, gain_down) * 1e12;
+                let score = score_of(gain_up, gain_down) * SCORE_UNIT;
                 order.push((u64::MAX - saturating_f64_to_u64(score), index))?;
             }
         }
@@ -237,7 +244,7 @@ impl Relaxation {
 
     /// How much the objective may rise before it is past the goal.
     fn room(&self) -> f64 {
-        (self.cutoff - self.simplex.basis.objective).max(1e-3)
+        (self.cutoff - self.simplex.basis.objective).max(MARGIN)
     }
 
     /// What it gains to fix a column at a value, as far as some steps tell, and whether they show

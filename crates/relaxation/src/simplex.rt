@@ -25,8 +25,26 @@ use number_lists::{Compact, Lists, SEED, flag, mark, next_random, number};
 use std::alloc::{AllocError, Global};
 use std::num::nearest_u64_to_f64;
 
-/// By how much a value may be outside its bounds.
+/// By how much a value may be outside its bounds: far above what sums of figures of about one are wrong
+/// by, and far below what a bound that is off by one shows.
 const FEASIBLE: f64 = 1e-7;
+
+/// A column outside the basis is at 1 only if its reduced cost is below 0 by more than this, which is
+/// what such sums may be wrong by.
+const DUAL_FEASIBLE: f64 = 1e-9;
+
+/// A smaller reduced cost becomes 0, so that errors do not add up.
+const NO_COST: f64 = 1e-10;
+
+/// The part of a column's cost by which it is perturbed, at most: against ties, and so little that the
+/// bound of a cover of a hundred columns loses a hundredth.
+const PERTURBATION: f64 = 1e-4;
+
+/// The numbers of 53 bits, which a figure holds exactly.
+const RANDOM_RANGE: f64 = 9007199254740992.0;
+
+/// A pivot is too inexact if its row and its column of the tableau differ by more than this part of it.
+const PIVOT_ERROR: f64 = 1e-6;
 
 /// Smaller entries of the tableau are no pivots.
 const LEAST_PIVOT: f64 = 1e-7;
@@ -140,8 +158,8 @@ fn perturbed_costs(alloc: Global, columns: usize) -> Result<Vec<f64>, AllocError
     let mut seed = SEED;
     for _ in 0..columns {
         seed = next_random(seed);
-        let part = nearest_u64_to_f64(seed >> 11) / 9007199254740992.0;
-        costs.push(1.0 - 0.0001 * (0.5 + 0.5 * part))?;
+        let part = nearest_u64_to_f64(seed >> 11) / RANDOM_RANGE;
+        costs.push(1.0 - PERTURBATION * (0.5 + 0.5 * part))?;
     }
     Ok(costs)
 }
@@ -226,7 +244,8 @@ impl Simplex {
         self.basis.copy_from(from, &self.active)
     }
 
-    /// Sets the bounds of a column; `settle` has to follow.
+    /// Sets the bounds of a column. If these are others than before, and it is outside the basis, it
+    /// stands at one of them only after `settle`.
     pub(crate) fn set_bounds(&mut self, column: usize, lower: f64, upper: f64) {
         put_float(&mut self.lower, column, lower);
         put_float(&mut self.upper, column, upper);
@@ -270,7 +289,7 @@ impl Simplex {
         for column in 0..self.costs.len() {
             if !self.basis.is_basic(column) {
                 let is_high = if self.is_free(column) {
-                    float(&self.basis.reduced_costs, column) < -1e-9
+                    float(&self.basis.reduced_costs, column) < 0.0 - DUAL_FEASIBLE
                 } else {
                     float(&self.lower, column) > 0.5
                 };
@@ -329,7 +348,7 @@ impl Simplex {
             .fill_entering(&self.column_rows, entering.variable, &mut self.entering);
         let pivot = float(&self.entering, position);
         let error = (pivot - entering.entry).abs();
-        if pivot.abs() < LEAST_PIVOT || error > 1e-6 * (1.0 + pivot.abs()) {
+        if pivot.abs() < LEAST_PIVOT || error > PIVOT_ERROR * (1.0 + pivot.abs()) {
             self.factor(alloc)?;
             return Ok(Step::Inexact);
         }
@@ -416,7 +435,7 @@ impl Simplex {
             let entry = float(&self.tableau_row, column);
             if entry != 0.0 && !self.basis.is_basic(column) {
                 let moved = float(&self.basis.reduced_costs, column) - multiple * entry;
-                let kept = if moved.abs() < 1e-10 { 0.0 } else { moved };
+                let kept = if moved.abs() < NO_COST { 0.0 } else { moved };
                 put_float(&mut self.basis.reduced_costs, column, kept);
             }
         }

@@ -10,6 +10,13 @@
 //! alone. Each index is checked before it is used and no sum overflows, so no call has a
 //! precondition. The crate is proved to be safe and to end, and nothing more.
 //!
+//! With the nogood {0, 2}, which forbids that variables 0 and 1 are both true, and the assumption 0, that
+//! variable 0 is true, the answer is a point where variable 1 is false. With a further nogood {0, 3} there
+//! is none: both show the nogood {0}.
+//!
+//! Memory is for the nogoods and for the clauses learned of them. A question may take exponentially many
+//! conflicts; at its [`Limits`] it ends unanswered.
+//!
 //! 1. Propagation: a clause with one literal left that is not false sets it. It watches two of its
 //!    literals (Moskewicz, Madigan, Zhao, Zhang and Malik, Chaff: engineering an efficient SAT
 //!    solver, 2001).

@@ -13,6 +13,10 @@
 //!    and the ON cube whose signature cube has a place of its own, and from there larger ones. The
 //!    cover leaves out that place too: a prime that held it would hold the signature cube.
 //!
+//! Of the ON cubes `11-` and `-11`, with all other points in the OFF cubes, the place 110 has the
+//! signature cube `11-`, and 011 has `-11`. That of 111 is `111`, which lies in both of them: so two
+//! places are proposed, and the cover of their rows holds the third.
+//!
 //! Signature cubes that lie in others are left out. The first one costs a pass over all OFF cubes;
 //! a larger one has its rows from those of the cube before, and costs one question over the ON and
 //! DC cubes near it. A maximal one takes some tens of these.

@@ -12,29 +12,15 @@ use heuristics::{
     Ascent, Course, FEW_STEPS, Goal, Multipliers, NEAR_PACE, NEAR_REACH, PACE, REACH, STEPS,
 };
 use number_lists::{
-    Compact, Lists, SEED, UNIT, at, flag, marked, next_random, number, put, set,
+    Compact, Lists, SEED, UNIT, at, is_live_part_of, marked, next_random, number, put, set,
 };
-use relaxation::{Mark, Relaxation, is_small_enough};
+use relaxation::{BranchBasis, Relaxation, is_small_enough};
 use std::alloc::{AllocError, Global};
 
 /// Whether to compute a bound again: `before` is how many columns there were at the last one, `now`
 /// how many are left, and at least an eighth has to be gone.
 pub fn is_worth_a_bound(before: usize, now: usize) -> bool {
     now <= before.saturating_sub(before / 8)
-}
-
-/// Whether the row is the other list without the columns that are not live.
-fn is_live_part_of(row: &[usize], other: &[u32], live: &[bool]) -> bool {
-    let mut met = 0;
-    for column in other {
-        if flag(live, *column as usize) {
-            if met >= row.len() || row[met] != *column as usize {
-                return false;
-            }
-            met += 1;
-        }
-    }
-    met == row.len()
 }
 
 /// The first of the rows, from an index on, whose live columns are this row.
@@ -70,11 +56,11 @@ fn first_weights(alloc: Global, table: &Compact) -> Result<Vec<i64>, AllocError>
     Ok(weights)
 }
 
-/// So many tables are looked at before the relaxation is wanted,
-const TABLES: u64 = 200;
+/// A search looks at so many tables before it is begun anew with the linear relaxation,
+const QUICK_TABLES: u64 = 200;
 
-/// and so many once a question was hard.
-const FEW_TABLES: u64 = 20;
+/// and at so many once another one was.
+const QUICK_TABLES_ONCE_HARD: u64 = 20;
 
 /// What a search remembers from table to table, and how much work it did.
 pub struct WarmStart {
@@ -218,9 +204,9 @@ impl WarmStart {
         if !is_small_enough(rows, columns) {
             u64::MAX
         } else if self.hard {
-            FEW_TABLES
+            QUICK_TABLES_ONCE_HARD
         } else {
-            TABLES
+            QUICK_TABLES
         }
     }
 
@@ -264,16 +250,16 @@ impl WarmStart {
         }
     }
 
-    /// Marks where a search is that branches on the column, first taking it.
-    pub fn branch(&mut self, alloc: Global, column: usize) -> Result<Mark, AllocError> {
+    /// The basis of a search that branches on the column, first taking it, if there is one.
+    pub fn branch(&mut self, alloc: Global, column: usize) -> Result<BranchBasis, AllocError> {
         match &mut self.relaxation {
-            None => Ok(Mark::none(alloc)),
+            None => Ok(BranchBasis::none(alloc)),
             Some(relaxation) => relaxation.branch(alloc, column),
         }
     }
 
     /// Returns to where a search branched, to go on without the column.
-    pub fn go_back(&mut self, alloc: Global, to: Mark) -> Result<(), AllocError> {
+    pub fn go_back(&mut self, alloc: Global, to: BranchBasis) -> Result<(), AllocError> {
         match &mut self.relaxation {
             None => Ok(()),
             Some(relaxation) => relaxation.go_back(alloc, &to),

@@ -209,9 +209,9 @@ fn columns_by_rows(
 
 // Below so many cubes of a list, or so many points, what they are looked at costs less than to find
 // which of the cubes matter.
-const MANY_ROWS: usize = 200;
+const LEAST_ROWS_AROUND: usize = 200;
 
-const MANY_POINTS: usize = 100;
+const LEAST_POINTS_AROUND: usize = 100;
 
 /// Columns that dominate all cubes that meet no cube of the list and contain the point with this
 /// number, whichever of the others they contain; `None` where more than so many of the cubes that
@@ -233,7 +233,7 @@ pub(crate) fn columns_of_point(
         → IsImplicant off.now c → IsSubset (holds (cube_at points.now number)) (holds c)
         → IsDominated choice points.now list.cubes c)) }
 {
-    if off.len() < MANY_ROWS || points.len() < MANY_POINTS {
+    if off.len() < LEAST_ROWS_AROUND || points.len() < LEAST_POINTS_AROUND {
         return columns_by_rows(alloc, off, points, number, choice, most);
     }
     let point = &points[number];

@@ -90,11 +90,11 @@ const FEW_LEFT_OUT: usize = 20;
 
 // Up to this many points it is asked for too. It leaves out less than a short one, so that rounds and
 // points are fewer.
-const MANY_POINTS: usize = 1_200;
+const MOST_POINTS_FOR_LEAST: usize = 1_200;
 
 /// Whether to ask for the least cover of so many points, where the last one left out so much.
 fn asks_for_least(left: &Cover, points: &[Cube]) -> bool {
-    left.len() <= FEW_LEFT_OUT || points.len() <= MANY_POINTS
+    left.len() <= FEW_LEFT_OUT || points.len() <= MOST_POINTS_FOR_LEAST
 }
 
 /// The least cover by the primes of points from these points on: where a cover of their table leaves

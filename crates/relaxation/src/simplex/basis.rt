@@ -5,9 +5,9 @@
 //! then has a slot. The inverse has a row for each position of the basis and a column for each slot:
 //! the columns of the full inverse for other rows are those of their surpluses.
 
-use crate::floats::{eliminate, fill_floats, float, overwrite_floats, put_float, scale};
+use crate::floats::{eliminate, fill_floats, float, put_float, scale};
 use crate::matrix::Matrix;
-use number_lists::{Lists, flag, mark, number, set};
+use number_lists::{Lists, flag, mark, number, overwrite, set};
 use std::alloc::{AllocError, Global};
 
 /// No variable, position or slot.
@@ -15,6 +15,9 @@ pub(crate) const NONE: usize = usize::MAX;
 
 /// Smaller entries count as 0.
 pub(crate) const TINY: f64 = 1e-12;
+
+/// A norm is at least so large, as scores are divided by it.
+const LEAST_NORM: f64 = 1e-9;
 
 /// A basis.
 pub(crate) struct Basis {
@@ -226,8 +229,8 @@ impl Basis {
         let slots = self.tight.len();
         let pivot_row = self.inverse.row_mut(position, slots);
         let square = scale(pivot_row, 1.0 / float(entering, position));
-        overwrite_floats(room, pivot_row);
-        put_float(&mut self.norms, position, square.max(1e-9));
+        overwrite(room, pivot_row);
+        put_float(&mut self.norms, position, square.max(LEAST_NORM));
         self.eliminate_others(position, entering, active, room);
         if let Some(row) = self.row_of(variable) {
             self.close_slot(row);
@@ -258,7 +261,7 @@ impl Basis {
         let own = if self.surplus_row(position).is_some() {
             1.0
         } else {
-            1e-9
+            LEAST_NORM
         };
         put_float(&mut self.norms, position, square + own);
     }
@@ -279,7 +282,7 @@ impl Basis {
         }
         let slots = self.tight.len();
         let revived = self.inverse.row_mut(position, slots);
-        overwrite_floats(revived, room);
+        overwrite(revived, room);
         let square = scale(revived, 1.0);
         self.set_norm(position, square);
     }
@@ -287,16 +290,16 @@ impl Basis {
     /// Overwrites this basis with another one of as many rows and columns, as far as the rows of the
     /// inverse are kept up.
     pub(crate) fn copy_from(&mut self, other: &Basis, active: &[bool]) -> Result<(), AllocError> {
-        overwrite_places(&mut self.basic, &other.basic);
-        overwrite_places(&mut self.positions, &other.positions);
-        overwrite_places(&mut self.slots, &other.slots);
-        overwrite_marks(&mut self.at_one, &other.at_one);
+        overwrite(&mut self.basic, &other.basic);
+        overwrite(&mut self.positions, &other.positions);
+        overwrite(&mut self.slots, &other.slots);
+        overwrite(&mut self.at_one, &other.at_one);
         self.tight.clear();
         self.tight.extend_from_slice(&other.tight)?;
-        overwrite_floats(&mut self.values, &other.values);
-        overwrite_floats(&mut self.reduced_costs, &other.reduced_costs);
-        overwrite_floats(&mut self.weights, &other.weights);
-        overwrite_floats(&mut self.norms, &other.norms);
+        overwrite(&mut self.values, &other.values);
+        overwrite(&mut self.reduced_costs, &other.reduced_costs);
+        overwrite(&mut self.weights, &other.weights);
+        overwrite(&mut self.norms, &other.norms);
         self.objective = other.objective;
         self.copy_inverse(other, active);
         Ok(())
@@ -308,7 +311,7 @@ impl Basis {
         for position in 0..self.basic.len() {
             if self.is_kept(position, active) {
                 let row = self.inverse.row_mut(position, slots);
-                overwrite_floats(row, other.inverse.row(position, slots));
+                overwrite(row, other.inverse.row(position, slots));
             }
         }
     }
@@ -342,16 +345,4 @@ fn forget(numbers: &mut [usize]) {
     for number in numbers.iter_mut() {
         *number = NONE;
     }
-}
-
-/// Overwrites numbers with others, as far as there are as many.
-fn overwrite_places(numbers: &mut [usize], others: &[usize]) {
-    let length = numbers.len().min(others.len());
-    numbers[..length].copy_from_slice(&others[..length]);
-}
-
-/// Overwrites marks with others, as far as there are as many.
-fn overwrite_marks(marks: &mut [bool], others: &[bool]) {
-    let length = marks.len().min(others.len());
-    marks[..length].copy_from_slice(&others[..length]);
 }

@@ -9,8 +9,8 @@ use crate::floats::{
 use number_lists::{flag, mark, number};
 use std::alloc::{AllocError, Global};
 
-/// Smaller entries are no pivots of a factorization.
-const LEAST_PIVOT: f64 = 1e-6;
+/// Smaller entries are no pivots on the way to a basis: where none is larger, a variable stays out.
+const LEAST_PIVOT_TO_FACTOR: f64 = 1e-6;
 
 impl Simplex {
     /// Sets which rows are looked at. The rows of the inverse are computed for those that were not.
@@ -82,7 +82,7 @@ impl Simplex {
     /// The position of the largest entry of the column of the tableau whose variable is not marked.
     fn largest_entry(&self, basic: &[bool]) -> usize {
         let mut best = NONE;
-        let mut largest = LEAST_PIVOT;
+        let mut largest = LEAST_PIVOT_TO_FACTOR;
         for position in 0..self.basis.basic.len() {
             let size = float(&self.entering, position).abs();
             if size > largest

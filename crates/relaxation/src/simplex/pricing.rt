@@ -2,14 +2,17 @@
 
 use super::basis::TINY;
 use super::{Candidate, FEASIBLE, LEAST_PIVOT, Simplex};
-use crate::floats::{
-    add_float, add_float_to_each, fill_floats, float, overwrite_floats, put_float,
-};
-use number_lists::number;
+use crate::floats::{add_float, add_float_to_each, fill_floats, float, put_float};
+use number_lists::{number, overwrite};
 use std::alloc::AllocError;
 
-/// What is added to reduced costs in the ratio test.
+/// What is added to reduced costs in the ratio test, so that of nearly equal steps one with a large pivot
+/// can be taken.
 const TOLERANCE: f64 = 1e-9;
+
+/// How far past the cutoff a ray is followed: enough that rounding the weights to whole numbers does not
+/// bring them back.
+const PAST_CUTOFF: f64 = 0.1;
 
 /// The least step with the tolerance, over the variables that may enter.
 fn least_step(candidates: &[Candidate]) -> f64 {
@@ -176,9 +179,9 @@ impl Simplex {
     /// inverse, past the cutoff.
     pub(super) fn fill_ray(&mut self, position: usize, sign: f64, bound: f64, cutoff: f64) {
         let excess = (float(&self.basis.values, position) - bound).abs();
-        let missing = (cutoff + 0.1 - self.basis.objective).max(0.0);
+        let missing = (cutoff + PAST_CUTOFF - self.basis.objective).max(0.0);
         let multiple = sign * missing / excess.max(FEASIBLE);
-        overwrite_floats(&mut self.ray, &self.basis.weights);
+        overwrite(&mut self.ray, &self.basis.weights);
         for slot in 0..self.basis.tight.len() {
             let more = multiple * self.basis.inverse.entry(position, slot);
             add_float(&mut self.ray, number(&self.basis.tight, slot), more);

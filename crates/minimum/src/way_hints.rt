@@ -1,4 +1,4 @@
-//! Which way leads to an answer, and how far: hints, which owe nothing.
+//! Which way is likely to lead to an answer, and how far each is gone: hints, which owe nothing.
 
 use crate::essential_by_neighbours::consensus_pairs::have_many_consensus_pairs;
 use cover::{Budget, Cover};

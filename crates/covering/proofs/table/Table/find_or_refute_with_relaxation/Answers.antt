@@ -1,5 +1,5 @@
 use Rattle.std.proofs.Common.{Some}
-use Rattle.covering.proofs.table.Table.find_or_refute_anew.Goals as goal
+use Rattle.covering.proofs.table.Table.find_or_refute_with_relaxation.Goals as goal
 
 pub returns-in-Some-found : goal.returns-in-Some-found
 returns-in-Some-found c =
