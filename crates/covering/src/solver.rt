@@ -518,7 +518,13 @@ impl Table {
         warm_start.set_hint(alloc, &cover)?;
         while let Some(columns) = cover.len().checked_sub(1) {
             let budget = Budget { columns, cost: 0 };
-            match self.find_or_refute_for_length(alloc, Choice::First, budget, warm_start, UNLIMITED)? {
+            match self.find_or_refute_for_length(
+                alloc,
+                Choice::First,
+                budget,
+                warm_start,
+                UNLIMITED,
+            )? {
                 Some(shorter) => cover = shorter,
                 None => return Ok(cover),
             }

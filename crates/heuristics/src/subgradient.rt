@@ -10,7 +10,9 @@
 //! rows some times.
 
 use crate::goal::Goal;
-use number_lists::{Compact, Lists, UNIT, add_at, add_to_each, at, flag, number, overwrite, put, total};
+use number_lists::{
+    Compact, Lists, UNIT, add_at, add_to_each, at, flag, number, overwrite, put, total,
+};
 use std::alloc::{AllocError, Global};
 
 /// The highest likelihood of a column.

@@ -8,7 +8,8 @@
 
 use crate::goal::Goal;
 use number_lists::{
-    Compact, SEED, add_at, add_to, add_to_each, at, flag, mark, marked, next_random, number, put, set,
+    Compact, SEED, add_at, add_to, add_to_each, at, flag, mark, marked, next_random, number, put,
+    set,
 };
 use std::alloc::{AllocError, Global};
 

@@ -16,8 +16,8 @@ ghost use Rattle.rows.specs.Cubes.{AreCubes};
 use crate::region::nearest_first::{are_both_long, are_held_one_by_one};
 use cube::{Cube, Shape, Symbol};
 use rows::{
-    LiteralCounts, is_disjoint_from_all, references_to_cubes, rows_with_compatible_symbol, rows_with_symbol,
-    sample_size,
+    LiteralCounts, is_disjoint_from_all, references_to_cubes, rows_with_compatible_symbol,
+    rows_with_symbol, sample_size,
 };
 use std::alloc::{AllocError, Global};
 
