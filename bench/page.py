@@ -7,7 +7,7 @@ import textwrap
 
 from picture import Panel, Series, picture, power
 from results import kept_minute
-from tools import JOBS, LIMIT, MEMORY, SHORT, is_installed, start, version
+from tools import JOBS, LIMIT, MEMORY, MINUTE, SECOND, SHORT, is_installed, start, version
 
 TOP = os.path.dirname(os.path.dirname(os.path.abspath(__file__)))
 DOCS = os.path.join(TOP, "docs")
@@ -19,7 +19,6 @@ LOOKS = {                          # colour, mark and dashes of the lines: they 
     "cadical": ("#009e73", "diamond", "2 2"), "cec": ("#d55e00", "square", "8 3"), "SOPform": ("#009e73", "diamond", "2 2")}
 SAME = 1.25                        # ratios up to this count as the same time
 NOTED = 0.005                      # seconds from which on it is noted that another tool is faster
-SECOND, MINUTE = 1.0, 60.0
 OUT_OF_MEMORY = f"{MEMORY / 2 ** 30:.0f} GiB of memory"
 NO_SOURCE = "their sources have no answers"
 
@@ -133,16 +132,16 @@ def largest(rows, tool, within=math.inf):
     return next((row for row in reversed(rows) if time_of(row, tool) is not None and row.totals[tool.label].longest <= within), None)
 
 
-def answered(rows, tool, within=math.inf):
+def answered(family, rows, tool, within=math.inf):
     """How many of the members of a family that does not grow a tool answered."""
     found = [row for row in rows if time_of(row, tool) is not None and row.totals[tool.label].longest <= within]
-    return f"{len(found)} of {len(rows)}"
+    return f"{len(found)} of {len(family.sizes)}"
 
 
 def reach(family, rows, tool, within=math.inf):
     """How far a tool came in these seconds."""
     if not family.grows:
-        return answered(rows, tool, within)
+        return answered(family, rows, tool, within)
     row = largest(rows, tool, within)
     return row.label if row else "none"
 
@@ -243,12 +242,12 @@ def answered_there(comparison, rows, tool):
 
 
 def reason(comparison, family, rows):
-    """In words: why others are faster. The primes that they are given may make the difference; else it is what takes our time."""
+    """In words: why others are faster. They are given the primes, or it is what takes our time."""
     lost = [row for row in rows if any(is_loss(row, tool, comparison) for tool in others(comparison))]
     primes = [row.totals["primes"].seconds if "primes" in row.totals else None for row in lost]
     if lost and all(seconds and seconds + time_of(row, fastest_other(row, comparison)) > time_of(row, main_tool(comparison)) / SAME
                     for row, seconds in zip(lost, primes)):
-        return "finding the primes, which they are given, takes longer than that"
+        return "with the time of the primes, which they are given, they take as long"
     return family.stops
 
 
@@ -306,15 +305,20 @@ def picture_name(comparison):
 
 
 def drawn(comparison, run):
+    """Of each family that grows the longest seconds of a function, over the rows of a function or the primes of the first."""
     tools = [tool for tool in comparison.tools if tool.label != comparison.unseen]
 
+    def place(row):
+        return row.rows / row.functions if comparison.picture == "rows" else row.primes
+
     def line(rows, tool):
-        points = [(getattr(row, comparison.picture), time_of(row, tool)) for row in rows if is_asked(row, tool)]
+        points = [(place(row), row.totals[tool.label].longest) for row in rows if is_asked(row, tool)]
         return sorted(((size, seconds) for size, seconds in points if size), key=lambda point: point[0])
-    panels = [Panel(family.name, [line(rows, tool) for tool in tools], comparison.picture) for family, rows in of_comparison(comparison, run)]
+    panels = [Panel(family.name, [line(rows, tool) for tool in tools], comparison.picture)
+              for family, rows in of_comparison(comparison, run) if family.grows]
     panels = [panel for panel in panels if any(len(points) > 1 for points in panel.lines)]
     series = [Series(tool.label, *LOOKS[tool.label]) for tool in tools]
-    return picture(f"{capital(comparison.title)}: seconds over {comparison.picture}", series, panels, run.limit)
+    return picture(f"{capital(comparison.title)}: seconds of a function over its {comparison.picture}", series, panels, run.limit)
 
 
 # The machine.
@@ -403,7 +407,7 @@ MACHINE = """A machine of {cores} processors ({processor}{speed}) and {memory} o
 {running}. The time of a process is from its start to its end, including the reading of the files: the least of three runs, or that of one
 run if it takes more than {short:g} seconds; HiGHS and SOPform tell their own time, and run once. A tool is dropped from a family that grows
 at the first size that it does not answer within {limit:g} seconds ({minute} for the first table) and {bytes:.0f} GiB. Where a size has
-several functions, the limit holds for each, and times, rows and answers in the tables are sums."""
+several functions, the limit holds for each; times, rows and answers in the tables are sums, and pictures show the longest."""
 
 CELLS = """In the tables, times are in seconds, *none* means no answer within these limits, and – a size on which a tool was not run. Times count as the
 same where the longer is less than 1.25 times the other. Wherever two tools answered, their answers were compared: {agreed}."""
