@@ -1,7 +1,7 @@
 #!/usr/bin/env python3
 """Times the built program on generated files, and prints wall time and peak memory.
 
-usage: bench/bench.py [--instructions] [--effort EFFORT] PROGRAM [CASE ..]
+usage: bench/bench.py [--instructions [--against OTHER]] [--effort EFFORT] PROGRAM [CASE ..]
        (no case: all; else those that begin so)
 
 The files are written to bench/data by fixed seeds, once. Each case runs three
@@ -9,7 +9,8 @@ times and the best wall time counts; the peak is the largest resident set of one
 more run, where GNU time is installed. The third column is the time that the case
 is meant to stay within. Some cases also run berkeley-abc's `cec` or minisat on the
 same question, where these are installed. With --instructions, callgrind counts the
-instructions of one more run of each case, where valgrind is installed. With --effort,
+instructions of one more run of each case, where valgrind is installed, and with --against
+those of OTHER too: how many times as many they are, and whether both write the same. With --effort,
 EFFORT, the program of crates/effort (crates/effort/out/effort, once the gate has
 built it), prints for each case of `exact` what its search did: primes, rows and live
 columns of the reduced table, tables that were looked at (the nodes of the search),
@@ -76,12 +77,10 @@ def peak(words, feed=None):
 
 
 def instructions(words):
-    """How many instructions a run takes, as callgrind counts them, where that is installed."""
-    if not shutil.which("valgrind"):
-        return "valgrind is not installed"
+    """How many instructions a run takes, as callgrind counts them, and what it writes."""
     told = subprocess.run(["valgrind", "--tool=callgrind", "--callgrind-out-file=/dev/null", *words],
-                          stdin=subprocess.DEVNULL, stdout=subprocess.DEVNULL, stderr=subprocess.PIPE, text=True)
-    return "{:,} instructions".format(int(re.search(r"Collected : (\d+)", told.stderr).group(1)))
+                          stdin=subprocess.DEVNULL, stdout=subprocess.PIPE, stderr=subprocess.PIPE)
+    return int(re.search(rb"Collected : (\d+)", told.stderr).group(1)), told.stdout
 
 
 def measured(program, words, feed=None):
@@ -101,14 +100,24 @@ def comment_stream(pipe):
     pipe.write(b".i 1\n.o 1\n.e\n")
 
 
-OPTIONS = argparse.Namespace(instructions=False, effort=None)
+OPTIONS = argparse.Namespace(instructions=False, against=None, effort=None)
 
 
 @functools.cache
 def count(words):
-    """Prints the instructions of a run, once, where that is asked for."""
-    if OPTIONS.instructions:
-        print(f"  {instructions(words)}")
+    """Prints the instructions of a run, once, where that is asked for, beside those of the other program."""
+    if not OPTIONS.instructions:
+        return
+    if not shutil.which("valgrind"):
+        print("  valgrind is not installed")
+        return
+    own, written = instructions(words)
+    print(f"  {own:,} instructions")
+    if OPTIONS.against:
+        other, written_there = instructions((OPTIONS.against, *words[1:]))
+        print(f"  {own / other:.3f} times those of {OPTIONS.against}")
+        if written != written_there:
+            print("  the two write different answers")
 
 
 @functools.cache
@@ -420,6 +429,7 @@ def cases():
 def read_words():
     reader = argparse.ArgumentParser(usage=argparse.SUPPRESS)
     reader.add_argument("--instructions", action="store_true")
+    reader.add_argument("--against")
     reader.add_argument("--effort")
     reader.add_argument("program")
     reader.add_argument("cases", nargs="*")

@@ -20,6 +20,7 @@ use pla::Sets;
 use std::alloc::{AllocError, Global};
 
 /// Whether the cube has a place of the prime.
+#[inline(always)]
 fn intersects_cube(prime: &Cube, cube: &Cube) -> bool
     requires { SameSize cube.now prime.now }
     ensures { result ≡ intersects_cube prime.now cube.now }

@@ -11,6 +11,7 @@ pub fn word_hash(word: u64) -> u64 {
 
 /// The hash of a row, from a seed. With one seed equal rows have equal hashes, and other rows
 /// hardly ever do.
+#[inline(always)]
 pub fn row_hash(shape: Shape, row: &Cube, seed: u64) -> u64 {
     let mut hash = seed;
     for w in 0..(shape.inputs() / 32).max(shape.outputs() / 64) + 1 {
