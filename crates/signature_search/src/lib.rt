@@ -9,6 +9,7 @@
 //!
 //! 1. [`Proposer::first_places`]: each ON cube as it stands; its signature cube is taken if it has a
 //!    place of its own. This finds most signature cubes of functions that are written by people.
+//!    Of a few samples that are points all places are taken as they stand.
 //! 2. [`Proposer::places_left_out`]: of what a cover leaves out a place, the largest cube between it
 //!    and the ON cube whose signature cube has a place of its own, and from there larger ones. The
 //!    cover leaves out that place too: a prime that held it would hold the signature cube.

@@ -5,6 +5,10 @@ use crate::rows::{Place, Rows};
 use crate::search::Search;
 use std::alloc::{AllocError, Global};
 
+// Up to so many rows and outputs of samples, all places are proposed at once: a search for maximal
+// signature cubes leaves few of them out, and takes far longer than their columns.
+const FEW_PLACES: usize = 2_000;
+
 /// A function, of which places are proposed.
 pub struct Proposer {
     alloc: Global,
@@ -58,8 +62,20 @@ impl Proposer {
         })
     }
 
-    /// Wanted places, one for each signature cube of these ON rows that has a place of its own.
+    // Whether the ON rows are samples that are few.
+    fn takes_all_places(&self, on: &Rows) -> bool {
+        self.function.samples
+            && self.primes.is_none()
+            && on.len().saturating_mul(on.outputs()) <= FEW_PLACES
+            && on.are_points()
+    }
+
+    /// Wanted places, one for each signature cube of these ON rows that has a place of its own; of
+    /// samples, where they are few, all places.
     pub fn first_places(&self, on: &Rows) -> Result<Vec<Place>, AllocError> {
+        if self.takes_all_places(on) {
+            return on.places(self.alloc);
+        }
         let mut search = Search::new(self.alloc, &self.function, self.primes.as_ref())?;
         search.add_signatures_of_rows(on)?;
         search.maximal_places()

@@ -1,6 +1,6 @@
 //! The rows that a search is given, and the places that it answers.
 
-use crate::bits::{Literals, has_bit, put_bit, put_literal, row_at, words_for};
+use crate::bits::{Literals, has_bit, literal_count, put_bit, put_literal, row_at, words_for};
 use std::alloc::{AllocError, Global};
 
 /// A list of cubes, each with its literals and its outputs.
@@ -88,6 +88,40 @@ impl Rows {
     /// Whether there is none.
     pub fn is_empty(&self) -> bool {
         self.literals.is_empty()
+    }
+
+    /// Whether each row has a literal at each input.
+    pub(crate) fn are_points(&self) -> bool {
+        for row in 0..self.len() {
+            if (literal_count(self.literals_of(row)) as usize) < self.inputs {
+                return false;
+            }
+        }
+        true
+    }
+
+    /// Adds a place of a row for each of its outputs.
+    fn push_places(
+        &self,
+        alloc: Global,
+        row: usize,
+        places: &mut Vec<Place>,
+    ) -> Result<(), AllocError> {
+        for output in 0..self.outputs {
+            if has_bit(self.outputs_of(row), output) {
+                places.push(Place::of(alloc, self.literals_of(row), output)?)?;
+            }
+        }
+        Ok(())
+    }
+
+    /// A place of each row for each of its outputs.
+    pub(crate) fn places(&self, alloc: Global) -> Result<Vec<Place>, AllocError> {
+        let mut places: Vec<Place> = Vec::new(alloc);
+        for row in 0..self.len() {
+            self.push_places(alloc, row, &mut places)?;
+        }
+        Ok(places)
     }
 
     /// The literals of a row.
