@@ -1,9 +1,8 @@
 //! Small lists by hand. What the program prints of longer ones is tested on the built program.
 ghost use Rattle.std.specs.Prelude.{◌≡◌};
 
-use crate::row_texts::{are_written, cover_of, is_written};
+use crate::row_texts::{are_written, cover_of, is_written, new_shape};
 use cover::{Cover, agree_outside, complete_sum, contain, difference, intersect, merge_rows};
-use cube::Shape;
 use std::alloc::{AllocError, Global};
 use std::test::Fail;
 
@@ -200,7 +199,7 @@ const BEFORE: [usize; 2] = [0, MANY];
 // Whether the operation of the case makes its last rows of the others.
 fn makes(alloc: Global, case: &Made, before: usize) -> Result<bool, Fail> {
     let (operation, inputs, outputs, rows, others, made) = *case;
-    let shape = Shape::new(inputs.saturating_add(before), outputs).ok_or("limits")?;
+    let shape = new_shape(inputs.saturating_add(before), outputs)?;
     let list = cover_of(alloc, shape, rows)?;
     let other = cover_of(alloc, shape, others)?;
     Ok(are_written(result_of(operation, &list, &other)?.as_slice(), made))
@@ -357,7 +356,7 @@ pub(crate) fn answer(
 // Whether the lists of the case answer its question so.
 fn answers(alloc: Global, case: &Answer, before: usize) -> Result<bool, Fail> {
     let (question, inputs, outputs, rows, others, frees, yes) = *case;
-    let shape = Shape::new(inputs.saturating_add(before), outputs).ok_or("limits")?;
+    let shape = new_shape(inputs.saturating_add(before), outputs)?;
     let list = cover_of(alloc, shape, rows)?;
     let other = cover_of(alloc, shape, others)?;
     let free = cover_of(alloc, shape, frees)?;

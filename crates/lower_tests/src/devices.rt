@@ -23,22 +23,30 @@ fn delivers_in_pieces(rt: HostRuntime) -> Result<(), Fail> {
 fn fails_behind_its_bytes(rt: HostRuntime) -> Result<(), Fail> {
     let bytes = Vec::from_slice(rt.alloc(), b"a")?;
     let mut given = Given::new(bytes, 8, Ending::Failed);
-    let mut buffer = [0; 3];
-    assert!(rt; given.read(&mut buffer)? == 1);
-    assert!(rt; given.read(&mut buffer).is_err());
+    assert!(rt; delivers(&mut given, b"a\0\0", 1) && given.read(&mut [0; 3]).is_err());
     assert!(rt; given.delivered() == 1);
     Ok(())
 }
 
+/// Whether the device takes so many of the bytes; `None` where the write fails.
+fn takes(taken: &mut Taken, bytes: &[u8], count: Option<usize>) -> bool {
+    taken.write(bytes).ok() == count
+}
+
+const WRITES: [(&[u8], Option<usize>); 4] = [
+    (b"abcd", Some(3)),
+    (b"efgh", Some(2)),
+    (b"i", None),
+    (b"", Some(0)),
+];
+
 #[test]
 fn takes_up_to_its_room(rt: HostRuntime) -> Result<(), Fail> {
     let mut taken = Taken::new(rt.alloc(), 5, 3, true)?;
-    assert!(rt; taken.write(b"abcd")? == 3);
-    assert!(rt; taken.write(b"efgh")? == 2);
-    assert!(rt; taken.write(b"i").is_err());
-    assert!(rt; taken.write(b"")? == 0);
-    assert!(rt; taken.flush().is_err());
-    assert!(rt; taken.bytes() == b"abcef".as_slice());
+    for (bytes, count) in WRITES {
+        assert!(rt; takes(&mut taken, bytes, count));
+    }
+    assert!(rt; taken.flush().is_err() && taken.bytes() == b"abcef".as_slice());
     Ok(())
 }
 
@@ -47,21 +55,17 @@ fn one_read_fails_alone(rt: HostRuntime) -> Result<(), Fail> {
     let bytes = Vec::from_slice(rt.alloc(), b"abcde")?;
     let mut given = Given::new(bytes, 2, Ending::End).failing_once_after(1);
     assert!(rt; delivers(&mut given, b"ab\0", 2) && given.read(&mut [0; 3]).is_err());
-    assert!(rt; given.delivered() == 2);
-    assert!(rt; delivers(&mut given, b"cd\0", 2) && delivers(&mut given, b"e\0\0", 1));
-    assert!(rt; delivers(&mut given, b"\0\0\0", 0));
+    assert!(rt; given.delivered() == 2 && delivers(&mut given, b"cd\0", 2));
+    assert!(rt; delivers(&mut given, b"e\0\0", 1) && delivers(&mut given, b"\0\0\0", 0));
     Ok(())
 }
 
 #[test]
 fn one_write_fails_alone(rt: HostRuntime) -> Result<(), Fail> {
     let mut taken = Taken::new(rt.alloc(), 5, 3, false)?.failing_once_after(1);
-    assert!(rt; taken.write(b"ab")? == 2);
-    assert!(rt; taken.write(b"cd").is_err());
-    assert!(rt; taken.calls().broken);
-    assert!(rt; taken.write(b"cd")? == 2);
-    assert!(rt; taken.calls().counts.failures == 1);
-    assert!(rt; taken.bytes() == b"abcd".as_slice());
+    assert!(rt; takes(&mut taken, b"ab", Some(2)) && takes(&mut taken, b"cd", None));
+    assert!(rt; taken.calls().broken && takes(&mut taken, b"cd", Some(2)));
+    assert!(rt; taken.calls().counts.failures == 1 && taken.bytes() == b"abcd".as_slice());
     Ok(())
 }
 

@@ -7,7 +7,7 @@ ghost use Rattle.std.specs.Prelude.{◌≡◌};
 
 use crate::covers::{Operation, Question, answer, result_of};
 use crate::places;
-use crate::row_texts::{cube_of_bytes, held_of, same_shape};
+use crate::row_texts::{cube_of_bytes, held_of, new_shape, same_shape};
 use crate::rules::{Rows, Rule, are_rows, cube_of_rule, has_rows, is_row, list_of};
 use cube::{Cube, Shape};
 use std::alloc::Global;
@@ -71,7 +71,7 @@ const WIDE_MADE: [Made; 12] = [
 // Whether the operation of the case makes its last rows of the others.
 fn makes(alloc: Global, inputs: usize, outputs: usize, case: &Made) -> Result<bool, Fail> {
     let (operation, first, second, made) = *case;
-    let shape = Shape::new(inputs, outputs).ok_or("limits")?;
+    let shape = new_shape(inputs, outputs)?;
     let list = list_of(alloc, shape, first)?;
     let other = list_of(alloc, shape, second)?;
     Ok(has_rows(&result_of(operation, &list, &other)?, made))
@@ -118,7 +118,7 @@ const WIDE_ANSWERS: [Answer; 9] = [
 // Whether the lists of the case answer its question so.
 fn answers(alloc: Global, inputs: usize, outputs: usize, case: &Answer) -> Result<bool, Fail> {
     let (question, first, second, third, yes) = *case;
-    let shape = Shape::new(inputs, outputs).ok_or("limits")?;
+    let shape = new_shape(inputs, outputs)?;
     let list = list_of(alloc, shape, first)?;
     let other = list_of(alloc, shape, second)?;
     let free = list_of(alloc, shape, third)?;
@@ -149,7 +149,7 @@ const HELD: [Held; 4] = [
 // Whether the list holds the cube of the case, or leaves out a part of it.
 fn is_held(alloc: Global, case: &Held) -> Result<bool, Fail> {
     let (inputs, outputs, rows, cube, yes) = *case;
-    let shape = Shape::new(inputs, outputs).ok_or("limits")?;
+    let shape = new_shape(inputs, outputs)?;
     let list = list_of(alloc, shape, rows)?;
     let held = held_of(&list, &list_of(alloc, shape, cube)?)?;
     Ok(held.first().copied() == Some(yes))
@@ -269,7 +269,7 @@ fn leaves_a_cube_an_input(alloc: Global, shape: Shape) -> Result<bool, Fail> {
 
 #[test]
 fn the_widest_cubes_are_read_and_parted(rt: HostRuntime) -> Result<(), Fail> {
-    let shape = Shape::new(1024, 1024).ok_or("limits")?;
+    let shape = new_shape(1024, 1024)?;
     let cube = cube_of_rule(rt.alloc(), shape, Rule::Free, 0)?;
     assert!(rt; has_last_bits(&cube));
     assert!(rt; is_read_again(rt.alloc(), &cube)?);

@@ -1,7 +1,7 @@
 //! Long files, wide rows and long names, read and printed.
-use crate::reading::read;
+use crate::reading::{has_rows, read, scan_of};
 use crate::sets::are_open;
-use pla::{Echo, Ending, OutType, Scan, read_pla, write_covers, write_pla};
+use pla::{Echo, Ending, OutType, read_pla, write_covers, write_pla};
 use std::alloc::{AllocError, Global};
 use std::test::Fail;
 use test_devices::{Given, Taken};
@@ -152,11 +152,8 @@ fn a_scan_takes_a_large_piece(rt: HostRuntime) -> Result<(), Fail> {
         &three_lists(alloc)?,
     )?;
     let mut output = Taken::new(alloc, 0, 1, false)?;
-    let scan = Scan::new(alloc, Echo::Eat).feed(&text, &mut output);
-    let scan = scan.ok().ok_or("the piece has no fault")?;
-    let pla = scan.finish(Ending::End, &mut output);
-    let pla = pla.ok().ok_or("the file has no fault")?;
-    assert!(rt; pla.on().len() == 20_000 && pla.dc().len() == 6000 && pla.off().len() == 6768);
+    let (pla, _) = scan_of(alloc, Echo::Eat, &[text.as_slice()], &mut output)?;
+    assert!(rt; has_rows(&pla, 20_000, 6000, 6768));
     Ok(())
 }
 

@@ -4,7 +4,7 @@ ghost use Rattle.cube.specs.Cube.{HasSize};
 ghost use Rattle.rows.specs.Cubes.{AreCubes};
 ghost use Rattle.rows.specs.Places.{behind};
 
-use crate::row_texts::same_shape;
+use crate::row_texts::{new_shape, same_shape};
 use crate::rules::{Rows, Rule};
 use cover::Cover;
 use cube::{Cube, Shape};
@@ -48,13 +48,12 @@ pub(crate) enum Size {
 }
 
 pub(crate) fn shape_of(size: Size) -> Result<Shape, Fail> {
-    let shape = match size {
-        Size::Small => Shape::new(2, 1),
-        Size::Long => Shape::new(16, 1),
-        Size::Odd => Shape::new(300, 1),
-        Size::Wide => Shape::new(1024, 1024),
-    };
-    Ok(shape.ok_or("limits")?)
+    match size {
+        Size::Small => new_shape(2, 1),
+        Size::Long => new_shape(16, 1),
+        Size::Odd => new_shape(300, 1),
+        Size::Wide => new_shape(1024, 1024),
+    }
 }
 
 // References to the cubes of a list.

@@ -1,12 +1,12 @@
 //! Places outside, inside and in common, asked for by the calls that list them.
 ghost use Rattle.std.specs.Prelude.{◌≡◌};
 
+use crate::row_texts::new_shape;
 use crate::rules::{Rows, has_rows, list_of};
 use cover::{
     Budget, Cover, agree_outside, are_meets_within_either, cubes_containing, in_row_order,
     is_within_either, outside, subtract, sum_containing,
 };
-use cube::Shape;
 use std::alloc::{AllocError, Global};
 use std::test::Fail;
 
@@ -156,7 +156,7 @@ fn answer(
 // Whether the lists of the case answer its question so.
 pub(crate) fn answers(alloc: Global, case: &Case) -> Result<bool, Fail> {
     let (question, inputs, outputs, first, second, third, yes) = *case;
-    let shape = Shape::new(inputs, outputs).ok_or("limits")?;
+    let shape = new_shape(inputs, outputs)?;
     let list = list_of(alloc, shape, first)?;
     let other = list_of(alloc, shape, second)?;
     let rest = list_of(alloc, shape, third)?;

@@ -25,6 +25,11 @@ const ECHOES: &[u8] = b"# two gates\n.unknown x # y\n# last\n# end\n";
 /// A description without lines that are passed on.
 const PLAIN: &[u8] = b".i 2\n.o 2\n.ilb a b\n.ob f g\n11 1-\n0- 0\n0\n.e\n";
 
+/// Whether the three lists have so many rows.
+pub(crate) fn has_rows(pla: &Pla, on: usize, dc: usize, off: usize) -> bool {
+    pla.on().len() == on && pla.dc().len() == dc && pla.off().len() == off
+}
+
 #[test]
 fn a_file_is_read_in_pieces(rt: HostRuntime) -> Result<(), Fail> {
     let alloc = rt.alloc();
@@ -32,8 +37,7 @@ fn a_file_is_read_in_pieces(rt: HostRuntime) -> Result<(), Fail> {
     let mut output = Taken::new(alloc, 100, 3, false)?;
     let read = read_pla(alloc, &mut input, &mut output, Echo::Keep);
     let pla = read.ok().ok_or("the file has a fault")?;
-    assert!(rt; output.bytes() == ECHOES);
-    assert!(rt; pla.on().len() == 1 && pla.dc().len() == 1 && pla.off().is_empty());
+    assert!(rt; output.bytes() == ECHOES && has_rows(&pla, 1, 1, 0));
     Ok(())
 }
 
@@ -41,8 +45,7 @@ fn a_file_is_read_in_pieces(rt: HostRuntime) -> Result<(), Fail> {
 fn a_file_says_sizes_types_and_lists(rt: HostRuntime) -> Result<(), Fail> {
     let pla = read(rt.alloc(), PLAIN)?;
     assert!(rt; pla.shape().inputs() == 2 && pla.shape().outputs() == 2);
-    assert!(rt; pla.file_type() == FileType::Fd);
-    assert!(rt; pla.on().len() == 1 && pla.dc().len() == 1 && pla.off().is_empty());
+    assert!(rt; pla.file_type() == FileType::Fd && has_rows(&pla, 1, 1, 0));
     Ok(())
 }
 
@@ -102,26 +105,50 @@ fn a_write_that_fails_is_told(rt: HostRuntime) -> Result<(), Fail> {
     Ok(())
 }
 
+/// What these pieces describe, and whether the scan was done before the end.
+fn scan_pieces(
+    alloc: Global,
+    echo: Echo,
+    pieces: &[&[u8]],
+    output: &mut Taken,
+) -> Result<(Pla, bool), ReadFault> {
+    let mut scan = Scan::new(alloc, echo);
+    for piece in pieces {
+        scan = scan.feed(piece, output)?;
+    }
+    let is_done = scan.done();
+    Ok((scan.finish(Ending::End, output)?, is_done))
+}
+
+/// The same, of pieces without a fault.
+pub(crate) fn scan_of(
+    alloc: Global,
+    echo: Echo,
+    pieces: &[&[u8]],
+    output: &mut Taken,
+) -> Result<(Pla, bool), Fail> {
+    match scan_pieces(alloc, echo, pieces, output) {
+        Ok(found) => Ok(found),
+        Err(_) => Err("the pieces have a fault")?,
+    }
+}
+
+/// Pieces that end in the middle of a row and of a comment.
+const PIECES: [&[u8]; 2] = [b".i 1\n.o 1\n1 ", b"1 # a"];
+
 #[test]
 fn a_scan_takes_pieces(rt: HostRuntime) -> Result<(), Fail> {
-    let alloc = rt.alloc();
-    let mut output = Taken::new(alloc, 100, 100, false)?;
-    let scan = Scan::new(alloc, Echo::Keep).feed(b".i 1\n.o 1\n1 ", &mut output);
-    let scan = scan.ok().ok_or("the piece has no fault")?;
-    assert!(rt; !scan.done());
-    let scan = scan.feed(b"1 # a", &mut output);
-    let scan = scan.ok().ok_or("the piece has no fault")?;
-    let pla = scan.finish(Ending::End, &mut output);
-    let pla = pla.ok().ok_or("the file has no fault")?;
-    assert!(rt; pla.on().len() == 1 && output.bytes() == b"# a\n".as_slice());
+    let mut output = Taken::new(rt.alloc(), 100, 100, false)?;
+    let (pla, is_done) = scan_of(rt.alloc(), Echo::Keep, &PIECES, &mut output)?;
+    assert!(rt; !is_done && pla.on().len() == 1 && output.bytes() == b"# a\n".as_slice());
     Ok(())
 }
 
 #[test]
 fn a_scan_is_done_at_the_end(rt: HostRuntime) -> Result<(), Fail> {
     let mut output = Taken::new(rt.alloc(), 100, 100, false)?;
-    let scan = Scan::new(rt.alloc(), Echo::Eat).feed(b".i 1\n.o 1\n.e\n", &mut output);
-    assert!(rt; scan.is_ok_and(|scan| scan.done()));
+    let (pla, is_done) = scan_of(rt.alloc(), Echo::Eat, &[b".i 1\n.o 1\n.e\n"], &mut output)?;
+    assert!(rt; is_done && pla.on().is_empty());
     Ok(())
 }
 

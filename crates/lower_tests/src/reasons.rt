@@ -1,7 +1,7 @@
 //! Tautology and containment against the plain definition, and on wide lists.
-use crate::row_texts::{cube_of_symbols, held_of, push};
+use crate::row_texts::{cube_of_symbols, held_of, new_shape, push};
 use cover::Cover;
-use cube::{Cube, Shape, Symbol};
+use cube::{Cube, Symbol};
 use std::alloc::Global;
 use std::test::Fail;
 
@@ -67,7 +67,7 @@ fn hold_all(numbers: &[usize], of: usize) -> bool {
 
 // The list of the cubes with these numbers.
 fn small_cover(alloc: Global, numbers: &[usize]) -> Result<Cover, Fail> {
-    let mut list = Cover::new(alloc, Shape::new(2, 2).ok_or("limits")?);
+    let mut list = Cover::new(alloc, new_shape(2, 2)?);
     for number in numbers {
         push(&mut list, small_cube(alloc, *number)?)?;
     }
@@ -120,7 +120,7 @@ fn step(alloc: Global, i: usize, is_second: bool) -> Result<Cube, Fail> {
 // All steps but for the row left out: cubes of seven words and three outputs, each step in two
 // rows. Together they hold everything.
 fn steps(alloc: Global, left_out: usize) -> Result<Cover, Fail> {
-    let mut list = Cover::new(alloc, Shape::new(180, 3).ok_or("limits")?);
+    let mut list = Cover::new(alloc, new_shape(180, 3)?);
     for n in (0..362usize).rev() {
         let (i, is_second) = (n / 2, n % 2 == 0);
         if i != left_out || !is_second {
@@ -184,7 +184,7 @@ fn push_pairs(alloc: Global, list: &mut Cover, pigeon: usize, hole: usize) -> Re
 
 // A pigeon from the first on is in no hole, or two are in one.
 fn pigeons(alloc: Global, first: usize) -> Result<Cover, Fail> {
-    let mut list = Cover::new(alloc, Shape::new(42, 1).ok_or("limits")?);
+    let mut list = Cover::new(alloc, new_shape(42, 1)?);
     for pigeon in first..7usize {
         push(
             &mut list,
@@ -199,7 +199,7 @@ fn pigeons(alloc: Global, first: usize) -> Result<Cover, Fail> {
 
 // Each literal, `0` before `1`.
 fn literals(alloc: Global) -> Result<Cover, Fail> {
-    let mut list = Cover::new(alloc, Shape::new(42, 1).ok_or("limits")?);
+    let mut list = Cover::new(alloc, new_shape(42, 1)?);
     for n in 0..84usize {
         let symbol = if n % 2 == 0 {
             Symbol::Zero

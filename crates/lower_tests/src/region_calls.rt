@@ -257,7 +257,9 @@ fn holds_first(alloc: Global, list: &Cover, others: &Cover) -> Result<bool, Fail
     match part_left_out(alloc, &rows, region)? {
         Some(part) => {
             let is_part = region.shape() == part.shape() && part.literals() >= region.literals();
-            is_part.then_some(false).ok_or("another part")?;
+            if !is_part {
+                return Err("another part")?;
+            }
             Ok(false)
         }
         None => Ok(true),

@@ -5,6 +5,7 @@ use crate::lists::{
     HALF, LONG, LONG_HALF, LONG_REST, NONE, REST, Size, UNIVERSE, WIDE, WIDE_HALF, WIDE_REST,
     copies_of, first_of, references_to, shape_of,
 };
+use crate::row_texts::new_shape;
 use crate::rules::{Rows, Rule, are_rows, list_of};
 use cover::Cover;
 use cube::{Cube, Shape, Symbol};
@@ -449,7 +450,7 @@ fn is_of_output(cube: &Cube, output: usize) -> bool {
 
 #[test]
 fn cubes_have_one_output(rt: HostRuntime) -> Result<(), Fail> {
-    let shape = Shape::new(300, 130).ok_or("limits")?;
+    let shape = new_shape(300, 130)?;
     for j in [0usize, 1, 63, 64, 129] {
         if j < shape.outputs() {
             assert!(rt; is_of_output(&cube_of_output(rt.alloc(), shape, j)?, j));

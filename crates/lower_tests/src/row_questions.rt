@@ -5,6 +5,7 @@ ghost use Rattle.cube.specs.Cube.{HasSize};
 use crate::lists::{
     LONG, LONG_HALF, NONE, Size, WIDE, WIDE_HALF, first_of, references_to, shape_of,
 };
+use crate::row_texts::new_shape;
 use crate::rules::{Rows, Rule, cube_of_rule, list_of};
 use cover::Cover;
 use cube::{Cube, Shape, Symbol};
@@ -154,8 +155,8 @@ fn counts_are(alloc: Global, counted: Counted, list: &Cover) -> Result<bool, Fai
     let last = shape.inputs().saturating_sub(1);
     let all = LiteralCounts::of(alloc, &refs, shape.inputs())?;
     let some = LiteralCounts::of_sample(alloc, shape, &refs)?;
-    let zeros = some.zeros.get(last).copied().ok_or("no zeros")?;
-    let ones = some.ones.get(last).copied().ok_or("no ones")?;
+    let zeros = some.zeros.get(last).copied().unwrap_or(u32::MAX);
+    let ones = some.ones.get(last).copied().unwrap_or(u32::MAX);
     Ok(
         all.zeros.get(last).copied() == Some(counted.zeros)
             && all.ones.get(last).copied() == Some(counted.ones)
@@ -245,7 +246,7 @@ fn tests_agree(cube: &Cube, i: usize) -> bool
 
 #[test]
 fn symbols_are_tested(rt: HostRuntime) -> Result<(), Fail> {
-    let shape = Shape::new(300, 1).ok_or("limits")?;
+    let shape = new_shape(300, 1)?;
     let cube = cube_of_rule(rt.alloc(), shape, Rule::Stairs, 150)?;
     for i in 0..cube.shape().inputs() {
         assert!(rt; tests_agree(&cube, i));
@@ -253,21 +254,30 @@ fn symbols_are_tested(rt: HostRuntime) -> Result<(), Fail> {
     Ok(())
 }
 
-// The open literals of a row beside one with `0` at the first 32 inputs: `0` up to input 149 and
-// `1` at input 150.
+// Whether the open literals of a row beside one with `0` at the first 32 inputs are found: `0` up to
+// input 149 and `1` at input 150.
+fn finds_open_literals(shape: Shape, row: &Cube, region: &Cube) -> bool {
+    open_bits(row, region, 0) == 0
+        && open_bits(row, region, 1) == 0xAAAA_AAAA_AAAA_AAAA
+        && !lacks_output(shape, row, region)
+        && count_open_literals(shape, row, region, 1000) == 119
+        && first_open_literal(row, region) == (32, Symbol::Zero)
+}
+
+// Whether these literals count three times each.
+fn counts_open_literals(row: &Cube, region: &Cube) -> bool {
+    let mut counts = [0u32; 64];
+    count_bits(open_bits(row, region, 1), 3, &mut counts);
+    counts[0] == 0 && counts[1] == 3 && counts[63] == 3
+}
+
 #[test]
 fn open_literals_are_found(rt: HostRuntime) -> Result<(), Fail> {
-    let shape = Shape::new(300, 130).ok_or("limits")?;
+    let shape = new_shape(300, 130)?;
     let row = cube_of_rule(rt.alloc(), shape, Rule::Stairs, 150)?;
     let region = cube_of_rule(rt.alloc(), shape, Rule::Zeros, 32)?;
-    assert!(rt; open_bits(&row, &region, 0) == 0);
-    assert!(rt; open_bits(&row, &region, 1) == 0xAAAA_AAAA_AAAA_AAAA);
-    assert!(rt; !lacks_output(shape, &row, &region));
-    assert!(rt; count_open_literals(shape, &row, &region, 1000) == 119);
-    assert!(rt; first_open_literal(&row, &region) == (32, Symbol::Zero));
-    let mut counts = [0u32; 64];
-    count_bits(open_bits(&row, &region, 1), 3, &mut counts);
-    assert!(rt; counts[0] == 0 && counts[1] == 3 && counts[63] == 3);
+    assert!(rt; finds_open_literals(shape, &row, &region));
+    assert!(rt; counts_open_literals(&row, &region));
     Ok(())
 }
 
@@ -285,7 +295,7 @@ fn output_is_shared(alloc: Global, shape: Shape, j: usize, other: usize) -> Resu
 
 #[test]
 fn outputs_are_shared(rt: HostRuntime) -> Result<(), Fail> {
-    let shape = Shape::new(300, 130).ok_or("limits")?;
+    let shape = new_shape(300, 130)?;
     for j in [0usize, 63, 64, 129] {
         assert!(rt; output_is_shared(rt.alloc(), shape, j, 64)?);
         assert!(rt; output_is_shared(rt.alloc(), shape, j, 129)?);
@@ -295,12 +305,12 @@ fn outputs_are_shared(rt: HostRuntime) -> Result<(), Fail> {
 
 #[test]
 fn equal_rows_have_equal_hashes(rt: HostRuntime) -> Result<(), Fail> {
-    let shape = Shape::new(300, 130).ok_or("limits")?;
+    let shape = new_shape(300, 130)?;
     let row = cube_of_rule(rt.alloc(), shape, Rule::Stairs, 150)?;
     let same = cube_of_rule(rt.alloc(), shape, Rule::Stairs, 150)?;
     let other = cube_of_rule(rt.alloc(), shape, Rule::Stairs, 151)?;
-    assert!(rt; row_hash(shape, &row, 1) == row_hash(shape, &same, 1));
-    assert!(rt; row_hash(shape, &row, 1) != row_hash(shape, &other, 1));
+    let hash = row_hash(shape, &row, 1);
+    assert!(rt; hash == row_hash(shape, &same, 1) && hash != row_hash(shape, &other, 1));
     assert!(rt; word_hash(1) != word_hash(2));
     Ok(())
 }

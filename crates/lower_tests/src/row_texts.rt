@@ -6,6 +6,14 @@ use cube::{Cube, Shape, Symbol};
 use std::alloc::Global;
 use std::test::Fail;
 
+// The shape of so many inputs and outputs.
+pub(crate) fn new_shape(inputs: usize, outputs: usize) -> Result<Shape, Fail> {
+    match Shape::new(inputs, outputs) {
+        Some(shape) => Ok(shape),
+        None => Err("limits")?,
+    }
+}
+
 // The cube of these symbols and outputs, or `None` where it has no output.
 pub(crate) fn cube_of_symbols(
     alloc: Global,

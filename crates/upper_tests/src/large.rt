@@ -7,9 +7,10 @@ use crate::descriptions::{
     ALL, Case, ESSENTIAL, LEAST_OF, LISTED, NO_PRIMES, OUTSIDE, SAMPLED, answers,
 };
 use crate::rules::{Outputs, Rule};
-use crate::tables::{has_taken, least_is, rings, rings_are_solved};
+use crate::signatures::{decoder, outside_decoder};
+use crate::tables::{all_answer, has_taken, least_is, rings, rings_are_solved};
 use covering::{all_marked, copy_of, is_marked, numbers, short_cover, unmark};
-use minimum::{Choice, Effort, Table, least_cover_plain, least_cover_with_effort, reduce};
+use minimum::{Choice, Table, reduce};
 use signature_search::{Proposer, Rows};
 use std::alloc::{AllocError, Global};
 use std::test::Fail;
@@ -197,19 +198,10 @@ fn fan(alloc: Global, columns: usize) -> Result<Option<Table>, AllocError> {
 
 /// Whether each search answers the first column of the table, and a reduction takes it.
 fn is_met_by_the_first(table: Table) -> Result<bool, AllocError> {
-    let plain = least_cover_plain(&table, Choice::First)?;
-    let mut effort = Effort::none();
-    let counted = least_cover_with_effort(&table, Choice::Literals, &mut effort)?;
-    let is_least = least_is(&table, Choice::First, &[0])?;
-    let short = short_cover(&table)?;
-    let reduced = reduce(table, Choice::First)?;
-    Ok(
-        is_least
-            && plain.as_slice() == [0].as_slice()
-            && counted.as_slice() == [0].as_slice()
-            && short.as_slice() == [0].as_slice()
-            && has_taken(&reduced, &[0]),
-    )
+    let is_short = short_cover(&table)?.as_slice() == [0].as_slice();
+    let is_least = all_answer(&table, Choice::First, &[0])?;
+    let is_fewest = least_is(&table, Choice::Literals, &[0])?;
+    Ok(is_short && is_least && is_fewest && has_taken(&reduce(table, Choice::First)?, &[0]))
 }
 
 #[test]
@@ -250,36 +242,13 @@ fn long_lists_of_marks_are_made(rt: HostRuntime) -> Result<(), Fail> {
     Ok(())
 }
 
-/// A row for each number of ten bits, with the output of this number.
-fn decoder(alloc: Global) -> Result<Rows, AllocError> {
-    let mut rows = Rows::new(alloc, 10, 1024);
-    for number in 0..1024usize {
-        rows.begin_row()?;
-        for input in 0..10usize {
-            rows.put_literal(input, number >> input & 1 == 1);
-        }
-        rows.put_output(number);
-    }
-    Ok(rows)
-}
-
-/// The rows outside: with each output those that differ from its number at an input.
-fn outside_decoder(alloc: Global) -> Result<Rows, AllocError> {
-    let mut rows = Rows::new(alloc, 10, 1024);
-    for number in 0..1024usize {
-        for input in 0..10usize {
-            rows.begin_row()?;
-            rows.put_literal(input, number >> input & 1 == 0);
-            rows.put_output(number);
-        }
-    }
-    Ok(rows)
-}
-
 #[test]
 fn each_row_of_a_large_decoder_has_a_place(rt: HostRuntime) -> Result<(), Fail> {
     let alloc = rt.alloc();
-    let (on, off) = (decoder(alloc)?, outside_decoder(alloc)?);
+    let (on, off) = (
+        decoder(alloc, 10, 1024, 1024)?,
+        outside_decoder(alloc, 10, 1024)?,
+    );
     let none = Rows::new(alloc, 10, 1024);
     let proposer = Proposer::by_off(alloc, &on, &none, &off, false)?;
     assert!(rt; proposer.first_places(&on)?.len() == 1024);

@@ -4,12 +4,17 @@ use signature_search::{Place, Proposer, Rows};
 use std::alloc::{AllocError, Global};
 use std::test::Fail;
 
-/// A row for each number of six bits below `count`, with the output of this number.
-fn decoder(alloc: Global, count: usize) -> Result<Rows, AllocError> {
-    let mut rows = Rows::new(alloc, 6, 64);
+/// A row for each number of some bits below `count`, with the output of this number.
+pub(crate) fn decoder(
+    alloc: Global,
+    bits: usize,
+    outputs: usize,
+    count: usize,
+) -> Result<Rows, AllocError> {
+    let mut rows = Rows::new(alloc, bits, outputs);
     for number in 0..count {
         rows.begin_row()?;
-        for input in 0..6usize {
+        for input in 0..bits.min(16) {
             rows.put_literal(input, number >> input & 1 == 1);
         }
         rows.put_output(number);
@@ -18,16 +23,25 @@ fn decoder(alloc: Global, count: usize) -> Result<Rows, AllocError> {
 }
 
 /// The rows outside: with each output those that differ from its number at an input.
-fn outside_decoder(alloc: Global) -> Result<Rows, AllocError> {
-    let mut rows = Rows::new(alloc, 6, 64);
-    for number in 0..64usize {
-        for input in 0..6usize {
+pub(crate) fn outside_decoder(
+    alloc: Global,
+    bits: usize,
+    outputs: usize,
+) -> Result<Rows, AllocError> {
+    let mut rows = Rows::new(alloc, bits, outputs);
+    for number in 0..outputs {
+        for input in 0..bits.min(16) {
             rows.begin_row()?;
             rows.put_literal(input, number >> input & 1 == 0);
             rows.put_output(number);
         }
     }
     Ok(rows)
+}
+
+/// The rows of six bits below `count`.
+fn small_decoder(alloc: Global, count: usize) -> Result<Rows, AllocError> {
+    decoder(alloc, 6, 64, count)
 }
 
 /// The number of the place's point.
@@ -54,18 +68,27 @@ fn are_of_rows(places: &[Place]) -> bool {
     true
 }
 
+/// Whether no place has an output before this one.
+fn have_outputs_from(places: &[Place], first: usize) -> bool {
+    for place in places {
+        if place.output() < first {
+            return false;
+        }
+    }
+    true
+}
+
 /// What proposes places of the decoder, by the rows outside.
 fn proposer(alloc: Global) -> Result<Proposer, AllocError> {
-    let (on, off) = (decoder(alloc, 64)?, outside_decoder(alloc)?);
+    let (on, off) = (small_decoder(alloc, 64)?, outside_decoder(alloc, 6, 64)?);
     Proposer::by_off(alloc, &on, &Rows::new(alloc, 6, 64), &off, false)
 }
 
 #[test]
 fn each_row_of_a_decoder_has_a_place(rt: HostRuntime) -> Result<(), Fail> {
     let alloc = rt.alloc();
-    let places = proposer(alloc)?.first_places(&decoder(alloc, 64)?)?;
-    assert!(rt; places.len() == 64);
-    assert!(rt; are_of_rows(&places));
+    let places = proposer(alloc)?.first_places(&small_decoder(alloc, 64)?)?;
+    assert!(rt; places.len() == 64 && are_of_rows(&places));
     Ok(())
 }
 
@@ -74,12 +97,11 @@ fn each_row_that_a_cover_leaves_out_has_a_place(rt: HostRuntime) -> Result<(), F
     let alloc = rt.alloc();
     for count in [0usize, 1, 40, 63, 64] {
         let places = proposer(alloc)?.places_left_out(
-            &decoder(alloc, 64)?,
-            &decoder(alloc, count)?,
+            &small_decoder(alloc, 64)?,
+            &small_decoder(alloc, count)?,
         )?;
-        assert!(rt; places.len() == 64 - count);
-        assert!(rt; are_of_rows(&places));
-        assert!(rt; places.iter().all(|place| place.output() >= count));
+        assert!(rt; places.len() == 64 - count && are_of_rows(&places));
+        assert!(rt; have_outputs_from(&places, count));
     }
     Ok(())
 }
@@ -87,11 +109,10 @@ fn each_row_that_a_cover_leaves_out_has_a_place(rt: HostRuntime) -> Result<(), F
 #[test]
 fn the_primes_of_a_decoder_show_the_same(rt: HostRuntime) -> Result<(), Fail> {
     let alloc = rt.alloc();
-    let (on, dc) = (decoder(alloc, 64)?, Rows::new(alloc, 6, 64));
-    let by_primes = Proposer::by_primes(alloc, &on, &dc, decoder(alloc, 64)?, false)?;
+    let (on, dc) = (small_decoder(alloc, 64)?, Rows::new(alloc, 6, 64));
+    let by_primes = Proposer::by_primes(alloc, &on, &dc, small_decoder(alloc, 64)?, false)?;
     assert!(rt; are_of_rows(&by_primes.first_places(&on)?));
-    let places = by_primes.places_left_out(&on, &decoder(alloc, 60)?)?;
-    assert!(rt; places.len() == 4);
-    assert!(rt; are_of_rows(&places));
+    let places = by_primes.places_left_out(&on, &small_decoder(alloc, 60)?)?;
+    assert!(rt; places.len() == 4 && are_of_rows(&places));
     Ok(())
 }

@@ -26,12 +26,20 @@ fn digits(alloc: Global, text: &[u8]) -> Result<Vec<usize>, AllocError> {
 }
 
 /// The table of these rows of columns, each column a digit; `None` where they aren't rows.
-fn table(alloc: Global, rows: &[u8], weights: &[u32]) -> Result<Option<Table>, AllocError> {
+fn table_of(alloc: Global, rows: &[u8], literals: &[u32]) -> Result<Option<Table>, AllocError> {
     let mut lists = Vec::new(alloc);
     for row in rows.split(|c| *c == b' ') {
         lists.push(digits(alloc, row)?)?;
     }
-    Table::new(alloc, lists, weights.to_vec(alloc)?)
+    Table::new(alloc, lists, literals.to_vec(alloc)?)
+}
+
+/// The same, of rows.
+fn table(alloc: Global, rows: &[u8], literals: &[u32]) -> Result<Table, Fail> {
+    match table_of(alloc, rows, literals)? {
+        Some(table) => Ok(table),
+        None => Err("rows")?,
+    }
 }
 
 /// Whether the search answers these columns.
@@ -50,22 +58,6 @@ fn plain_is(table: &Table, choice: Choice, columns: &[usize]) -> Result<bool, Al
     Ok(plain.as_slice() == columns)
 }
 
-/// Six columns in a ring, each row two neighbours: the function 000, 001, 010, 101, 110, 111.
-fn ring(alloc: Global) -> Result<Table, Fail> {
-    let rows = b"23 03 12 04 15 45";
-    Ok(table(alloc, rows, &[2, 2, 2, 2, 2, 2])?.ok_or("rows")?)
-}
-
-#[test]
-fn ring_takes_the_first_of_two(rt: HostRuntime) -> Result<(), Fail> {
-    let ring = ring(rt.alloc())?;
-    assert!(rt; ring.columns() == 6);
-    assert!(rt; least_is(&ring, Choice::First, &[0, 2, 5])?);
-    assert!(rt; plain_is(&ring, Choice::First, &[0, 2, 5])?);
-    assert!(rt; least_is(&ring, Choice::Literals, &[0, 2, 5])?);
-    Ok(())
-}
-
 /// Whether no column is taken and all are live.
 fn are_all_live(table: &Table) -> bool {
     for column in 0..table.columns() {
@@ -74,16 +66,6 @@ fn are_all_live(table: &Table) -> bool {
         }
     }
     true
-}
-
-#[test]
-fn ring_has_nothing_to_reduce(rt: HostRuntime) -> Result<(), Fail> {
-    for choice in [Choice::First, Choice::Literals] {
-        let reduced = reduce(ring(rt.alloc())?, choice)?;
-        assert!(rt; reduced.row_count() == 6 && reduced.columns() == 6);
-        assert!(rt; are_all_live(&reduced));
-    }
-    Ok(())
 }
 
 /// Whether just these columns are taken, none is live and no row is left.
@@ -96,81 +78,92 @@ pub(crate) fn has_taken(table: &Table, columns: &[usize]) -> bool {
     table.row_count() == 0
 }
 
-#[test]
-fn the_only_column_is_taken(rt: HostRuntime) -> Result<(), Fail> {
-    let made = table(rt.alloc(), b"0", &[2])?.ok_or("rows")?;
-    assert!(rt; made.columns() == 1 && are_all_live(&made));
-    let reduced = reduce(made, Choice::First)?;
-    assert!(rt; reduced.columns() == 1 && has_taken(&reduced, &[0]));
-    assert!(rt; least_is(&reduced, Choice::First, &[0])?);
-    Ok(())
-}
+/// Six columns in a ring, each row two neighbours: the function 000, 001, 010, 101, 110, 111.
+const RING: &[u8] = b"23 03 12 04 15 45";
 
 /// Three columns; the last stands where the first does and once more, and yet the first is taken.
-fn three_columns(alloc: Global) -> Result<Table, Fail> {
-    let rows = b"02 12 1";
-    Ok(table(alloc, rows, &[2, 2, 2])?.ok_or("rows")?)
+const THREE: &[u8] = b"02 12 1";
+
+/// Rows, the literals of each column, a choice, and the least columns.
+const LEAST: [(&[u8], &[u32], Choice, &[usize]); 6] = [
+    // The first of two.
+    (RING, &[2, 2, 2, 2, 2, 2], Choice::First, &[0, 2, 5]),
+    (RING, &[2, 2, 2, 2, 2, 2], Choice::Literals, &[0, 2, 5]),
+    (b"0", &[2], Choice::First, &[0]),
+    (THREE, &[2, 2, 2], Choice::First, &[0, 1]),
+    // One row with two columns, of which the second has fewer literals.
+    (b"01", &[2, 1], Choice::First, &[0]),
+    (b"01", &[2, 1], Choice::Literals, &[1]),
+];
+
+/// Whether both searches answer the columns, and no column is taken before.
+fn is_solved(
+    alloc: Global,
+    rows: &[u8],
+    literals: &[u32],
+    choice: Choice,
+    columns: &[usize],
+) -> Result<bool, Fail> {
+    let made = table(alloc, rows, literals)?;
+    let is_whole = made.columns() == literals.len() && are_all_live(&made);
+    Ok(is_whole && least_is(&made, choice, columns)? && plain_is(&made, choice, columns)?)
 }
 
 #[test]
-fn an_earlier_column_stays(rt: HostRuntime) -> Result<(), Fail> {
-    let made = three_columns(rt.alloc())?;
-    assert!(rt; least_is(&made, Choice::First, &[0, 1])?);
+fn least_columns_are_found(rt: HostRuntime) -> Result<(), Fail> {
+    for (rows, literals, choice, columns) in LEAST {
+        assert!(rt; is_solved(rt.alloc(), rows, literals, choice, columns)?);
+    }
     Ok(())
+}
+
+/// Rows, the literals of each column, a choice, and the columns that a reduction takes. It leaves no
+/// row then, and else the six of the ring.
+const REDUCED: [(&[u8], &[u32], Choice, &[usize]); 6] = [
+    (RING, &[2, 2, 2, 2, 2, 2], Choice::First, &[]),
+    (RING, &[2, 2, 2, 2, 2, 2], Choice::Literals, &[]),
+    (b"0", &[2], Choice::First, &[0]),
+    (THREE, &[2, 2, 2], Choice::First, &[0, 1]),
+    // The column of fewer literals stays, and the first where literals do not count.
+    (b"01", &[2, 1], Choice::Literals, &[1]),
+    (b"01", &[2, 1], Choice::First, &[0]),
+];
+
+/// Whether these columns are taken of so many, and are the least then; where none is, all are live.
+fn is_left(table: &Table, columns: usize, taken: &[usize]) -> Result<bool, AllocError> {
+    if table.columns() != columns {
+        return Ok(false);
+    }
+    if taken.is_empty() {
+        return Ok(table.row_count() == 6 && are_all_live(table));
+    }
+    Ok(has_taken(table, taken) && least_is(table, Choice::First, taken)?)
 }
 
 #[test]
-fn an_earlier_column_is_taken(rt: HostRuntime) -> Result<(), Fail> {
-    let reduced = reduce(three_columns(rt.alloc())?, Choice::First)?;
-    assert!(rt; reduced.columns() == 3 && has_taken(&reduced, &[0, 1]));
+fn tables_are_reduced(rt: HostRuntime) -> Result<(), Fail> {
+    for (rows, literals, choice, taken) in REDUCED {
+        let reduced = reduce(table(rt.alloc(), rows, literals)?, choice)?;
+        assert!(rt; is_left(&reduced, literals.len(), taken)?);
+    }
     Ok(())
 }
 
-/// One row with two columns, of which the second has fewer literals.
-fn two_columns(alloc: Global) -> Result<Table, Fail> {
-    let rows = b"01";
-    Ok(table(alloc, rows, &[2, 1])?.ok_or("rows")?)
-}
-
-#[test]
-fn fewer_literals_are_taken(rt: HostRuntime) -> Result<(), Fail> {
-    let made = two_columns(rt.alloc())?;
-    assert!(rt; least_is(&made, Choice::First, &[0])?);
-    assert!(rt; least_is(&made, Choice::Literals, &[1])?);
-    assert!(rt; plain_is(&made, Choice::Literals, &[1])?);
-    Ok(())
-}
-
-#[test]
-fn the_column_of_fewer_literals_stays(rt: HostRuntime) -> Result<(), Fail> {
-    let reduced = reduce(two_columns(rt.alloc())?, Choice::Literals)?;
-    assert!(rt; reduced.columns() == 2 && has_taken(&reduced, &[1]));
-    assert!(rt; least_is(&reduced, Choice::First, &[1])?);
-    Ok(())
-}
-
-#[test]
-fn the_first_column_stays_where_literals_do_not_count(rt: HostRuntime) -> Result<(), Fail> {
-    let reduced = reduce(two_columns(rt.alloc())?, Choice::First)?;
-    assert!(rt; reduced.columns() == 2 && has_taken(&reduced, &[0]));
-    Ok(())
-}
+/// Rows that do not rise, or are empty, or name a column that there is not.
+const NO_ROWS: [&[u8]; 3] = [b"10", b"", b"02"];
 
 #[test]
 fn a_row_that_does_not_rise_is_refused(rt: HostRuntime) -> Result<(), Fail> {
-    assert!(rt; table(rt.alloc(), b"10", &[2, 1])?.is_none());
-    assert!(rt; table(rt.alloc(), b"", &[2, 1])?.is_none());
-    assert!(rt; table(rt.alloc(), b"02", &[2, 1])?.is_none());
+    for rows in NO_ROWS {
+        assert!(rt; table_of(rt.alloc(), rows, &[2, 1])?.is_none());
+    }
     Ok(())
 }
 
 /// A row for each two of nine columns: a half of each column holds every row, and no cover lacks
 /// two columns. So nothing is reduced, and no bound tells that eight columns are the fewest.
-fn pairs(alloc: Global) -> Result<Table, Fail> {
-    let rows = b"01 02 03 04 05 06 07 08 12 13 14 15 16 17 18 23 24 25 26 27 28 \
-        34 35 36 37 38 45 46 47 48 56 57 58 67 68 78";
-    Ok(table(alloc, rows, &[2, 2, 2, 2, 2, 2, 2, 2, 2])?.ok_or("rows")?)
-}
+const PAIRS: &[u8] = b"01 02 03 04 05 06 07 08 12 13 14 15 16 17 18 23 24 25 26 27 28 \
+    34 35 36 37 38 45 46 47 48 56 57 58 67 68 78";
 
 /// Whether the search answers these columns; what it did is added.
 fn least_is_counted(
@@ -194,25 +187,28 @@ fn is_twice(effort: Effort, other: Effort) -> bool {
         && effort.rounds == other.rounds.wrapping_mul(2)
 }
 
+/// Whether the search for these columns does something, and twice as much if it is made twice.
+fn adds_up(table: &Table, columns: &[usize]) -> Result<bool, AllocError> {
+    let mut effort = Effort::none();
+    let is_first = is_none(effort) && least_is_counted(table, columns, &mut effort)?;
+    let once = effort;
+    let is_second = least_is_counted(table, columns, &mut effort)?;
+    let is_some = once.tables > 0 && once.questions > 0 && once.rounds > 0;
+    Ok(is_first && is_second && is_some && is_twice(effort, once))
+}
+
 #[test]
 fn an_effort_adds_up(rt: HostRuntime) -> Result<(), Fail> {
-    let pairs = pairs(rt.alloc())?;
-    let mut effort = Effort::none();
-    assert!(rt; is_none(effort));
-    assert!(rt; least_is_counted(&pairs, &[0, 1, 2, 3, 4, 5, 6, 7], &mut effort)?);
-    let once = effort;
-    assert!(rt; once.tables > 0 && once.questions > 0 && once.rounds > 0);
-    assert!(rt; least_is_counted(&pairs, &[0, 1, 2, 3, 4, 5, 6, 7], &mut effort)?);
-    assert!(rt; is_twice(effort, once));
+    let pairs = table(rt.alloc(), PAIRS, &[2, 2, 2, 2, 2, 2, 2, 2, 2])?;
+    assert!(rt; adds_up(&pairs, &[0, 1, 2, 3, 4, 5, 6, 7])?);
     Ok(())
 }
 
 #[test]
 fn no_rows_take_no_effort(rt: HostRuntime) -> Result<(), Fail> {
-    let reduced = reduce(three_columns(rt.alloc())?, Choice::First)?;
+    let reduced = reduce(table(rt.alloc(), THREE, &[2, 2, 2])?, Choice::First)?;
     let mut effort = Effort::none();
-    assert!(rt; least_is_counted(&reduced, &[0, 1], &mut effort)?);
-    assert!(rt; is_none(effort));
+    assert!(rt; least_is_counted(&reduced, &[0, 1], &mut effort)? && is_none(effort));
     Ok(())
 }
 
@@ -245,19 +241,25 @@ pub(crate) fn firsts(alloc: Global, count: usize) -> Result<Vec<usize>, AllocErr
     Ok(columns)
 }
 
-/// Whether the search answers the first columns of so many rings, with each choice and as reduced.
+/// Whether the search answers these columns with each choice, and a short cover has no fewer.
+fn has_least(table: &Table, columns: &[usize]) -> Result<bool, AllocError> {
+    Ok(
+        least_is(table, Choice::First, columns)?
+            && least_is(table, Choice::Literals, columns)?
+            && short_cover(table)?.len() >= columns.len(),
+    )
+}
+
+/// Whether the search answers the first columns of so many rings, also as reduced.
 pub(crate) fn rings_are_solved(
     alloc: Global,
     table: Table,
     count: usize,
 ) -> Result<bool, AllocError> {
     let columns = firsts(alloc, count)?;
-    let first = least_is(&table, Choice::First, columns.as_slice())?;
-    let fewest = least_is(&table, Choice::Literals, columns.as_slice())?;
-    let short = short_cover(&table)?.len();
+    let is_solved = has_least(&table, &columns)?;
     let reduced = reduce(table, Choice::First)?;
-    let again = least_is(&reduced, Choice::First, columns.as_slice())?;
-    Ok(first && fewest && again && short >= columns.len() && are_all_live(&reduced))
+    Ok(is_solved && are_all_live(&reduced) && least_is(&reduced, Choice::First, &columns)?)
 }
 
 /// The next number of a fixed sequence.
@@ -294,22 +296,26 @@ fn drawn(alloc: Global, seed: u64) -> Result<Option<Table>, AllocError> {
     Table::new(alloc, rows, weights)
 }
 
-/// Whether both searches answer the same, on the table as it is and as reduced, and a short cover is
-/// no shorter.
+/// Whether each search answers these columns, and a short cover has no fewer.
+pub(crate) fn all_answer(
+    table: &Table,
+    choice: Choice,
+    columns: &[usize],
+) -> Result<bool, AllocError> {
+    let mut effort = Effort::none();
+    let counted = least_cover_with_effort(table, choice, &mut effort)?;
+    Ok(
+        counted.as_slice() == columns
+            && least_is(table, choice, columns)?
+            && plain_is(table, choice, columns)?
+            && short_cover(table)?.len() >= columns.len(),
+    )
+}
+
+/// Whether all searches answer the same, on the table as it is and as reduced.
 pub(crate) fn searches_agree(made: Table, choice: Choice) -> Result<bool, AllocError> {
     let plain = least_cover_plain(&made, choice)?;
-    let least = least_cover(&made, choice)?;
-    let short = short_cover(&made)?;
-    let reduced = reduce(made, choice)?;
-    let mut effort = Effort::none();
-    let again = least_cover_with_effort(&reduced, choice, &mut effort)?;
-    let plainly = least_cover_plain(&reduced, choice)?;
-    Ok(
-        least.as_slice() == plain.as_slice()
-            && short.len() >= plain.len()
-            && again.as_slice() == plain.as_slice()
-            && plainly.as_slice() == plain.as_slice(),
-    )
+    Ok(all_answer(&made, choice, &plain)? && all_answer(&reduce(made, choice)?, choice, &plain)?)
 }
 
 #[test]
