@@ -53,11 +53,12 @@ pub(crate) struct Columns {
 }
 
 impl Columns {
-    /// No column.
+    /// No column of this point.
     pub(crate) fn new(
         alloc: Global,
         off: &Cover,
         points: usize,
+        point: &Cube,
         most: usize,
     ) -> Result<Columns, AllocError>
         ensures size { IfOk result (λ f. f.primes.size ≡ off.now.size) }
@@ -68,7 +69,7 @@ impl Columns {
             primes: Cover::new(alloc, off.shape()),
             left: most,
             rows: RefusingRows::new(alloc, off, most)?,
-            by_output: rows_by_output(alloc, off)?,
+            by_output: rows_by_output(alloc, off, point)?,
             refusing: vec![in alloc; 0; points]?,
         })
     }
@@ -189,9 +190,9 @@ fn columns_by_rows(
         → IsImplicant off.now c → IsSubset (holds (cube_at points.now number)) (holds c)
         → IsDominated choice points.now list.cubes c)) }
 {
-    let mut found = Columns::new(alloc, off, points.len(), most)?;
-    let candidates = numbers(alloc, points.len())?;
     let point = &points[number];
+    let mut found = Columns::new(alloc, off, points.len(), point, most)?;
+    let candidates = numbers(alloc, points.len())?;
     if !add_around(
         alloc,
         off,
