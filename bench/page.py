@@ -1,21 +1,35 @@
-"""Writes docs/PERFORMANCE.md, its pictures and its tables from what a run of peers.py found."""
+"""Writes docs/PERFORMANCE.md, its pictures, its tables and the table of README.md from what runs of peers.py and minute.py found."""
 import math
 import os
 import platform
+import re
 import textwrap
 
 from picture import Panel, Series, picture, power
+from results import kept_minute
 from tools import JOBS, LIMIT, MEMORY, SHORT, is_installed, start, version
 
-DOCS = os.path.join(os.path.dirname(os.path.dirname(os.path.abspath(__file__))), "docs")
+TOP = os.path.dirname(os.path.dirname(os.path.abspath(__file__)))
+DOCS = os.path.join(TOP, "docs")
 LOOKS = {                          # colour, mark and dashes of the lines: they differ in black and white too
     "exact": ("#0072b2", "circle", ""), "espresso": ("#0072b2", "circle", ""), "minimised": ("#56b4e9", "triangle", "6 3"),
-    "primes": ("#d55e00", "square", "8 3"), "literals": ("#56b4e9", "triangle", "2 2"), "essen": ("#009e73", "diamond", "8 3 2 3"),
+    "primes": ("#d55e00", "square", "8 3"), "source": ("#d55e00", "square", "8 3"),
+    "literals": ("#56b4e9", "triangle", "2 2"), "essen": ("#009e73", "diamond", "8 3 2 3"),
     "cbc": ("#d55e00", "square", "8 3"), "HiGHS": ("#009e73", "diamond", "2 2"), "minisat": ("#d55e00", "square", "8 3"),
     "cadical": ("#009e73", "diamond", "2 2"), "cec": ("#d55e00", "square", "8 3"), "SOPform": ("#009e73", "diamond", "2 2")}
 SAME = 1.25                        # ratios up to this count as the same time
 NOTED = 0.005                      # seconds from which on it is noted that another tool is faster
 SECOND = 1.0
+OUT_OF_MEMORY = f"{MEMORY / 2 ** 30:.0f} GiB of memory"
+NO_SOURCE = "their sources have no answers"
+
+# The rows of README's table, and the families that they are.
+README_ROWS = {
+    "control logic, as inputs / outputs": ("control logic", "decoded control logic"),
+    "tables of truth: two numbers added": ("tables of truth", "sums"),
+    "samples of type fr: 100 points": ("samples", "one output, 100 rows"),
+    "tables of truth: a number squared": ("tables of truth", "squares")}
+README_HEAD = "| Files that `exact` answers | within a second | within a minute |"
 
 
 # Figures.
@@ -81,8 +95,13 @@ def table(head, lines, left=1):
     yield ""
 
 
+def is_asked(row, tool):
+    """Whether a tool was run on all functions of a size; `exact` on its own answers is not, where it has none."""
+    return tool.label in row.totals and row.totals[tool.label].why != "source"
+
+
 def cell(row, tool):
-    if tool.label not in row.totals:
+    if not is_asked(row, tool):
         return "–"
     return "*none*" if time_of(row, tool) is None else figure(time_of(row, tool))
 
@@ -143,17 +162,18 @@ def last_ratio(comparison, rows):
 
 def stopped(comparison, family, rows):
     """What stopped our tool, in words."""
-    left = [row.label.split(":")[0] for row in rows if time_of(row, main_tool(comparison)) is None]
+    left = [row for row in rows if time_of(row, main_tool(comparison)) is None]
     if not left:
-        return "no larger one was tried" if family.grows else ""
-    return family.stops if family.grows else f"{', '.join(left)}: {family.stops}"
+        return "" if not family.grows else family.ends if rows[-1].label == family.sizes[-1].label else "no larger one was tried"
+    why = {"memory": OUT_OF_MEMORY, "source": NO_SOURCE}.get(left[0].totals[main_tool(comparison).label].why, family.stops)
+    return why if family.grows else f"{', '.join(row.label.split(':')[0] for row in left)}: {why}"
 
 
 def shorter_files(compared, run):
-    """In words: the sizes at which a file in few rows takes longer than the table of truth."""
+    """In words: the sizes at which a file in few rows takes longer than its source."""
     for comparison in compared:
         for family, rows in of_comparison(comparison, run):
-            times = [(row, row.totals["minimised"].seconds, time_of(row, main_tool(comparison))) for row in rows if "minimised" in row.totals]
+            times = [(row, row.totals["minimised"].seconds, row.totals["source"].seconds) for row in rows if "minimised" in row.totals]
             slower = [f"{row.label.split(':')[0]} ({figure(few)} s and {figure(many)} s)" for row, few, many in times
                       if few and many and few >= NOTED and few > SAME * many]
             if slower:
@@ -166,23 +186,33 @@ def seconds_of_largest(family, rows, tool):
     return figure(row.totals[tool.label].longest) if row else ""
 
 
-def reach_line(comparison, family, rows):
-    tool = main_tool(comparison)
-    return [capital(family.name), reach(family, rows, tool, SECOND), reach(family, rows, tool), seconds_of_largest(family, rows, tool),
-            *([stopped(comparison, family, rows)] if comparison.is_exact else []),
-            others_reach(comparison, family, rows), last_ratio(comparison, rows)]
-
-
-def reach_table(compared, run):
-    """How far each family came: our tool and the others, and for `exact` what stopped it. A line for each comparison stands before
-    its families."""
-    stops = ["What stops larger ones"] if compared[0].is_exact else []
-    head = ["Family", "Within a second", f"Within {run.limit:g} s", "Seconds", *stops, "Others", "Ratio"]
+def by_comparison(compared, run, head, line):
+    """A table of all families; a line for each comparison stands before them."""
     lines = []
     for comparison in compared:
         lines.append([f"**{capital(comparison.name)}**", *[""] * (len(head) - 1)])
-        lines += [reach_line(comparison, family, rows) for family, rows in of_comparison(comparison, run)]
-    return table(head, lines, left=len(head) - 1)
+        lines += [[capital(family.name), *line(comparison, family, rows)] for family, rows in of_comparison(comparison, run)]
+    return table(head, lines, left=len(head) - (head[-1] == "Ratio"))
+
+
+def minute_line(comparison, family, rows):
+    tool = main_tool(comparison)
+    return [reach(family, rows, tool, SECOND), reach(family, rows, tool), seconds_of_largest(family, rows, tool), stopped(comparison, family, rows)]
+
+
+def minute_table(compared, minute):
+    """How far `exact` came in each family, and what stopped it."""
+    return by_comparison(compared, minute, ["Family", "Within a second", "Within a minute", "Seconds", "What stops larger ones"], minute_line)
+
+
+def reach_line(comparison, family, rows):
+    tool = main_tool(comparison)
+    return [reach(family, rows, tool), seconds_of_largest(family, rows, tool), others_reach(comparison, family, rows), last_ratio(comparison, rows)]
+
+
+def reach_table(compared, run):
+    """How far each family came within the limit: our tool and the others."""
+    return by_comparison(compared, run, ["Family", "This one", "Seconds", "Others", "Ratio"], reach_line)
 
 
 def of_comparison(comparison, run):
@@ -211,13 +241,24 @@ def answered_there(comparison, rows, tool):
         yield f"{tool.label} alone answers {sizes}, {'the last ' if len(alone) > 1 else ''}in {figure(time_of(alone[-1], tool))} s"
 
 
+def reason(comparison, family, rows):
+    """In words: why others are faster. The primes that they are given may make the difference; else it is what takes our time."""
+    lost = [row for row in rows if any(is_loss(row, tool, comparison) for tool in others(comparison))]
+    primes = [row.totals["primes"].seconds if "primes" in row.totals else None for row in lost]
+    if lost and all(seconds and seconds + time_of(row, fastest_other(row, comparison)) > time_of(row, main_tool(comparison)) / SAME
+                    for row, seconds in zip(lost, primes)):
+        return "finding the primes, which they are given, takes longer than that"
+    return family.stops
+
+
 def losses(compared, run):
     for comparison in compared:
         for family, rows in of_comparison(comparison, run):
             told = [part for tool in others(comparison)
                     for part in (*faster_there(comparison, rows, tool), *answered_there(comparison, rows, tool))]
             if told:
-                yield f"- **{capital(comparison.name)}, {family.name}**: " + "; ".join(told) + "."
+                why = reason(comparison, family, rows)
+                yield f"- **{capital(comparison.name)}, {family.name}**: " + "; ".join(told) + (f". Why: {why}." if why else ".")
 
 
 def bounds_told(comparison, row):
@@ -228,23 +269,30 @@ def bounds_told(comparison, row):
             yield f"{tool.label} knew of {low} to {high} rows"
 
 
-def unanswered(comparison, family, rows):
-    """In words: the sizes that `exact` was asked of and did not answer."""
+def known_there(comparison, label, rows):
+    """In words: what the others knew of a size that `exact` did not answer, if they were asked of it."""
+    row = next((row for row in rows if row.label == label and any(tool.label in row.totals for tool in others(comparison))), None)
+    if row is None:
+        return ""
+    known = ", ".join([*(["nobody"] if not fastest_other(row, comparison) else []), *bounds_told(comparison, row)])
+    return f" ({known})" if known else ""
+
+
+def unanswered(comparison, family, rows, beside):
+    """In words: the sizes that this tool was asked of and did not answer; `beside` are the rows of the run with others."""
     for row in rows:
-        if main_tool(comparison).label in row.totals and time_of(row, main_tool(comparison)) is None:
-            nobody = ["nobody"] if others(comparison) and not fastest_other(row, comparison) else []
-            known = ", ".join([*nobody, *bounds_told(comparison, row)])
-            yield f"{family.name} at {row.label.split(':')[0]}" + (f" ({known})" if known else "")
+        if is_asked(row, main_tool(comparison)) and time_of(row, main_tool(comparison)) is None:
+            yield f"{family.name} at {row.label.split(':')[0]}{known_there(comparison, row.label, beside)}"
 
 
-def open_lines(compared, run):
-    """For each thing that stops `exact` what it did not answer."""
+def open_lines(compared, run, minute):
+    """For each thing that stops this tool what it did not answer: `exact` within a minute, and other commands within the limit."""
     found = {}
     for comparison in compared:
-        for family, rows in of_comparison(comparison, run) if comparison.is_exact else []:
-            told = list(unanswered(comparison, family, rows))
+        for family, rows in of_comparison(comparison, minute if comparison.is_exact else run):
+            told = list(unanswered(comparison, family, rows, run.rows.get((comparison.name, family.name), [])))
             if told:
-                found.setdefault(family.stops, {}).setdefault(comparison.name, []).extend(told)
+                found.setdefault(stopped(comparison, family, rows).split(": ")[-1], {}).setdefault(comparison.name, []).extend(told)
     for why, groups in found.items():
         yield f"- **{capital(why)}**"
         yield from (f"  - {name}: {'; '.join(told)}" for name, told in groups.items())
@@ -260,7 +308,7 @@ def drawn(comparison, run):
     tools = [tool for tool in comparison.tools if tool.label != comparison.unseen]
 
     def line(rows, tool):
-        points = [(getattr(row, comparison.picture), time_of(row, tool)) for row in rows if tool.label in row.totals]
+        points = [(getattr(row, comparison.picture), time_of(row, tool)) for row in rows if is_asked(row, tool)]
         return sorted(((size, seconds) for size, seconds in points if size), key=lambda point: point[0])
     panels = [Panel(family.name, [line(rows, tool) for tool in tools], comparison.picture) for family, rows in of_comparison(comparison, run)]
     panels = [panel for panel in panels if any(len(points) > 1 for points in panel.lines)]
@@ -307,51 +355,55 @@ def tools_table(compared, run):
 
 HEAD = """# Performance
 
-How long a file of your kind takes, and which is the largest that `exact` answers: the first table. Then `verify`, `tautology` and
-functions of one output, and where other tools are faster. [All sizes](performance/tables.md) stand in tables of their own.
+How long a file of your kind takes, and which is the largest that `exact` answers: the first table. Then how far other tools come on the
+same files, where they are faster, and what is open. [All sizes](performance/tables.md) stand in tables of their own.
 
 ## The largest files that `exact` answers"""
 
-REACH = """The largest size of each family that was answered within a second, and within the limit of this run, {limit:g} seconds; and the seconds
-there. Where a size has several functions, each was answered in that time, and the seconds are those of the longest. *Others* is how
-far they came within the limit, and *ratio* the time of the fastest of them divided by this one's, at the largest size that both
-answered, in bold where the other is faster. This one's time is that of the whole; cbc and HiGHS have to solve the covering problem alone,
-and cadical to find the size alone. Of *state machines* and *classic functions* it is told how many were answered, as one is not always
-harder than the one before. A size of 83 / 60 has 83 inputs and 60 outputs."""
+REACH = """A line is a family of files, from small to large: the largest size that was answered within a second and within {limit}, the
+seconds that the latter took, and what stops larger ones. Where chance plays a part a size has five files, by five seeds: each was answered in
+that time, and the seconds are those of the longest. A size of 83 / 60 has 83 inputs and 60 outputs. Where one file is not always harder
+than the one before, it is told how many were answered."""
 
-OTHERS = """## verify, tautology and functions of one output"""
+BESIDE = """## Beside other tools"""
 
-ENDS = "The same; a family also ends where no larger size was tried."
+LIMITED = """The largest size of each family that was answered within {limit:g} seconds by this tool, with its seconds, and by others. *Ratio*
+is the time of the fastest other divided by this one's at the largest size that both answered, in bold where the other is faster. This one's
+time is that of the whole; cbc and HiGHS have to solve the covering problem alone, and cadical to find the size of samples alone."""
 
 LOSSES = """## Where others are faster"""
 
 FASTER = """All sizes at which this tool takes {noted:g} milliseconds or more for a function and another one less than four fifths of its time, or only
-another one answers. cbc and HiGHS are given the primes and the table, which this tool has to find in its time."""
+another one answers; and why. cbc and HiGHS are given the primes and the table, which this tool has to find in its time."""
 
 OPEN = """## Open"""
 
-UNANSWERED = """The first size of each family that `exact` did not answer within {limit:g} seconds, by what takes the time. *Nobody* is said where no other
-tool answered all functions of that size either, with the bounds that HiGHS then had on a least cover of the first that it left open."""
+UNANSWERED = """The first size of each family that `exact` did not answer within {minute}, and other commands within {limit:g} seconds, by what
+takes the time. *Nobody* is said where the other tools were asked of that size and did not answer all of its functions within {limit:g} seconds
+either, with the bounds that HiGHS then had on a least cover of the first that it left open."""
 
 HARDEST = "In an hour of one processor, subgradient steps, cbc and a local search came to these bounds on least covers: {told}."
 
-SHORTER = "Files that are minimised already are not always answered sooner than their tables of truth: {told}."
+SHORTER = "Files that are minimised already are not always answered sooner than their sources: {told}."
 
 COMMAND = """## How it was measured
 
-One command writes this page, its pictures and the tables, and took {minutes:.0f} minutes:
+Two commands write this page, its pictures and the tables, and the table in README.md. The first asks this tool alone, for the first table
+here, and took {asked:.0f} minutes; the second runs all tools, writes the pages, and took {minutes:.0f} minutes{builds}:
 
+    bench/minute.py PROGRAM --write{minute_options}
     bench/peers.py PROGRAM --write{options}
 """
 
-FILES = """PROGRAM is the built program, `crates/espresso_program/out/espresso`; the files come from fixed seeds and are written to `bench/data`. `--only WORD`
-runs the families with the word in their names, `--quick` sets a limit of two seconds, and `--page` writes the page of the last run anew.
-`bench/bench.py PROGRAM` times single functions, memory and long files."""
+FILES = """PROGRAM is the built program, `crates/espresso_program/out/espresso`; the files come from fixed seeds and are written to `bench/data`.
+`--only WORD` runs the families with the word in their names, `--quick` sets a limit of two seconds, and `bench/peers.py --page` writes the
+page of the last runs anew. `bench/bench.py PROGRAM` times single functions, memory and long files."""
 
-MACHINE = """A machine of {cores} processors ({processor}{speed}) and {memory} of memory, under {system}; its load was {load} at the end. {running}. The time of
-a process is from its start to its end, including the reading of the files: the least of three runs, or that of one run if it takes more
-than {short:g} seconds; HiGHS and SOPform tell their own time, and run once. A tool is dropped from a family that grows at the first size that it does not answer within {limit:g} seconds and
-{bytes:.0f} GiB. Where a size has several functions, the limit holds for each, and times, rows and answers in the tables are sums."""
+MACHINE = """A machine of {cores} processors ({processor}{speed}) and {memory} of memory, under {system}; its load was {load} at the end.
+{running}. The time of a process is from its start to its end, including the reading of the files: the least of three runs, or that of one
+run if it takes more than {short:g} seconds; HiGHS and SOPform tell their own time, and run once. A tool is dropped from a family that grows
+at the first size that it does not answer within {limit:g} seconds ({minute} for the first table) and {bytes:.0f} GiB. Where a size has
+several functions, the limit holds for each, and times, rows and answers in the tables are sums."""
 
 CELLS = """In the tables, times are in seconds, *none* means no answer within these limits, and – a size on which a tool was not run. Times count as the
 same where the longer is less than 1.25 times the other. Wherever two tools answered, their answers were compared: {agreed}."""
@@ -392,24 +444,32 @@ def hardest(compared, run):
             if (comparison.name, family.name, row.label) in HARD and time_of(row, main_tool(comparison)) is None]
 
 
-def open_section(compared, run):
+def minute_told(minute):
+    return "a minute" if minute.limit == 60 else f"{minute.limit:g} seconds"
+
+
+def open_section(compared, run, minute):
     yield OPEN + "\n"
-    yield filled(UNANSWERED, limit=run.limit)
-    yield from list(open_lines(compared, run)) or ["- nothing in this run."]
+    yield filled(UNANSWERED, limit=run.limit, minute=minute_told(minute))
+    yield from list(open_lines(compared, run, minute)) or ["- nothing in these runs."]
     yield ""
-    for text, told in ((HARDEST, hardest(compared, run)), (SHORTER, list(shorter_files(compared, run)))):
+    for text, told in ((HARDEST, hardest(compared, minute)), (SHORTER, list(shorter_files(compared, run)))):
         if told:
             yield filled(text, told="; ".join(told))
 
 
-def how(compared, run):
-    options = ("" if run.limit == LIMIT else f" --limit {run.limit:g}") + ("" if run.jobs == JOBS else f" --jobs {run.jobs}")
+def options_of(run, limit):
+    return ("" if run.limit == limit else f" --limit {run.limit:g}") + ("" if run.jobs == JOBS else f" --jobs {run.jobs}")
+
+
+def how(compared, run, minute):
     count = {2: "Two", 3: "Three", 4: "Four"}.get(run.jobs, run.jobs)
     running = "One process ran at a time" if run.jobs == 1 else f"{count} processes ran at a time, each on a processor of its own"
     machine = {name: value for name, value in run.facts.items() if name != "tools"}
-    yield COMMAND.format(minutes=run.minutes, options=options)
+    yield COMMAND.format(minutes=run.minutes, asked=minute.minutes, options=options_of(run, LIMIT), minute_options=options_of(minute, 60),
+                         builds="" if run.program == minute.program else ", on another build of this tool")
     yield filled(FILES)
-    yield filled(MACHINE, running=running, short=SHORT, limit=run.limit, bytes=MEMORY / 2 ** 30, **machine)
+    yield filled(MACHINE, running=running, short=SHORT, limit=run.limit, minute=minute_told(minute), bytes=MEMORY / 2 ** 30, **machine)
     yield filled(CELLS, agreed=agreed(run))
     yield filled(GIVEN)
     yield filled(PACKAGES)
@@ -433,22 +493,38 @@ def section(comparison, run):
         yield f"![{capital(comparison.title)}: seconds over {comparison.picture}](performance/{picture_name(comparison)})\n"
 
 
-def lines(compared, run):
-    exact = [comparison for comparison in compared if comparison.is_exact]
+def lines(compared, run, minute):
     yield HEAD + "\n"
-    yield filled(REACH, limit=run.limit)
-    yield from reach_table(exact, run)
-    yield OTHERS + "\n"
-    yield filled(ENDS)
-    yield from reach_table([comparison for comparison in compared if comparison not in exact], run)
+    yield filled(REACH, limit=minute_told(minute))
+    yield from minute_table([comparison for comparison in compared if comparison.is_exact], minute)
+    yield BESIDE + "\n"
+    yield filled(LIMITED, limit=run.limit)
+    yield from reach_table([comparison for comparison in compared if others(comparison)], run)
     yield LOSSES + "\n"
     yield filled(FASTER, noted=NOTED * 1000)
     yield from list(losses(compared, run)) or ["None in this run."]
     yield ""
-    yield from open_section(compared, run)
-    yield from how(compared, run)
+    yield from open_section(compared, run, minute)
+    yield from how(compared, run, minute)
     for comparison in compared:
         yield from section(comparison, run)
+
+
+def readme_rows(compared, minute):
+    """README's table: how far some families came."""
+    found = {(comparison.name, family.name): (comparison, family, rows) for comparison in compared
+             for family, rows in of_comparison(comparison, minute)}
+    lines = [[told, *minute_line(*found[names])[:2]] for told, names in README_ROWS.items() if names in found]
+    return [README_HEAD, "|---|---|---|", *(f"| {' | '.join(line)} |" for line in lines)]
+
+
+def write_readme(compared, minute):
+    path = os.path.join(TOP, "README.md")
+    with open(path) as file:
+        text = file.read()
+    table_there = re.search(re.escape(README_HEAD) + r"\n(?:\|.*\n)+", text)
+    with open(path, "w") as out:
+        out.write(text.replace(table_there[0], "".join(line + "\n" for line in readme_rows(compared, minute))))
 
 
 def tables_of(comparison, run):
@@ -472,5 +548,8 @@ def write(compared, run):
     for comparison in compared:
         if comparison.picture:
             put(f"performance/{picture_name(comparison)}", drawn(comparison, run))
-    put("PERFORMANCE.md", "\n".join(lines(compared, run)).rstrip() + "\n")
+    minute = kept_minute({comparison.name: main_tool(comparison).label for comparison in compared})
+    put("PERFORMANCE.md", "\n".join(lines(compared, run, minute)).rstrip() + "\n")
+    if minute.rows:
+        write_readme(compared, minute)
     put("performance/tables.md", "\n\n".join([TABLES.rstrip(), *(tables_of(comparison, run) for comparison in compared)]) + "\n")

@@ -17,6 +17,7 @@ The files are written to bench/data by fixed seeds, once.
 """
 import argparse
 import functools
+import math
 import multiprocessing
 import os
 import resource
@@ -24,7 +25,7 @@ import sys
 import tempfile
 import time
 import traceback
-from dataclasses import dataclass
+from dataclasses import dataclass, replace
 from typing import Callable
 
 sys.dont_write_bytecode = True
@@ -33,9 +34,9 @@ import exact_families  # noqa: E402
 import families  # noqa: E402
 import results  # noqa: E402
 from results import Row, Run, Total  # noqa: E402
-from rows import rows_of  # noqa: E402
-from tools import (JOBS, LIMIT, MEMORY, OPTIONS, Tool, again, cbc, cec, highs, installed, once, own, printed_rows, products_enough,  # noqa: E402
-                   sopform, tautology_by, yes_or_no)
+from rows import count_rows  # noqa: E402
+from tools import (JOBS, LIMIT, MEMORY, OPTIONS, Tool, again, against_source, build_of, cbc, cec, highs, installed, once, own,  # noqa: E402
+                   printed_rows, products_enough, sopform, tautology_by, yes_or_no)
 
 
 @dataclass(frozen=True)
@@ -82,12 +83,24 @@ def same_terms(program, answers, paths, size):
     return all(is_same_function(program, paths[0], rows) for rows in (least, terms) if rows is not None)
 
 
+def same_minimised(answers, paths, size):
+    """The answer is the file's function, and has as many rows when it is read again; the same rows, where nothing is free."""
+    found = {answers[label] for label in ("source", "minimised") if label in answers}
+    return answers.get("verify", True) and len(set(map(len, found))) <= 1 and (len(found) <= 1 or has_free_places(paths[0]))
+
+
+def has_free_places(path):
+    """Whether a file has don't-cares, by its rows or its type."""
+    with open(path) as file:
+        return any(line.startswith(".type fr") or (line[0] in "01-" and "-" in line.split()[1]) for line in file)
+
+
 def is_same_function(program, path, rows):
-    """Whether these rows, as a file of the same shape, are the file's function."""
+    """Whether these rows, as a file of the same shape, are the file's function, or that is not known in time."""
     with open(path) as given, tempfile.NamedTemporaryFile("w", suffix=".pla") as file:
         file.writelines([given.readline(), given.readline(), *(row + "\n" for row in rows), ".e\n"])
         file.flush()
-        return once([program, "-Dverify", path, file.name], 60)[1] == 0
+        return once([program, "-Dverify", path, file.name], 60)[1] in (0, None)
 
 
 def literals(rows):
@@ -101,14 +114,19 @@ def same_logic(program, answers, paths, size):
     primes, essential = answers.get("primes"), set(answers.get("essen", []))
     covers = [answers[label] for label in ("exact", "literals") if label in answers]
     return (answers.get("verify", True)
-            and (primes is None or size.listing.primes in (None, len(primes)))
+            and (primes is None or size.primes in (None, len(primes)))
             and len({len(rows) for rows in covers}) <= 1
             and all(literals(covers[-1]) <= literals(rows) for rows in covers)
             and all(essential <= set(rows) and is_same_function(program, paths[0], rows) for rows in covers))
 
 
 def words_for(yes, no):
-    return lambda answers: next((yes if of_each[0] else no for of_each in answers.values()), "")
+    """The answer, or how often each stands."""
+    def told(of_each):
+        counts = [(word, sum(answer is wanted for answer in of_each)) for word, wanted in ((yes, True), (no, False))]
+        kept = [(word, count) for word, count in counts if count]
+        return ", ".join(word if len(kept) == 1 else f"{word} {count}" for word, count in kept)
+    return lambda answers: next(map(told, answers.values()), "")
 
 
 def sizes_shown(*labels):
@@ -137,22 +155,30 @@ def beside_solvers(program):
     primes, exact = command(program, "primes", "primes"), command(program, "exact", "exact", main=True)
     shown = sizes_shown("exact", "cbc", "HiGHS")
 
-    def compared(name, title, found, told, tools=(), **how):
-        return Comparison(name, title, [primes, *tools, exact, *solvers(program)], found, same_size, shown, "Terms: exact / cbc / HiGHS",
+    def compared(name, found, told, **how):
+        return Comparison(name, name, [primes, exact, *solvers(program)], found, same_size, shown, "Terms: exact / cbc / HiGHS",
                           told, unseen="primes", **how)
-    minimised = Tool("minimised", functools.partial(again, program), told="espresso -Dexact B, where B is the answer for A")
     return [
-        compared("tables of truth", "tables of truth", exact_families.for_tables(),
-                 "A row for each point at which an output is 1. *minimised* is `exact` on its own answer, the same function in few rows.",
-                 [minimised]),
-        compared("state machines", "state machines", exact_families.for_machines(),
+        compared("tables of truth", exact_families.for_tables(), "A row for each point at which an output is 1."),
+        compared("state machines", exact_families.for_machines(),
                  "Next states and outputs, of encoded states. Under fd rows say that codes which no state has are don't-cares; under fr "
                  "what no row says is.", picture=""),
-        compared("random functions", "random functions", exact_families.for_random(),
-                 "Shares of ones and of don't-cares (*free*), from sparse to dense."),
-        compared("classic functions", "classic functions", exact_families.for_classics(),
-                 "Functions that two-level minimisation has long been measured by, as tables of truth.", [minimised], picture=""),
+        compared("random functions", exact_families.for_random(), "Shares of ones and of don't-cares (*free*), from sparse to dense."),
+        compared("classic functions", exact_families.for_classics(),
+                 "Functions that two-level minimisation has long been measured by, as tables of truth.", picture=""),
     ]
+
+
+def minimised_files(program):
+    """`exact` on its own answers."""
+    tools = [command(program, "source", "exact"),
+             Tool("minimised", functools.partial(again, program), told="espresso -Dexact B, where B is the answer for A", main=True),
+             Tool("verify", functools.partial(against_source, program), told="espresso -Dverify A B")]
+    return Comparison(
+        "minimised files", "minimised files beside their source", tools, list(exact_families.for_minimised()), same_minimised,
+        sizes_shown("source", "minimised"), "Terms: source / minimised",
+        "*source* is `exact` on a file, *minimised* `exact` on its answer, and *verify* compares the two. Where the file has no don't-cares the "
+        "answers are the same; where it has, the minimised file fixes them, and its answer has as many rows.", unseen="verify")
 
 
 def beside_satisfiability(program):
@@ -205,8 +231,8 @@ def side_by_side(program):
                  command(program, "verify", "verify", yes_or_no, files="A B")]
         return Comparison(name, name, tools, found, functools.partial(same_logic, program), sizes_shown("exact", "essen"),
                           "Least / essential", told, picture=picture, unseen="verify")
-    told = ("*literals* is `exact --literals`, and `verify` compares the file with its rows in another order. The primes were counted with "
-            "decision diagrams or by a formula, where that could be done; `primes` finds as many.")
+    told = ("*literals* is `exact --literals`, and `verify` compares the file with its rows in another order. The primes are those of the first "
+            "function of a size, counted with decision diagrams or by a formula where that could be done; `primes` finds as many.")
     return [
         compared("control logic", exact_families.for_control(),
                  "Functions of many outputs, like control parts. Where products of several outputs meet, each way to meet is a prime: "
@@ -222,7 +248,7 @@ def comparisons(program):
     samples, tautology = beside_satisfiability(program)
     verify, one_output = other_comparisons(program)
     solved = beside_solvers(program)
-    return [*solved[:2], samples, *side_by_side(program), *solved[2:], one_output, verify, tautology]
+    return [*solved[:2], samples, *side_by_side(program), *solved[2:], minimised_files(program), one_output, verify, tautology]
 
 
 # Measuring.
@@ -240,7 +266,7 @@ def total_of(tool, limit, files):
         if found[-1] is None:
             return None
         if found[-1].seconds is None:
-            return Total(bounds=found[-1].bounds), None
+            return Total(bounds=found[-1].bounds, why=found[-1].why), None
     times = [outcome.seconds for outcome in found]
     return Total(sum(times), max(times)), [outcome.answer for outcome in found]
 
@@ -249,7 +275,7 @@ def agreement(comparison, answers, files, size):
     """Whether the tools' answers of each function agree; None where fewer than two told them."""
     if len(answers) + bool(size.least) < 2 or not answers:
         return None
-    return all(comparison.agree({label: of_each[k] for label, of_each in answers.items()}, paths, size)
+    return all(comparison.agree({label: of_each[k] for label, of_each in answers.items()}, paths, replace(size, primes=None) if k else size)
                for k, paths in enumerate(files))
 
 
@@ -259,19 +285,20 @@ def measured_size(comparison, tools, size, limit):
     found = {tool.label: total_of(tool, limit, files) for tool in tools}
     totals = {label: pair[0] for label, pair in found.items() if pair}
     answers = {label: pair[1] for label, pair in found.items() if pair and pair[1]}
-    listing = size.listing
-    rows = len(listing.rows) if listing else sum(len(rows_of(path)) for paths in files for path in paths)
-    primes = listing and (len(answers["primes"][0]) if "primes" in answers else listing.primes)
-    return Row(size.label, rows, totals, agreement(comparison, answers, files, size), comparison.shown(answers),
-               listing.shape if listing else "", primes)
+    rows = sum(count_rows(path) for paths in files for path in (paths[:1] if size.shape else paths))
+    primes = len(answers["primes"][0]) if "primes" in answers else size.primes
+    return Row(size.label, rows, totals, agreement(comparison, answers, files, size), comparison.shown(answers), size.shape, primes)
 
 
-def measured(comparison, tools, family, limit):
-    """The rows of a family, until no tool is left that answers in time; beside other tools, none of theirs and not our main one."""
+def measured(comparison, tools, family, limit, until=math.inf):
+    """The rows of a family, until no tool is left that answers in time; beside other tools, none of theirs and not our main one.
+    No size is begun after the clock's time `until`."""
     found = []
     running = list(tools)
     are_alone = not any(tool.needs for tool in tools)
     for size in family.sizes:
+        if time.monotonic() > until:
+            break
         row = measured_size(comparison, running, size, limit)
         found.append(row)
         told = ", ".join(f"{label} {seconds_told(total)}" for label, total in row.totals.items())
@@ -353,7 +380,7 @@ def main():
     if chosen.write and (chosen.only or chosen.busy):
         sys.exit("bench/peers.py: --write is for a run of all families, by the clock")
     OPTIONS["busy"] = chosen.busy
-    run = Run(2.0 if chosen.quick else chosen.limit, chosen.jobs)
+    run = Run(2.0 if chosen.quick else chosen.limit, chosen.jobs, program=build_of(chosen.program))
     resource.setrlimit(resource.RLIMIT_AS, (MEMORY, resource.getrlimit(resource.RLIMIT_AS)[1]))
     begin = time.monotonic()
     run.rows, broken = run_all(comparisons(os.path.abspath(chosen.program)), run.limit, chosen.only, chosen.jobs)

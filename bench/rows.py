@@ -28,6 +28,11 @@ def rows_of(path):
         return [line for line in file.read().splitlines() if line and line[0] in "01-"]
 
 
+def count_rows(path):
+    with open(path) as file:
+        return sum(line[0] in "01-" for line in file)
+
+
 def pla(inputs, outputs, rows):
     yield f".i {inputs}"
     yield f".o {outputs}"

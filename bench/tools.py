@@ -1,5 +1,6 @@
 """This program's commands and the tools beside it, each run on the files of a function within limits of time and memory."""
 import functools
+import hashlib
 import importlib.util
 import json
 import math
@@ -33,10 +34,11 @@ OPTIONS = {"busy": False}
 
 @dataclass(frozen=True)
 class Outcome:
-    """What a tool answered, and in what time; no time where it did not answer, but perhaps bounds on the answer."""
+    """What a tool answered, and in what time; no time where it did not answer, but why, and perhaps bounds on the answer."""
     seconds: float = None
     answer: object = None
     bounds: tuple = None
+    why: str = ""
 
 
 @dataclass(frozen=True)
@@ -74,6 +76,11 @@ def once(words, limit):
         return seconds, child.returncode if seconds < limit else None, out.read().decode()
 
 
+def why_not(status):
+    """Why a run of this status has no answer; `espresso` ends with status 3 where memory runs out."""
+    return "time" if status is None else "memory" if status == 3 else f"status {status}"
+
+
 def timed(words, limit, read):
     """The outcome of a command: the least time of three runs, or of one where that is long or the machine is busy. `read` makes an
     answer of status and output, None where there is none."""
@@ -82,7 +89,7 @@ def timed(words, limit, read):
         seconds, status, output = once(words, limit)
         answer = None if status is None else read(status, output)
         if answer is None:
-            return Outcome()
+            return Outcome(why=why_not(status))
         best = seconds if best is None else min(best, seconds)
         if seconds > SHORT or OPTIONS["busy"]:
             break
@@ -105,18 +112,38 @@ def yes_or_no(status, output):
 
 
 @functools.cache
+def build_of(program):
+    """What tells this build of the program apart."""
+    with open(program, "rb") as file:
+        return hashlib.sha256(file.read()).hexdigest()[:16]
+
+
+@functools.cache
 def own(program, command, read, limit, paths):
     return timed([program, *f"-D{command}".split(), *paths], limit, read)
 
 
-def again(program, limit, paths):
-    """`exact` on its own answer; not asked where there is none."""
-    least = own(program, "exact", printed_rows, limit, paths).answer
-    if least is None:
+# Minimised files, beside their source.
+
+def least_file(program, limit, paths):
+    """The answer of `exact` as a file of its own, None where there is none."""
+    least = own(program, "exact", printed_rows, limit, paths[:1]).answer
+    if not least:
         return None
     inputs, outputs = map(len, least[0].split())
-    path = put(paths[0][:-len(".pla")] + ".least.pla", pla(inputs, outputs, least))
-    return own(program, "exact", printed_rows, limit, (path,))
+    return put(paths[0][:-len(".pla")] + ".least.pla", pla(inputs, outputs, least))
+
+
+def again(program, limit, paths):
+    """`exact` on its own answer, where there is one."""
+    path = least_file(program, limit, paths)
+    return own(program, "exact", printed_rows, limit, (path,)) if path else Outcome(why="source")
+
+
+def against_source(program, limit, paths):
+    """`verify` of the file and its answer."""
+    path = least_file(program, limit, paths)
+    return path and own(program, "verify", yes_or_no, limit, (paths[0], path))
 
 
 # verify, beside cec; tautology, beside SAT solvers.

@@ -8,9 +8,13 @@ matches, and that is not in MEASURED, fails too.
 import glob
 import os
 import re
+import sys
 import unittest
 
 TOP = os.path.dirname(os.path.dirname(os.path.abspath(__file__)))
+sys.path.append(os.path.join(TOP, "bench"))
+
+from page import README_HEAD, README_ROWS  # noqa: E402
 WORDS = {word: n for n, word in enumerate("zero one two three four five six seven eight nine ten eleven twelve thirteen fourteen "
                                             "fifteen sixteen seventeen eighteen nineteen twenty".split())}
 
@@ -123,10 +127,7 @@ COVERED = {
     "docs/TRUSTED.md": (),
     "docs/FORMAT.md": (),
     "docs/ARCHITECTURE.md": (),
-    "README.md": ("128 inputs, 60 outputs, 600 rows, 4 · 10¹⁵ primes | `exact`: 575 products | 0.30",
-                  "two numbers of eight bits added, 65,535 rows | `exact`: 1,499 products | 1.3",
-                  "100 points of 30 inputs, of type fr | `exact`: 4 products | 0.27",
-                  "10 to 20 minutes on four processors", "Python 3.9", "`rattle-kit-13f`"),
+    "README.md": ("10 to 20 minutes on four processors", "Python 3.9", "`rattle-kit-13f`"),
 }
 
 
@@ -135,10 +136,17 @@ def read(path):
         return " ".join(file.read().split())
 
 
+def sizes():
+    """The rows of README's table of sizes."""
+    with open(os.path.join(TOP, "README.md"), encoding="utf-8") as file:
+        return re.search(re.escape(README_HEAD) + r"\n\|[-|]+\|\n((?:\|.*\n)+)", file.read())[1].splitlines()
+
+
 def prose(page):
-    """A page's text without its examples, which are indented."""
+    """A page's text without its examples, which are indented, and without the table of sizes."""
+    rows = sizes()
     with open(os.path.join(TOP, page), encoding="utf-8") as file:
-        return " ".join(" ".join(line for line in file if not line.startswith("    ")).split())
+        return " ".join(" ".join(line for line in file if not line.startswith("    ") and line.rstrip() not in rows).split())
 
 
 def code(place):
@@ -204,6 +212,17 @@ class Readme(unittest.TestCase):
         for name, column in (("bcd7seg.pla", [row[0] for row in rows]), ("bcd7seg.exact.out", [row[-1].strip() for row in rows if len(row) > 1])):
             with open(os.path.join(TOP, "examples", name), encoding="utf-8") as file:
                 self.assertEqual(column, re.findall(r"^[01-]+ [01-]+$", file.read(), re.M))
+
+    def test_its_sizes_are_those_of_the_page_of_times(self):
+        with open(os.path.join(TOP, "docs/PERFORMANCE.md"), encoding="utf-8") as file:
+            page = file.read()
+        rows = [row.strip("|").strip().split(" | ") for row in sizes()]
+        self.assertEqual([row[0] for row in rows], list(README_ROWS))
+        for told, second, minute in rows:
+            comparison, family = README_ROWS[told]
+            with self.subTest(told):
+                section = page.split(f"| **{comparison[0].upper()}{comparison[1:]}** |")[1]
+                self.assertIn(f"\n| {family[0].upper()}{family[1:]} | {second} | {minute} |", section)
 
     def test_it_is_short(self):
         with open(os.path.join(TOP, "README.md"), encoding="utf-8") as file:
