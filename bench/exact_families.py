@@ -167,7 +167,7 @@ CONTROL = [
     ((94, 43, 200), 1.4e11, 6.7e11), ((83, 60, 250), 3.2e11, 8.3e11), ((128, 60, 400), 2.8e17, 1.5e17)]
 DECODED_CONTROL = [((24, 16, 120), None), ((47, 40, 220), None), ((83, 60, 400), 3.6e10), ((128, 60, 600), 4.1e15)]
 WIDE_CONTROL = [((24, 16, 120), 118000), ((47, 40, 220), None)]
-LARGE_CONTROL = uncounted((83, 60, 500), (83, 60, 600), (83, 60, 800), (128, 100, 1200), (256, 100, 1600), (256, 100, 2400), (512, 200, 4800))
+LARGE_CONTROL = uncounted((83, 60, 500), (83, 60, 600), (128, 100, 1000), (256, 200, 2000), (512, 400, 4000), (1024, 800, 8000))
 
 # Those of known files that are hard to minimise: misg, ibm, mish, x2dn, ti, jbp, soar and ex4.
 KNOWN_CONTROL = [
@@ -184,7 +184,7 @@ def for_control():
     return [
         drawn_listings("control logic", "clusters of outputs, each with a window of the inputs and an opcode that most rows decode",
                        [*((shape, primes) for shape, primes, _ in CONTROL), *LARGE_CONTROL], of_style(SHARED), PLACES),
-        drawn_listings("control logic with don't-cares", "the same, three rows in twenty of don't-cares",
+        drawn_listings("control logic with don't-cares", "the same, and three rows in twenty are of don't-cares",
                        [*((shape, primes) for shape, _, primes in CONTROL), *LARGE_CONTROL], of_style(SHARED, free=0.15), PLACES),
         drawn_listings("decoded control logic", "wider opcodes, fewer outputs a row",
                        [*DECODED_CONTROL, *uncounted((256, 100, 1200), (512, 200, 2400), (1024, 400, 4800))], of_style(DECODED), PLACES,
@@ -247,8 +247,8 @@ def wide_families():
         drawn_listings(f"wide rows, {literals} literals", "random literals, one to three outputs a row", uncounted(*shapes), rows_of(literals),
                        NEEDED)
         for literals, shapes in (
-            (8, [(40, 30, 250), (40, 30, 500), (40, 30, 1000), (100, 50, 1000), (100, 50, 2000), (200, 50, 2000), (500, 100, 3000)]),
-            (16, [(100, 50, 1000), (100, 50, 2000), (200, 50, 2000), (500, 100, 2000), (500, 100, 3000), (500, 100, 6000)]))
+            (8, [(40, 30, 250), (40, 30, 500), (40, 30, 1000), (100, 50, 1000), (100, 50, 2000), (500, 100, 2000), (500, 100, 4000)]),
+            (16, [(100, 50, 1000), (100, 50, 2000), (500, 100, 2000), (500, 100, 4000), (500, 100, 8000)]))
     ] + [
         drawn_listings(f"products of {inputs} inputs", "six random literals a product, one output",
                        uncounted(*((inputs, 1, count) for count in (50, 100, 200, 400, 800, 1600, 3200))), rows_of(6), NEEDED)
@@ -267,6 +267,9 @@ MINIMISED = [
     (for_classics, {"classic functions": "classic functions"}),
 ]
 
+# Those of them that are asked for a minute, which takes two at each size.
+FOR_A_MINUTE = ("sums", "displays", "classic functions")
+
 
 def source_alone(size):
     """The same size, each function as one file."""
@@ -278,4 +281,5 @@ def for_minimised():
     for makers, names in MINIMISED:
         for found in makers():
             if found.name in names:
-                yield replace(found, name=names[found.name], sizes=[source_alone(size) for size in found.sizes])
+                yield replace(found, name=names[found.name], sizes=[source_alone(size) for size in found.sizes],
+                              minute=found.name in FOR_A_MINUTE)

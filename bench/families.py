@@ -33,6 +33,7 @@ class Family:
     sizes: list
     stops: str = ""                # what larger ones than those that are answered fail of, for `exact`
     ends: str = "no larger one was tried"      # why there is no larger one
+    minute: bool = True            # asked of `exact` for a minute too
     grows: bool = True             # each size is larger than the last, so that a tool is asked up to the first that it does not answer
 
 

@@ -4,7 +4,7 @@
 usage: bench/minute.py PROGRAM [--limit SECONDS] [--minutes NUMBER] [--only WORD] [--jobs NUMBER] [--busy] [--write]
 
 A family begins with its smallest size, and ends with the first of which a function is not answered within a minute (or the limit) and
-4 GiB of memory. No size is begun after 20 minutes, or those of --minutes. --only runs the families that have the word in their names,
+4 GiB of memory. No size is begun after 22 minutes, or those of --minutes. --only runs the families that have the word in their names,
 and --jobs so many at the same time, each on a processor of its own (three without it). With --busy seconds are those of the processor,
 not of the clock. --write writes the file, of which bench/peers.py makes the first table of docs/PERFORMANCE.md; with --only too, other
 families stay in it as they are.
@@ -24,7 +24,7 @@ from results import Run  # noqa: E402
 from tools import JOBS, MEMORY, OPTIONS, build_of  # noqa: E402
 
 MINUTE = 60.0
-MINUTES = 20.0                     # after which no size is begun
+MINUTES = 22.0                     # after which no size is begun
 
 
 def words():
@@ -46,7 +46,7 @@ def main_tool(comparison):
 def asked(compared, only):
     """The families by names, with their comparison: those first that take longest, which have several functions a size."""
     found = [((comparison.name, family.name), comparison, family) for comparison in compared if comparison.is_exact
-             for family in comparison.families if only in f"{comparison.name}, {family.name}"]
+             for family in comparison.families if family.minute and only in f"{comparison.name}, {family.name}"]
     return sorted(found, key=lambda it: (it[2].grows, -len(it[2].sizes[-1].files)))
 
 

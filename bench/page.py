@@ -19,7 +19,7 @@ LOOKS = {                          # colour, mark and dashes of the lines: they 
     "cadical": ("#009e73", "diamond", "2 2"), "cec": ("#d55e00", "square", "8 3"), "SOPform": ("#009e73", "diamond", "2 2")}
 SAME = 1.25                        # ratios up to this count as the same time
 NOTED = 0.005                      # seconds from which on it is noted that another tool is faster
-SECOND = 1.0
+SECOND, MINUTE = 1.0, 60.0
 OUT_OF_MEMORY = f"{MEMORY / 2 ** 30:.0f} GiB of memory"
 NO_SOURCE = "their sources have no answers"
 
@@ -202,7 +202,8 @@ def minute_line(comparison, family, rows):
 
 def minute_table(compared, minute):
     """How far `exact` came in each family, and what stopped it."""
-    return by_comparison(compared, minute, ["Family", "Within a second", "Within a minute", "Seconds", "What stops larger ones"], minute_line)
+    head = ["Family", "Within a second", f"Within {minute_told(minute)}", "Seconds", "What stops larger ones"]
+    return by_comparison(compared, minute, head, minute_line)
 
 
 def reach_line(comparison, family, rows):
@@ -360,10 +361,9 @@ same files, where they are faster, and what is open. [All sizes](performance/tab
 
 ## The largest files that `exact` answers"""
 
-REACH = """A line is a family of files, from small to large: the largest size that was answered within a second and within {limit}, the
-seconds that the latter took, and what stops larger ones. Where chance plays a part a size has five files, by five seeds: each was answered in
-that time, and the seconds are those of the longest. A size of 83 / 60 has 83 inputs and 60 outputs. Where one file is not always harder
-than the one before, it is told how many were answered."""
+REACH = """A line is a family of files, from small to large, with five files a size where chance plays a part: the largest size of which each file
+was answered within a second, and within {limit}, with the seconds of the longest, and what stops larger ones. A size of 83 / 60 has 83 inputs
+and 60 outputs; where one file is not always harder than the one before, it is told how many were answered."""
 
 BESIDE = """## Beside other tools"""
 
@@ -445,7 +445,7 @@ def hardest(compared, run):
 
 
 def minute_told(minute):
-    return "a minute" if minute.limit == 60 else f"{minute.limit:g} seconds"
+    return "a minute" if minute.limit == MINUTE else f"{minute.limit:g} seconds"
 
 
 def open_section(compared, run, minute):
@@ -466,7 +466,7 @@ def how(compared, run, minute):
     count = {2: "Two", 3: "Three", 4: "Four"}.get(run.jobs, run.jobs)
     running = "One process ran at a time" if run.jobs == 1 else f"{count} processes ran at a time, each on a processor of its own"
     machine = {name: value for name, value in run.facts.items() if name != "tools"}
-    yield COMMAND.format(minutes=run.minutes, asked=minute.minutes, options=options_of(run, LIMIT), minute_options=options_of(minute, 60),
+    yield COMMAND.format(minutes=run.minutes, asked=minute.minutes, options=options_of(run, LIMIT), minute_options=options_of(minute, MINUTE),
                          builds="" if run.program == minute.program else ", on another build of this tool")
     yield filled(FILES)
     yield filled(MACHINE, running=running, short=SHORT, limit=run.limit, minute=minute_told(minute), bytes=MEMORY / 2 ** 30, **machine)
@@ -550,6 +550,6 @@ def write(compared, run):
             put(f"performance/{picture_name(comparison)}", drawn(comparison, run))
     minute = kept_minute({comparison.name: main_tool(comparison).label for comparison in compared})
     put("PERFORMANCE.md", "\n".join(lines(compared, run, minute)).rstrip() + "\n")
-    if minute.rows:
+    if minute.rows and minute.limit == MINUTE:
         write_readme(compared, minute)
     put("performance/tables.md", "\n\n".join([TABLES.rstrip(), *(tables_of(comparison, run) for comparison in compared)]) + "\n")
