@@ -11,7 +11,8 @@ this is said. A tool is dropped from a family at the first size that it does not
 --limit) or in 4 GiB of memory; --quick stands for a limit of 2 seconds. --only runs the comparisons and families that have the
 word in their names, and --jobs so many families at the same time, each on a processor of its own (three without it). With --busy
 seconds are those of the processor, not of the clock, for a look on a machine that does other work. --write writes
-docs/PERFORMANCE.md and the pictures and tables in docs/performance; --page writes them anew from the last run with --write.
+docs/PERFORMANCE.md, the pictures and tables in docs/performance and the table in README.md, with what bench/minute.py found; --page
+writes them anew from the last run with --write.
 
 The files are written to bench/data by fixed seeds, once.
 """
