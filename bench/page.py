@@ -306,15 +306,20 @@ def picture_name(comparison):
 
 
 def drawn(comparison, run):
+    """Of each family that grows the longest seconds of a function, over the rows of a function or the primes of the first."""
     tools = [tool for tool in comparison.tools if tool.label != comparison.unseen]
 
+    def place(row):
+        return row.rows / row.functions if comparison.picture == "rows" else row.primes
+
     def line(rows, tool):
-        points = [(getattr(row, comparison.picture), time_of(row, tool)) for row in rows if is_asked(row, tool)]
+        points = [(place(row), row.totals[tool.label].longest) for row in rows if is_asked(row, tool)]
         return sorted(((size, seconds) for size, seconds in points if size), key=lambda point: point[0])
-    panels = [Panel(family.name, [line(rows, tool) for tool in tools], comparison.picture) for family, rows in of_comparison(comparison, run)]
+    panels = [Panel(family.name, [line(rows, tool) for tool in tools], comparison.picture)
+              for family, rows in of_comparison(comparison, run) if family.grows]
     panels = [panel for panel in panels if any(len(points) > 1 for points in panel.lines)]
     series = [Series(tool.label, *LOOKS[tool.label]) for tool in tools]
-    return picture(f"{capital(comparison.title)}: seconds over {comparison.picture}", series, panels, run.limit)
+    return picture(f"{capital(comparison.title)}: seconds of a function over its {comparison.picture}", series, panels, run.limit)
 
 
 # The machine.
@@ -403,7 +408,7 @@ MACHINE = """A machine of {cores} processors ({processor}{speed}) and {memory} o
 {running}. The time of a process is from its start to its end, including the reading of the files: the least of three runs, or that of one
 run if it takes more than {short:g} seconds; HiGHS and SOPform tell their own time, and run once. A tool is dropped from a family that grows
 at the first size that it does not answer within {limit:g} seconds ({minute} for the first table) and {bytes:.0f} GiB. Where a size has
-several functions, the limit holds for each, and times, rows and answers in the tables are sums."""
+several functions, the limit holds for each; times, rows and answers in the tables are sums, and pictures show the longest."""
 
 CELLS = """In the tables, times are in seconds, *none* means no answer within these limits, and – a size on which a tool was not run. Times count as the
 same where the longer is less than 1.25 times the other. Wherever two tools answered, their answers were compared: {agreed}."""

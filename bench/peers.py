@@ -288,7 +288,8 @@ def measured_size(comparison, tools, size, limit):
     answers = {label: pair[1] for label, pair in found.items() if pair and pair[1]}
     rows = sum(count_rows(path) for paths in files for path in (paths[:1] if size.shape else paths))
     primes = len(answers["primes"][0]) if "primes" in answers else size.primes
-    return Row(size.label, rows, totals, agreement(comparison, answers, files, size), comparison.shown(answers), size.shape, primes)
+    return Row(size.label, rows, totals, agreement(comparison, answers, files, size), comparison.shown(answers), size.shape, primes,
+               len(files))
 
 
 def measured(comparison, tools, family, limit, until=math.inf):

@@ -23,7 +23,8 @@ class Total:
 @dataclass
 class Row:
     """One size of a family: the rows of its files, the total of each tool by label, whether the answers agree (None where
-    fewer than two were given), the answers in words, and of functions of many outputs their shape and the primes of the first."""
+    fewer than two were given), the answers in words, of functions of many outputs their shape and the primes of the first, and how
+    many functions it has."""
     label: str
     rows: int
     totals: dict
@@ -31,6 +32,7 @@ class Row:
     shown: str
     shape: str = ""
     primes: float = None
+    functions: int = 1
 
 
 @dataclass
