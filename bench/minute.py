@@ -4,10 +4,10 @@
 usage: bench/minute.py PROGRAM [--limit SECONDS] [--minutes NUMBER] [--only WORD] [--jobs NUMBER] [--busy] [--write]
 
 A family begins with its smallest size, and ends with the first of which a function is not answered within a minute (or the limit) and
-4 GiB of memory. No size is begun after 22 minutes, or those of --minutes. --only runs the families that have the word in their names,
-and --jobs so many at the same time, each on a processor of its own (three without it). With --busy seconds are those of the processor,
-not of the clock. --write writes the file, of which bench/peers.py makes the first table of docs/PERFORMANCE.md; with --only too, other
-families stay in it as they are.
+4 GiB of memory. After 20 minutes, or those of --minutes, a size is asked for a second alone. --only runs the families that have the
+word in their names, and --jobs so many at the same time, each on a processor of its own (three without it). With --busy seconds are
+those of the processor, not of the clock. --write writes the file, of which bench/peers.py makes the first table of
+docs/PERFORMANCE.md; with --only too, other families stay in it as they are.
 """
 import argparse
 import functools
@@ -21,10 +21,9 @@ sys.dont_write_bytecode = True
 import results  # noqa: E402
 from peers import comparisons, done, measured  # noqa: E402
 from results import Run  # noqa: E402
-from tools import JOBS, MEMORY, OPTIONS, build_of  # noqa: E402
+from tools import JOBS, MEMORY, MINUTE, OPTIONS, build_of  # noqa: E402
 
-MINUTE = 60.0
-MINUTES = 22.0                     # after which no size is begun
+MINUTES = 20.0                     # after which sizes are asked for a second alone
 
 
 def words():

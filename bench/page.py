@@ -7,7 +7,7 @@ import textwrap
 
 from picture import Panel, Series, picture, power
 from results import kept_minute
-from tools import JOBS, LIMIT, MEMORY, SHORT, is_installed, start, version
+from tools import JOBS, LIMIT, MEMORY, MINUTE, SECOND, SHORT, is_installed, start, version
 
 TOP = os.path.dirname(os.path.dirname(os.path.abspath(__file__)))
 DOCS = os.path.join(TOP, "docs")
@@ -19,7 +19,6 @@ LOOKS = {                          # colour, mark and dashes of the lines: they 
     "cadical": ("#009e73", "diamond", "2 2"), "cec": ("#d55e00", "square", "8 3"), "SOPform": ("#009e73", "diamond", "2 2")}
 SAME = 1.25                        # ratios up to this count as the same time
 NOTED = 0.005                      # seconds from which on it is noted that another tool is faster
-SECOND, MINUTE = 1.0, 60.0
 OUT_OF_MEMORY = f"{MEMORY / 2 ** 30:.0f} GiB of memory"
 NO_SOURCE = "their sources have no answers"
 
@@ -133,16 +132,16 @@ def largest(rows, tool, within=math.inf):
     return next((row for row in reversed(rows) if time_of(row, tool) is not None and row.totals[tool.label].longest <= within), None)
 
 
-def answered(rows, tool, within=math.inf):
+def answered(family, rows, tool, within=math.inf):
     """How many of the members of a family that does not grow a tool answered."""
     found = [row for row in rows if time_of(row, tool) is not None and row.totals[tool.label].longest <= within]
-    return f"{len(found)} of {len(rows)}"
+    return f"{len(found)} of {len(family.sizes)}"
 
 
 def reach(family, rows, tool, within=math.inf):
     """How far a tool came in these seconds."""
     if not family.grows:
-        return answered(rows, tool, within)
+        return answered(family, rows, tool, within)
     row = largest(rows, tool, within)
     return row.label if row else "none"
 

@@ -36,8 +36,8 @@ import families  # noqa: E402
 import results  # noqa: E402
 from results import Row, Run, Total  # noqa: E402
 from rows import count_rows  # noqa: E402
-from tools import (JOBS, LIMIT, MEMORY, OPTIONS, Tool, again, against_source, build_of, cbc, cec, highs, installed, once, own,  # noqa: E402
-                   printed_rows, products_enough, sopform, tautology_by, yes_or_no)
+from tools import (JOBS, LIMIT, MEMORY, OPTIONS, SECOND, Tool, again, against_source, build_of, cbc, cec, highs, installed,  # noqa: E402
+                   once, own, printed_rows, products_enough, sopform, tautology_by, yes_or_no)
 
 
 @dataclass(frozen=True)
@@ -294,14 +294,15 @@ def measured_size(comparison, tools, size, limit):
 
 def measured(comparison, tools, family, limit, until=math.inf):
     """The rows of a family, until no tool is left that answers in time; beside other tools, none of theirs and not our main one.
-    No size is begun after the clock's time `until`."""
+    After the clock's time `until` a size is asked for a second alone, and left out where nobody answers."""
     found = []
     running = list(tools)
     are_alone = not any(tool.needs for tool in tools)
     for size in family.sizes:
-        if time.monotonic() > until:
+        is_late = time.monotonic() > until
+        row = measured_size(comparison, running, size, min(limit, SECOND) if is_late else limit)
+        if is_late and all(total.seconds is None for total in row.totals.values()):
             break
-        row = measured_size(comparison, running, size, limit)
         found.append(row)
         told = ", ".join(f"{label} {seconds_told(total)}" for label, total in row.totals.items())
         differ = ": THE ANSWERS DIFFER" if row.agree is False else ""
