@@ -20,6 +20,7 @@ PLACES = "finding enough places for the covering table"
 COLUMNS = "the many columns of the covering table"
 FULL_INPUTS = "the limit of 1,024 inputs"
 FULL_OUTPUTS = "the limit of 1,024 outputs"
+FULL_LINES = "the limit of 16,777,216 lines"
 
 
 def listing_file(name, listing, end="", order=lambda rows: rows):
@@ -36,7 +37,8 @@ def for_tables():
         ("squares", "a number squared", (4, 5, 6, 7, 8), inputs_label, square, PROOF),
         ("comparisons", "whether a number is above another, equal to it, or below it", (4, 5, 6, 7, 8, 9, 10), width_label("and"),
          comparison, NEEDED),
-        ("leading noughts", "how many of the first inputs are 0", (8, 10, 12, 14, 16, 18, 20, 22, 24), inputs_label, leading_noughts, NEEDED),
+        ("leading noughts", "how many of the first inputs are 0", (8, 10, 12, 14, 16, 18, 20, 22, 24), inputs_label, leading_noughts, NEEDED,
+         ("ends", FULL_LINES)),
         ("ones counted", "how many inputs are 1", (6, 8, 10, 12, 14, 16), inputs_label, count_of_ones, TABLE),
         ("parity", "whether the number of ones is odd", (8, 10, 12, 14, 16, 18, 20, 22), inputs_label, parity, NEEDED),
         ("middle ones", "whether about a third to two thirds of the inputs are 1", (6, 7, 8, 9, 10, 11, 12, 13), inputs_label,
@@ -47,8 +49,8 @@ def for_tables():
          lambda width: f"{2 * width} inputs", sensor_display, TABLE),
     ]
     return [family(name, told, sizes, label,
-                   lambda n, name=name, make=make: (points_of(f"truth-{name}-{n}", make(n)),), stops)
-            for name, told, sizes, label, make, stops in found]
+                   lambda n, name=name, make=make: (points_of(f"truth-{name}-{n}", make(n)),), stops, **dict(ends))
+            for name, told, sizes, label, make, stops, *ends in found]
 
 
 def for_classics():

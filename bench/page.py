@@ -242,12 +242,12 @@ def answered_there(comparison, rows, tool):
 
 
 def reason(comparison, family, rows):
-    """In words: why others are faster. The primes that they are given may make the difference; else it is what takes our time."""
+    """In words: why others are faster. They are given the primes, or it is what takes our time."""
     lost = [row for row in rows if any(is_loss(row, tool, comparison) for tool in others(comparison))]
     primes = [row.totals["primes"].seconds if "primes" in row.totals else None for row in lost]
     if lost and all(seconds and seconds + time_of(row, fastest_other(row, comparison)) > time_of(row, main_tool(comparison)) / SAME
                     for row, seconds in zip(lost, primes)):
-        return "finding the primes, which they are given, takes longer than that"
+        return "with the time of the primes, which they are given, they take as long"
     return family.stops
 
 
