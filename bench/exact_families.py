@@ -18,6 +18,7 @@ NEEDED = "asking of each row whether it is needed"
 TABLE = "making the rows of the covering table"
 PLACES = "finding enough places for the covering table"
 COLUMNS = "the many columns of the covering table"
+MERGING = "reading the file and merging its rows"
 FULL_INPUTS = "the limit of 1,024 inputs"
 FULL_OUTPUTS = "the limit of 1,024 outputs"
 FULL_LINES = "the limit of 16,777,216 lines"
@@ -37,10 +38,10 @@ def for_tables():
         ("squares", "a number squared", (4, 5, 6, 7, 8), inputs_label, square, PROOF),
         ("comparisons", "whether a number is above another, equal to it, or below it", (4, 5, 6, 7, 8, 9, 10), width_label("and"),
          comparison, NEEDED),
-        ("leading noughts", "how many of the first inputs are 0", (8, 10, 12, 14, 16, 18, 20, 22, 24), inputs_label, leading_noughts, NEEDED,
+        ("leading noughts", "how many of the first inputs are 0", (8, 10, 12, 14, 16, 18, 20, 22, 24), inputs_label, leading_noughts, MERGING,
          ("ends", FULL_LINES)),
         ("ones counted", "how many inputs are 1", (6, 8, 10, 12, 14, 16), inputs_label, count_of_ones, TABLE),
-        ("parity", "whether the number of ones is odd", (8, 10, 12, 14, 16, 18, 20, 22), inputs_label, parity, NEEDED),
+        ("parity", "whether the number of ones is odd", (8, 10, 12, 14, 16, 18, 20, 22), inputs_label, parity, TABLE),
         ("middle ones", "whether about a third to two thirds of the inputs are 1", (6, 7, 8, 9, 10, 11, 12, 13), inputs_label,
          middle_ones, PROOF),
         ("arithmetic units", "by two bits: sum, difference, and, exclusive or of two numbers", (3, 4, 5, 6, 7, 8, 9),
@@ -124,7 +125,7 @@ def for_samples():
         return f"{shape[2]} rows"
     return [
         sample_family("one output, 100 rows", [(n, 1, 100) for n in (8, 12, 16, 20, 30, 48, 64, 96, 128)], inputs, COLUMNS),
-        sample_family("one output, 20 inputs", [(20, 1, count) for count in (50, 100, 200, 400, 800, 1600, 3200)], rows, PLACES),
+        sample_family("one output, 20 inputs", [(20, 1, count) for count in (50, 100, 200, 400, 800, 1600, 3200)], rows, COLUMNS),
         sample_family("one output, 12 inputs, noise", [(12, 1, count) for count in (50, 100, 200, 400, 800, 1200, 1600, 2400)], rows, PROOF,
                       0.05),
         sample_family("one output, 20 inputs, noise", [(20, 1, count) for count in (50, 100, 150, 200, 300, 400)], rows, PROOF, 0.05),
