@@ -240,7 +240,7 @@ def drawn_operations():
     found = [listing_size("operation lines", (opcode + status + 2, lines, 3 * 2 ** opcode),
                           [lambda size=(opcode, status, lines), seed=seed: operation_lines(*size, seed=seed) for seed in range(1, DRAWS + 1)], primes)
              for (opcode, status, lines), primes in sizes]
-    return Family("operation lines", f"decoded lines of an arithmetic unit, three steps an operation; {DRAWS} functions a size", found, COLUMNS)
+    return Family("operation lines", f"decoded lines of an arithmetic unit, three steps an operation; {DRAWS} functions a size", found, NEEDED)
 
 
 def wide_families():
