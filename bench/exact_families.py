@@ -63,10 +63,10 @@ def for_classics():
 
 # Random functions.
 
-SHARES = (                         # outputs, shares of ones and of don't-cares, and inputs
-    (1, 0.1, 0.0, range(8, 23, 2)), (1, 0.4, 0.2, range(7, 14)), (2, 0.3, 0.3, range(6, 13)), (6, 0.25, 0.0, range(6, 14)),
-    (10, 0.15, 0.7, range(4, 10)), (10, 0.5, 0.0, range(5, 11)), (20, 0.2, 0.6, range(4, 9)), (35, 0.05, 0.9, range(4, 11)),
-    (40, 0.5, 0.0, range(5, 12)))
+SHARES = (                         # outputs, shares of ones and of don't-cares, inputs, and what stops larger ones
+    (1, 0.1, 0.0, range(8, 23, 2), TABLE), (1, 0.4, 0.2, range(7, 14), PROOF), (2, 0.3, 0.3, range(6, 13), PROOF),
+    (6, 0.25, 0.0, range(6, 14), PROOF), (10, 0.15, 0.7, range(4, 10), PROOF), (10, 0.5, 0.0, range(5, 11), PROOF),
+    (20, 0.2, 0.6, range(4, 9), PROOF), (35, 0.05, 0.9, range(4, 11), PROOF), (40, 0.5, 0.0, range(5, 12), PROOF))
 
 
 def shares(ones, dashes):
@@ -77,8 +77,8 @@ def for_random():
     """Each size is some functions that are drawn."""
     points = [
         drawn_family(f"{outputs} output{'s' if outputs > 1 else ''}, {shares(ones, dashes)}", "the places of each output are drawn", sizes,
-                     inputs_label, lambda n, draw, how=(outputs, ones, dashes): (random_points(n, *how, draw),), PROOF)
-        for outputs, ones, dashes, sizes in SHARES]
+                     inputs_label, lambda n, draw, how=(outputs, ones, dashes): (random_points(n, *how, draw),), stops)
+        for outputs, ones, dashes, sizes, stops in SHARES]
     return [
         *points,
         drawn_family("random cubes", "two outputs, four symbols in ten are dashes",
