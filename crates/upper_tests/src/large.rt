@@ -8,7 +8,7 @@ use crate::descriptions::{
 };
 use crate::rules::{Outputs, Rule};
 use crate::signatures::{decoder, outside_decoder};
-use crate::tables::{all_answer, has_taken, least_is, rings, rings_are_solved};
+use crate::tables::{has_taken, least_is, plain_is, rings, rings_are_solved, search_answers};
 use covering::{all_marked, copy_of, is_marked, numbers, short_cover, unmark};
 use minimum::{Choice, Table, reduce};
 use signature_search::{Proposer, Rows};
@@ -199,7 +199,8 @@ fn fan(alloc: Global, columns: usize) -> Result<Option<Table>, AllocError> {
 /// Whether each search answers the first column of the table, and a reduction takes it.
 fn is_met_by_the_first(table: Table) -> Result<bool, AllocError> {
     let is_short = short_cover(&table)?.as_slice() == [0].as_slice();
-    let is_least = all_answer(&table, Choice::First, &[0])?;
+    let is_least = search_answers(&table, Choice::First, &[0])?
+        && plain_is(&table, Choice::First, &[0])?;
     let is_fewest = least_is(&table, Choice::Literals, &[0])?;
     Ok(is_short && is_least && is_fewest && has_taken(&reduce(table, Choice::First)?, &[0]))
 }

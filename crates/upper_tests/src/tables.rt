@@ -53,7 +53,11 @@ pub(crate) fn least_is(
 }
 
 /// Whether the plain search answers these columns.
-fn plain_is(table: &Table, choice: Choice, columns: &[usize]) -> Result<bool, AllocError> {
+pub(crate) fn plain_is(
+    table: &Table,
+    choice: Choice,
+    columns: &[usize],
+) -> Result<bool, AllocError> {
     let plain = least_cover_plain(table, choice)?;
     Ok(plain.as_slice() == columns)
 }
@@ -296,8 +300,9 @@ fn drawn(alloc: Global, seed: u64) -> Result<Option<Table>, AllocError> {
     Table::new(alloc, rows, weights)
 }
 
-/// Whether each search answers these columns, and a short cover has no fewer.
-pub(crate) fn all_answer(
+/// Whether the search answers these columns, also where its work is counted, and a short cover has no
+/// fewer.
+pub(crate) fn search_answers(
     table: &Table,
     choice: Choice,
     columns: &[usize],
@@ -307,15 +312,20 @@ pub(crate) fn all_answer(
     Ok(
         counted.as_slice() == columns
             && least_is(table, choice, columns)?
-            && plain_is(table, choice, columns)?
             && short_cover(table)?.len() >= columns.len(),
     )
 }
 
-/// Whether all searches answer the same, on the table as it is and as reduced.
+/// Whether both searches answer the same, on the table as it is and as reduced.
 pub(crate) fn searches_agree(made: Table, choice: Choice) -> Result<bool, AllocError> {
     let plain = least_cover_plain(&made, choice)?;
-    Ok(all_answer(&made, choice, &plain)? && all_answer(&reduce(made, choice)?, choice, &plain)?)
+    let is_answered = search_answers(&made, choice, &plain)?;
+    let reduced = reduce(made, choice)?;
+    Ok(
+        is_answered
+            && search_answers(&reduced, choice, &plain)?
+            && plain_is(&reduced, choice, &plain)?,
+    )
 }
 
 #[test]
