@@ -83,8 +83,8 @@ SHORT_LISTS = [
     ("sums/dependent_outputs", "FEW: usize = 64", "FEW: usize = 2"),
     ("sums/containing", "MANY: u32 = 6", "MANY: u32 = 3"),
     ("minimum/prime_table/halving_input", "FEW: usize = 16", "FEW: usize = 1"),
-    ("covering/solver", "FEW: usize = 8", "FEW: usize = 1"),
-    ("covering/solver", "BATCH_TABLES: u64 = 600", "BATCH_TABLES: u64 = 2"),
+    ("covering/least_covers", "FEW: usize = 8", "FEW: usize = 1"),
+    ("covering/questions", "BATCH_TABLES: u64 = 600", "BATCH_TABLES: u64 = 2"),
 ]
 FEW_PROPOSALS = [
     ("signature_search/search", "REGION_BUDGET: u64 = 1 << 16", "REGION_BUDGET: u64 = 2"),

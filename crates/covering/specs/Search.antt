@@ -4,7 +4,7 @@ use Rattle.std.specs.Option.{option_map}
 use Rattle.covering.specs.declared.bound.Budget.{Budget}
 use Rattle.covering.specs.declared.choice.Choice.{Choice}
 use Rattle.covering.specs.declared.choice.Choice.TheVariants.{Literals}
-use Rattle.covering.specs.declared.solver.Partial.{Partial}
+use Rattle.covering.specs.declared.in_order.Partial.{Partial}
 use Rattle.covering.specs.Table.{Table, has}
 use Rattle.covering.specs.Cover.{IsCover, IsLeast, counted, sum_over}
 

@@ -1,6 +1,6 @@
 use Rattle.std.proofs.Common.{length}
 use Rattle.covering.specs.Search.{IsPartial, Continues}
-use Rattle.covering.proofs.solver.Partial.drop_columns_over_budget.Given as goal
+use Rattle.covering.proofs.in_order.Partial.drop_columns_over_budget.Given as goal
 
 abbrev pub invariant-loop-partial : goal.invariant-loop-partial
 invariant-loop-partial l = record { partial : IsPartial l.choice l.budget.columns l.budget.cost l.partial.table l.partial.witness.items; next : Continues l.choice l.fn.self.table l.partial.table }

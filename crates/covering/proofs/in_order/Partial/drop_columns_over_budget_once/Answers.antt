@@ -1,6 +1,6 @@
 use Rattle.covering.specs.Search.{marked}
 use Rattle.covering.proofs.Partials.{some_left, partial_left, next_left}
-use Rattle.covering.proofs.solver.Partial.drop_columns_over_budget_once.Goals as goal
+use Rattle.covering.proofs.in_order.Partial.drop_columns_over_budget_once.Goals as goal
 
 pub keep_columns_marked-requires : goal.keep_columns_marked-requires
 keep_columns_marked-requires c =

@@ -7,8 +7,8 @@ use Rattle.covering.specs.Search.{Answers, IsOutside, marked}
 use Rattle.covering.proofs.Sets.{filter_keeps}
 use Rattle.covering.proofs.Lagrange.{marks_at}
 use Rattle.covering.proofs.Partials.{answer_extended, outside_extended, not_false, some_left, partial_left, next_left}
-use Rattle.covering.proofs.solver.Partial.ask_for_many.Goals as goal
-use Rattle.covering.proofs.solver.Partial.ask_for_many.Goals.{In_ok-keep-in-None}
+use Rattle.covering.proofs.in_order.Partial.ask_for_many.Goals as goal
+use Rattle.covering.proofs.in_order.Partial.ask_for_many.Goals.{In_ok-keep-in-None}
 
 -- the columns that leave
 out : (c : In_ok-keep-in-None) → (d : ℕ) → has d c.args.self.table.live ≡ true → marked c.in_ok-keep-in-None.keep.items d ≡ false → IsOutside c.args.choice c.args.self.table c.args.budget.columns c.args.budget.cost d

@@ -1,5 +1,5 @@
 use Rattle.covering.proofs.Partials.{next_self, partial_reduced, next_reduced}
-use Rattle.covering.proofs.solver.Partial.reduce.Goals as goal
+use Rattle.covering.proofs.in_order.Partial.reduce.Goals as goal
 
 pub returns-then-not-is_worth_a_reduction-clause-partial : goal.returns-then-not-is_worth_a_reduction-clause-partial
 returns-then-not-is_worth_a_reduction-clause-partial c = c.requires

@@ -5,8 +5,8 @@ use Rattle.covering.specs.Steps.{take_column}
 use Rattle.covering.specs.Search.{Answers, IsAnswer, IsOutside, NoneWithin, IsPartial, Continues, marked}
 use Rattle.covering.proofs.Sets.{without_lacks}
 use Rattle.covering.proofs.Partials.{partial_taken, next_taken, witness_taken, outside_taken, lacks_marked, marked_but, same_column, some_left, partial_left, next_left}
-use Rattle.covering.proofs.solver.Partial.ask_for_one.Goals as goal
-use Rattle.covering.proofs.solver.Partial.ask_for_one.Goals.{Then-contains, In-Some, In_ok-keep-in-None}
+use Rattle.covering.proofs.in_order.Partial.ask_for_one.Goals as goal
+use Rattle.covering.proofs.in_order.Partial.ask_for_one.Goals.{Then-contains, In-Some, In_ok-keep-in-None}
 
 own : (c : Then-contains) → IsAnswer c.args.choice (take_column c.args.column c.args.self.table) c.args.budget.columns c.args.budget.cost c.args.self.witness.items
 own c = witness_taken c.args.choice c.args.self.table c.args.column c.args.budget.columns c.args.budget.cost c.args.self.witness.items (subst (λ xs. has c.args.column xs ≡ true) c.deref.ensures.value (sym c.contains.ensures ∙ c.if-contains.true)) c.requires.partial.witness

@@ -1,5 +1,5 @@
 use Rattle.covering.proofs.Partials.{next_self, next_join}
-use Rattle.covering.proofs.solver.Partial.drop_columns_over_budget.Goals as goal
+use Rattle.covering.proofs.in_order.Partial.drop_columns_over_budget.Goals as goal
 
 pub loop-partial-init : goal.loop-partial-init
 loop-partial-init c = record { partial = c.requires; next = next_self c.args.choice c.args.self.table }

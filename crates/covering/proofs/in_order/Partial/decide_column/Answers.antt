@@ -2,7 +2,7 @@ use Rattle.std.proofs.Common.{◌≡◌, ◌∙◌, true, false, sym, subst}
 use Rattle.std.proofs.lemmas.Result.{IfOk-weaker}
 use Rattle.covering.specs.Table.{has}
 use Rattle.covering.proofs.Partials.{next_self, next_join, gone_next}
-use Rattle.covering.proofs.solver.Partial.decide_column.Goals as goal
+use Rattle.covering.proofs.in_order.Partial.decide_column.Goals as goal
 
 pub returns-then-not-contains-clause-partial : goal.returns-then-not-contains-clause-partial
 returns-then-not-contains-clause-partial c = c.requires.partial

@@ -1,0 +1,262 @@
+//! The first of the best covers in list order: columns are decided one by one.
+//!
+//! If the witness, a cover within the budget, has the next column, so has the least cover; else it is
+//! asked whether some cover within the budget has it, which gives a new witness or drops the column. A
+//! batch of columns is asked for at once, by a further row of them: if then no cover is within the
+//! budget, all are dropped. From time to time what is left is reduced: without the columns that were
+//! dropped, more of them are dominated.
+
+ghost use Rattle.std.specs.Prelude.{◌≡◌, ◌≤◌, ℕ, IfOk, filter, map, true, false};
+ghost use Rattle.std.specs.List.{list_any};
+ghost use Rattle.covering.specs.Table.{has};
+ghost use Rattle.covering.specs.Cover.{IsLeast};
+ghost use Rattle.covering.specs.Search.{Continues, IsBest, IsPartialWithin, is_blank, keep_columns, marked};
+
+use crate::bound::Budget;
+use crate::choice::{Choice, total_cost};
+use crate::columns::{contains, copy_of};
+use crate::marks::{all_but, others};
+use crate::questions::Questions;
+use crate::search::UNLIMITED;
+use crate::table::Table;
+use heuristics::batch;
+use std::alloc::{AllocError, Global};
+use warm_start::is_worth_a_bound;
+
+/// How many steps a row a local search takes that looks for a cover of a reduced table.
+const WITNESS_STEPS: usize = 12;
+
+/// A partial solution: the table of what is undecided, and a cover of it within the budget.
+struct Partial {
+    table: Table,
+    witness: Vec<usize>,
+}
+
+// Written out, so that where a partial solution ends a proof has one call, and no case for each of
+// its lists.
+impl Drop for Partial {
+    fn drop(self) {
+        let Partial {
+            table: _,
+            witness: _,
+        } = self;
+    }
+}
+
+impl Partial {
+    /// The table with the marked columns alone, of which each row has one.
+    fn keep_columns_marked(self, keep: &[bool]) -> Partial
+        requires { list_any is_blank (map (filter (marked keep.now)) self.table.rows) ≡ false }
+        ensures table { result.table ≡ keep_columns (marked keep.now) self.table }
+        ensures witness { result.witness ≡ self.witness }
+    {
+        let Partial { table, witness } = self;
+        match table.keep_marked(keep) {
+            Some(table) => Partial { table, witness },
+            None => unreachable!(),
+        }
+    }
+
+    /// Drops a batch of columns if no cover within the budget has one of them; else there is a new
+    /// witness.
+    fn ask_for_many(
+        mut self,
+        alloc: Global,
+        choice: Choice,
+        budget: Budget,
+        column: usize,
+        questions: &mut Questions,
+    ) -> Result<Partial, AllocError>
+        requires { IsPartialWithin choice budget self }
+        ensures partial { IfOk result (IsPartialWithin choice budget) }
+        ensures next { IfOk result (λ s. Continues choice self.table s.table) }
+    {
+        let marks = batch(
+            alloc,
+            self.table.live_columns(),
+            &self.witness,
+            column,
+            questions.batch_size,
+            self.table.columns(),
+        )?;
+        let Some(answer) = questions.ask_for_marked(alloc, choice, budget, &self.table, &marks)?
+        else {
+            return Ok(self);
+        };
+        match answer {
+            Some(witness) => {
+                self.witness = witness;
+                Ok(self)
+            }
+            None => {
+                let keep = others(alloc, &marks, self.table.columns())?;
+                Ok(self.keep_columns_marked(&keep))
+            }
+        }
+    }
+
+    /// Takes the first live column if some cover within the budget has it, and else drops it.
+    fn ask_for_one(
+        mut self,
+        alloc: Global,
+        choice: Choice,
+        budget: Budget,
+        column: usize,
+        questions: &mut Questions,
+    ) -> Result<Partial, AllocError>
+        requires partial { IsPartialWithin choice budget self }
+        requires live { has column self.table.live ≡ true }
+        requires first { (c : ℕ) → has c self.table.live ≡ true → column ≤ c }
+        ensures partial { IfOk result (IsPartialWithin choice budget) }
+        ensures next { IfOk result (λ s. Continues choice self.table s.table) }
+        ensures gone { IfOk result (λ s. has column s.table.live ≡ false) }
+    {
+        let with = self.table.take(alloc, column)?;
+        if contains(&self.witness, column) {
+            self.table = with;
+            return Ok(self);
+        }
+        match questions.ask(alloc, choice, budget, &with, UNLIMITED)? {
+            Some(witness) => Ok(Partial {
+                table: with,
+                witness,
+            }),
+            None => {
+                let keep = all_but(alloc, column, self.table.columns())?;
+                Ok(self.keep_columns_marked(&keep))
+            }
+        }
+    }
+
+    /// Drops the columns that row weights show to be in no cover within the budget.
+    fn drop_columns_over_budget_once(
+        self,
+        alloc: Global,
+        choice: Choice,
+        budget: Budget,
+        questions: &mut Questions,
+    ) -> Result<Partial, AllocError>
+        requires { IsPartialWithin choice budget self }
+        ensures partial { IfOk result (IsPartialWithin choice budget) }
+        ensures next { IfOk result (λ s. Continues choice self.table s.table) }
+    {
+        match self
+            .table
+            .columns_within_budget(alloc, choice, budget, &mut questions.warm_start)?
+        {
+            Some(keep) => Ok(self.keep_columns_marked(&keep)),
+            None => unreachable!(),
+        }
+    }
+
+    /// Drops columns that are in no cover within the budget, until row weights show few more.
+    fn drop_columns_over_budget(
+        self,
+        alloc: Global,
+        choice: Choice,
+        budget: Budget,
+        questions: &mut Questions,
+    ) -> Result<Partial, AllocError>
+        requires { IsPartialWithin choice budget self }
+        ensures partial { IfOk result (IsPartialWithin choice budget) }
+        ensures next { IfOk result (λ s. Continues choice self.table s.table) }
+    {
+        let mut partial = self;
+        loop {
+            let live = partial.table.live_columns().len();
+            partial = partial.drop_columns_over_budget_once(alloc, choice, budget, questions)?;
+            let still_live = partial.table.live_columns().len();
+            if live <= still_live || !is_worth_a_bound(live, still_live) {
+                return Ok(partial);
+            }
+        }
+    }
+
+    /// The reduced table, where it is worth a reduction and a local search finds a cover of it.
+    fn reduce(
+        self,
+        alloc: Global,
+        choice: Choice,
+        budget: Budget,
+        questions: &mut Questions,
+    ) -> Result<Partial, AllocError>
+        requires { IsPartialWithin choice budget self }
+        ensures partial { IfOk result (IsPartialWithin choice budget) }
+        ensures next { IfOk result (λ s. Continues choice self.table s.table) }
+    {
+        if !questions.is_worth_a_reduction(self.table.live_columns().len()) {
+            return Ok(self);
+        }
+        let table = self.table.cyclic_core(alloc, choice)?;
+        questions.note_reduction(table.live_columns().len());
+        let goal = table.goal(choice, budget);
+        let steps = WITNESS_STEPS;
+        match table.find_by_local_search(alloc, choice, budget, goal, &self.witness, steps)? {
+            Some(witness) => Ok(Partial { table, witness }),
+            None => Ok(self),
+        }
+    }
+
+    /// Takes or drops the column, which is the first that may be live.
+    fn decide_column(
+        self,
+        alloc: Global,
+        choice: Choice,
+        budget: Budget,
+        column: usize,
+        questions: &mut Questions,
+    ) -> Result<Partial, AllocError>
+        requires partial { IsPartialWithin choice budget self }
+        requires first { (c : ℕ) → has c self.table.live ≡ true → column ≤ c }
+        ensures partial { IfOk result (IsPartialWithin choice budget) }
+        ensures next { IfOk result (λ s. Continues choice self.table s.table) }
+        ensures gone { IfOk result (λ s. has column s.table.live ≡ false) }
+    {
+        if !contains(self.table.live_columns(), column) {
+            return Ok(self);
+        }
+        let partial = self.ask_for_many(alloc, choice, budget, column, questions)?;
+        if !contains(partial.table.live_columns(), column) {
+            return partial.drop_columns_over_budget(alloc, choice, budget, questions);
+        }
+        if contains(&partial.witness, column) {
+            return partial.ask_for_one(alloc, choice, budget, column, questions);
+        }
+        let partial = partial.ask_for_one(alloc, choice, budget, column, questions)?;
+        partial.drop_columns_over_budget(alloc, choice, budget, questions)
+    }
+}
+
+impl Table {
+    /// The first of the best covers, from one of them.
+    pub(crate) fn first_of(
+        &self,
+        alloc: Global,
+        choice: Choice,
+        best: Vec<usize>,
+        questions: &mut Questions,
+    ) -> Result<Vec<usize>, AllocError>
+        requires { IsBest choice self.now best.items }
+        ensures { IfOk result (λ v. IsLeast choice self.now v.items) }
+    {
+        let budget = Budget {
+            columns: best.len(),
+            cost: total_cost(choice, self.literals(), &best),
+        };
+        questions.warm_start.set_hint(alloc, &best)?;
+        let mut partial = Partial {
+            table: self.copy(alloc)?,
+            witness: best,
+        };
+        partial = partial.drop_columns_over_budget(alloc, choice, budget, questions)?;
+        questions.warm_start.hurry();
+        for column in 0..self.columns() {
+            if partial.table.is_solved() {
+                return copy_of(alloc, partial.table.taken_columns());
+            }
+            partial = partial.decide_column(alloc, choice, budget, column, questions)?;
+            partial = partial.reduce(alloc, choice, budget, questions)?;
+        }
+        copy_of(alloc, partial.table.taken_columns())
+    }
+}

@@ -1,0 +1,186 @@
+//! Questions on the way to the least cover: whether there is a cover within a budget.
+//!
+//! Each starts from the row weights of the one before, and is counted. A question about a batch of
+//! columns may look at a few tables only; if they do not suffice the first column is asked for alone.
+
+ghost use Rattle.std.specs.Prelude.{◌≡◌, ◌≢◌, ◌<◌, ◌++◌, ◌∷◌, [], IfOk, IfSome, MatchOption, filter, length};
+ghost use Rattle.covering.specs.Table.{IsWithin, RisesFrom};
+ghost use Rattle.covering.specs.Search.{AnswersWithin, marked};
+ghost use Rattle.covering.specs.Steps.{with_rows};
+
+use crate::bound::Budget;
+use crate::choice::Choice;
+use crate::marks::marked_columns;
+use crate::search::Stop;
+use crate::table::Table;
+use std::alloc::{AllocError, Global};
+use warm_start::{Effort, WarmStart, is_worth_a_bound};
+
+/// A question about a batch of columns is given up after this many tables.
+const BATCH_TABLES: u64 = 600;
+
+/// The undecided columns are reduced again after this many tables.
+const TABLES_TO_REDUCE: u64 = 8;
+
+/// How many columns the first batch has.
+const FIRST_BATCH: usize = 4;
+
+/// How questions are asked: from which row weights, and for how many columns at once.
+pub(crate) struct Questions {
+    /// Row weights and the last cover, from which the next question starts.
+    pub(crate) warm_start: WarmStart,
+    /// How many columns the next batch has at most.
+    pub(crate) batch_size: usize,
+    /// How many tables had been looked at when the undecided columns were last reduced.
+    tables: u64,
+    /// How many live columns were left then.
+    live: usize,
+}
+
+// Written out, so that where questions end a proof has one call, and no case for each list.
+impl Drop for Questions {
+    fn drop(self) {
+        let Questions {
+            warm_start: _,
+            batch_size: _,
+            tables: _,
+            live: _,
+        } = self;
+    }
+}
+
+impl Questions {
+    /// None asked yet; `effort` is the work before.
+    pub(crate) fn new(alloc: Global, effort: Effort) -> Questions {
+        Questions {
+            warm_start: WarmStart::new(alloc, effort),
+            batch_size: FIRST_BATCH,
+            tables: 0,
+            live: usize::MAX,
+        }
+    }
+
+    /// Whether to reduce the undecided columns, so many of which are live: after some tables, or
+    /// once an eighth of the columns is gone.
+    pub(crate) fn is_worth_a_reduction(&self, live: usize) -> bool {
+        let tables = self.warm_start.effort().tables.saturating_sub(self.tables);
+        tables >= TABLES_TO_REDUCE || is_worth_a_bound(self.live, live)
+    }
+
+    /// Notes a reduction, which left so many live columns.
+    pub(crate) fn note_reduction(&mut self, live: usize) {
+        self.tables = self.warm_start.effort().tables;
+        self.live = live;
+    }
+
+    /// After a cover the next batch has a quarter as many columns, and the next cover is looked for
+    /// near this one; after none it has twice as many.
+    fn adapt(&mut self, alloc: Global, witness: &Option<Vec<usize>>) -> Result<(), AllocError> {
+        match witness {
+            Some(cover) => {
+                self.batch_size = (self.batch_size / 4).max(1);
+                self.warm_start.set_hint(alloc, cover)
+            }
+            None => {
+                self.batch_size = self.batch_size.saturating_mul(2);
+                Ok(())
+            }
+        }
+    }
+
+    /// A cover within the budget, or none if there is none; branches into no more than
+    /// `most_tables` tables.
+    pub(crate) fn ask(
+        &mut self,
+        alloc: Global,
+        choice: Choice,
+        budget: Budget,
+        table: &Table,
+        most_tables: u64,
+    ) -> Result<Option<Vec<usize>>, Stop>
+        ensures { IfOk result (AnswersWithin choice table.now budget) }
+    {
+        let answer = {
+            let mut warm_start = self.warm_start.copy(alloc)?;
+            let answer = table.find_or_refute_for_order(
+                alloc,
+                choice,
+                budget,
+                &mut warm_start,
+                most_tables,
+            );
+            self.warm_start.learn(&warm_start);
+            answer
+        };
+        let witness = answer?;
+        self.adapt(alloc, &witness)?;
+        Ok(witness)
+    }
+
+    /// What `ask` answers, if it takes no more than `BATCH_TABLES` tables; else `None`. A cover
+    /// that has one of many columns can be far harder to rule out than a cover that has the first
+    /// of them.
+    fn ask_briefly(
+        &mut self,
+        alloc: Global,
+        choice: Choice,
+        budget: Budget,
+        table: &Table,
+    ) -> Result<Option<Option<Vec<usize>>>, AllocError>
+        ensures { IfOk result (λ r. IfSome r (AnswersWithin choice table.now budget)) }
+    {
+        match self.ask(alloc, choice, budget, table, BATCH_TABLES) {
+            Ok(witness) => Ok(Some(witness)),
+            Err(Stop::Spent) => {
+                self.batch_size = 1;
+                Ok(None)
+            }
+            Err(Stop::Memory) => Err(AllocError),
+        }
+    }
+
+    /// What `ask_briefly` answers of the table with a further row of the marked columns; `None` too
+    /// if they are fewer than two.
+    pub(crate) fn ask_for_marked(
+        &mut self,
+        alloc: Global,
+        choice: Choice,
+        budget: Budget,
+        table: &Table,
+        marks: &[bool],
+    ) -> Result<Option<Option<Vec<usize>>>, AllocError>
+        ensures { IfOk result (λ r. IfSome r (AnswersWithin choice (with_rows table.now
+            (table.now.rows ++ filter (marked marks.now) table.now.live ∷ [])) budget)) }
+    {
+        match table.with_marked_row(alloc, marks)? {
+            None => Ok(None),
+            Some(extended) => self.ask_briefly(alloc, choice, budget, &extended),
+        }
+    }
+}
+
+impl Table {
+    fn with_row(&self, alloc: Global, row: Vec<usize>) -> Result<Table, AllocError>
+        requires some { row.items ≢ [] }
+        requires rises { RisesFrom 0 row.items }
+        requires within { IsWithin row.items self.now.live }
+        ensures { IfOk result (λ t. t ≡ with_rows self.now (self.now.rows ++ row.items ∷ [])) }
+    {
+        let mut table = self.copy(alloc)?;
+        table.rows.push(row)?;
+        Ok(table)
+    }
+
+    /// The table with a further row of the marked columns; `None` if they are fewer than two.
+    fn with_marked_row(&self, alloc: Global, marks: &[bool]) -> Result<Option<Table>, AllocError>
+        ensures { IfOk result (λ o. MatchOption o (length (filter (marked marks.now)
+            self.now.live) < 2) (λ t. t ≡ with_rows self.now (self.now.rows
+            ++ filter (marked marks.now) self.now.live ∷ []))) }
+    {
+        let row = marked_columns(alloc, self.live_columns(), marks)?;
+        if row.len() < 2 {
+            return Ok(None);
+        }
+        Ok(Some(self.with_row(alloc, row)?))
+    }
+}
