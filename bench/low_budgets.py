@@ -87,6 +87,7 @@ SHORT_LISTS = [
     ("covering/questions", "BATCH_TABLES: u64 = 600", "BATCH_TABLES: u64 = 2"),
 ]
 FEW_PROPOSALS = [
+    ("signature_search/proposer", "FEW_PLACES: usize = 2_000", "FEW_PLACES: usize = 8"),
     ("signature_search/search", "REGION_BUDGET: u64 = 1 << 16", "REGION_BUDGET: u64 = 2"),
     ("signature_search/search", "MOST_SIGNATURES: usize = 20000", "MOST_SIGNATURES: usize = 3"),
     ("signature_search/function", "COMPLEMENT_BUDGET: usize = 1 << 18", "COMPLEMENT_BUDGET: usize = 2"),
