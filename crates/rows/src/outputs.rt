@@ -4,6 +4,7 @@ ghost use Rattle.std.specs.Prelude.{◌≡◌, ◌↔◌, ℕ, IsTrue, slice_ind
 use cube::Cube;
 
 /// Whether the cubes have an output in common.
+#[inline(always)]
 pub fn share_output(cube: &Cube, other: &Cube) -> bool
     ensures { IsTrue result ↔ ((j : ℕ) × (slice_index_or cube.now.outputs j false ≡ true)
         × (slice_index_or other.now.outputs j false ≡ true)) }
