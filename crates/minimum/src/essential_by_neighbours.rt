@@ -24,6 +24,7 @@ ghost use Rattle.minimum.specs.Neighbours.{has_own, AreNear, HaveSize, AddsEssen
 mod blocking;
 mod common_place;
 pub(crate) mod consensus_pairs;
+pub(crate) mod consensus_walks;
 mod grown_primes;
 pub(crate) mod growth;
 mod holding;

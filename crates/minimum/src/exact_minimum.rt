@@ -121,7 +121,7 @@ pub fn exact(alloc: Global, sets: &Sets, choice: Choice) -> Result<Cover, AllocE
     if let Some(list) = exact_outside(alloc, sets, choice)? {
         return Ok(list);
     }
-    if uses_places_as_needed(sets) {
+    if uses_places_as_needed(sets)? {
         if let Some(list) = exact_as_needed(alloc, sets, choice)? {
             return Ok(list);
         }

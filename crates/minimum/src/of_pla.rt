@@ -71,7 +71,7 @@ fn essential_of_sets(alloc: Global, sets: &Sets) -> Result<Cover, AllocError>
       cubes = essential_of sets.now (primes_of sets.now);
     }) }
 {
-    if uses_growth(sets) {
+    if uses_growth(sets)? {
         return find_essential(alloc, sets);
     }
     let primes = primes(sets)?;

@@ -1,9 +1,11 @@
 //! Which way is likely to lead to an answer, and how far each is gone: hints, which owe nothing.
 
 use crate::essential_by_neighbours::consensus_pairs::have_many_consensus_pairs;
+use crate::essential_by_neighbours::consensus_walks::leads_to_many;
 use cover::{Budget, Cover};
 use cube::{Cube, Shape};
 use pla::{Pla, Sets};
+use std::alloc::AllocError;
 
 // At most this many cubes with the places outside are made for an output on average. Where many
 // functions are joined in one output there are far more, but few primes, and all of these are
@@ -69,15 +71,30 @@ fn have_several_functions(rows: &[Cube]) -> bool {
     false
 }
 
-/// Whether to make places outside as they are needed: where `outside` gave none, or what it gave was
-/// too much, and primes are thought many. They are where many rows have a consensus, and mostly with
-/// many inputs and several functions; where all rows have the same outputs there are no more primes
-/// than with one.
-pub(crate) fn uses_places_as_needed(sets: &Sets) -> bool {
+/// Whether primes are thought many: they are where many rows have a consensus, and with many inputs
+/// where several functions are joined, or iterated consensus leads to many cubes. Where all rows have
+/// the same outputs there are no more primes than with one.
+fn has_many_primes(sets: &Sets) -> Result<bool, AllocError> {
     let rows = sets.on().as_slice();
-    let inputs = sets.on().shape().inputs();
-    uses_points(sets.on().shape())
-        && (inputs > 16 && have_several_functions(rows) || have_many_consensus_pairs(rows))
+    if have_many_consensus_pairs(rows) {
+        return Ok(true);
+    }
+    if sets.on().shape().inputs() <= 16 {
+        return Ok(false);
+    }
+    if have_several_functions(rows) {
+        return Ok(true);
+    }
+    leads_to_many(rows)
+}
+
+/// Whether to make places outside as they are needed: where `outside` gave none, or what it gave was
+/// too much, and primes are thought many.
+pub(crate) fn uses_places_as_needed(sets: &Sets) -> Result<bool, AllocError> {
+    if !uses_points(sets.on().shape()) {
+        return Ok(false);
+    }
+    has_many_primes(sets)
 }
 
 // Taking the ON list from one OFF row makes at most this many cubes; past that a DC list is made.
@@ -97,16 +114,19 @@ pub(crate) fn budget_of_off(pla: &Pla) -> Budget {
 }
 
 /// Whether to find essential primes without a list of all primes. With up to 12 inputs that list is
-/// short, and is made unless rows are few; with one output it is short unless many pairs of rows
-/// have a consensus. Growing looks at all rows for each prime that it grows.
-pub(crate) fn uses_growth(sets: &Sets) -> bool {
+/// short, and is made unless rows are few; with one output it is short unless primes are thought
+/// many. Growing looks at all rows for each prime that it grows.
+pub(crate) fn uses_growth(sets: &Sets) -> Result<bool, AllocError> {
     let (inputs, rows) = (sets.on().shape().inputs(), sets.on().len());
     if inputs <= 12 {
-        return rows < 100;
+        return Ok(rows < 100);
     }
     let most = if inputs > 40 { 100_000 } else { 20_000 };
     if rows > most {
-        return false;
+        return Ok(false);
     }
-    sets.on().shape().outputs() > 1 || have_many_consensus_pairs(sets.on().as_slice())
+    if sets.on().shape().outputs() > 1 {
+        return Ok(true);
+    }
+    has_many_primes(sets)
 }

@@ -22,7 +22,7 @@ ghost use Rattle.minimum.specs.Dominating.{primes_outside, IsImplicant, IsBest, 
 use crate::cubes::add_copy;
 use crate::points::dominating::best_cube::best_cube;
 use crate::points::dominating::open_points::{holds_one_of, sort_points};
-use crate::points::dominating::refusing_rows::{RefusingRows, rows_by_output};
+use crate::points::dominating::refusing_rows::RefusingRows;
 use crate::points::dominating::rows_around::rows_around;
 use cover::{Cover, cubes_containing};
 use covering::{Choice, numbers};
@@ -30,6 +30,7 @@ use cube::Cube;
 use std::alloc::{AllocError, Global};
 
 pub(crate) mod best_cube;
+pub(crate) mod blocking_matrix;
 pub(crate) mod conflicts;
 pub(crate) mod fewest_literals;
 pub(crate) mod literal_search;
@@ -46,8 +47,6 @@ pub(crate) struct Columns {
     pub(crate) left: usize,
     /// Rows that refuse steps of growth.
     pub(crate) rows: RefusingRows,
-    /// For each output the rows that have it.
-    pub(crate) by_output: Vec<Vec<usize>>,
     /// For each point a row that refused to join it last.
     pub(crate) refusing: Vec<usize>,
 }
@@ -68,8 +67,7 @@ impl Columns {
         Ok(Columns {
             primes: Cover::new(alloc, off.shape()),
             left: most,
-            rows: RefusingRows::new(alloc, off, most)?,
-            by_output: rows_by_output(alloc, off, point)?,
+            rows: RefusingRows::new(alloc, off, point, most)?,
             refusing: vec![in alloc; 0; points]?,
         })
     }
@@ -151,10 +149,10 @@ fn add_around(
     let Some(best) = add_best(alloc, off, cube, choice, found)? else {
         return Ok(false);
     };
-    let by_output = &found.by_output;
+    let matrix = &found.rows.matrix;
     let refusing = &mut found.refusing;
     let order = sort_points(
-        alloc, off, points, excluded, candidates, cube, &best, by_output, refusing,
+        alloc, off, points, excluded, candidates, cube, &best, matrix, refusing,
     )?;
     for at in excluded.len()..order.held {
         let wide = cube.join(&points[order.numbers[at]])?;

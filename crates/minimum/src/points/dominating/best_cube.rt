@@ -148,7 +148,7 @@ fn freed_cube(
 {
     match choice {
         Choice::First => {
-            refusing.find_at_inputs(off, cube);
+            refusing.find_at_inputs(cube);
             let Some(first) = first_at_inputs(off, cube, &refusing.inputs)? else {
                 return Ok(None);
             };
@@ -179,7 +179,7 @@ pub(crate) fn best_cube(
     let Some(freed) = freed_cube(alloc, off, cube, choice, refusing)? else {
         return Ok(None);
     };
-    refusing.find_at_outputs(off, &freed);
+    refusing.find_at_outputs(&freed);
     let Some(grown) = with_outputs(alloc, off, &freed, &refusing.outputs)? else {
         return Ok(None);
     };

@@ -5,6 +5,7 @@ ghost use Rattle.cube.specs.Cube.{IsCube, SameSize};
 ghost use Rattle.cover.specs.Cubes.{AreCubes};
 ghost use Rattle.minimum.specs.Dominating.{AreSorted, IsImplicant, NeedsNoJoin, HoldsOneOf};
 
+use crate::points::dominating::blocking_matrix::BlockingMatrix;
 use cover::Cover;
 use cube::Cube;
 use std::alloc::{AllocError, Global};
@@ -43,27 +44,14 @@ pub(crate) fn meets_row(off: &Cover, r: usize, cube: &Cube) -> bool
     !row.disjoint(cube)
 }
 
-/// One of the rows with these numbers that meets the cube.
-fn row_that_meets(off: &Cover, numbers: &[usize], cube: &Cube) -> Option<usize>
-    requires { IsCube off.now.size cube.now }
-    ensures { IfSome result (λ _. IsImplicant off.now cube.now → ⊥) }
-{
-    for r in numbers {
-        if meets_row(off, *r, cube) {
-            return Some(*r);
-        }
-    }
-    None
-}
-
 /// Whether the cube can not be joined with a point: the join meets the list. The row that the last
-/// such join with the point met is looked at first, and then those that have an output of the join.
+/// such join with the point met is looked at first, and then one that the matrix names.
 fn is_refused(
     off: &Cover,
     cube: &Cube,
     point: &Cube,
     k: usize,
-    by_output: &[Vec<usize>],
+    matrix: &BlockingMatrix,
     refusing: &mut Vec<usize>,
 ) -> Result<bool, AllocError>
     requires cube { IsCube off.now.size cube.now }
@@ -76,22 +64,17 @@ fn is_refused(
     if meets_row(off, refusing[k], &wide) {
         return Ok(true);
     }
-    for j in 0..wide.shape().outputs() {
-        if !wide.output(j) || j >= by_output.len() {
-            continue;
-        }
-        if let Some(r) = row_that_meets(off, &by_output[j], &wide) {
-            refusing[k] = r;
-            return Ok(true);
-        }
-    }
-    Ok(false)
+    let Some(r) = matrix.row_that_meets(&wide) else {
+        return Ok(false);
+    };
+    refusing[k] = r;
+    Ok(meets_row(off, r, &wide))
 }
 
 /// The points that are left of the candidates: those that the cube contains are, and those that it
 /// can not be joined with, are not.
 ///
-/// It costs a look at each candidate, and for each that joins the cube a look at all rows.
+/// It costs a look at each candidate, and mostly one at the matrix.
 pub(crate) fn sort_points(
     alloc: Global,
     off: &Cover,
@@ -100,7 +83,7 @@ pub(crate) fn sort_points(
     candidates: &[usize],
     cube: &Cube,
     best: &Cube,
-    by_output: &[Vec<usize>],
+    matrix: &BlockingMatrix,
     refusing: &mut Vec<usize>,
 ) -> Result<OpenPoints, AllocError>
     requires points { AreCubes off.now.size points.now }
@@ -124,7 +107,7 @@ pub(crate) fn sort_points(
             inside.push(*k)?;
             continue;
         }
-        if is_refused(off, cube, point, *k, by_output, refusing)? {
+        if is_refused(off, cube, point, *k, matrix, refusing)? {
             continue;
         }
         numbers.push(*k)?;

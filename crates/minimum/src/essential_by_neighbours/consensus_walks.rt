@@ -1,0 +1,98 @@
+//! Whether iterated consensus leads from a row to many cubes: a hint.
+//!
+//! Iterated consensus makes all primes (Quine 1955). A walk goes from a row to its consensus with
+//! another, and from there on. Where `n` rows have a consensus with each cube on the way, `k` steps
+//! lead to some `n^k / k!` cubes, since their order counts for little. From points, disjoint products
+//! and rings of points there are few; from products of many inputs there are thousands, even where few
+//! rows have a consensus with another.
+
+use cube::{Cube, Symbol};
+use std::alloc::AllocError;
+
+// At most so many walks are made, and so many steps on each.
+const MOST_WALKS: usize = 16;
+const MOST_STEPS: usize = 8;
+
+// At most about so many rows are looked at for a step; of more rows, some that are spread over them.
+const MOST_LOOKED_AT: usize = 2_000;
+
+// So many cubes from a row, on average, are many: rings of points have seven.
+const MANY: u64 = 16;
+
+// Cubes are counted in so many parts.
+const PARTS: u64 = 1_000;
+
+// How many of the rows, each counted for so many, have a consensus with the cube.
+fn count_at_distance_one(rows: &[Cube], cube: &Cube, stride: usize) -> u64 {
+    let mut count: usize = 0;
+    for (number, row) in rows.iter().enumerate() {
+        if number % stride == 0 && row.opposites(cube) == 1 {
+            count = count.saturating_add(stride);
+        }
+    }
+    count as u64
+}
+
+// The row in the middle of those that have a consensus with the cube.
+fn middle_at_distance_one<'a>(
+    rows: &'a [Cube],
+    cube: &Cube,
+    stride: usize,
+    count: u64,
+) -> Option<&'a Cube> {
+    let mut left = count / 2;
+    for (number, row) in rows.iter().enumerate() {
+        if number % stride != 0 || row.opposites(cube) != 1 {
+            continue;
+        }
+        if left < stride as u64 {
+            return Some(row);
+        }
+        left = left.saturating_sub(stride as u64);
+    }
+    None
+}
+
+// The consensus of two cubes that conflict at one input, if they have an output in common.
+fn consensus(cube: &Cube, row: &Cube) -> Result<Option<Cube>, AllocError> {
+    let Some(i) = cube.next_opposite(row, 0) else {
+        return Ok(None);
+    };
+    let one = cube.with_symbol(i, Symbol::Dash)?;
+    let other = row.with_symbol(i, Symbol::Dash)?;
+    one.meet(&other)
+}
+
+// To how many cubes a walk from the row is thought to lead, in parts.
+fn cubes_reached(rows: &[Cube], row: &Cube, stride: usize) -> Result<u64, AllocError> {
+    let mut cube = row.try_clone()?;
+    let (mut at_step, mut reached) = (PARTS, PARTS);
+    for step in 0..MOST_STEPS {
+        let count = count_at_distance_one(rows, &cube, stride);
+        let Some(other) = middle_at_distance_one(rows, &cube, stride, count) else {
+            return Ok(reached);
+        };
+        at_step = at_step.saturating_mul(count) / (step as u64 + 1);
+        reached = reached.saturating_add(at_step);
+        match consensus(&cube, other)? {
+            Some(next) => cube = next,
+            None => return Ok(reached),
+        }
+    }
+    Ok(reached)
+}
+
+/// Whether walks from some rows, spread over the list, are thought to lead to many cubes. It costs
+/// some hundred looks at a row, for each of some thousand rows at most.
+pub(crate) fn leads_to_many(rows: &[Cube]) -> Result<bool, AllocError> {
+    let stride = rows.len() / MOST_LOOKED_AT + 1;
+    let step = rows.len() / MOST_WALKS + 1;
+    let (mut reached, mut walks): (u64, u64) = (0, 0);
+    for (number, row) in rows.iter().enumerate() {
+        if number % step == 0 {
+            reached = reached.saturating_add(cubes_reached(rows, row, stride)?);
+            walks = walks.saturating_add(PARTS);
+        }
+    }
+    Ok(reached / MANY > walks)
+}
