@@ -24,6 +24,9 @@ const PARTS: u64 = 1_000;
 
 // How many of the rows, each counted for so many, have a consensus with the cube.
 fn count_at_distance_one(rows: &[Cube], cube: &Cube, stride: usize) -> u64 {
+    if stride == 0 {
+        return 0;
+    }
     let mut count: usize = 0;
     for (number, row) in rows.iter().enumerate() {
         if number % stride == 0 && row.opposites(cube) == 1 {
@@ -40,6 +43,9 @@ fn middle_at_distance_one<'a>(
     stride: usize,
     count: u64,
 ) -> Option<&'a Cube> {
+    if stride == 0 {
+        return None;
+    }
     let mut left = count / 2;
     for (number, row) in rows.iter().enumerate() {
         if number % stride != 0 || row.opposites(cube) != 1 {
@@ -53,14 +59,21 @@ fn middle_at_distance_one<'a>(
     None
 }
 
-// The consensus of two cubes that conflict at one input, if they have an output in common.
-fn consensus(cube: &Cube, row: &Cube) -> Result<Option<Cube>, AllocError> {
-    let Some(i) = cube.next_opposite(row, 0) else {
-        return Ok(None);
-    };
-    let one = cube.with_symbol(i, Symbol::Dash)?;
-    let other = row.with_symbol(i, Symbol::Dash)?;
-    one.meet(&other)
+// The literals of the consensus of a cube and a row that conflict at one input.
+fn consensus(cube: &Cube, row: &Cube) -> Result<Cube, AllocError> {
+    let mut both = cube.try_clone()?;
+    for i in 0..row.shape().inputs() {
+        if i >= both.shape().inputs() || !row.has_literal(i) {
+            continue;
+        }
+        let symbol = row.symbol(i);
+        if both.has_literal(i) && both.symbol(i) != symbol {
+            both.set_symbol(i, Symbol::Dash);
+        } else {
+            both.set_symbol(i, symbol);
+        }
+    }
+    Ok(both)
 }
 
 // To how many cubes a walk from the row is thought to lead, in parts.
@@ -74,10 +87,7 @@ fn cubes_reached(rows: &[Cube], row: &Cube, stride: usize) -> Result<u64, AllocE
         };
         at_step = at_step.saturating_mul(count) / (step as u64 + 1);
         reached = reached.saturating_add(at_step);
-        match consensus(&cube, other)? {
-            Some(next) => cube = next,
-            None => return Ok(reached),
-        }
+        cube = consensus(&cube, other)?;
     }
     Ok(reached)
 }

@@ -44,6 +44,18 @@ pub(crate) fn meets_row(off: &Cover, r: usize, cube: &Cube) -> bool
     !row.disjoint(cube)
 }
 
+/// A row that meets the cube, if the matrix names one.
+fn row_that_meets(off: &Cover, matrix: &BlockingMatrix, cube: &Cube) -> Option<usize>
+    requires { IsCube off.now.size cube.now }
+    ensures { IfSome result (λ _. IsImplicant off.now cube.now → ⊥) }
+{
+    let r = matrix.row_that_meets(cube)?;
+    if meets_row(off, r, cube) {
+        return Some(r);
+    }
+    None
+}
+
 /// Whether the cube can not be joined with a point: the join meets the list. The row that the last
 /// such join with the point met is looked at first, and then one that the matrix names.
 fn is_refused(
@@ -64,11 +76,11 @@ fn is_refused(
     if meets_row(off, refusing[k], &wide) {
         return Ok(true);
     }
-    let Some(r) = matrix.row_that_meets(&wide) else {
-        return Ok(false);
-    };
-    refusing[k] = r;
-    Ok(meets_row(off, r, &wide))
+    if let Some(r) = row_that_meets(off, matrix, &wide) {
+        refusing[k] = r;
+        return Ok(true);
+    }
+    Ok(false)
 }
 
 /// The points that are left of the candidates: those that the cube contains are, and those that it

@@ -28,21 +28,21 @@ add_around-requires t c =
     let point_is : IsCube off.size point = subst (IsCube off.size) same (All-get_or (IsCube off.size) points c.index.result.now _ low c.requires.points) in
     let is_point : cube_at points (get_or numbers at 0) ≡ point = ap (cube_at points) number ∙ same in
     let wide = c.in_ok-wide.wide in
-    let behind = c.deref-in-loop-at-2.result.now in
+    let behind = c.deref-in-loop-at.result.now in
     let part = take (length behind - (at + 1)) (drop (at + 1) behind) in
     let rest : part ≡ drop (at + 1) numbers =
-    take_all (length behind - (at + 1)) (drop (at + 1) behind) (let long = length-drop (at + 1) behind in omega (arith, long)) ∙ ap (drop (at + 1)) c.deref-in-loop-at-2.ensures.value in
+    take_all (length behind - (at + 1)) (drop (at + 1) behind) (let long = length-drop (at + 1) behind in omega (arith, long)) ∙ ap (drop (at + 1)) c.deref-in-loop-at.ensures.value in
     let left : AreCandidates off points (take at numbers) (drop (at + 1) numbers) wide = join_candidates c.args.choice off points c.args.excluded.now c.args.candidates.now cube c.in-Some.best order sorted at h.from lt
     c.requires.cube point point_is is_point wide c.in_ok-wide.ensures.value c.requires.candidates in (
       (let one = c.spend.ensures.spent c.if-not-spend.false in let two = c.in_ok-best.ensures.left in let three = h.left in omega (arith, one, two, three)),
       (
         c.requires.points,
         (
-          All-take (λ k. k < length points) at c.deref-in-loop-at.result.now (All-same (λ k. k < length points) c.deref-in-loop-at.result.now numbers c.deref-in-loop-at.ensures.value sorted.below),
+          All-take (λ k. k < length points) at c.deref.result.now (All-same (λ k. k < length points) c.deref.result.now numbers c.deref.ensures.value sorted.below),
           (
             All-same (λ k. k < length points) part (drop (at + 1) numbers) rest (All-drop (λ k. k < length points) (at + 1) numbers sorted.below),
             (
-              subst (λ l. AreCandidates off points (take at l) part wide) (sym c.deref-in-loop-at.ensures.value) (subst (λ l. AreCandidates off points (take at numbers) l wide) (sym rest) left),
+              subst (λ l. AreCandidates off points (take at l) part wide) (sym c.deref.ensures.value) (subst (λ l. AreCandidates off points (take at numbers) l wide) (sym rest) left),
               (wide_cube off cube point c.in_ok-wide.wide c.requires.cube point_is c.in_ok-wide.ensures.value, (h.size, h.refusing)),
             ),
           ),
@@ -79,7 +79,7 @@ loop-at-preserved t c =
     let wide = c.in_ok-wide.wide in
     let new = c.add_around.new.found.primes.cubes in
     let more = c.in_ok-add_around.ensures in
-    let served : AreServed c.args.choice off points (take at numbers) wide new = subst (λ l. AreServed c.args.choice off points (take at l) wide new) c.deref-in-loop-at.ensures.value (more.served c.if-not-branch.false) in
+    let served : AreServed c.args.choice off points (take at numbers) wide new = subst (λ l. AreServed c.args.choice off points (take at l) wide new) c.deref.ensures.value (more.served c.if-not-branch.false) in
     record {
       from = (let from = h.from in omega (arith, from));
       settled = join_served c.args.choice off points c.args.excluded.now c.args.candidates.now cube c.in-Some.best order sorted at h.from lt c.requires.cube point point_is is_point wide c.in_ok-wide.ensures.value
