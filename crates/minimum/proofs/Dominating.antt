@@ -1,15 +1,15 @@
 -- Columns that dominate the cubes that contain a cube.
 use Rattle.std.proofs.Common.{◌≡◌, ℕ, ◌+◌, ◌-◌, ◌<◌, ◌≤◌, ◌⊎◌, inl, inr, true, not, List, [], ◌∷◌, ◌++◌, length, take, drop, get_or, refl, ap, sym, subst, ◌∙◌, arith}
-use Rattle.std.specs.List.{Contains, All, range_with_len}
+use Rattle.std.specs.List.{Contains, range_with_len}
 use Rattle.std.proofs.Math.Seq.{take-append-add}
 use Rattle.std.proofs.lemmas.Bool.{cases_Bool, both_ways}
-use Rattle.std.proofs.lemmas.List.{get_or_default, take_more, take_all, take-append-drop}
+use Rattle.std.proofs.lemmas.List.{get_or_default, take_more, take-append-drop}
 use Rattle.std.proofs.lemmas.List.FromFn.{get_or-range_with_len, length-range_with_len}
 use Rattle.std.proofs.lemmas.List.Elements.{All-contains, Contains-append_left, Contains-append_right, Contains-append_cases, Contains-get_or, Contains-push_cases}
 use Rattle.cube.specs.Cube.{Cube, holds, IsCube, IsSubset, size_of}
 use Rattle.cube.specs.Join.{supercube}
 use Rattle.cube.specs.Sum.{is_subset, IsMaximal}
-use Rattle.cube.proofs.Members.{Contains-here, Contains-nil}
+use Rattle.cube.proofs.Members.{Contains-here}
 use Rattle.cube.proofs.SumLemmas.{Contains-complete_sum, is_subset-from_fact, IsSubset-from_test}
 use Rattle.cover.specs.Cubes.{Cubes}
 use Rattle.cover.specs.Places.{places}
@@ -19,7 +19,7 @@ use Rattle.minimum.specs.declared.essential_by_neighbours.growth.Side.TheVariant
 use Rattle.minimum.specs.declared.points.dominating.open_points.OpenPoints.{OpenPoints}
 use Rattle.minimum.specs.Neighbours.{on_side}
 use Rattle.minimum.specs.Points.{IsDominated}
-use Rattle.minimum.specs.Dominating.{primes_outside, IsImplicant, HoldsOneOf, IsOpen, AreServed, AreCandidates, AddsColumns, IsBest, NeedsNoJoin, AreSorted}
+use Rattle.minimum.specs.Dominating.{primes_outside, HoldsOneOf, IsOpen, AreServed, AreCandidates, AddsColumns, IsBest, AreSorted}
 use Rattle.minimum.proofs.Joins.{wide_over, wide_with_point, least}
 
 pub prime_parts : (off : Cubes) (c : Cube) → Contains (primes_outside off) c → IsMaximal off.size (on_side Outside off.cubes) c

@@ -1,5 +1,5 @@
 -- A cube freed of its literals in order is the first of those that contain it and meet no cube of a list.
-use Rattle.std.proofs.Common.{◌≡◌, ℕ, Bool, zero, suc, ◌≢◌, ◌+◌, ◌<◌, ◌⊎◌, inl, inr, true, false, not, List, [], ◌∷◌, length, get_or, set, refl, ap, ap₂, sym, subst, ◌∙◌, arith, count_by, slice_get, Option, None, Some, is_some, IfNone}
+use Rattle.std.proofs.Common.{◌≡◌, ℕ, Bool, zero, suc, ◌≢◌, ◌+◌, ◌<◌, ◌⊎◌, inl, inr, true, false, not, List, [], ◌∷◌, length, get_or, refl, ap, ap₂, sym, subst, ◌∙◌, arith, count_by, slice_get, Option, None, Some, is_some, IfNone}
 use Rattle.std.specs.List.{Contains}
 use Rattle.std.specs.Ordering.{ordering_then}
 use Rattle.std.specs.Cmp.Lexicographic.{slice_cmp}

@@ -16,7 +16,7 @@ use Rattle.pla.specs.Description.{Description}
 use Rattle.pla.specs.Sets.{SetLists}
 use Rattle.minimum.specs.declared.points.source.Source.{Source}
 use Rattle.minimum.specs.declared.points.source.Source.TheVariants.{Outside}
-use Rattle.minimum.specs.Primes.{care_on, primes_of}
+use Rattle.minimum.specs.Primes.{care_on}
 use Rattle.minimum.specs.Points.{IsSource, StandsFor, lists_of, source_primes, source_size}
 use Rattle.minimum.specs.Blocking.{IsSampled}
 

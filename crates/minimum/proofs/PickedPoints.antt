@@ -1,21 +1,21 @@
 -- Points that are picked, and the primes that contain them.
-use Rattle.std.proofs.Common.{◌≡◌, ◌≢◌, ℕ, suc, ◌<◌, Bool, true, false, cond, not, ◌&&◌, ◌||◌, List, [], ◌∷◌, ◌++◌, length, map, get_or, All, refl, ap, ap₂, sym, subst, ◌∙◌, ◌⊎◌, arith, inl, inr}
+use Rattle.std.proofs.Common.{◌≡◌, ◌≢◌, ℕ, suc, ◌<◌, Bool, true, false, cond, not, ◌&&◌, ◌||◌, List, [], ◌∷◌, ◌++◌, length, map, get_or, All, refl, ap, ap₂, sym, subst, ◌∙◌, arith, inl, inr}
 use Rattle.std.specs.Prelude.{filter}
 use Rattle.std.specs.List.{Contains, range_with_len}
 use Rattle.std.proofs.lemmas.Bool.{cases_Bool, false≢true, and_parts, not-true, both_ways}
 use Rattle.std.proofs.lemmas.List.{get_or-map}
 use Rattle.std.proofs.lemmas.List.FromFn.{get_or-map-range_with_len}
-use Rattle.std.proofs.lemmas.List.Elements.{All-filter, Contains-append_left, Contains-append_right, Contains-append_cases}
+use Rattle.std.proofs.lemmas.List.Elements.{All-filter, Contains-append_cases}
 use Rattle.cube.specs.Size.{Size}
 use Rattle.cube.specs.declared.symbol.Symbol.{Symbol}
 use Rattle.cube.specs.declared.symbol.Symbol.TheVariants.{Dash, Zero, One}
 use Rattle.cube.specs.Pattern.{agrees, matches}
-use Rattle.cube.specs.Cube.{Cube, Place, holds, SameSize, IsCube, IsPlace, IsSubset, size_of}
+use Rattle.cube.specs.Cube.{Cube, Place, holds, SameSize, IsCube, IsPlace, IsSubset}
 use Rattle.cube.proofs.HoldsLemmas.{pick}
 use Rattle.cube.proofs.Members.{Contains-nil, Contains-cases, Contains-filter, Contains-filter_cases}
 use Rattle.cube.proofs.SharpLemmas.{some_true}
 use Rattle.cube.specs.Sum.{is_subset, complete_sum}
-use Rattle.cube.proofs.SumLemmas.{Contains-complete_sum, IsPlace-from_holds, IsSubset-from_test, implied_at, is_subset-from_fact}
+use Rattle.cube.proofs.SumLemmas.{Contains-complete_sum, IsPlace-from_holds, implied_at}
 use Rattle.cube.proofs.SymbolOrder.{symbols_same, same_symbols_in_sum, maximal_in_part}
 use Rattle.cover.specs.Cubes.{AreCubes, Cubes}
 use Rattle.cover.specs.Places.{places}
@@ -33,7 +33,7 @@ use Rattle.minimum.specs.Primes.{care_on, primes_of}
 use Rattle.minimum.specs.PrimeRows.{contains_region, has_output, with_output, HasOneOutput}
 use Rattle.minimum.specs.declared.points.source.Source.{Source}
 use Rattle.minimum.specs.declared.points.picked_points.PickedPoints.{PickedPoints}
-use Rattle.minimum.specs.Points.{Function, function_of, function_by, lists_of, source_size, source_primes, IsSource, StandsFor, IsFound, IsPointAt, IsWantedPoint, AreDominating, IsDominated, AreColumnsOf, IsAsGood, holders, IsOnePoint}
+use Rattle.minimum.specs.Points.{Function, function_of, function_by, lists_of, source_primes, StandsFor, IsFound, IsPointAt, IsWantedPoint, AreDominating, IsDominated, AreColumnsOf, IsAsGood, holders, IsOnePoint}
 use Rattle.minimum.proofs.Dominating.{dominated_with}
 use Rattle.minimum.proofs.PrimeRows.{spans_holds}
 

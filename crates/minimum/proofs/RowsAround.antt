@@ -12,7 +12,6 @@ use Rattle.cube.specs.Pattern.{agrees, matches}
 use Rattle.cube.specs.Cube.{Cube, Place, holds, HasSize, SameSize, IsCube, IsSubset, IsDisjoint}
 use Rattle.cube.specs.Join.{supercube_symbol, supercube}
 use Rattle.cube.specs.Sharp.{opposite, minus}
-use Rattle.cube.specs.Sum.{IsMaximal}
 use Rattle.cube.proofs.HoldsLemmas.{Covers, agrees_at-matches, length-matches, matches-from_agrees}
 use Rattle.cube.proofs.JoinLemmas.{agrees-supercube_symbol}
 use Rattle.cube.proofs.Members.{Contains-here, Contains-nil, Contains-filter, Contains-filter_cases}
@@ -26,7 +25,7 @@ use Rattle.cover.specs.Reduced.{HasSameCubes}
 use Rattle.cover.proofs.Lists.{list_any_from, list_any_witness}
 use Rattle.covering.specs.declared.choice.Choice.{Choice}
 use Rattle.minimum.specs.Points.{IsDominated}
-use Rattle.minimum.specs.Dominating.{primes_outside, IsImplicant, IsImplicantOver, IsAgainst, IsWidened, IsAround, HaveSameImplicantsOver}
+use Rattle.minimum.specs.Dominating.{primes_outside, IsImplicant, IsAgainst, IsWidened, IsAround, HaveSameImplicantsOver}
 use Rattle.minimum.proofs.Dominating.{prime_parts}
 use Rattle.minimum.proofs.Growth.{same_sizes, covering}
 use Rattle.minimum.proofs.Joins.{wide_cube, wide_over, avoids, avoids_back}

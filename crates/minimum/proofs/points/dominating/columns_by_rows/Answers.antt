@@ -1,4 +1,4 @@
-use Rattle.std.proofs.Common.{◌≡◌, ◌∙◌, [], length, subst}
+use Rattle.std.proofs.Common.{◌∙◌, [], length, subst}
 use Rattle.std.specs.List.{Contains}
 use Rattle.cube.proofs.Members.{Contains-nil}
 use Rattle.cover.proofs.ContainmentLemmas.{All-range}

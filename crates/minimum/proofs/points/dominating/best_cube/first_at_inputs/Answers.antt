@@ -1,5 +1,4 @@
 use Rattle.std.proofs.Common.{◌≡◌, ◌<◌, ap, sym, subst, arith}
-use Rattle.cube.specs.Cube.{Cube}
 use Rattle.minimum.specs.declared.essential_by_neighbours.growth.Side.TheVariants.{Outside}
 use Rattle.minimum.specs.Neighbours.{on_side, IsFreed}
 use Rattle.minimum.specs.Dominating.{IsSettledUpTo}

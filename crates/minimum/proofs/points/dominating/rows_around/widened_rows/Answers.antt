@@ -1,7 +1,7 @@
-use Rattle.std.proofs.Common.{◌≡◌, ◌++◌, ◌∷◌, ◌∙◌, [], ap, sym, subst}
+use Rattle.std.proofs.Common.{◌∷◌, [], sym, subst}
 use Rattle.std.specs.List.{Contains, All}
 use Rattle.std.proofs.lemmas.List.Elements.{All-append, All-cons, All-nil}
-use Rattle.cube.specs.Cube.{IsCube, size_of}
+use Rattle.cube.specs.Cube.{IsCube}
 use Rattle.cover.specs.Cubes.{AreCubes}
 use Rattle.cover.proofs.OverRegion.{size_of-is}
 use Rattle.minimum.specs.Dominating.{IsAgainst, IsWidened}
