@@ -180,6 +180,11 @@ class ManyPrimes(Large):
         self.each("256 rings", (12, 1), rows, due, ("exact", "exact --literals"))
         self.each("256 rings", (12, 1), rows, [], ("essen",))
 
+    def test_far_more_primes_than_rows(self):
+        """A product of 30 negated inputs, and for each of these one of the input itself and of another one, which the first may
+        have in its place: 2^30 + 30 primes, of which the rows are needed and no other one is."""
+        rows = [cube_of(60, (k, 30 + k), ()) for k in range(30)] + [cube_of(60, (), range(30))]
+        self.each("products", (60, 1), listed(rows), sorted(listed(rows)), ("essen", "exact", "exact --literals"))
 
     def test_a_search_of_many_tables(self):
         """A sample for each triple of 51 numbers, with zeros at these, against ones alone: the primes are the single zeros,
