@@ -254,8 +254,8 @@ def wide_families():
             (16, [(100, 50, 1000), (100, 50, 2000), (500, 100, 2000), (500, 100, 4000), (500, 100, 8000)]))
     ] + [
         drawn_listings(f"products of {inputs} inputs", "six random literals a product, one output",
-                       uncounted(*((inputs, 1, count) for count in (50, 100, 200, 400, 800, 1600, 3200))), rows_of(6), NEEDED)
-        for inputs in (30, 60)]
+                       uncounted(*((inputs, 1, count) for count in (50, 100, 200, 400, 800, 1600, 3200))), rows_of(6), stops)
+        for inputs, stops in ((30, COLUMNS), (60, NEEDED))]
 
 
 # Minimised files, beside their source.
