@@ -1,16 +1,46 @@
 //! Complete sums of covers: `sums` makes them.
-ghost use Rattle.std.specs.Prelude.{◌≡◌, ◌<◌, IfOk, not, IfSome, filter};
+ghost use Rattle.std.specs.Prelude.{◌≡◌, ◌<◌, true, IfOk, not, IfSome, filter};
 ghost use Rattle.cube.specs.Cube.{intersection, difference as difference_of, HasSize};
 ghost use Rattle.cube.specs.Sum.{complete_sum as complete_sum_of};
-ghost use Rattle.rows.specs.Places.{places};
+ghost use Rattle.rows.specs.Cubes.{AreCubes};
+ghost use Rattle.rows.specs.Places.{places, holds_all};
 ghost use Rattle.rows.specs.Contained.{is_within};
 ghost use Rattle.sums.specs.Containing.{sum_containing as sum_containing_of};
 
+use crate::full_list_hint::may_hold_everything;
 use crate::list::Cover;
 use cube::Cube;
 use rows::universal_cube;
 use std::alloc::AllocError;
 use sums::{largest_containing, rows_containing, sum_of_both, sum_of_difference};
+
+/// Whether every place is in the list. It is asked only where cheap looks allow it.
+fn holds_everything(list: &Cover) -> Result<bool, AllocError>
+    ensures { IfOk result (λ all. all ≡ true
+        → holds_all list.now.size (places list.now.cubes) ≡ true) }
+{
+    Ok(may_hold_everything(list)? && list.tautology()?)
+}
+
+/// Rows with the places of the list: the universal cube alone if it holds everything, or else its
+/// own.
+///
+/// The sum of such a list is found at once, while that of its rows may take long: each split at an
+/// input leaves parts that hold everything, and many others.
+fn rows_to_sum(list: &Cover) -> Result<Vec<Cube>, AllocError>
+    ensures cubes { IfOk result (λ rows. AreCubes list.now.size rows.items) }
+    ensures sum { IfOk result (λ rows. complete_sum_of list.now.size (places rows.items)
+        ≡ complete_sum_of list.now.size (places list.now.cubes)) }
+{
+    if !holds_everything(list)? {
+        return Ok(list.try_clone()?.into_cubes());
+    }
+    let alloc = list.allocator();
+    let everything = universal_cube(alloc, list.shape())?;
+    let mut rows = Vec::new(alloc);
+    rows.push(everything)?;
+    Ok(rows)
+}
 
 /// The complete sum of the places of the list: all cubes that hold only such places and lie in no
 /// larger such cube, in row order. These are the primes of a function of several outputs.
@@ -32,7 +62,7 @@ pub fn complete_sum(list: &Cover) -> Result<Cover, AllocError>
 {
     let alloc = list.allocator();
     let shape = list.shape();
-    let rows = list.try_clone()?.into_cubes();
+    let rows = rows_to_sum(list)?;
     let sum = sum_of_difference(alloc, shape, rows, Vec::new(alloc))?;
     Ok(Cover::from_cubes(shape, sum))
 }

@@ -40,6 +40,7 @@ mod cofactor;
 mod compare;
 mod complete_sums;
 mod containment;
+mod full_list_hint;
 mod list;
 mod merging;
 mod outside_within_budget;

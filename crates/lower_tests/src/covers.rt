@@ -34,7 +34,7 @@ type Made = (
     &'static [&'static str],
 );
 
-const MADE: [Made; 14] = [
+const MADE: [Made; 17] = [
     (
         Operation::Clone,
         2,
@@ -75,6 +75,42 @@ const MADE: [Made; 14] = [
         &["01-- 11", "10-- 11", "--0- 11", "--11 11", "--10 11"],
         &[],
         &["---- 11"],
+    ),
+    // Cut cubes that hold everything, each output by others and with rows that overlap.
+    (
+        Operation::CompleteSum,
+        5,
+        3,
+        &[
+            "1---- 110",
+            "0-1-- 011",
+            "0-0-- 111",
+            "0-1-1 100",
+            "0-1-0 110",
+            "1--0- 001",
+            "1-11- 001",
+            "1-01- 011",
+        ],
+        &[],
+        &["----- 111"],
+    ),
+    // The same without a point of the last output.
+    (
+        Operation::CompleteSum,
+        3,
+        2,
+        &["1-- 11", "0-1 11", "000 11", "010 10", "-11 11"],
+        &[],
+        &["--- 10", "--1 11", "-0- 11", "1-- 11"],
+    ),
+    // Rows of more points than there are, which leave out one.
+    (
+        Operation::CompleteSum,
+        3,
+        1,
+        &["1-- 1", "-1- 1", "--0 1"],
+        &[],
+        &["--0 1", "-1- 1", "1-- 1"],
     ),
     // With other outputs the parts are not apart.
     (
