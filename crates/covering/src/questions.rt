@@ -2,6 +2,8 @@
 //!
 //! Each starts from the row weights of the one before, and is counted. A question about a batch of
 //! columns may look at a few tables only; if they do not suffice the first column is asked for alone.
+//! Where the length was hard to find, columns are asked for alone from the first one on, until answers
+//! come soon.
 
 ghost use Rattle.std.specs.Prelude.{◌≡◌, ◌≢◌, ◌<◌, ◌++◌, ◌∷◌, [], IfOk, IfSome, MatchOption, filter, length};
 ghost use Rattle.covering.specs.Table.{IsWithin, RisesFrom};
@@ -22,8 +24,12 @@ const BATCH_TABLES: u64 = 600;
 /// The undecided columns are reduced again after this many tables.
 const TABLES_TO_REDUCE: u64 = 8;
 
-/// How many columns the first batch has.
+/// How many columns the first batch has, where the length was not hard to find.
 const FIRST_BATCH: usize = 4;
+
+/// A length is hard to find, and a no hard to show, if it takes so many tables: a no for more columns
+/// would take far more.
+const HARD_TABLES: u64 = 100;
 
 /// How questions are asked: from which row weights, and for how many columns at once.
 pub(crate) struct Questions {
@@ -73,16 +79,37 @@ impl Questions {
         self.live = live;
     }
 
+    /// Notes that the length is known; `before` is the work before it was looked for.
+    pub(crate) fn note_length(&mut self, before: Effort) {
+        if self.tables_since(before) >= HARD_TABLES {
+            self.batch_size = 1;
+        }
+    }
+
+    /// How many tables were looked at since then.
+    fn tables_since(&self, before: Effort) -> u64 {
+        let tables = self.warm_start.effort().tables;
+        tables.saturating_sub(before.tables)
+    }
+
     /// After a cover the next batch has a quarter as many columns, and the next cover is looked for
-    /// near this one; after none it has twice as many.
-    fn adapt(&mut self, alloc: Global, witness: &Option<Vec<usize>>) -> Result<(), AllocError> {
+    /// near this one; after none, which took so many tables, it has twice as many unless that was
+    /// hard.
+    fn adapt(
+        &mut self,
+        alloc: Global,
+        witness: &Option<Vec<usize>>,
+        tables: u64,
+    ) -> Result<(), AllocError> {
         match witness {
             Some(cover) => {
                 self.batch_size = (self.batch_size / 4).max(1);
                 self.warm_start.set_hint(alloc, cover)
             }
             None => {
-                self.batch_size = self.batch_size.saturating_mul(2);
+                if tables < HARD_TABLES {
+                    self.batch_size = self.batch_size.saturating_mul(2);
+                }
                 Ok(())
             }
         }
@@ -100,6 +127,7 @@ impl Questions {
     ) -> Result<Option<Vec<usize>>, Stop>
         ensures { IfOk result (AnswersWithin choice table.now budget) }
     {
+        let before = self.warm_start.effort();
         let answer = {
             let mut warm_start = self.warm_start.copy(alloc)?;
             let answer = table.find_or_refute_for_order(
@@ -113,7 +141,8 @@ impl Questions {
             answer
         };
         let witness = answer?;
-        self.adapt(alloc, &witness)?;
+        let tables = self.tables_since(before);
+        self.adapt(alloc, &witness, tables)?;
         Ok(witness)
     }
 
