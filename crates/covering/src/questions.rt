@@ -130,6 +130,7 @@ impl Questions {
         let before = self.warm_start.effort();
         let answer = {
             let mut warm_start = self.warm_start.copy(alloc)?;
+            warm_start.take_gains(&mut self.warm_start);
             let answer = table.find_or_refute_for_order(
                 alloc,
                 choice,
@@ -138,6 +139,7 @@ impl Questions {
                 most_tables,
             );
             self.warm_start.learn(&warm_start);
+            self.warm_start.take_gains(&mut warm_start);
             answer
         };
         let witness = answer?;
