@@ -27,9 +27,12 @@ const TABLES_TO_REDUCE: u64 = 8;
 /// How many columns the first batch has, where the length was not hard to find.
 const FIRST_BATCH: usize = 4;
 
-/// A length is hard to find, and a no hard to show, if it takes so many tables: a no for more columns
-/// would take far more.
-const HARD_TABLES: u64 = 100;
+/// A length is hard to find if it takes so many tables.
+const HARD_LENGTH: u64 = 400;
+
+/// Where the length was hard to find, a no is hard to show if it takes so many tables; one for more
+/// columns would take far more.
+const HARD_NO: u64 = 100;
 
 /// How questions are asked: from which row weights, and for how many columns at once.
 pub(crate) struct Questions {
@@ -41,6 +44,8 @@ pub(crate) struct Questions {
     tables: u64,
     /// How many live columns were left then.
     live: usize,
+    /// Whether the length was hard to find.
+    hard: bool,
 }
 
 // Written out, so that where questions end a proof has one call, and no case for each list.
@@ -51,6 +56,7 @@ impl Drop for Questions {
             batch_size: _,
             tables: _,
             live: _,
+            hard: _,
         } = self;
     }
 }
@@ -63,6 +69,7 @@ impl Questions {
             batch_size: FIRST_BATCH,
             tables: 0,
             live: usize::MAX,
+            hard: false,
         }
     }
 
@@ -81,7 +88,8 @@ impl Questions {
 
     /// Notes that the length is known; `before` is the work before it was looked for.
     pub(crate) fn note_length(&mut self, before: Effort) {
-        if self.tables_since(before) >= HARD_TABLES {
+        if self.tables_since(before) >= HARD_LENGTH {
+            self.hard = true;
             self.batch_size = 1;
         }
     }
@@ -107,7 +115,7 @@ impl Questions {
                 self.warm_start.set_hint(alloc, cover)
             }
             None => {
-                if tables < HARD_TABLES {
+                if !self.hard || tables < HARD_NO {
                     self.batch_size = self.batch_size.saturating_mul(2);
                 }
                 Ok(())
