@@ -61,6 +61,7 @@ impl Table {
         let deciding = self.deciding_choice(choice);
         let mut questions = Questions::new(alloc, *effort);
         let shortest = self.shortest_cover(alloc, deciding, &mut questions.warm_start)?;
+        questions.note_length(*effort);
         let best = match deciding {
             Choice::First => shortest,
             Choice::Literals => {

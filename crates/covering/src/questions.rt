@@ -2,6 +2,8 @@
 //!
 //! Each starts from the row weights of the one before, and is counted. A question about a batch of
 //! columns may look at a few tables only; if they do not suffice the first column is asked for alone.
+//! Where the length was hard to find, columns are asked for alone from the first one on, until answers
+//! come soon.
 
 ghost use Rattle.std.specs.Prelude.{◌≡◌, ◌≢◌, ◌<◌, ◌++◌, ◌∷◌, [], IfOk, IfSome, MatchOption, filter, length};
 ghost use Rattle.covering.specs.Table.{IsWithin, RisesFrom};
@@ -22,8 +24,15 @@ const BATCH_TABLES: u64 = 600;
 /// The undecided columns are reduced again after this many tables.
 const TABLES_TO_REDUCE: u64 = 8;
 
-/// How many columns the first batch has.
+/// How many columns the first batch has, where the length was not hard to find.
 const FIRST_BATCH: usize = 4;
+
+/// A length is hard to find if it takes so many tables.
+const HARD_LENGTH: u64 = 400;
+
+/// Where the length was hard to find, a no is hard to show if it takes so many tables; one for more
+/// columns would take far more.
+const HARD_NO: u64 = 100;
 
 /// How questions are asked: from which row weights, and for how many columns at once.
 pub(crate) struct Questions {
@@ -35,6 +44,8 @@ pub(crate) struct Questions {
     tables: u64,
     /// How many live columns were left then.
     live: usize,
+    /// Whether the length was hard to find.
+    hard: bool,
 }
 
 // Written out, so that where questions end a proof has one call, and no case for each list.
@@ -45,6 +56,7 @@ impl Drop for Questions {
             batch_size: _,
             tables: _,
             live: _,
+            hard: _,
         } = self;
     }
 }
@@ -57,6 +69,7 @@ impl Questions {
             batch_size: FIRST_BATCH,
             tables: 0,
             live: usize::MAX,
+            hard: false,
         }
     }
 
@@ -73,16 +86,38 @@ impl Questions {
         self.live = live;
     }
 
+    /// Notes that the length is known; `before` is the work before it was looked for.
+    pub(crate) fn note_length(&mut self, before: Effort) {
+        if self.tables_since(before) >= HARD_LENGTH {
+            self.hard = true;
+            self.batch_size = 1;
+        }
+    }
+
+    /// How many tables were looked at since then.
+    fn tables_since(&self, before: Effort) -> u64 {
+        let tables = self.warm_start.effort().tables;
+        tables.saturating_sub(before.tables)
+    }
+
     /// After a cover the next batch has a quarter as many columns, and the next cover is looked for
-    /// near this one; after none it has twice as many.
-    fn adapt(&mut self, alloc: Global, witness: &Option<Vec<usize>>) -> Result<(), AllocError> {
+    /// near this one; after none, which took so many tables, it has twice as many unless that was
+    /// hard.
+    fn adapt(
+        &mut self,
+        alloc: Global,
+        witness: &Option<Vec<usize>>,
+        tables: u64,
+    ) -> Result<(), AllocError> {
         match witness {
             Some(cover) => {
                 self.batch_size = (self.batch_size / 4).max(1);
                 self.warm_start.set_hint(alloc, cover)
             }
             None => {
-                self.batch_size = self.batch_size.saturating_mul(2);
+                if !self.hard || tables < HARD_NO {
+                    self.batch_size = self.batch_size.saturating_mul(2);
+                }
                 Ok(())
             }
         }
@@ -100,8 +135,10 @@ impl Questions {
     ) -> Result<Option<Vec<usize>>, Stop>
         ensures { IfOk result (AnswersWithin choice table.now budget) }
     {
+        let before = self.warm_start.effort();
         let answer = {
             let mut warm_start = self.warm_start.copy(alloc)?;
+            warm_start.take_gains(&mut self.warm_start);
             let answer = table.find_or_refute_for_order(
                 alloc,
                 choice,
@@ -110,10 +147,12 @@ impl Questions {
                 most_tables,
             );
             self.warm_start.learn(&warm_start);
+            self.warm_start.take_gains(&mut warm_start);
             answer
         };
         let witness = answer?;
-        self.adapt(alloc, &witness)?;
+        let tables = self.tables_since(before);
+        self.adapt(alloc, &witness, tables)?;
         Ok(witness)
     }
 

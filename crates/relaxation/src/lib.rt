@@ -8,6 +8,7 @@
 //! - [`Relaxation::multipliers`] solves that of a table, and gives weights of its rows.
 //! - [`Relaxation::branching_column`] names a column to branch on. [`Relaxation::branch`] keeps the place
 //!   of a branch, and [`Relaxation::go_back`] returns to it.
+//!   What branches gained ([`PseudoCosts`]) passes to the relaxation of the next search.
 //! - [`is_small_enough`] tells whether a table is small enough for all this.
 //!
 //! It is solved by the dual simplex method with steepest-edge pricing (Forrest and Goldfarb,
@@ -29,3 +30,4 @@ mod reliability;
 mod simplex;
 
 pub use relaxation::{BranchBasis, Relaxation, is_small_enough};
+pub use reliability::PseudoCosts;

@@ -88,7 +88,7 @@ pub struct Relaxation {
     live: Vec<bool>,
     /// The taken columns of the present table.
     taken: Vec<bool>,
-    /// How much branches gain.
+    /// How much branches on each column gain.
     pub(crate) gains: PseudoCosts,
     /// Where the last column was branched on, and whether it was taken then; its gain is not noted
     /// yet.
@@ -181,13 +181,15 @@ fn whole(alloc: Global, weights: &[f64]) -> Result<Vec<u64>, AllocError> {
 }
 
 impl Relaxation {
-    /// The relaxation of a table with these rows and live columns, which are below `columns`.
+    /// The relaxation of a table with these rows and live columns, which are below `columns`; `gains`
+    /// is what branches on columns gained so far.
     pub fn new(
         alloc: Global,
         table: &Compact,
         rows: &[Vec<usize>],
         live: &[usize],
         columns: usize,
+        gains: PseudoCosts,
     ) -> Result<Relaxation, AllocError> {
         Ok(Relaxation {
             simplex: Simplex::new(alloc, table)?,
@@ -196,12 +198,31 @@ impl Relaxation {
             rows: Lists::of(alloc, rows)?,
             live: vec![in alloc; false; columns]?,
             taken: vec![in alloc; false; columns]?,
-            gains: PseudoCosts::new(alloc, live.len())?,
+            gains,
             branched: None,
             saved: Basis::new(alloc, rows.len(), &vec![in alloc; 0.0; live.len()]?)?,
             end: End::Spent,
             cutoff: 0.0,
         })
+    }
+
+    /// What branches on columns gained, for the relaxation of another table with columns of the same
+    /// numbers.
+    pub fn into_gains(self) -> PseudoCosts {
+        let Relaxation {
+            simplex: _,
+            columns: _,
+            indices: _,
+            rows: _,
+            live: _,
+            taken: _,
+            gains,
+            branched: _,
+            saved: _,
+            end: _,
+            cutoff: _,
+        } = self;
+        gains
     }
 
     /// Takes a table for the present one.
@@ -339,8 +360,8 @@ impl Relaxation {
             End::Spent => return,
             _ => room,
         };
-        self.gains
-            .note(branching.index, branching.value, taken, gain);
+        let column = number(&self.columns, branching.index);
+        self.gains.note(column, branching.value, taken, gain);
     }
 
     /// The present basis, from which the search branches on the column, first taking it.

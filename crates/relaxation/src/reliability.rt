@@ -43,8 +43,8 @@ struct Direction {
     counts: Vec<usize>,
 }
 
-/// What branches on each column gained.
-pub(crate) struct PseudoCosts {
+/// What branches on each column gained: numbers for each column, however many branches there were.
+pub struct PseudoCosts {
     /// With the column.
     up: Direction,
     /// Without it.
@@ -107,8 +107,8 @@ impl Direction {
 }
 
 impl PseudoCosts {
-    /// No gains yet.
-    pub(crate) fn new(alloc: Global, columns: usize) -> Result<PseudoCosts, AllocError> {
+    /// No gains yet; columns are below `columns`.
+    pub fn new(alloc: Global, columns: usize) -> Result<PseudoCosts, AllocError> {
         Ok(PseudoCosts {
             up: Direction::new(alloc, columns)?,
             down: Direction::new(alloc, columns)?,
@@ -177,8 +177,9 @@ impl Relaxation {
         for index in 0..self.columns.len() {
             let value = self.simplex.value(index);
             if self.simplex.is_free(index) && value > FRACTION && value < 1.0 - FRACTION {
-                let gain_up = self.gains.up.cost(index, up) * (1.0 - value);
-                let gain_down = self.gains.down.cost(index, down) * value;
+                let column = number(&self.columns, index);
+                let gain_up = self.gains.up.cost(column, up) * (1.0 - value);
+                let gain_down = self.gains.down.cost(column, down) * value;
                 let score = score_of(gain_up, gain_down) * SCORE_UNIT;
                 order.push((u64::MAX - saturating_f64_to_u64(score), index))?;
             }
@@ -227,15 +228,16 @@ impl Relaxation {
     fn look_at_column(&mut self, alloc: Global, index: usize) -> Result<Look, AllocError> {
         let value = self.simplex.value(index);
         let room = self.room();
-        if self.gains.is_reliable(index) {
-            let up = self.gains.up.cost(index, 0.0) * (1.0 - value);
-            let down = self.gains.down.cost(index, 0.0) * value;
+        let column = number(&self.columns, index);
+        if self.gains.is_reliable(column) {
+            let up = self.gains.up.cost(column, 0.0) * (1.0 - value);
+            let down = self.gains.down.cost(column, 0.0) * value;
             return Ok(Look::Score(score_of(up.min(room), down.min(room))));
         }
         let (up, up_ends) = self.trial(alloc, index, 1.0)?;
         let (down, down_ends) = self.trial(alloc, index, 0.0)?;
-        self.gains.note(index, value, true, up);
-        self.gains.note(index, value, false, down);
+        self.gains.note(column, value, true, up);
+        self.gains.note(column, value, false, down);
         if up_ends || down_ends {
             return Ok(Look::Refuted);
         }

@@ -14,7 +14,7 @@ use heuristics::{
 use number_lists::{
     Compact, Lists, SEED, UNIT, at, is_live_part_of, marked, next_random, number, put, set,
 };
-use relaxation::{BranchBasis, Relaxation, is_small_enough};
+use relaxation::{BranchBasis, PseudoCosts, Relaxation, is_small_enough};
 use std::alloc::{AllocError, Global};
 
 /// Whether to compute a bound again: `before` is how many columns there were at the last one, `now`
@@ -84,6 +84,8 @@ pub struct WarmStart {
     effort: Effort,
     /// The linear relaxation, where it is what bounds tables.
     relaxation: Option<Relaxation>,
+    /// What branches on columns gained in the relaxations before.
+    gains: Option<PseudoCosts>,
     /// Whether a question was so hard that the relaxation was wanted.
     hard: bool,
 }
@@ -102,6 +104,7 @@ impl Drop for WarmStart {
             hint: _,
             effort: _,
             relaxation: _,
+            gains: _,
             hard: _,
         } = self;
     }
@@ -121,6 +124,7 @@ impl WarmStart {
             hint: Vec::new(alloc),
             effort,
             relaxation: None,
+            gains: None,
             hard: false,
         }
     }
@@ -168,7 +172,7 @@ impl WarmStart {
         self.missing
     }
 
-    /// A copy of what is remembered, without the relaxation.
+    /// A copy of what is remembered, without the relaxation and what branches gained.
     pub fn copy(&self, alloc: Global) -> Result<WarmStart, AllocError> {
         let mut copy = WarmStart::new(alloc, self.effort);
         copy.column = self.column;
@@ -221,13 +225,26 @@ impl WarmStart {
         columns: usize,
     ) -> Result<(), AllocError> {
         self.hard = true;
-        self.relaxation = Some(Relaxation::new(alloc, table, rows, live, columns)?);
+        let gains = match self.gains.take() {
+            Some(gains) => gains,
+            None => PseudoCosts::new(alloc, columns)?,
+        };
+        let relaxation = Relaxation::new(alloc, table, rows, live, columns, gains)?;
+        self.relaxation = Some(relaxation);
         Ok(())
     }
 
-    /// Gives the relaxation up.
+    /// Gives the relaxation up, but for what branches gained.
     pub fn stop_relaxing(&mut self) {
-        self.relaxation = None;
+        if let Some(relaxation) = self.relaxation.take() {
+            self.gains = Some(relaxation.into_gains());
+        }
+    }
+
+    /// Takes over what branches gained. It is handed from question to question of one table, whose
+    /// columns keep their numbers, and is not copied.
+    pub fn take_gains(&mut self, from: &mut WarmStart) {
+        self.gains = from.gains.take();
     }
 
     /// Takes the relaxation over.
