@@ -18,7 +18,6 @@ import as_rust  # noqa: E402
 WAYS, NEEDED = "minimum/way_hints", "minimum/as_needed"
 POINTS, SOURCE, ROUNDS = "minimum/points", "minimum/points/source", "minimum/points/rounds"
 COLUMNS = "minimum/points/dominating"
-CONSENSUS = "minimum/essential_by_neighbours/consensus_pairs"
 NEAR, MERGING = "minimum/essential_by_neighbours/near_rows", "cover/merging"
 
 # Changes: a file of a crate, a text that stands there, and what stands there in its place.
@@ -26,8 +25,8 @@ POINTS_OF_FEW_INPUTS = [
     (WAYS, "shape.inputs() > 12", "shape.inputs() > 0"),
     (WAYS, "uses_points(shape) && shape.outputs() > 1\n", "uses_points(shape)\n"),
 ]
-GROWTH = [(WAYS, "inputs <= 12 {", "inputs < 1 {"), (WAYS, "sets.on().shape().outputs() > 1 ||", "true ||")]
-NO_GROWTH = [(WAYS, "inputs <= 12 {", "inputs < 2000 {"), (WAYS, "return rows < 100;", "return false;")]
+GROWTH = [(WAYS, "inputs <= 12 {", "inputs < 1 {"), (WAYS, "if sets.on().shape().outputs() > 1 {", "if sets.on().shape().outputs() > 0 {")]
+NO_GROWTH = [(WAYS, "inputs <= 12 {", "inputs < 2000 {"), (WAYS, "return Ok(rows < 100);", "return Ok(false);")]
 NO_CUBES_OUTSIDE = [
     (WAYS, "MOST_OF_AN_OUTPUT: usize = 250", "MOST_OF_AN_OUTPUT: usize = 0"),
     (WAYS, "MOST_ROWS_OF_AN_OUTPUT: usize = 1_000_000", "MOST_ROWS_OF_AN_OUTPUT: usize = 0"),
@@ -37,14 +36,12 @@ FEW_CUBES_OUTSIDE = [
     (WAYS, "MOST_OUTSIDE: usize = 40000", "MOST_OUTSIDE: usize = 12"),
     (WAYS, "MOST_ROWS_OF_AN_OUTPUT: usize = 1_000_000", "MOST_ROWS_OF_AN_OUTPUT: usize = 100"),
 ]
-ALWAYS_AS_NEEDED = [
-    (WAYS, "(inputs > 16 && have_several_functions(rows) || have_many_consensus_pairs(rows))",
-     "(inputs < 2000 || have_several_functions(rows) || have_many_consensus_pairs(rows))"),
-]
-NEVER_AS_NEEDED = [
-    (WAYS, "(inputs > 16 && have_several_functions(rows) || have_many_consensus_pairs(rows))",
-     "(inputs > 2000 && have_several_functions(rows) && have_many_consensus_pairs(rows))"),
-]
+AS_NEEDED = """if !uses_points(sets.on().shape()) {
+        return Ok(false);
+    }
+    has_many_primes(sets)"""
+ALWAYS_AS_NEEDED = [(WAYS, AS_NEEDED, "Ok(uses_points(sets.on().shape()))")]
+NEVER_AS_NEEDED = [(WAYS, AS_NEEDED, "Ok(false)")]
 POINTS_OF_PRIMES = [(WAYS, "sets.on().shape().inputs() > 20", "sets.on().shape().inputs() > 0")]
 NO_POINTS_OF_PRIMES = [(WAYS, "sets.on().shape().inputs() > 20", "sets.on().shape().inputs() > 2000")]
 SHORT_COVERS = [(ROUNDS, "FEW_LEFT_OUT: usize = 20", "FEW_LEFT_OUT: usize = 0"),
@@ -66,6 +63,7 @@ MERGED = [
     ("minimum/fewer_rows", "row.literals().saturating_mul(4) < inputs.saturating_mul(3)", "inputs > 2000"),
     ("cover/merging/input_order", "count.saturating_mul(4).saturating_mul(step) >= rows.len()",
      "count.saturating_add(step) > 0"),
+    ("cover/full_list_hint", "may_have_enough_points(list) &&", "true ||"),
 ]
 NEVER_NEAR = [(NEAR, "near <= far", "near <= far && near == usize::MAX")]
 ALWAYS_NEAR = [(NEAR, "near <= far", "near <= far || near > 0")]
@@ -85,6 +83,8 @@ SHORT_LISTS = [
     ("minimum/prime_table/halving_input", "FEW: usize = 16", "FEW: usize = 1"),
     ("covering/least_covers", "FEW: usize = 8", "FEW: usize = 1"),
     ("covering/questions", "BATCH_TABLES: u64 = 600", "BATCH_TABLES: u64 = 2"),
+    ("covering/questions", "HARD_LENGTH: u64 = 400", "HARD_LENGTH: u64 = 1"),
+    ("covering/questions", "HARD_NO: u64 = 100", "HARD_NO: u64 = 1"),
 ]
 FEW_PROPOSALS = [
     ("signature_search/proposer", "FEW_PLACES: usize = 2_000", "FEW_PLACES: usize = 8"),
