@@ -76,16 +76,14 @@ fn have_several_functions(rows: &[Cube]) -> bool {
 /// the same outputs there are no more primes than with one.
 fn has_many_primes(sets: &Sets) -> Result<bool, AllocError> {
     let rows = sets.on().as_slice();
-    if have_many_consensus_pairs(rows) {
+    let is_wide = sets.on().shape().inputs() > 16;
+    if is_wide && have_several_functions(rows) || have_many_consensus_pairs(rows) {
         return Ok(true);
     }
-    if sets.on().shape().inputs() <= 16 {
-        return Ok(false);
+    if is_wide {
+        return leads_to_many(rows);
     }
-    if have_several_functions(rows) {
-        return Ok(true);
-    }
-    leads_to_many(rows)
+    Ok(false)
 }
 
 /// Whether to make places outside as they are needed: where `outside` gave none, or what it gave was

@@ -10,53 +10,29 @@ use cube::{Cube, Symbol};
 use std::alloc::AllocError;
 
 // At most so many walks are made, and so many steps on each.
-const MOST_WALKS: usize = 16;
-const MOST_STEPS: usize = 8;
+const MOST_WALKS: usize = 3;
+const MOST_STEPS: usize = 4;
 
 // At most about so many rows are looked at for a step; of more rows, some that are spread over them.
 const MOST_LOOKED_AT: usize = 2_000;
 
 // So many cubes from a row, on average, are many: rings of points have seven.
-const MANY: u64 = 16;
+const MANY: u64 = 10;
 
 // Cubes are counted in so many parts.
 const PARTS: u64 = 1_000;
 
-// How many of the rows, each counted for so many, have a consensus with the cube.
-fn count_at_distance_one(rows: &[Cube], cube: &Cube, stride: usize) -> u64 {
-    if stride == 0 {
-        return 0;
-    }
-    let mut count: usize = 0;
-    for (number, row) in rows.iter().enumerate() {
-        if number % stride == 0 && row.opposites(cube) == 1 {
-            count = count.saturating_add(stride);
+// How many of the rows have a consensus with the cube, and the last of them that was looked at.
+fn rows_at_distance_one<'a>(rows: &'a [Cube], cube: &Cube) -> (u64, Option<&'a Cube>) {
+    let stride = 1 + rows.len() / MOST_LOOKED_AT;
+    let (mut count, mut last) = (0_u64, None);
+    for row in rows.iter().step_by(stride) {
+        if row.opposites(cube) == 1 {
+            count = count.saturating_add(stride as u64);
+            last = Some(row);
         }
     }
-    count as u64
-}
-
-// The row in the middle of those that have a consensus with the cube.
-fn middle_at_distance_one<'a>(
-    rows: &'a [Cube],
-    cube: &Cube,
-    stride: usize,
-    count: u64,
-) -> Option<&'a Cube> {
-    if stride == 0 {
-        return None;
-    }
-    let mut left = count / 2;
-    for (number, row) in rows.iter().enumerate() {
-        if number % stride != 0 || row.opposites(cube) != 1 {
-            continue;
-        }
-        if left < stride as u64 {
-            return Some(row);
-        }
-        left = left.saturating_sub(stride as u64);
-    }
-    None
+    (count, last)
 }
 
 // The literals of the consensus of a cube and a row that conflict at one input.
@@ -77,12 +53,12 @@ fn consensus(cube: &Cube, row: &Cube) -> Result<Cube, AllocError> {
 }
 
 // To how many cubes a walk from the row is thought to lead, in parts.
-fn cubes_reached(rows: &[Cube], row: &Cube, stride: usize) -> Result<u64, AllocError> {
+fn cubes_reached(rows: &[Cube], row: &Cube) -> Result<u64, AllocError> {
     let mut cube = row.try_clone()?;
     let (mut at_step, mut reached) = (PARTS, PARTS);
     for step in 0..MOST_STEPS {
-        let count = count_at_distance_one(rows, &cube, stride);
-        let Some(other) = middle_at_distance_one(rows, &cube, stride, count) else {
+        let (count, last) = rows_at_distance_one(rows, &cube);
+        let Some(other) = last else {
             return Ok(reached);
         };
         at_step = at_step.saturating_mul(count) / (step as u64 + 1);
@@ -93,16 +69,12 @@ fn cubes_reached(rows: &[Cube], row: &Cube, stride: usize) -> Result<u64, AllocE
 }
 
 /// Whether walks from some rows, spread over the list, are thought to lead to many cubes. It costs
-/// some hundred looks at a row, for each of some thousand rows at most.
+/// a dozen looks at each of some thousand rows at most.
 pub(crate) fn leads_to_many(rows: &[Cube]) -> Result<bool, AllocError> {
-    let stride = rows.len() / MOST_LOOKED_AT + 1;
-    let step = rows.len() / MOST_WALKS + 1;
     let (mut reached, mut walks): (u64, u64) = (0, 0);
-    for (number, row) in rows.iter().enumerate() {
-        if number % step == 0 {
-            reached = reached.saturating_add(cubes_reached(rows, row, stride)?);
-            walks = walks.saturating_add(PARTS);
-        }
+    for row in rows.iter().step_by(1 + rows.len() / MOST_WALKS) {
+        reached = reached.saturating_add(cubes_reached(rows, row)?);
+        walks = walks.saturating_add(PARTS);
     }
     Ok(reached / MANY > walks)
 }
