@@ -11,12 +11,12 @@ use std::alloc::AllocError;
 
 // At most so many walks are made, and so many steps on each.
 const MOST_WALKS: usize = 3;
-const MOST_STEPS: usize = 4;
+const MOST_STEPS: usize = 3;
 
 // At most about so many rows are looked at for a step; of more rows, some that are spread over them.
 const MOST_LOOKED_AT: usize = 2_000;
 
-// So many cubes from a row, on average, are many: rings of points have seven.
+// So many cubes from a row, on average, are many: rings of points have six.
 const MANY: u64 = 10;
 
 // Cubes are counted in so many parts.
