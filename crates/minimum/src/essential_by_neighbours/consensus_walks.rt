@@ -11,6 +11,7 @@ use std::alloc::AllocError;
 
 // At most so many walks are made, and so many steps on each.
 const MOST_WALKS: usize = 3;
+
 const MOST_STEPS: usize = 3;
 
 // At most about so many rows are looked at for a step; of more rows, some that are spread over them.
