@@ -20,6 +20,7 @@ use Rattle.cube.proofs.Members.{Contains-here, Contains-nil, Contains-cases, Con
 use Rattle.rows.specs.Places.{places, is_disjoint, meeting, behind}
 use Rattle.rows.specs.Splits.{dashes}
 use Rattle.regions.specs.LeftOut.{IsLeftOut}
+use Rattle.regions.specs.Answer.{Explains, IsAnswer}
 use Rattle.regions.specs.Reason.{IsReason, Joins, IsClosed, Leads, Share, AreAmong, set_bits, extent}
 use Rattle.regions.specs.declared.region.Step.TheVariants.{Row}
 use Rattle.regions.specs.declared.region.Stop.{Stop}
@@ -214,6 +215,13 @@ left_out_of_more rows part region c size sub h = record {
   within = λ p in_c. sub p (h.within p in_c);
   outside = h.outside;
 }
+
+-- why no reason of a part was found is why none of the whole was
+pub explains_more : (rows : List Cube) (part region : Cube) (limited : Bool) (stop : Stop) → SameSize part region
+    → IsSubset (holds part) (holds region) → Explains part rows limited stop → Explains region rows limited stop
+explains_more rows part region limited Memory size sub h = tt
+explains_more rows part region limited Spent size sub h = h
+explains_more rows part region limited (LeftOut c) size sub h = left_out_of_more rows part region c size sub h
 
 pub half_within : (region half : Cube) (i : ℕ) (t : Symbol) → slice_get region.symbols i ≡ Some Dash → half ≡ with_symbol region i t
     → IsSubset (holds half) (holds region)
@@ -415,14 +423,14 @@ left_out_lent rows references_to region c sizes inside h = record {
   outside = λ p in_c in_rows. h.outside p in_c (place_lent rows references_to region sizes inside p (h.within p in_c) in_rows);
 }
 
-part_of : Cube → Stop → Cube
-part_of c Memory = c
-part_of c Spent = c
-part_of c (LeftOut part) = part
-
-pub same_part : (c part : Cube) → LeftOut c ≡ LeftOut part → c ≡ part
-unfolding part_of
-same_part c part e = ap (part_of c) e
+-- an answer by the rows that meet the region is one by all rows
+pub answer_lent : (rows references_to : List (Bor Cube)) (region : Cube) (limited : Bool) (result : Result Cube Stop)
+    → All (λ d. SameSize d.now region) rows → behind references_to ≡ meeting (size_of region) region (behind rows)
+    → IsAnswer region (behind references_to) limited result → IsAnswer region (behind rows) limited result
+answer_lent rows references_to region limited (Ok c) sizes inside h = reason_lent rows references_to region inside c h
+answer_lent rows references_to region limited (Err Memory) sizes inside h = tt
+answer_lent rows references_to region limited (Err Spent) sizes inside h = h
+answer_lent rows references_to region limited (Err (LeftOut part)) sizes inside h = left_out_lent rows references_to region part sizes inside h
 
 -- without such rows the whole region is left out
 pub left_out_whole : (rows references_to : List (Bor Cube)) (region c : Cube) → All (λ d. SameSize d.now region) rows

@@ -1,3 +1,4 @@
 pub mod Relation
 pub mod LeftOut
 pub mod Reason
+pub mod Answer

@@ -21,7 +21,7 @@ pub record IsReason (region : Cube) (rows : List Cube) (c : Cube) : Type 0 where
   pub above : IsSubset (holds region) (holds c)
   pub within : IsSubset (holds c) (places rows)
 
--- what the answer of a search shows
+-- what splits or a search show of a region
 abbrev pub Shows : Size → List Cube → Cube → Shown → Type 0
 Shows size rows region Held = IsSubset (holds region) (places rows)
 Shows size rows region (LeftOut part) = IsLeftOut size rows region part

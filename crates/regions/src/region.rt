@@ -21,12 +21,13 @@ pub(crate) mod nearest_rows;
 pub(crate) mod passes;
 pub(crate) mod step_hint;
 
-ghost use Rattle.std.specs.Prelude.{◌≡◌, ◌≢◌, ℕ, ◌≤◌, ◌<◌, false, IsTrue, IfOk, IfErr, IfSome, IfNone, OnOk, ◌++◌, ◌∷◌, [], length, slice_get, slice_index_or, Some, Contains, All};
+ghost use Rattle.std.specs.Prelude.{◌≡◌, ◌≢◌, ℕ, ◌+◌, ◌≤◌, ◌<◌, false, IsTrue, IfOk, IfErr, IfSome, IfNone, OnOk, ◌++◌, ◌∷◌, [], length, slice_get, slice_index_or, Some, Contains, All};
 ghost use Rattle.std.specs.List.{list_any};
 ghost use Rattle.cube.specs.Cube.{Cube as Row, SameSize, IsSubset, IsDisjoint, holds, with_symbol, size_of};
 ghost use Rattle.rows.specs.Places.{places, meeting as meeting_of, behind};
-ghost use Rattle.regions.specs.LeftOut.{IsLeftOut, LeavesOut};
-ghost use Rattle.regions.specs.Reason.{IsReason, Joins, IsClosed, Leads, Share, AreAmong, AreKnown};
+ghost use Rattle.regions.specs.Answer.{IsAnswer};
+ghost use Rattle.regions.specs.LeftOut.{LeavesOut};
+ghost use Rattle.regions.specs.Reason.{IsReason, Joins, IsClosed, Leads, Share, Shows, AreAmong, AreKnown};
 
 use crate::region::learned::{Learned, Shown, shown_by_search};
 use crate::region::step_hint::{Hint, next_step_hint};
@@ -204,246 +205,263 @@ impl From<AllocError> for Stop {
     }
 }
 
-/// What splits may use.
-#[derive(Clone, Copy)]
-pub(crate) struct Allowance {
-    pub(crate) alloc: Global,
-    // Whether they have to stop once `row_budget` is spent.
-    pub(crate) limited: bool,
+/// Splits that look for an implicant, and how many rows they may look at.
+#[derive(Drop)]
+pub(crate) struct Splits {
+    alloc: Global,
+    // How many rows may still be looked at.
+    rows_left: u64,
+    // Whether splits end once that is spent.
+    limited: bool,
 }
 
-// Takes `rows` from the rows that may still be looked at; `Spent` if they are limited and too few.
-fn spend(allowance: Allowance, row_budget: &mut u64, rows: usize) -> Result<(), Stop>
-    ensures spent { IfErr result (λ stop. stop ≡ Stop.Spent) }
-    ensures limited { IfErr result (λ _. IsTrue allowance.limited) }
-{
-    match row_budget.checked_sub(rows as u64) {
-        Some(left) => {
-            *row_budget = left;
-            Ok(())
+impl Splits {
+    // Splits that look at no more than so many rows.
+    fn limited_to(alloc: Global, rows_left: u64) -> Splits {
+        Splits {
+            alloc,
+            rows_left,
+            limited: true,
         }
-        None => {
-            if allowance.limited {
-                Err(Stop::Spent)
-            } else {
+    }
+
+    // Splits that go on until they have the answer.
+    fn without_limit(alloc: Global) -> Splits
+        ensures { result.limited ≡ false }
+    {
+        Splits {
+            alloc,
+            rows_left: 0,
+            limited: false,
+        }
+    }
+
+    // Takes `rows` from the rows that may still be looked at; `Spent` if they are limited and too
+    // few.
+    fn spend(&mut self, rows: usize) -> Result<(), Stop>
+        ensures limited { self.new.limited ≡ self.old.limited }
+        ensures left { OnOk result (IsTrue self.old.limited
+            → self.new.rows_left + rows ≡ self.old.rows_left) }
+        ensures spent { IfErr result (λ stop. (stop ≡ Stop.Spent) × IsTrue self.old.limited) }
+    {
+        match self.rows_left.checked_sub(rows as u64) {
+            Some(left) => {
+                self.rows_left = left;
                 Ok(())
+            }
+            None => {
+                if self.limited {
+                    Err(Stop::Spent)
+                } else {
+                    Ok(())
+                }
             }
         }
     }
-}
 
-// An implicant of the rows that contains the region, or a part of it of which they hold no place.
-// The rows `near`, which are some of the rows, are looked at alone while one of them has at most
-// `bound` open literals.
-#[cycle(reason)]
-pub(crate) fn reason(
-    allowance: Allowance,
-    rows: &[&Cube],
-    near: &[&Cube],
-    bound: u32,
-    region: &Cube,
-    row_budget: &mut u64,
-) -> Result<Cube, Stop>
-    requires sizes { All (λ d. SameSize d.now region.now) rows.now }
-    requires near { AreAmong near.now rows.now }
-    ensures found { IfOk result (IsReason region.now (behind rows.now)) }
-    ensures left_out { IfErr result (λ stop. (part : Row) → stop ≡ Stop.LeftOut part
-        → IsLeftOut (size_of region.now) (behind rows.now) region.now part) }
-    ensures spent { IfErr result (λ stop. stop ≡ Stop.Spent → IsTrue allowance.limited) }
-{
-    spend(allowance, row_budget, near.len())?;
-    let Survey {
-        found,
-        meeting,
-        nearest,
-        fewest,
-    } = survey_rows(allowance.alloc, near, region)?;
-    if let Some(cube) = found {
-        return Ok(cube);
+    // An implicant of the rows that contains the region, or a part of it of which they hold no
+    // place. The rows `near`, which are some of the rows, are looked at alone while one of them has
+    // at most `bound` open literals.
+    #[cycle(reason)]
+    fn reason(
+        &mut self,
+        rows: &[&Cube],
+        near: &[&Cube],
+        bound: u32,
+        region: &Cube,
+    ) -> Result<Cube, Stop>
+        requires sizes { All (λ d. SameSize d.now region.now) rows.now }
+        requires near { AreAmong near.now rows.now }
+        ensures limited { self.new.limited ≡ self.old.limited }
+        ensures answer { IsAnswer region.now (behind rows.now) self.old.limited result }
+    {
+        self.spend(near.len())?;
+        let Survey {
+            found,
+            meeting,
+            nearest,
+            fewest,
+        } = survey_rows(self.alloc, near, region)?;
+        if let Some(cube) = found {
+            return Ok(cube);
+        }
+        if fewest <= bound && !meeting.is_empty() {
+            let rest = fewest.min(bound.saturating_sub(1));
+            return self.reason_by_step(rows, &nearest, fewest, rest, region);
+        }
+        self.reason_by_all_rows(rows, region)
     }
-    if fewest <= bound && !meeting.is_empty() {
-        let rest = fewest.min(bound.saturating_sub(1));
-        return reason_by_step(allowance, rows, &nearest, fewest, rest, region, row_budget);
-    }
-    reason_by_all_rows(allowance, rows, region, row_budget)
-}
 
-// The reason, found by a look at each row and the next step.
-#[cycle(reason)]
-fn reason_by_all_rows(
-    allowance: Allowance,
-    rows: &[&Cube],
-    region: &Cube,
-    row_budget: &mut u64,
-) -> Result<Cube, Stop>
-    requires { All (λ d. SameSize d.now region.now) rows.now }
-    ensures found { IfOk result (IsReason region.now (behind rows.now)) }
-    ensures left_out { IfErr result (λ stop. (part : Row) → stop ≡ Stop.LeftOut part
-        → IsLeftOut (size_of region.now) (behind rows.now) region.now part) }
-    ensures spent { IfErr result (λ stop. stop ≡ Stop.Spent → IsTrue allowance.limited) }
-{
-    spend(allowance, row_budget, rows.len())?;
-    let Survey {
-        found,
-        meeting,
-        nearest,
-        fewest,
-    } = survey_rows(allowance.alloc, rows, region)?;
-    if let Some(cube) = found {
-        return Ok(cube);
+    // The reason, found by a look at each row and the next step.
+    #[cycle(reason)]
+    fn reason_by_all_rows(&mut self, rows: &[&Cube], region: &Cube) -> Result<Cube, Stop>
+        requires { All (λ d. SameSize d.now region.now) rows.now }
+        ensures limited { self.new.limited ≡ self.old.limited }
+        ensures answer { IsAnswer region.now (behind rows.now) self.old.limited result }
+    {
+        self.spend(rows.len())?;
+        let Survey {
+            found,
+            meeting,
+            nearest,
+            fewest,
+        } = survey_rows(self.alloc, rows, region)?;
+        if let Some(cube) = found {
+            return Ok(cube);
+        }
+        if meeting.is_empty() {
+            return Err(Stop::LeftOut(region.try_clone()?));
+        }
+        self.reason_by_step(&meeting, &nearest, fewest, fewest, region)
     }
-    if meeting.is_empty() {
-        return Err(Stop::LeftOut(region.try_clone()?));
-    }
-    reason_by_step(
-        allowance, &meeting, &nearest, fewest, fewest, region, row_budget,
-    )
-}
 
-// The reason, found by the next step. All of the rows `near` meet the region.
-#[cycle(reason)]
-fn reason_by_step(
-    allowance: Allowance,
-    rows: &[&Cube],
-    near: &[&Cube],
-    fewest: u32,
-    bound: u32,
-    region: &Cube,
-    row_budget: &mut u64,
-) -> Result<Cube, Stop>
-    requires output { IsTrue (list_any (λ b. b) region.now.outputs) }
-    requires sizes { All (λ d. SameSize d.now region.now) rows.now }
-    requires near { AreAmong near.now rows.now }
-    requires meets { All (λ d. IsDisjoint (holds d.now) (holds region.now) → ⊥) near.now }
-    requires some { 1 ≤ length near.now }
-    ensures found { IfOk result (IsReason region.now (behind rows.now)) }
-    ensures left_out { IfErr result (λ stop. (part : Row) → stop ≡ Stop.LeftOut part
-        → IsLeftOut (size_of region.now) (behind rows.now) region.now part) }
-    ensures spent { IfErr result (λ stop. stop ≡ Stop.Spent → IsTrue allowance.limited) }
-{
-    match next_step(rows, near, fewest, region) {
-        Step::Row(k) => reason_by_outputs(
-            allowance, rows, near, bound, region, row_budget, near[k],
-        ),
-        Step::Split(i, literal) => reason_by_split(
-            allowance,
-            rows,
-            near,
-            bound,
-            region,
-            row_budget,
-            (i, literal),
-        ),
+    // The reason, found by the next step. All of the rows `near` meet the region.
+    #[cycle(reason)]
+    fn reason_by_step(
+        &mut self,
+        rows: &[&Cube],
+        near: &[&Cube],
+        fewest: u32,
+        bound: u32,
+        region: &Cube,
+    ) -> Result<Cube, Stop>
+        requires output { IsTrue (list_any (λ b. b) region.now.outputs) }
+        requires sizes { All (λ d. SameSize d.now region.now) rows.now }
+        requires near { AreAmong near.now rows.now }
+        requires meets { All (λ d. IsDisjoint (holds d.now) (holds region.now) → ⊥) near.now }
+        requires some { 1 ≤ length near.now }
+        ensures limited { self.new.limited ≡ self.old.limited }
+        ensures answer { IsAnswer region.now (behind rows.now) self.old.limited result }
+    {
+        match next_step(rows, near, fewest, region) {
+            Step::Row(k) => self.reason_by_outputs(rows, near, bound, region, near[k]),
+            Step::Split(i, literal) => {
+                self.reason_by_split(rows, near, bound, region, (i, literal))
+            }
+        }
     }
-}
 
-// The reason, where the row has no open literal: it holds the region at its outputs, so the region
-// is asked for without these.
-#[cycle(reason)]
-fn reason_by_outputs(
-    allowance: Allowance,
-    rows: &[&Cube],
-    near: &[&Cube],
-    bound: u32,
-    region: &Cube,
-    row_budget: &mut u64,
-    row: &Cube,
-) -> Result<Cube, Stop>
-    requires sizes { All (λ d. SameSize d.now region.now) rows.now }
-    requires near { AreAmong near.now rows.now }
-    requires size { SameSize row.now region.now }
-    requires member { Contains (behind rows.now) row.now }
-    requires meets { IsDisjoint (holds row.now) (holds region.now) → ⊥ }
-    requires closed { IsClosed region.now row.now }
-    ensures found { IfOk result (IsReason region.now (behind rows.now)) }
-    ensures left_out { IfErr result (λ stop. (part : Row) → stop ≡ Stop.LeftOut part
-        → IsLeftOut (size_of region.now) (behind rows.now) region.now part) }
-    ensures spent { IfErr result (λ stop. stop ≡ Stop.Spent → IsTrue allowance.limited) }
-{
-    if !region.has_outputs_beyond(row) {
-        return Ok(row.try_clone()?);
+    // The reason, where the row has no open literal: it holds the region at its outputs, so the
+    // region is asked for without these.
+    #[cycle(reason)]
+    fn reason_by_outputs(
+        &mut self,
+        rows: &[&Cube],
+        near: &[&Cube],
+        bound: u32,
+        region: &Cube,
+        row: &Cube,
+    ) -> Result<Cube, Stop>
+        requires sizes { All (λ d. SameSize d.now region.now) rows.now }
+        requires near { AreAmong near.now rows.now }
+        requires size { SameSize row.now region.now }
+        requires member { Contains (behind rows.now) row.now }
+        requires meets { IsDisjoint (holds row.now) (holds region.now) → ⊥ }
+        requires closed { IsClosed region.now row.now }
+        ensures limited { self.new.limited ≡ self.old.limited }
+        ensures answer { IsAnswer region.now (behind rows.now) self.old.limited result }
+    {
+        if !region.has_outputs_beyond(row) {
+            return Ok(row.try_clone()?);
+        }
+        let other = {
+            let rest = region.without_outputs(row)?;
+            self.reason(rows, near, bound, &rest)?
+        };
+        if other.contains(region) {
+            return Ok(other);
+        }
+        match row.output_consensus(&other)? {
+            Some(cube) => Ok(cube),
+            None => unreachable!(),
+        }
     }
-    let other = {
-        let rest = region.without_outputs(row)?;
-        reason(allowance, rows, near, bound, &rest, row_budget)?
-    };
-    if other.contains(region) {
-        return Ok(other);
-    }
-    match row.output_consensus(&other)? {
-        Some(cube) => Ok(cube),
-        None => unreachable!(),
-    }
-}
 
-// The reason, found by the two halves of the region at an input, first that with the literal.
-#[cycle(reason)]
-fn reason_by_split(
-    allowance: Allowance,
-    rows: &[&Cube],
-    near: &[&Cube],
-    bound: u32,
-    region: &Cube,
-    row_budget: &mut u64,
-    at: (usize, Symbol),
-) -> Result<Cube, Stop>
-    requires output { IsTrue (list_any (λ b. b) region.now.outputs) }
-    requires sizes { All (λ d. SameSize d.now region.now) rows.now }
-    requires near { AreAmong near.now rows.now }
-    requires dash { slice_get region.now.symbols at.0 ≡ Some Symbol.Dash }
-    requires literal { at.1 ≢ Symbol.Dash }
-    ensures found { IfOk result (IsReason region.now (behind rows.now)) }
-    ensures left_out { IfErr result (λ stop. (part : Row) → stop ≡ Stop.LeftOut part
-        → IsLeftOut (size_of region.now) (behind rows.now) region.now part) }
-    ensures spent { IfErr result (λ stop. stop ≡ Stop.Spent → IsTrue allowance.limited) }
-{
-    let (i, literal) = at;
-    let one = {
-        let first = region.with_symbol(i, literal)?;
-        reason(allowance, rows, near, bound, &first, row_budget)?
-    };
-    if one.contains(region) {
-        return Ok(one);
+    // The reason, found by the two halves of the region at an input, first that with the literal.
+    #[cycle(reason)]
+    fn reason_by_split(
+        &mut self,
+        rows: &[&Cube],
+        near: &[&Cube],
+        bound: u32,
+        region: &Cube,
+        at: (usize, Symbol),
+    ) -> Result<Cube, Stop>
+        requires output { IsTrue (list_any (λ b. b) region.now.outputs) }
+        requires sizes { All (λ d. SameSize d.now region.now) rows.now }
+        requires near { AreAmong near.now rows.now }
+        requires dash { slice_get region.now.symbols at.0 ≡ Some Symbol.Dash }
+        requires literal { at.1 ≢ Symbol.Dash }
+        ensures limited { self.new.limited ≡ self.old.limited }
+        ensures answer { IsAnswer region.now (behind rows.now) self.old.limited result }
+    {
+        let (i, literal) = at;
+        let one = {
+            let first = region.with_symbol(i, literal)?;
+            self.reason(rows, near, bound, &first)?
+        };
+        if one.contains(region) {
+            return Ok(one);
+        }
+        self.reason_by_other_half(rows, near, bound, region, at, &one)
     }
-    reason_by_other_half(allowance, rows, near, bound, region, row_budget, at, &one)
-}
 
-// The reason, found by the half with the other literal, where `one` is the reason of the half with
-// the literal: if it has a literal at the input too, the consensus of both reasons.
-#[cycle(reason)]
-fn reason_by_other_half(
-    allowance: Allowance,
-    rows: &[&Cube],
-    near: &[&Cube],
-    bound: u32,
-    region: &Cube,
-    row_budget: &mut u64,
-    at: (usize, Symbol),
-    one: &Cube,
-) -> Result<Cube, Stop>
-    requires output { IsTrue (list_any (λ b. b) region.now.outputs) }
-    requires sizes { All (λ d. SameSize d.now region.now) rows.now }
-    requires near { AreAmong near.now rows.now }
-    requires dash { slice_get region.now.symbols at.0 ≡ Some Symbol.Dash }
-    requires literal { at.1 ≢ Symbol.Dash }
-    requires one_size { SameSize one.now region.now }
-    requires one { IsReason (with_symbol region.now at.0 at.1) (behind rows.now) one.now }
-    ensures found { IfOk result (IsReason region.now (behind rows.now)) }
-    ensures left_out { IfErr result (λ stop. (part : Row) → stop ≡ Stop.LeftOut part
-        → IsLeftOut (size_of region.now) (behind rows.now) region.now part) }
-    ensures spent { IfErr result (λ stop. stop ≡ Stop.Spent → IsTrue allowance.limited) }
-{
-    let (i, literal) = at;
-    let other = {
-        let second = region.with_symbol(i, opposite(literal))?;
-        reason(allowance, rows, near, bound, &second, row_budget)?
-    };
-    if other.contains(region) {
-        return Ok(other);
+    // The reason, found by the half with the other literal, where `one` is the reason of the half
+    // with the literal: if it has a literal at the input too, the consensus of both reasons.
+    #[cycle(reason)]
+    fn reason_by_other_half(
+        &mut self,
+        rows: &[&Cube],
+        near: &[&Cube],
+        bound: u32,
+        region: &Cube,
+        at: (usize, Symbol),
+        one: &Cube,
+    ) -> Result<Cube, Stop>
+        requires output { IsTrue (list_any (λ b. b) region.now.outputs) }
+        requires sizes { All (λ d. SameSize d.now region.now) rows.now }
+        requires near { AreAmong near.now rows.now }
+        requires dash { slice_get region.now.symbols at.0 ≡ Some Symbol.Dash }
+        requires literal { at.1 ≢ Symbol.Dash }
+        requires one_size { SameSize one.now region.now }
+        requires one { IsReason (with_symbol region.now at.0 at.1) (behind rows.now) one.now }
+        ensures limited { self.new.limited ≡ self.old.limited }
+        ensures answer { IsAnswer region.now (behind rows.now) self.old.limited result }
+    {
+        let (i, literal) = at;
+        let other = {
+            let second = region.with_symbol(i, opposite(literal))?;
+            self.reason(rows, near, bound, &second)?
+        };
+        if other.contains(region) {
+            return Ok(other);
+        }
+        match consensus(i, one, &other)? {
+            Some(cube) => Ok(cube),
+            None => unreachable!(),
+        }
     }
-    match consensus(i, one, &other)? {
-        Some(cube) => Ok(cube),
-        None => unreachable!(),
+
+    // What the splits show of the region, with `near` and `bound` as for a reason.
+    fn show(
+        &mut self,
+        rows: &[&Cube],
+        near: &[&Cube],
+        bound: u32,
+        region: &Cube,
+    ) -> Result<Shown, AllocError>
+        requires sizes { All (λ d. SameSize d.now region.now) rows.now }
+        requires near { AreAmong near.now rows.now }
+        ensures shown { IfOk result (Shows (size_of region.now) (behind rows.now) region.now) }
+        ensures nothing { IfOk result
+            (λ shown. shown ≡ Shown.Nothing → IsTrue self.old.limited) }
+    {
+        match self.reason(rows, near, bound, region) {
+            Ok(_) => Ok(Shown::Held),
+            Err(Stop::LeftOut(part)) => Ok(Shown::LeftOut(part)),
+            Err(Stop::Spent) => Ok(Shown::Nothing),
+            Err(Stop::Memory) => Err(AllocError),
+        }
     }
 }
 
@@ -460,54 +478,72 @@ pub fn part_left_out(
     part_left_out_by_splits_or_search(alloc, rows, &[], 0, region, &mut learned)
 }
 
-/// Whether splits that look at no more than `row_budget` rows show that the rows hold each place of
+/// Whether splits that look at no more than `rows_left` rows show that the rows hold each place of
 /// the region.
-pub(crate) fn is_seen_to_hold(
+pub(crate) fn holds_by_splits(
     alloc: Global,
     rows: &[&Cube],
     region: &Cube,
-    row_budget: usize,
+    rows_left: usize,
 ) -> Result<bool, AllocError>
     requires { All (λ d. SameSize d.now region.now) rows.now }
     ensures { IfOk result
         (λ held. IsTrue held → IsSubset (holds region.now) (places (behind rows.now))) }
 {
-    let allowance = Allowance {
-        alloc,
-        limited: true,
-    };
-    let mut left = row_budget as u64;
-    match reason(allowance, rows, &[], 0, region, &mut left) {
-        Ok(_) => Ok(true),
-        Err(Stop::Memory) => Err(AllocError),
-        Err(Stop::Spent) => Ok(false),
-        Err(Stop::LeftOut(_)) => Ok(false),
+    let mut splits = Splits::limited_to(alloc, rows_left as u64);
+    match splits.show(rows, &[], 0, region)? {
+        Shown::Held => Ok(true),
+        Shown::LeftOut(_) => Ok(false),
+        Shown::Nothing => Ok(false),
     }
 }
 
-// A part of the region of which the rows hold no place, if there is one, by as many splits as it
-// takes.
-fn part_left_out_by_unlimited_splits(
+// What splits show of the region that look at no more rows than `learned` lets them.
+fn shown_by_limited_splits(
     alloc: Global,
     rows: &[&Cube],
     near: &[&Cube],
     bound: u32,
     region: &Cube,
-) -> Result<Option<Cube>, AllocError>
+    learned: &mut Learned,
+) -> Result<Shown, AllocError>
     requires sizes { All (λ d. SameSize d.now region.now) rows.now }
     requires near { AreAmong near.now rows.now }
-    ensures { IfOk result (LeavesOut (size_of region.now) (behind rows.now) region.now) }
+    ensures known { learned.new.known ≡ learned.old.known }
+    ensures shown { IfOk result (Shows (size_of region.now) (behind rows.now) region.now) }
 {
-    let allowance = Allowance {
-        alloc,
-        limited: false,
-    };
-    let mut row_budget = 0;
-    match reason(allowance, rows, near, bound, region, &mut row_budget) {
-        Ok(_) => Ok(None),
-        Err(Stop::LeftOut(part)) => Ok(Some(part)),
-        Err(Stop::Memory) => Err(AllocError),
-        Err(Stop::Spent) => unreachable!(),
+    learned.raise_rows_left(rows);
+    let mut splits = Splits::limited_to(alloc, learned.rows_left);
+    let shown = splits.show(rows, near, bound, region);
+    learned.rows_left = splits.rows_left;
+    shown
+}
+
+// What splits show of the region, or once they have spent the rows that `learned` lets them look
+// at, a search, and last splits without limit. They show something.
+fn shown_by_splits_or_search(
+    alloc: Global,
+    rows: &[&Cube],
+    near: &[&Cube],
+    bound: u32,
+    region: &Cube,
+    learned: &mut Learned,
+) -> Result<Shown, AllocError>
+    requires sizes { All (λ d. SameSize d.now region.now) rows.now }
+    requires near { AreAmong near.now rows.now }
+    requires known { AreKnown (size_of region.now) learned.old.known.items (behind rows.now) }
+    ensures known { OnOk result
+        (AreKnown (size_of region.now) learned.new.known.items (behind rows.now)) }
+    ensures shown { IfOk result (Shows (size_of region.now) (behind rows.now) region.now) }
+    ensures some { IfOk result (λ shown. shown ≢ Shown.Nothing) }
+{
+    match shown_by_limited_splits(alloc, rows, near, bound, region, learned)? {
+        Shown::Nothing => (),
+        shown => return Ok(shown),
+    }
+    match shown_by_search(alloc, rows, learned, region)? {
+        Shown::Nothing => Splits::without_limit(alloc).show(rows, near, bound, region),
+        shown => Ok(shown),
     }
 }
 
@@ -515,9 +551,9 @@ fn part_left_out_by_unlimited_splits(
 /// rows `near` are looked at alone while one of them has at most `bound` open literals.
 ///
 /// Most questions are answered by splits. Once the splits of all questions about the rows have
-/// spent the row budget of `learned`, a search is asked, and what it learns of the rows is kept. If
-/// it finds no answer within its limits, or one that fails the check, splits begin again without
-/// limit.
+/// spent the rows that `learned` lets them look at, a search is asked, and what it learns of the
+/// rows is kept. If it finds no answer within its limits, or one that fails the check, splits begin
+/// again without limit.
 pub(crate) fn part_left_out_by_splits_or_search(
     alloc: Global,
     rows: &[&Cube],
@@ -533,27 +569,9 @@ pub(crate) fn part_left_out_by_splits_or_search(
         (AreKnown (size_of region.now) learned.new.known.items (behind rows.now)) }
     ensures part { IfOk result (LeavesOut (size_of region.now) (behind rows.now) region.now) }
 {
-    learned.raise_row_budget(rows);
-    let allowance = Allowance {
-        alloc,
-        limited: true,
-    };
-    match reason(
-        allowance,
-        rows,
-        near,
-        bound,
-        region,
-        &mut learned.row_budget,
-    ) {
-        Ok(_) => return Ok(None),
-        Err(Stop::LeftOut(part)) => return Ok(Some(part)),
-        Err(Stop::Memory) => return Err(AllocError),
-        Err(Stop::Spent) => (),
-    }
-    match shown_by_search(alloc, rows, learned, region)? {
+    match shown_by_splits_or_search(alloc, rows, near, bound, region, learned)? {
         Shown::Held => Ok(None),
         Shown::LeftOut(part) => Ok(Some(part)),
-        Shown::Nothing => part_left_out_by_unlimited_splits(alloc, rows, near, bound, region),
+        Shown::Nothing => unreachable!(),
     }
 }

@@ -144,7 +144,7 @@ fn known_cube_contains(known: &[Cube], index: usize, region: &Cube) -> bool
     }
 }
 
-/// What the checked answer of a search shows of a region.
+/// What splits, or the checked answer of a search, show of a region.
 #[derive(Drop)]
 pub(crate) enum Shown {
     /// The rows hold it.
@@ -187,7 +187,7 @@ pub(crate) struct Learned {
     // For each output the search among the rows that have it, once it was asked.
     searches: Vec<Option<Search>>,
     // How many rows splits may still look at before a search is asked.
-    pub(crate) row_budget: u64,
+    pub(crate) rows_left: u64,
     // Whether a question was asked.
     is_asked: bool,
 }
@@ -198,7 +198,7 @@ impl Drop for Learned {
         let Learned {
             known: _,
             searches: _,
-            row_budget: _,
+            rows_left: _,
             is_asked: _,
         } = self;
     }
@@ -219,14 +219,14 @@ impl Learned {
         Learned {
             known: Vec::new(alloc),
             searches: Vec::new(alloc),
-            row_budget: 0,
+            rows_left: 0,
             is_asked: false,
         }
     }
 
     /// Lets splits look at more rows, for one more question about the rows: for the first question
     /// some passes over them, and a pass for each later one.
-    pub(crate) fn raise_row_budget(&mut self, rows: &[&Cube])
+    pub(crate) fn raise_rows_left(&mut self, rows: &[&Cube])
         ensures { self.new.known ≡ self.old.known }
     {
         let passes = if self.is_asked {
@@ -235,7 +235,7 @@ impl Learned {
             passes_before_search(rows)
         };
         let more = passes.saturating_mul(rows.len() as u64);
-        self.row_budget = self.row_budget.saturating_add(more);
+        self.rows_left = self.rows_left.saturating_add(more);
         self.is_asked = true;
     }
 

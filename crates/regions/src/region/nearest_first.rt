@@ -12,7 +12,7 @@ ghost use Rattle.regions.specs.Reason.{AreAmong, AreKnown};
 
 use crate::region::learned::Learned;
 use crate::region::nearest_rows::RowBits;
-use crate::region::{is_seen_to_hold, part_left_out_by_splits_or_search};
+use crate::region::{holds_by_splits, part_left_out_by_splits_or_search};
 use cube::{Cube, Shape};
 use std::alloc::{AllocError, Global};
 
@@ -103,7 +103,7 @@ fn part_left_out_nearest_first(
         return part_left_out_by_splits_or_search(alloc, rows, &[], 0, region, learned);
     };
     let nearest = bits.nearest(alloc, rows, region)?;
-    if is_seen_to_hold(alloc, &nearest, region, rows.len())? {
+    if holds_by_splits(alloc, &nearest, region, rows.len())? {
         return Ok(None);
     }
     let near = rows_sharing_literal(alloc, shape, rows, region)?;

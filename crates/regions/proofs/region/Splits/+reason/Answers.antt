@@ -1,15 +1,16 @@
 use Rattle.std.proofs.Common.{◌≡◌, ◌≤◌, ◌∙◌, All, IfNone, IfSome, length, ap, sym, subst, refl, arith}
 use Rattle.std.specs.Prelude.{vec_len}
-use Rattle.std.proofs.lemmas.Result.{IfOk-weaker, IfErr-weaker, MatchResult-at_ok, err_from_is_err_and}
+use Rattle.std.proofs.lemmas.Result.{MatchResult-at_ok, err_from_is_err_and}
 use Rattle.std.proofs.lemmas.Option.{slice_get_within}
 use Rattle.cube.specs.declared.symbol.Symbol.TheVariants.{Dash}
 use Rattle.cube.specs.Cube.{SameSize, IsDisjoint, holds, with_symbol, size_of}
 use Rattle.rows.specs.Places.{behind, meeting}
+use Rattle.regions.specs.Answer.{IsAnswer}
 use Rattle.regions.specs.Reason.{IsReason, Joins, Leads, AreAmong}
 use Rattle.regions.specs.declared.region.Step.TheVariants.{Row}
 use Rattle.rows.proofs.Lists.{length-behind}
-use Rattle.regions.proofs.Reasons.{freed_half, share_sides, opposite_literal, sizes_part, SameSize-part, reason_of_more, reason_joined, within_rows, reason_of_row, extent_half, row_inputs, row_above, size_rest, extent_rest, joined_stack, other_inputs, either_output, reason_lent, left_out_lent, left_out_whole, same_part, half_within, rest_within, left_out_of_more, row_leads, reason_of_some, sizes_among, meets_among, among_lent, none_left, some_left}
-use Rattle.regions.proofs.region.+reason.Goals as goal
+use Rattle.regions.proofs.Reasons.{answer_lent, explains_more, freed_half, share_sides, opposite_literal, sizes_part, SameSize-part, reason_of_more, reason_joined, within_rows, reason_of_row, extent_half, row_inputs, row_above, size_rest, extent_rest, joined_stack, other_inputs, either_output, left_out_whole, half_within, rest_within, row_leads, reason_of_some, sizes_among, meets_among, among_lent, none_left, some_left}
+use Rattle.regions.proofs.region.Splits.+reason.Goals as goal
 
 pub reason_by_split-reason-requires : goal.reason_by_split-reason-requires
 reason_by_split-reason-requires t c =
@@ -18,7 +19,7 @@ reason_by_split-reason-requires t c =
 
 pub reason_by_split-reason_by_other_half-requires : goal.reason_by_split-reason_by_other_half-requires
 reason_by_split-reason_by_other_half-requires t c =
-    let r = c.in_ok-one.ensures.found in
+    let r = c.in_ok-one.ensures.answer in
     let size = SameSize-part c.in_ok-one.one c.in_ok-first.first c.args.region.now r.size c.in_ok-first.ensures.size in
     let half = subst (λ h. IsReason h (behind c.args.rows.now) c.in_ok-one.one) c.in_ok-first.ensures.value r in
     (omega arith, (c.requires.output, (c.requires.sizes, (c.requires.near, (c.requires.dash, (c.requires.literal, (size, half)))))))
@@ -36,46 +37,38 @@ reason_by_other_half-consensus-requires-clause-input t c =
 
 pub reason_by_other_half-consensus-requires-clause-size : goal.reason_by_other_half-consensus-requires-clause-size
 reason_by_other_half-consensus-requires-clause-size t c =
-    let r = c.in_ok-other.ensures.found in
+    let r = c.in_ok-other.ensures.answer in
     let size = SameSize-part c.in_ok-other.other c.in_ok-second.second c.args.region.now r.size c.in_ok-second.ensures.size in
     (size.0 ∙ sym c.requires.one_size.0, size.1 ∙ sym c.requires.one_size.1)
 
 pub reason_by_other_half-consensus-requires-clause-sides : goal.reason_by_other_half-consensus-requires-clause-sides
 reason_by_other_half-consensus-requires-clause-sides t c =
-    let q = c.in_ok-other.ensures.found in
+    let q = c.in_ok-other.ensures.answer in
     share_sides c.args.region.now (with_symbol c.args.region.now c.args.at.0 c.args.at.1) c.in_ok-second.second c.args.one.now c.in_ok-other.other c.args.at.0 c.args.at.1
     c.requires.output c.requires.dash refl
     (c.in_ok-second.ensures.value ∙ ap (λ s. with_symbol c.args.region.now c.args.at.0 s) c.opposite.ensures) c.requires.one.size q.size c.requires.one.above q.above
 
-pub reason_by_other_half-returns : goal.reason_by_other_half-returns
-reason_by_other_half-returns t c =
+pub reason_by_other_half-returns-clause-answer : goal.reason_by_other_half-returns-clause-answer
+reason_by_other_half-returns-clause-answer t c =
     let rows = behind c.args.rows.now in
     let region = c.args.region.now in
     let one = c.args.one.now in
     let other = c.in_ok-other.other in
     let second = c.in_ok-second.second in
     let at = c.args.at.0 in
-    let r = c.in_ok-other.ensures.found in
+    let r = c.in_ok-other.ensures.answer in
     let size = SameSize-part other second region r.size c.in_ok-second.ensures.size in
     let mine = freed_half region (with_symbol region at c.args.at.1) one at c.args.at.1 c.requires.dash c.requires.literal c.requires.one_size refl c.requires.one.above in
     let theirs = freed_half region second other at c.opposite.result c.requires.dash
     (subst (λ s. s ≡ Dash → ⊥) (sym c.opposite.ensures) (opposite_literal c.args.at.1 c.requires.literal)) size c.in_ok-second.ensures.value r.above in
-    record {
-      found = reason_joined rows region one other c.in-Some.cube c.requires.one.within r.within
-          (subst (Joins region one other) c.in-Some.is (c.in_ok-cube.ensures region c.requires.output c.requires.one_size mine theirs));
-      left_out = tt;
-      spent = tt;
-    }
+    reason_joined rows region one other c.in-Some.cube c.requires.one.within r.within
+    (subst (Joins region one other) c.in-Some.is (c.in_ok-cube.ensures region c.requires.output c.requires.one_size mine theirs))
 
-pub reason_by_outputs-returns-then-not-has_outputs_beyond : goal.reason_by_outputs-returns-then-not-has_outputs_beyond
-reason_by_outputs-returns-then-not-has_outputs_beyond t c =
-    record {
-      found = reason_of_row (behind c.args.rows.now) c.args.region.now c.args.row.now c.in_ok-try_clone.field-0 c.requires.member c.requires.size c.in_ok-try_clone.ensures.value
-          (row_above (behind c.args.rows.now) c.args.region.now c.args.row.now c.args.row.now c.requires.size c.requires.meets c.requires.closed
-          c.has_outputs_beyond.result c.has_outputs_beyond.ensures c.if-not-has_outputs_beyond.true);
-      left_out = tt;
-      spent = tt;
-    }
+pub reason_by_outputs-returns-then-not-has_outputs_beyond-clause-answer : goal.reason_by_outputs-returns-then-not-has_outputs_beyond-clause-answer
+reason_by_outputs-returns-then-not-has_outputs_beyond-clause-answer t c =
+    reason_of_row (behind c.args.rows.now) c.args.region.now c.args.row.now c.in_ok-try_clone.field-0 c.requires.member c.requires.size c.in_ok-try_clone.ensures.value
+    (row_above (behind c.args.rows.now) c.args.region.now c.args.row.now c.args.row.now c.requires.size c.requires.meets c.requires.closed
+    c.has_outputs_beyond.result c.has_outputs_beyond.ensures c.if-not-has_outputs_beyond.true)
 
 pub reason_by_outputs-reason-requires : goal.reason_by_outputs-reason-requires
 reason_by_outputs-reason-requires t c =
@@ -90,47 +83,39 @@ reason_by_outputs-reason-requires t c =
 
 pub reason_by_outputs-contains-requires : goal.reason_by_outputs-contains-requires
 reason_by_outputs-contains-requires t c =
-    let r = c.in_ok-other.ensures.found in
+    let r = c.in_ok-other.ensures.answer in
     SameSize-part c.in_ok-other.other c.in_ok-rest.rest c.args.region.now r.size
     (size_rest (behind c.args.rows.now) c.args.region.now c.args.row.now c.in_ok-rest.rest c.requires.size c.requires.meets c.requires.closed c.in_ok-rest.ensures.value)
 
-pub reason_by_outputs-returns-then-contains : goal.reason_by_outputs-returns-then-contains
-reason_by_outputs-returns-then-contains t c =
-    let r = c.in_ok-other.ensures.found in
-    record {
-      found = reason_of_more (behind c.args.rows.now) c.in_ok-rest.rest c.args.region.now c.in_ok-other.other
-          (size_rest (behind c.args.rows.now) c.args.region.now c.args.row.now c.in_ok-rest.rest c.requires.size c.requires.meets c.requires.closed c.in_ok-rest.ensures.value)
-          r (c.contains.ensures.0 c.if-contains.true);
-      left_out = tt;
-      spent = tt;
-    }
+pub reason_by_outputs-returns-then-contains-clause-answer : goal.reason_by_outputs-returns-then-contains-clause-answer
+reason_by_outputs-returns-then-contains-clause-answer t c =
+    let r = c.in_ok-other.ensures.answer in
+    reason_of_more (behind c.args.rows.now) c.in_ok-rest.rest c.args.region.now c.in_ok-other.other
+    (size_rest (behind c.args.rows.now) c.args.region.now c.args.row.now c.in_ok-rest.rest c.requires.size c.requires.meets c.requires.closed c.in_ok-rest.ensures.value)
+    r (c.contains.ensures.0 c.if-contains.true)
 
 pub reason_by_outputs-output_consensus-requires : goal.reason_by_outputs-output_consensus-requires
 reason_by_outputs-output_consensus-requires t c =
-    let r = c.in_ok-other.ensures.found in
+    let r = c.in_ok-other.ensures.answer in
     let size = SameSize-part c.in_ok-other.other c.in_ok-rest.rest c.args.region.now r.size
     (size_rest (behind c.args.rows.now) c.args.region.now c.args.row.now c.in_ok-rest.rest c.requires.size c.requires.meets c.requires.closed c.in_ok-rest.ensures.value) in
     (c.requires.size.0 ∙ sym size.0, c.requires.size.1 ∙ sym size.1)
 
-pub reason_by_outputs-returns : goal.reason_by_outputs-returns
-reason_by_outputs-returns t c =
+pub reason_by_outputs-returns-clause-answer : goal.reason_by_outputs-returns-clause-answer
+reason_by_outputs-returns-clause-answer t c =
     let rows = behind c.args.rows.now in
     let region = c.args.region.now in
     let row = c.args.row.now in
     let rest = c.in_ok-rest.rest in
     let other = c.in_ok-other.other in
-    let r = c.in_ok-other.ensures.found in
+    let r = c.in_ok-other.ensures.answer in
     let joins = joined_stack region row other c.requires.size (row_inputs rows region row rest c.requires.size c.requires.meets c.requires.closed)
     (other_inputs rows region row rest c.requires.size c.requires.meets c.requires.closed c.in_ok-rest.ensures.value other r.above (c.has_outputs_beyond.ensures.0 c.if-not-has_outputs_beyond.false))
     (either_output rows region row rest c.requires.size c.requires.meets c.requires.closed c.in_ok-rest.ensures.value other r.above)
     c.output_consensus.result c.output_consensus.ensures.none c.output_consensus.ensures.size c.output_consensus.ensures.places in
-    record {
-      found = reason_joined rows region row other c.in-Some.cube (within_rows rows row c.requires.member) r.within
-          (subst (Joins region row other) c.in-Some.is
-          (MatchResult-at_ok _ _ c.in_ok-cube.field-0 c.in_ok-cube.was joins));
-      left_out = tt;
-      spent = tt;
-    }
+    reason_joined rows region row other c.in-Some.cube (within_rows rows row c.requires.member) r.within
+    (subst (Joins region row other) c.in-Some.is
+    (MatchResult-at_ok _ _ c.in_ok-cube.field-0 c.in_ok-cube.was joins))
 
 pub reason_by_step-next_step-requires-clause-sizes : goal.reason_by_step-next_step-requires-clause-sizes
 reason_by_step-next_step-requires-clause-sizes t c = sizes_among c.args.near.now c.args.rows.now c.args.region.now c.requires.sizes c.requires.near
@@ -145,14 +130,10 @@ reason_by_step-reason_by_outputs-requires t c =
 pub reason-survey_rows-requires : goal.reason-survey_rows-requires
 reason-survey_rows-requires t c = sizes_among c.args.near.now c.args.rows.now c.args.region.now c.requires.sizes c.requires.near
 
-pub reason-returns-in-Some : goal.reason-returns-in-Some
-reason-returns-in-Some t c =
-    record {
-      found = reason_of_some c.args.near.now c.args.rows.now c.args.region.now c.in-Some.cube c.requires.near
-          (subst (λ o. IfSome o (λ d. IsReason c.args.region.now (behind c.args.near.now) d)) c.in-Some.is c.in_ok-found.ensures.found);
-      left_out = tt;
-      spent = tt;
-    }
+pub reason-returns-in-Some-clause-answer : goal.reason-returns-in-Some-clause-answer
+reason-returns-in-Some-clause-answer t c =
+    reason_of_some c.args.near.now c.args.rows.now c.args.region.now c.in-Some.cube c.requires.near
+    (subst (λ o. IfSome o (λ d. IsReason c.args.region.now (behind c.args.near.now) d)) c.in-Some.is c.in_ok-found.ensures.found)
 
 pub reason-reason_by_step-requires : goal.reason-reason_by_step-requires
 reason-reason_by_step-requires t c =
@@ -203,8 +184,8 @@ reason_by_all_rows-reason_by_step-requires t c =
       ),
     )
 
-pub reason_by_all_rows-returns : goal.reason_by_all_rows-returns
-reason_by_all_rows-returns t c =
+pub reason_by_all_rows-returns-clause-answer : goal.reason_by_all_rows-returns-clause-answer
+reason_by_all_rows-returns-clause-answer t c =
     let region = c.args.region.now in
     let rows = c.args.rows.now in
     let met = c.in_ok-found.field-0.meeting.items in
@@ -212,13 +193,8 @@ reason_by_all_rows-returns t c =
     subst (λ o. IfNone o (behind met ≡ meeting (size_of region) region (behind rows))) c.in_default.is
     c.in_ok-found.ensures.meeting in
     let lent = ap behind c.deref.ensures.value ∙ inside in
-    record {
-      found = IfOk-weaker c.reason_by_step.result _ _ (reason_lent rows c.deref.result.now region lent) c.reason_by_step.ensures.found;
-      left_out = IfErr-weaker c.reason_by_step.result _ _
-          (λ stop h part e. left_out_lent rows c.deref.result.now region part c.requires lent (h part e))
-          c.reason_by_step.ensures.left_out;
-      spent = c.reason_by_step.ensures.spent;
-    }
+    answer_lent rows c.deref.result.now region c.args.self.now.limited c.reason_by_step.result c.requires lent
+    (subst (λ l. IsAnswer region (behind c.deref.result.now) l c.reason_by_step.result) c.in_ok-spend.ensures.limited c.reason_by_step.ensures.answer)
 
 pub reason_by_split-with_symbol-requires : goal.reason_by_split-with_symbol-requires
 reason_by_split-with_symbol-requires t c = slice_get_within c.args.region.now.symbols c.args.at.0 Dash c.requires.dash
@@ -240,7 +216,7 @@ reason_by_outputs-unreachable-requires t c =
     let row = c.args.row.now in
     let rest = c.in_ok-rest.rest in
     let other = c.in_ok-other.other in
-    let r = c.in_ok-other.ensures.found in
+    let r = c.in_ok-other.ensures.answer in
     let joins = joined_stack region row other c.requires.size (row_inputs rows region row rest c.requires.size c.requires.meets c.requires.closed)
     (other_inputs rows region row rest c.requires.size c.requires.meets c.requires.closed c.in_ok-rest.ensures.value other r.above (c.has_outputs_beyond.ensures.0 c.if-not-has_outputs_beyond.false))
     (either_output rows region row rest c.requires.size c.requires.meets c.requires.closed c.in_ok-rest.ensures.value other r.above)
@@ -255,50 +231,50 @@ reason_by_other_half-unreachable-requires t c =
     let other = c.in_ok-other.other in
     let second = c.in_ok-second.second in
     let at = c.args.at.0 in
-    let r = c.in_ok-other.ensures.found in
+    let r = c.in_ok-other.ensures.answer in
     let size = SameSize-part other second region r.size c.in_ok-second.ensures.size in
     let mine = freed_half region (with_symbol region at c.args.at.1) one at c.args.at.1 c.requires.dash c.requires.literal c.requires.one_size refl c.requires.one.above in
     let theirs = freed_half region second other at c.opposite.result c.requires.dash
     (subst (λ s. s ≡ Dash → ⊥) (sym c.opposite.ensures) (opposite_literal c.args.at.1 c.requires.literal)) size c.in_ok-second.ensures.value r.above in
     subst (Joins region one other) c.in-None.is (c.in_ok-cube.ensures region c.requires.output c.requires.one_size mine theirs)
 
-pub reason_by_split-returns-in_err-one-clause-left_out : goal.reason_by_split-returns-in_err-one-clause-left_out
-reason_by_split-returns-in_err-one-clause-left_out t c =
+pub reason_by_split-returns-in_err-one-clause-answer : goal.reason_by_split-returns-in_err-one-clause-answer
+reason_by_split-returns-in_err-one-clause-answer t c =
     let p = err_from_is_err_and c.from_residual-in_err-one.result c.from_residual-in_err-one.ensures.1 in
-    rw (p.1, p.2) (λ part e.
-    left_out_of_more (behind c.args.rows.now) c.in_ok-first.first c.args.region.now part c.in_ok-first.ensures.size
+    rw (p.1, p.2) (
+    explains_more (behind c.args.rows.now) c.in_ok-first.first c.args.region.now c.args.self.now.limited _ c.in_ok-first.ensures.size
     (half_within c.args.region.now c.in_ok-first.first c.args.at.0 c.args.at.1 c.requires.dash c.in_ok-first.ensures.value)
-    (c.in_err-one.ensures.left_out part e))
+    c.in_err-one.ensures.answer)
 
-pub reason_by_other_half-returns-in_err-other-clause-left_out : goal.reason_by_other_half-returns-in_err-other-clause-left_out
-reason_by_other_half-returns-in_err-other-clause-left_out t c =
+pub reason_by_other_half-returns-in_err-other-clause-answer : goal.reason_by_other_half-returns-in_err-other-clause-answer
+reason_by_other_half-returns-in_err-other-clause-answer t c =
     let p = err_from_is_err_and c.from_residual-in_err-other.result c.from_residual-in_err-other.ensures.1 in
-    rw (p.1, p.2) (λ part e.
-    left_out_of_more (behind c.args.rows.now) c.in_ok-second.second c.args.region.now part c.in_ok-second.ensures.size
+    rw (p.1, p.2) (
+    explains_more (behind c.args.rows.now) c.in_ok-second.second c.args.region.now c.args.self.now.limited _ c.in_ok-second.ensures.size
     (half_within c.args.region.now c.in_ok-second.second c.args.at.0 c.opposite.result c.requires.dash c.in_ok-second.ensures.value)
-    (c.in_err-other.ensures.left_out part e))
+    c.in_err-other.ensures.answer)
 
-pub reason_by_outputs-returns-in_err-other-clause-left_out : goal.reason_by_outputs-returns-in_err-other-clause-left_out
-reason_by_outputs-returns-in_err-other-clause-left_out t c =
+pub reason_by_outputs-returns-in_err-other-clause-answer : goal.reason_by_outputs-returns-in_err-other-clause-answer
+reason_by_outputs-returns-in_err-other-clause-answer t c =
     let p = err_from_is_err_and c.from_residual-in_err-other.result c.from_residual-in_err-other.ensures.1 in
     let rows = behind c.args.rows.now in
     let region = c.args.region.now in
     let row = c.args.row.now in
     let rest = c.in_ok-rest.rest in
-    rw (p.1, p.2) (λ part e.
-    left_out_of_more rows rest region part
+    rw (p.1, p.2) (
+    explains_more rows rest region c.args.self.now.limited _
     (size_rest rows region row rest c.requires.size c.requires.meets c.requires.closed c.in_ok-rest.ensures.value)
     (rest_within rows region row rest c.requires.size c.requires.meets c.requires.closed c.in_ok-rest.ensures.value)
-    (c.in_err-other.ensures.left_out part e))
+    c.in_err-other.ensures.answer)
 
-pub reason_by_all_rows-returns-then-is_empty-clause-left_out : goal.reason_by_all_rows-returns-then-is_empty-clause-left_out
-reason_by_all_rows-returns-then-is_empty-clause-left_out t c = λ part e.
+pub reason_by_all_rows-returns-then-is_empty-clause-answer : goal.reason_by_all_rows-returns-then-is_empty-clause-answer
+reason_by_all_rows-returns-then-is_empty-clause-answer t c =
     let region = c.args.region.now in
     let rows = c.args.rows.now in
     let met = c.in_ok-found.field-0.meeting.items in
     let inside : behind met ≡ meeting (size_of region) region (behind rows) =
     subst (λ o. IfNone o (behind met ≡ meeting (size_of region) region (behind rows))) c.in_default.is
     c.in_ok-found.ensures.meeting in
-    left_out_whole rows met region part c.requires inside c.in_ok-found.ensures.output
+    left_out_whole rows met region c.in_ok-try_clone.field-0 c.requires inside c.in_ok-found.ensures.output
     (ap behind (none_left met (vec_len c.in_ok-found.field-0.meeting) c.is_empty.result c.in_ok-found.field-0.meeting.ok.0 c.is_empty.ensures c.if-is_empty.true))
-    (sym (same_part c.in_ok-try_clone.field-0 part e) ∙ c.in_ok-try_clone.ensures.value)
+    c.in_ok-try_clone.ensures.value

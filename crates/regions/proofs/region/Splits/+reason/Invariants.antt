@@ -1,6 +1,6 @@
 use Rattle.std.proofs.Common.{◌+◌, ◌*◌}
 use Rattle.regions.specs.Reason.{extent}
-use Rattle.regions.proofs.region.+reason.Given as goal
+use Rattle.regions.proofs.region.Splits.+reason.Given as goal
 
 abbrev pub decreases-reason : goal.decreases-reason
 decreases-reason l = 5 * extent l.region.now + 4
