@@ -26,6 +26,12 @@ use warm_start::{WarmStart, is_worth_a_bound};
 /// More tables than any search looks at.
 pub(crate) const UNLIMITED: u64 = u64::MAX;
 
+/// A brief look with the linear relaxation is at no more than so many tables,
+const BRIEF_TABLES: u64 = 40;
+
+/// after a local search of this part of the steps that one before a long look takes.
+const BRIEF_PART: usize = 8;
+
 /// Why a question has no answer.
 #[derive(Drop)]
 pub(crate) enum Stop {
@@ -389,8 +395,68 @@ impl Table {
         found
     }
 
-    /// A cover within the budget, or none if there is none, where a search did not end soon: a long
-    /// local search looks for one, and then a search with the linear relaxation.
+    /// A cover within the budget, or none if there is none: a local search of `steps` steps a row looks
+    /// for one, and then a search with the linear relaxation.
+    fn find_or_refute_by_relaxation(
+        &self,
+        alloc: Global,
+        choice: Choice,
+        budget: Budget,
+        warm_start: &mut WarmStart,
+        steps: usize,
+        most_tables: u64,
+        lists: &mut Vec<Vec<usize>>,
+    ) -> Result<Option<Vec<usize>>, Stop>
+        ensures { IfOk result (AnswersWithin choice self.now budget) }
+    {
+        let goal = self.goal(choice, budget);
+        let hint = warm_start.hint();
+        let found = self.find_by_local_search(alloc, choice, budget, goal, hint, steps)?;
+        if let Some(cover) = found {
+            return Ok(Some(cover));
+        }
+        let copy = self.copy(alloc)?;
+        copy.search_with_relaxation(alloc, choice, budget, warm_start, most_tables, lists)
+    }
+
+    /// A cover within the budget, or none if there is none: a brief look, which mostly is enough, and
+    /// then a long one.
+    fn find_or_refute_in_two_looks(
+        &self,
+        alloc: Global,
+        choice: Choice,
+        budget: Budget,
+        warm_start: &mut WarmStart,
+        most_tables: u64,
+        lists: &mut Vec<Vec<usize>>,
+    ) -> Result<Option<Vec<usize>>, Stop>
+        ensures { IfOk result (AnswersWithin choice self.now budget) }
+    {
+        let steps = steps_of_long_search(self.row_lists(), self.live_columns().len());
+        let found = self.find_or_refute_by_relaxation(
+            alloc,
+            choice,
+            budget,
+            warm_start,
+            steps / BRIEF_PART,
+            most_tables.min(BRIEF_TABLES),
+            lists,
+        );
+        if most_tables <= BRIEF_TABLES || !is_spent(&found) {
+            return found;
+        }
+        self.find_or_refute_by_relaxation(
+            alloc,
+            choice,
+            budget,
+            warm_start,
+            steps,
+            most_tables,
+            lists,
+        )
+    }
+
+    /// A cover within the budget, or none if there is none, where a search did not end soon.
     fn find_or_refute_with_relaxation(
         self,
         alloc: Global,
@@ -405,14 +471,14 @@ impl Table {
         let Some(table) = self.prune(alloc, choice, budget, warm_start, &mut lists)? else {
             return Ok(None);
         };
-        let goal = table.goal(choice, budget);
-        let steps = steps_of_long_search(table.row_lists(), table.live_columns().len());
-        let hint = warm_start.hint();
-        let found = table.find_by_local_search(alloc, choice, budget, goal, hint, steps)?;
-        if let Some(cover) = found {
-            return Ok(Some(cover));
-        }
-        table.search_with_relaxation(alloc, choice, budget, warm_start, most_tables, &mut lists)
+        table.find_or_refute_in_two_looks(
+            alloc,
+            choice,
+            budget,
+            warm_start,
+            most_tables,
+            &mut lists,
+        )
     }
 
     /// A cover within the budget, or none if there is none, as the length is found: if a search does not

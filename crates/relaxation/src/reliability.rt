@@ -20,7 +20,7 @@ const RELIABLE: usize = 8;
 const LOOKAHEAD: u32 = 6;
 
 /// The most steps of a trial.
-const TRIAL_STEPS: u32 = 40;
+const TRIAL_STEPS: u32 = 20;
 
 /// A gain counts at least as much.
 const LEAST_GAIN: f64 = 1e-4;
