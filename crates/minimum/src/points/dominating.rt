@@ -37,6 +37,7 @@ pub(crate) mod literal_search;
 pub(crate) mod open_points;
 pub(crate) mod refusing_rows;
 pub(crate) mod rows_around;
+pub(crate) mod words;
 
 /// Columns that were made, how much more may be looked at, and what is remembered.
 #[derive(Drop)]
