@@ -50,7 +50,8 @@ FEW_ROUNDS = [(ROUNDS, "MOST_ROUNDS: usize = 200", "MOST_ROUNDS: usize = 2")]
 NO_FEW_PRIMES = [(SOURCE, "FEW_PRIMES: usize = 40", "FEW_PRIMES: usize = 0")]
 FEW_LOOKS = [(POINTS, "[200_000_000, 4_000_000_000]", "[15, 60]")]
 FEW_PRIMES_OF_A_POINT = [(SOURCE, "MOST_PRIMES: usize = 30_000", "MOST_PRIMES: usize = 3")]
-FEW_NEEDED_ROUNDS = [(NEEDED, "MOST_ROUNDS: usize = 2_000", "MOST_ROUNDS: usize = 6")]
+FEW_NEEDED_ROUNDS = [(NEEDED, "MOST_ROUNDS: usize = 2_000", "MOST_ROUNDS: usize = 3"),
+                     (NEEDED, "MOST_TIMES: usize = 2_000", "MOST_TIMES: usize = 2")]
 ROWS_AROUND = [(COLUMNS, "LEAST_ROWS_AROUND: usize = 200", "LEAST_ROWS_AROUND: usize = 0"),
                (COLUMNS, "LEAST_POINTS_AROUND: usize = 100", "LEAST_POINTS_AROUND: usize = 0")]
 FEW_WORDS = [(NEEDED, "MOST_WORDS: usize = 4_000_000_000", "MOST_WORDS: usize = 300")]

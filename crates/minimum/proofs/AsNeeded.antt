@@ -1,17 +1,16 @@
 -- Rounds that find places outside as they are needed.
 use Rattle.std.proofs.Common.{◌≡◌, ℕ, zero, suc, ◌+◌, ◌<◌, true, not, ◌||◌, List, [], ◌∷◌, ◌++◌, Result, Ok, Err, OnOk, Option, None, Some, IfSome, IfNone, length, get_or, take, All, ap, sym, subst, ◌∙◌, arith, inl, inr}
 use Rattle.std.specs.List.{Contains, AllZip}
-use Rattle.std.specs.List.Sorted.{IsStrictlySortedBy}
 use Rattle.std.proofs.lemmas.Bool.{cases_Bool, false≢true, not-true, not_from_false, both_ways}
 use Rattle.std.proofs.lemmas.List.{length-append}
 use Rattle.std.proofs.lemmas.List.Elements.{All-more, Contains-append_cases, Contains-append_left}
 use Rattle.std.proofs.lemmas.List.Folds.{list_any-append}
 use Rattle.cube.specs.Size.{Size}
 use Rattle.cube.specs.Cube.{Cube, Place, holds, HasSize, IsCube, IsSubset, IsDisjoint, size_of}
-use Rattle.cube.specs.Order.{row_cmp}
 use Rattle.cube.specs.Sum.{complete_sum}
 use Rattle.cube.proofs.Members.{Contains-nil}
 use Rattle.cube.proofs.SumLemmas.{Contains-complete_sum}
+use Rattle.cube.proofs.SymbolOrder.{maximal_in_part}
 use Rattle.cover.specs.Cubes.{Cubes, AreCubes}
 use Rattle.cover.specs.LeftOut.{IsLeftOut}
 use Rattle.cover.specs.Places.{places}
@@ -19,15 +18,14 @@ use Rattle.cover.specs.Reduced.{HasSameCubes}
 use Rattle.cover.proofs.Lists.{list_any_from, list_any_witness, all_members, members_all}
 use Rattle.covering.specs.declared.choice.Choice.{Choice}
 use Rattle.pla.specs.Sets.{SetLists}
-use Rattle.minimum.specs.Primes.{primes_of, care_on, essential_of, exact_of}
-use Rattle.minimum.specs.Points.{function_of, IsWantedPoint, IsDominated, AreDominating, IsLeastOfPoints}
+use Rattle.minimum.specs.Primes.{primes_of}
+use Rattle.minimum.specs.Points.{function_of, IsWantedPoint, IsDominated, AreColumnsOf}
 use Rattle.minimum.specs.declared.essential_by_neighbours.growth.Side.TheVariants.{Outside}
 use Rattle.minimum.specs.Neighbours.{on_side, IsGrown}
 use Rattle.minimum.specs.Dominating.{primes_outside, IsImplicant}
-use Rattle.minimum.specs.AsNeeded.{inside_of, AreOutside, AreOpenPoints, ArePrimesInside}
-use Rattle.minimum.proofs.Dominating.{prime_parts}
-use Rattle.minimum.proofs.PickedPoints.{Contains-one, columns_apart, implicant_prime}
-use Rattle.minimum.proofs.PointTables.{points_are_enough, least_beside}
+use Rattle.minimum.specs.declared.as_needed.Known.{Known}
+use Rattle.minimum.specs.AsNeeded.{inside_of, primes_inside, AreOutside, IsKnown}
+use Rattle.minimum.proofs.PickedPoints.{Contains-one}
 
 -- ---- places of both lists
 
@@ -135,74 +133,50 @@ module _ (list : Cubes) (cubes : List Cube) where
 
 -- ---- points
 
-pub points_none : (sets : SetLists) (essential points : List Cube) → points ≡ [] → AreOpenPoints sets essential points
-points_none sets essential points e = subst (AreOpenPoints sets essential) (sym e) (record { wanted = λ x h. absurd (Contains-nil x h); apart = λ c x k h. absurd (Contains-nil x h) })
+pub apart_more : (sets : SetLists) (essential old new : List Cube) (point : Cube) → new ≡ old ++ point ∷ [] → IsWantedPoint (function_of sets) point → IsDisjoint (holds point) (places essential)
+    → ((c x : Cube) → Contains essential c → Contains old x → IsSubset (holds x) (holds c) → ⊥) → (c x : Cube) → Contains essential c → Contains new x → IsSubset (holds x) (holds c) → ⊥
+apart_more sets essential old new point e wanted apart h c x own k sub = elim (Contains-append_cases old (point ∷ []) x (subst (λ l. Contains l x) e k)) [
+  | inl m ↦ h c x own m sub
+  | inr m ↦
+      let held : holds c wanted.place ≡ true = sub wanted.place (ap (λ d. holds d wanted.place) (sym (Contains-one point x m)) ∙ wanted.at.held) in
+      apart wanted.place wanted.at.held (list_any_from (λ d. holds d wanted.place) essential c own held)
+]
 
-pub points_beside_none : (sets : SetLists) (essential points : List Cube) → AreOpenPoints sets essential points → AreOpenPoints sets [] points
-points_beside_none sets essential points h = record { wanted = h.wanted; apart = λ c x k. absurd (Contains-nil c k) }
-
-pub points_more : (sets : SetLists) (essential old new : List Cube) (point : Cube) → new ≡ old ++ point ∷ [] → IsWantedPoint (function_of sets) point → IsDisjoint (holds point) (places essential) → AreOpenPoints sets essential old
-    → AreOpenPoints sets essential new
-points_more sets essential old new point e wanted apart h = record {
-  wanted = λ x k. elim (Contains-append_cases old (point ∷ []) x (subst (λ l. Contains l x) e k)) [
-    | inl m ↦ h.wanted x m
-    | inr m ↦ subst (IsWantedPoint (function_of sets)) (Contains-one point x m) wanted
-  ];
-  apart = λ c x own k sub. elim (Contains-append_cases old (point ∷ []) x (subst (λ l. Contains l x) e k)) [
-    | inl m ↦ h.apart c x own m sub
-    | inr m ↦
-        let held : holds c wanted.place ≡ true = sub wanted.place (ap (λ d. holds d wanted.place) (sym (Contains-one point x m)) ∙ wanted.at.held) in
-        apart wanted.place wanted.at.held (list_any_from (λ d. holds d wanted.place) essential c own held)
-  ];
+-- no place outside, and no point
+pub nothing_known : (choice : Choice) (sets : SetLists) (essential : List Cube) (known : Known) → known.outside ≡ record { size = sets.size; cubes = [] } → known.found.points.items ≡ [] → known.found.columns.size ≡ sets.size
+    → known.found.columns.cubes ≡ [] → IsKnown choice sets essential known
+nothing_known choice sets essential known outside points size columns = record {
+  outside = outside_none (inside_of sets) known.outside (ap (λ (l : Cubes). l.size) outside) (ap (λ (l : Cubes). l.cubes) outside);
+  found = record {
+    wanted = λ x k. absurd (Contains-nil x (subst (λ l. Contains l x) points k));
+    primes = λ c k. absurd (Contains-nil c (subst (λ l. Contains l c) columns k));
+    dominated = λ x c k. absurd (Contains-nil x (subst (λ l. Contains l x) points k));
+    size = size;
+  };
+  apart = λ c x own k. absurd (Contains-nil x (subst (λ l. Contains l x) points k));
 }
 
 -- ---- columns that avoid some places outside
 
-module _ (sets : SetLists) (outside : Cubes) (out : AreOutside (inside_of sets) outside) where
-  prime_implicant : (c : Cube) → Contains (primes_of sets) c → IsCube outside.size c × IsImplicant outside c
-  prime_implicant c member =
-      let is = (Contains-complete_sum sets.size (λ p. places sets.on p || places sets.dc p) c).0 member in (
-        subst (λ z. IsCube z c) (sym out.size) is.is_cube,
-        λ p h. elim (cases_Bool (places outside.cubes p)) [
-          | inl e ↦ absurd (out.apart p e (place_of_both sets p ∙ is.within p h))
-          | inr e ↦ not_from_false (places outside.cubes p) e
-        ],
-      )
+pub primes_are : (sets : SetLists) (all : Cubes) → all ≡ inside_of sets → primes_inside all ≡ primes_of sets
+primes_are sets all is = ap (λ (l : Cubes). complete_sum l.size (places l.cubes)) is ∙ ap (complete_sum sets.size) (λ i p. place_of_both sets p i)
 
-  pub columns_dominate : (choice : Choice) (points columns : List Cube) → AreOpenPoints sets [] points → ((c : Cube) → Contains columns c → Contains (primes_outside outside) c)
-      → ((x c : Cube) → Contains points x → IsCube outside.size c → IsImplicant outside c → IsSubset (holds x) (holds c) → IsDominated choice points columns c) → AreDominating choice (function_of sets) points columns
-  columns_dominate choice points columns points_open primes dominated = record {
-    wanted = points_open.wanted;
-    cubes = λ c k. subst (λ z. IsCube z c) out.size (prime_parts outside c (primes c k)).is_cube;
-    apart = columns_apart outside.size outside.cubes columns primes;
-    dominated = λ x c k member sub. let is = prime_implicant c member in dominated x c k is.0 is.1 sub;
+module _ (all outside : Cubes) (out : AreOutside all outside) where
+  avoids : (p : Place) → places all.cubes p ≡ true → not (places outside.cubes p) ≡ true
+  avoids p inside = elim (cases_Bool (places outside.cubes p)) [ inl e ↦ absurd (out.apart p e inside) | inr e ↦ not_from_false (places outside.cubes p) e ]
+
+  -- those that are held are primes
+  pub columns_are_primes : (choice : Choice) (points : List Cube) (point : Cube) (columns row : List Cube) → HasSameCubes columns row → ((c : Cube) → Contains columns c → Contains (primes_outside outside) c)
+      → ((c : Cube) → IsCube outside.size c → IsImplicant outside c → IsSubset (holds point) (holds c) → IsDominated choice points columns c) → All (λ d. IsSubset (holds d) (places all.cubes)) row
+      → AreColumnsOf choice (primes_inside all) points point row
+  columns_are_primes choice points point columns row same primes dominated within = record {
+    primes = λ c k.
+        let member = subst (λ z. Contains (complete_sum z (λ p. not (places outside.cubes p))) c) out.size (primes c ((same c).1 k)) in
+        (Contains-complete_sum all.size (places all.cubes) c).1
+        (maximal_in_part all.size (λ p. not (places outside.cubes p)) (places all.cubes) c (λ p place inside. avoids p inside) ((Contains-complete_sum all.size (λ p. not (places outside.cubes p)) c).0 member)
+        (all_members (λ d. IsSubset (holds d) (places all.cubes)) row within c k));
+    dominated = λ c member sub.
+        let is = (Contains-complete_sum all.size (places all.cubes) c).0 member in
+        let d = dominated c (subst (λ z. IsCube z c) (sym out.size) is.is_cube) (λ p h. avoids p (is.within p h)) sub in
+        record { column = d.column; member = (same d.column).0 d.member; dominates = d.dominates };
   }
-
-  pub columns_inside : (columns list : List Cube) → ((c : Cube) → Contains columns c → Contains (primes_outside outside) c) → ((c : Cube) → Contains list c → Contains columns c) → ArePrimesInside sets list
-  columns_inside columns list primes from c k within =
-      implicant_prime sets outside.cubes c
-      (λ p place known. elim (cases_Bool (places sets.on p || places sets.dc p)) [
-        | inl e ↦ absurd (out.apart p known (place_of_both sets p ∙ e))
-        | inr e ↦ e
-      ])
-      (subst (λ z. Contains (complete_sum z (λ p. not (places outside.cubes p))) c) out.size (primes c (from c k)))
-      (λ p h. sym (place_of_both sets p) ∙ within p h)
-
--- no point and no column
-pub nothing_dominates : (choice : Choice) (sets : SetLists) (points columns : List Cube) → points ≡ [] → columns ≡ [] → AreDominating choice (function_of sets) points columns
-nothing_dominates choice sets points columns e f = record {
-  wanted = λ x k. absurd (Contains-nil x (subst (λ l. Contains l x) e k));
-  cubes = λ c k. absurd (Contains-nil c (subst (λ l. Contains l c) f k));
-  apart = λ c d k l. absurd (Contains-nil c (subst (λ z. Contains z c) f k));
-  dominated = λ x c k. absurd (Contains-nil x (subst (λ l. Contains l x) e k));
-}
-
--- ---- the end
-
-pub chosen_are_enough : (choice : Choice) (sets : SetLists) (essential points chosen answer : List Cube) → AreCubes sets.size sets.on → essential ≡ essential_of sets (primes_of sets) → AreOpenPoints sets essential points
-    → IsLeastOfPoints choice (function_of sets) [] points chosen → ArePrimesInside sets chosen → All (λ d. IsSubset (holds d) (places (sets.on ++ sets.dc))) chosen → IsSubset (care_on sets) (places (essential ++ chosen))
-    → IsStrictlySortedBy row_cmp answer → HasSameCubes (essential ++ chosen) answer → answer ≡ exact_of choice sets
-chosen_are_enough choice sets essential points chosen answer on_cubes is points_open least primes within held rising same =
-    points_are_enough choice sets essential points chosen answer on_cubes (λ c k. subst (λ l. Contains l c) is k)
-    (least_beside choice (function_of sets) essential points chosen points_open.apart least)
-    (λ c k. primes c k (all_members (λ d. IsSubset (holds d) (places (sets.on ++ sets.dc))) chosen within c k)) held rising same

@@ -1,8 +1,8 @@
 -- Points that are picked, and the primes that contain them.
-use Rattle.std.proofs.Common.{◌≡◌, ◌≢◌, ℕ, suc, ◌<◌, Bool, true, false, cond, not, ◌&&◌, ◌||◌, List, [], ◌∷◌, ◌++◌, length, map, get_or, All, refl, ap, ap₂, sym, subst, ◌∙◌, arith, inl, inr}
+use Rattle.std.proofs.Common.{◌≡◌, ◌≢◌, ℕ, suc, ◌<◌, Bool, true, false, cond, not, ◌&&◌, List, [], ◌∷◌, ◌++◌, length, map, get_or, All, refl, ap, ap₂, sym, subst, ◌∙◌, arith, inl, inr}
 use Rattle.std.specs.Prelude.{filter}
 use Rattle.std.specs.List.{Contains, range_with_len}
-use Rattle.std.proofs.lemmas.Bool.{cases_Bool, false≢true, and_parts, not-true, both_ways}
+use Rattle.std.proofs.lemmas.Bool.{false≢true, and_parts, not-true, both_ways}
 use Rattle.std.proofs.lemmas.List.{get_or-map}
 use Rattle.std.proofs.lemmas.List.FromFn.{get_or-map-range_with_len}
 use Rattle.std.proofs.lemmas.List.Elements.{All-filter, Contains-append_cases}
@@ -16,7 +16,7 @@ use Rattle.cube.proofs.Members.{Contains-nil, Contains-cases, Contains-filter, C
 use Rattle.cube.proofs.SharpLemmas.{some_true}
 use Rattle.cube.specs.Sum.{is_subset, complete_sum}
 use Rattle.cube.proofs.SumLemmas.{Contains-complete_sum, IsPlace-from_holds, implied_at}
-use Rattle.cube.proofs.SymbolOrder.{symbols_same, same_symbols_in_sum, maximal_in_part}
+use Rattle.cube.proofs.SymbolOrder.{symbols_same, same_symbols_in_sum}
 use Rattle.cover.specs.Cubes.{AreCubes, Cubes}
 use Rattle.cover.specs.Places.{places}
 use Rattle.cover.specs.Contained.{is_within}
@@ -133,6 +133,21 @@ module _ (sets : SetLists) (source : Source) where
     size = size ∙ was.size;
   }
 
+-- the same points and columns
+pub found_again : (choice : Choice) (f : Function) (old new : PickedPoints) → new.points.items ≡ old.points.items → new.columns ≡ old.columns → IsFound choice f old → IsFound choice f new
+found_again choice f old new points columns h = record {
+  wanted = λ x k. h.wanted x (subst (λ l. Contains l x) points k);
+  primes = λ c k. h.primes c (subst (λ (l : Cubes). Contains l.cubes c) columns k);
+  dominated = λ x c k member sub.
+      let own = h.dominated x c (subst (λ l. Contains l x) points k) member sub in
+      record {
+        column = own.column;
+        member = subst (λ (l : Cubes). Contains l.cubes own.column) (sym columns) own.member;
+        dominates = record { over = λ y m. own.dominates.over y (subst (λ l. Contains l y) points m); good = own.dominates.good };
+      };
+  size = ap (λ (l : Cubes). l.size) columns ∙ h.size;
+}
+
 -- the columns are of the size of each point
 pub dominating_sizes : (choice : Choice) (sets : SetLists) (points columns : List Cube) → AreDominating choice (function_of sets) points columns → (x : Cube) → Contains points x → All (λ d. SameSize d x) columns
 dominating_sizes choice sets points columns h x there =
@@ -196,21 +211,6 @@ found_dominate choice f s found e h = record {
   where
     member : (c : Cube) → Contains found.columns.cubes c → Contains (complete_sum f.size s) c
     member c k = subst (λ l. Contains l c) e (h.primes c k)
-
--- ---- columns that are maximal outside a list of places outside
-
--- they differ in their literals
-pub columns_apart : (size : Size) (known columns : List Cube) → ((c : Cube) → Contains columns c → Contains (complete_sum size (λ p. not (places known p))) c) → (c d : Cube) → Contains columns c → Contains columns d → c.symbols ≡ d.symbols → c ≡ d
-columns_apart size known columns maximal c d k l = same_symbols_in_sum size (λ p. not (places known p)) c d (maximal c k) (maximal d l)
-
--- one that is an implicant is a prime
-pub implicant_prime : (sets : SetLists) (known : List Cube) (c : Cube) → ((p : Place) → IsPlace sets.size p → places known p ≡ true → (places sets.on p || places sets.dc p) ≡ false) → Contains (complete_sum sets.size (λ p. not (places known p))) c
-    → IsSubset (holds c) (λ p. places sets.on p || places sets.dc p) → Contains (primes_of sets) c
-implicant_prime sets known c out maximal within =
-    (Contains-complete_sum sets.size (λ p. places sets.on p || places sets.dc p) c).1
-    (maximal_in_part sets.size (λ p. not (places known p)) (λ p. places sets.on p || places sets.dc p) c
-    (λ p place inside. elim (cases_Bool (places known p)) [ inr e ↦ ap not e | inl e ↦ absurd (both_ways _ (out p place e) inside) ])
-    ((Contains-complete_sum sets.size (λ p. not (places known p)) c).0 maximal) within)
 
 -- ---- the function of other lists
 

@@ -2,40 +2,41 @@
 //!
 //! Where rows are wide and many, or where many functions are joined in one output, the places outside
 //! ON and DC take too many cubes to make, and there are too many primes to list. Neither is needed.
-//! Columns that are grown without some of the places outside, and so are no primes, make the table
-//! only easier to cover: if the cubes of its least cover are primes, it is the least cover by primes
-//! (the law `points_are_enough`).
+//! A point of what a cover leaves out asks for a column that contains it, and the columns of some
+//! points are mostly enough: if the least cover of their table holds all wanted places, it is the
+//! least cover by primes (the law `points_are_enough`).
 //!
 //! First come the essential primes, which each cover has. If they and the DC cubes hold all ON cubes,
 //! they are the answer. Else points are picked of what they leave out, in rounds. The columns of a
-//! round avoid the places outside that are known so far. A chosen cube that is no implicant shows a
-//! place outside that is not known, and the cube that this is grown to is known from then on. Where
-//! all that are chosen are implicants they are primes, and a wanted place that is left out is the
-//! next point.
+//! point avoid the places outside that are known so far. A column that is no implicant shows a place
+//! outside that is not known, and the cube that this is grown to is known from then on. The columns
+//! are made anew until all are implicants: then they are primes, and no other point changes them.
+//! A wanted place that the cover of the table leaves out is the next point.
 //!
-//! A round costs the columns of the points, the cover of their table, and a question for each chosen
-//! cube, or for each ON cube once all chosen ones are implicants. Seen were two to twenty cubes with
-//! places outside for a point.
+//! A point costs its columns, and a question for each of them, two to ten times; a round costs a cover
+//! of the table, and a question for each ON cube. Seen were five to fifty cubes with places outside
+//! for a point.
 
-ghost use Rattle.std.specs.Prelude.{◌≡◌, ◌≢◌, ◌++◌, true, [], IfOk, IfSome, OnOk, All, length};
+ghost use Rattle.std.specs.Prelude.{◌≡◌, ◌≢◌, ◌<◌, ◌++◌, true, [], IfOk, IfSome, OnOk, All, length};
 ghost use Rattle.std.specs.List.{Contains};
 ghost use Rattle.cube.specs.declared.symbol.Symbol.TheVariants.{Dash};
 ghost use Rattle.cube.specs.Cube.{Cube as Row, HasSize, IsCube, IsSubset, size_of};
 ghost use Rattle.cube.specs.Limits.{IsWithinLimits, format_limits};
 ghost use Rattle.cover.specs.Cubes.{AreCubes};
+ghost use Rattle.cover.specs.Marks.{cube_at};
 ghost use Rattle.cover.specs.Places.{places};
 ghost use Rattle.pla.specs.Sets.{SetLists};
 ghost use Rattle.minimum.specs.Primes.{care_on, essential_of, exact_of, primes_of};
 ghost use Rattle.minimum.specs.PrimeRows.{HasOneOutput};
-ghost use Rattle.minimum.specs.Points.{AreDominating, IsLeastOfPoints, IsOnePoint, function_of};
-ghost use Rattle.minimum.specs.AsNeeded.{inside_of, AreOutside, AreOpenPoints, IsKnown, IsChosen};
+ghost use Rattle.minimum.specs.Points.{AreColumnsOf, IsOnePoint};
+ghost use Rattle.minimum.specs.AsNeeded.{inside_of, primes_inside, AreOutside, IsKnown};
 
 use crate::as_needed::places_outside::{add_refusals, add_refusals_of_growth, parts_left_out};
 use crate::cubes::are_apart;
 use crate::essential_by_neighbours::find_essential;
 use crate::essential_by_neighbours::reached_outputs::outputs_at;
-use crate::points::dominating::dominating_columns;
-use crate::points::picked_points::push_cube;
+use crate::points::dominating::columns_of_point;
+use crate::points::picked_points::{PickedPoints, push_cube};
 use crate::points::rounds::cover_of_points;
 use crate::points::{is_wanted, point_with};
 use crate::prime_implicants::on_and_dc;
@@ -52,19 +53,24 @@ mod places_outside;
 struct Known {
     /// Cubes none of whose places is in ON or DC.
     outside: Cover,
-    /// Wanted points that lie in no essential prime.
-    points: Vec<Cube>,
+    /// Wanted points that lie in no essential prime, with their columns.
+    found: PickedPoints,
+    /// How many looks at a cube or a point are left for columns.
+    looks: usize,
 }
 
 impl Known {
     /// Nothing.
-    fn new(alloc: Global, shape: Shape) -> Known
+    fn new(alloc: Global, shape: Shape, looks: usize) -> Known
         ensures outside { result.outside ≡ record { size = shape; cubes = [] } }
-        ensures points { result.points.items ≡ [] }
+        ensures points { result.found.points.items ≡ [] }
+        ensures size { result.found.columns.size ≡ shape }
+        ensures columns { result.found.columns.cubes ≡ [] }
     {
         Known {
             outside: Cover::new(alloc, shape),
-            points: Vec::new(alloc),
+            found: PickedPoints::new(alloc, shape),
+            looks,
         }
     }
 }
@@ -103,20 +109,61 @@ fn point_in(alloc: Global, outside: &Cover, cube: &Cube) -> Result<Option<Cube>,
     Ok(None)
 }
 
-/// Adds a point of the part, if it is wanted and lies in no essential prime.
+// At most this many times the columns of a point are made.
+const MOST_TIMES: usize = 2_000;
+
+/// Primes that dominate all that contain the point with this number: columns that avoid the places
+/// known to be outside, made anew until all are implicants. `None` where they take more looks than
+/// are left; then none is left.
+fn primes_of_point(
+    alloc: Global,
+    all: &Cover,
+    points: &[Cube],
+    number: usize,
+    choice: Choice,
+    outside: &mut Cover,
+    looks: &mut usize,
+) -> Result<Option<Cover>, AllocError>
+    requires points { AreCubes all.now.size points.now }
+    requires number { number < length points.now }
+    requires outside { AreOutside all.now outside.old }
+    ensures outside { OnOk result (AreOutside all.now outside.new) }
+    ensures size { IfOk result (λ o. IfSome o (λ row. row.size ≡ all.now.size)) }
+    ensures columns { IfOk result (λ o. IfSome o (λ row. AreColumnsOf choice
+        (primes_inside all.now) points.now (cube_at points.now number) row.cubes)) }
+{
+    for _ in 0..MOST_TIMES {
+        let Some(columns) = columns_of_point(alloc, outside, points, number, choice, *looks)? else {
+            break;
+        };
+        let of_a_column = outside.len().saturating_add(points.len());
+        *looks = looks.saturating_sub(columns.len().saturating_mul(of_a_column));
+        let row = in_row_order(&columns)?;
+        let refused = parts_left_out(alloc, all, row.as_slice())?;
+        if refused.is_empty() {
+            return Ok(Some(row));
+        }
+        add_refusals(alloc, all, &refused, outside)?;
+    }
+    *looks = 0;
+    Ok(None)
+}
+
+/// Adds a point of the part, if it is wanted, lies in no essential prime, and its columns are found.
 fn add_point_in(
     alloc: Global,
     sets: &Sets,
     all: &Cover,
     essential: &Cover,
     part: &Cube,
+    choice: Choice,
     known: &mut Known,
 ) -> Result<(), AllocError>
     requires all { all.now ≡ inside_of sets.now }
     requires essential { essential.now.size ≡ sets.now.size }
     requires part { IsCube sets.now.size part.now }
-    requires known { IsKnown sets.now essential.now.cubes known.old }
-    ensures { OnOk result (IsKnown sets.now essential.now.cubes known.new) }
+    requires known { IsKnown choice sets.now essential.now.cubes known.old }
+    ensures { OnOk result (IsKnown choice sets.now essential.now.cubes known.new) }
 {
     let Some(point) = point_in(alloc, &known.outside, part)? else {
         return Ok(());
@@ -128,28 +175,38 @@ fn add_point_in(
         return Ok(());
     }
     add_refusals_of_growth(alloc, all, &point, &mut known.outside)?;
-    push_cube(&mut known.points, point)
+    let number = known.found.points.len();
+    push_cube(&mut known.found.points, point)?;
+    let points = &known.found.points;
+    let (outside, looks) = (&mut known.outside, &mut known.looks);
+    match primes_of_point(alloc, all, points, number, choice, outside, looks)? {
+        Some(row) => known.found.columns.append(&row)?,
+        None => known.found.points.truncate(number),
+    }
+    Ok(())
 }
 
-/// Adds a point of each of these parts that has such a point.
+/// Adds a point of each of these parts that has such a point. Whether there is one.
 fn add_points(
     alloc: Global,
     sets: &Sets,
     all: &Cover,
     essential: &Cover,
     parts: &[Cube],
+    choice: Choice,
     known: &mut Known,
-) -> Result<(), AllocError>
+) -> Result<bool, AllocError>
     requires all { all.now ≡ inside_of sets.now }
     requires essential { essential.now.size ≡ sets.now.size }
     requires parts { (c : Row) → Contains parts.now c → IsCube sets.now.size c }
-    requires known { IsKnown sets.now essential.now.cubes known.old }
-    ensures { OnOk result (IsKnown sets.now essential.now.cubes known.new) }
+    requires known { IsKnown choice sets.now essential.now.cubes known.old }
+    ensures { OnOk result (IsKnown choice sets.now essential.now.cubes known.new) }
 {
+    let count = known.found.points.len();
     for part in parts {
-        add_point_in(alloc, sets, all, essential, part, known)?;
+        add_point_in(alloc, sets, all, essential, part, choice, known)?;
     }
-    Ok(())
+    Ok(known.found.points.len() > count)
 }
 
 /// What the list and the DC cubes leave out of the ON cubes.
@@ -178,31 +235,6 @@ fn joined(one: &Cover, other: &Cover) -> Result<Cover, AllocError>
     Ok(both)
 }
 
-/// A cover by columns of the points that avoid the places known to be outside; none where the
-/// columns take more looks at rows than are left.
-fn chosen_cubes(
-    alloc: Global,
-    known: &Known,
-    choice: Choice,
-    is_least: bool,
-    looks: &mut usize,
-) -> Result<Option<Cover>, AllocError>
-    ghost sets: { SetLists }
-    requires on { AreCubes sets.size sets.on }
-    requires limits { IsWithinLimits format_limits sets.size }
-    requires outside { AreOutside (inside_of sets) known.now.outside }
-    requires points { AreOpenPoints sets [] known.now.points.items }
-    ensures { IfOk result (λ o. IfSome o (IsChosen choice sets known.now.points.items is_least)) }
-{
-    let (outside, points) = (&known.outside, &known.points);
-    let Some(columns) = dominating_columns(alloc, outside, points, choice, *looks)? else {
-        return Ok(None);
-    };
-    let of_a_column = outside.len().saturating_add(points.len());
-    *looks = looks.saturating_sub(columns.len().saturating_mul(of_a_column));
-    Ok(Some(cover_of_points(alloc, points, &columns, choice, is_least)?))
-}
-
 // At most this many rounds are made.
 const MOST_ROUNDS: usize = 2_000;
 
@@ -216,8 +248,8 @@ fn most_looks(shape: Shape) -> usize
     MOST_WORDS / (shape.inputs() / 32 + 1)
 }
 
-/// The least cover by the essential primes and columns of points, in rounds, or none where that is
-/// too much.
+/// The least cover by the essential primes and primes of points, in rounds, or none where that is too
+/// much.
 fn exact_beside(
     alloc: Global,
     sets: &Sets,
@@ -234,26 +266,23 @@ fn exact_beside(
         { size = lists.size; cubes = exact_of choice lists })) }
 {
     let shape = all.shape();
-    let mut looks = most_looks(shape);
-    let mut known = Known::new(alloc, shape);
+    let looks = most_looks(shape);
+    let mut known = Known::new(alloc, shape, looks);
     let mut is_least = true;
-    let mut chosen = cover_of_points(alloc, &known.points, &known.outside, choice, is_least)?;
     for _ in 0..MOST_ROUNDS {
-        let refused = parts_left_out(alloc, all, chosen.as_slice())?;
-        if refused.is_empty() {
-            let cover = joined(essential, &chosen)?;
-            let parts = wanted_left_out(alloc, sets, &cover)?;
-            if parts.is_empty() && is_least {
-                return Ok(Some(in_row_order(&cover)?));
-            }
-            is_least = parts.is_empty();
-            add_points(alloc, sets, all, essential, &parts, &mut known)?;
-        } else {
-            add_refusals(alloc, all, &refused, &mut known.outside)?;
+        let (points, columns) = (&known.found.points, &known.found.columns);
+        let chosen = cover_of_points(alloc, points, columns, choice, is_least)?;
+        let cover = joined(essential, &chosen)?;
+        let parts = wanted_left_out(alloc, sets, &cover)?;
+        if parts.is_empty() && is_least {
+            return Ok(Some(in_row_order(&cover)?));
         }
-        match chosen_cubes(alloc, &known, choice, is_least, &mut looks)? {
-            Some(list) => chosen = list,
-            None => return Ok(None),
+        is_least = parts.is_empty();
+        if is_least {
+            continue;
+        }
+        if !add_points(alloc, sets, all, essential, &parts, choice, &mut known)? {
+            return Ok(None);
         }
     }
     Ok(None)
@@ -262,7 +291,7 @@ fn exact_beside(
 /// The least cover by primes, or none where that is too much.
 ///
 /// It costs what [`find_essential`] does, and then rounds whose number has no small bound: each adds
-/// a point that is left out, or a cube with places outside.
+/// points that are left out.
 pub(crate) fn exact_as_needed(
     alloc: Global,
     sets: &Sets,

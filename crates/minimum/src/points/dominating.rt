@@ -37,6 +37,7 @@ pub(crate) mod literal_search;
 pub(crate) mod open_points;
 pub(crate) mod refusing_rows;
 pub(crate) mod rows_around;
+pub(crate) mod words;
 
 /// Columns that were made, how much more may be looked at, and what is remembered.
 #[derive(Drop)]
@@ -241,33 +242,5 @@ pub(crate) fn columns_of_point(
         return Ok(None);
     };
     let columns = cubes_containing(point, &found)?;
-    Ok(Some(columns))
-}
-
-/// Columns that dominate all cubes that meet no cube of the list and contain one of the points, or
-/// `None` where more than so many cubes of the list and points would be looked at for one of them.
-pub(crate) fn dominating_columns(
-    alloc: Global,
-    off: &Cover,
-    points: &[Cube],
-    choice: Choice,
-    most: usize,
-) -> Result<Option<Cover>, AllocError>
-    requires points { AreCubes off.now.size points.now }
-    ensures size { IfOk result (λ o. IfSome o (λ list. list.size ≡ off.now.size)) }
-    ensures primes { IfOk result (λ o. IfSome o (λ list. (c : Row) → Contains list.cubes c
-        → Contains (primes_outside off.now) c)) }
-    ensures dominated { IfOk result (λ o. IfSome o (λ list. (x c : Row) → Contains points.now x
-        → IsCube off.now.size c → IsImplicant off.now c → IsSubset (holds x) (holds c)
-        → IsDominated choice points.now list.cubes c)) }
-{
-    let mut columns = Cover::new(alloc, off.shape());
-    for k in 0..points.len() {
-        let so_far = &points[..k + 1];
-        let Some(row) = columns_of_point(alloc, off, so_far, k, choice, most)? else {
-            return Ok(None);
-        };
-        columns.append(&row)?;
-    }
     Ok(Some(columns))
 }

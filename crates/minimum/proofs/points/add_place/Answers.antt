@@ -1,11 +1,10 @@
-use Rattle.std.proofs.Common.{◌≡◌, ◌∙◌, ◌++◌, ◌∷◌, [], length, take, ap, sym, subst}
+use Rattle.std.proofs.Common.{◌≡◌, ◌∙◌, ◌++◌, ◌∷◌, [], length, take, refl, ap, sym, subst}
 use Rattle.std.proofs.Math.Seq.{get_or-append_seam, take-append_seam}
-use Rattle.std.specs.List.{Contains}
 use Rattle.cube.specs.Cube.{IsCube}
 use Rattle.cover.specs.Cubes.{AreCubes}
 use Rattle.cover.specs.Marks.{cube_at}
 use Rattle.minimum.specs.Points.{AreColumnsOf, IsWantedPoint, function_by, lists_of, source_primes}
-use Rattle.minimum.proofs.PickedPoints.{wanted_point, points_with, found_more}
+use Rattle.minimum.proofs.PickedPoints.{wanted_point, points_with, found_more, found_again}
 use Rattle.minimum.proofs.points.add_place.Goals as goal
 
 pub columns_for-requires-clause-points : goal.columns_for-requires-clause-points
@@ -41,9 +40,4 @@ returns-in-None c =
     let point = c.in-Some.point in
     let number : c.len-number.result ≡ length old.points.items = c.len-number.ensures ∙ old.points.ok.0 in
     let back : c.truncate.new.self.items ≡ old.points.items = c.truncate.ensures.items ∙ ap (take c.len-number.result) c.in_ok-push_cube.ensures ∙ ap (λ n. take n (old.points.items ++ point ∷ [])) number ∙ take-append_seam old.points.items (point ∷ []) in
-    record {
-      wanted = λ x h. c.requires.found.wanted x (subst (λ l. Contains l x) back h);
-      primes = c.requires.found.primes;
-      dominated = λ x d h member sub. let own = c.requires.found.dominated x d (subst (λ l. Contains l x) back h) member sub in record { column = own.column; member = own.member; dominates = record { over = λ y k. own.dominates.over y (subst (λ l. Contains l y) back k); good = own.dominates.good } };
-      size = c.requires.found.size;
-    }
+    found_again c.args.choice (function_by (lists_of c.args.on.now c.args.dc.now) c.args.source.now) old (record { points = c.truncate.new.self; columns = old.columns }) back refl c.requires.found

@@ -10,6 +10,7 @@
 //! What it tried is written down in steps, so that they can be looked at one by one.
 
 use crate::points::dominating::conflicts::conflicts;
+use crate::points::dominating::words::word;
 use cover::Cover;
 use cube::Cube;
 use rows::share_output;
@@ -49,11 +50,6 @@ pub(crate) struct LiteralSearch {
     left: usize,
     /// Room for a set.
     taken: Vec<u64>,
-}
-
-// The word at this index, or none of its bits past the end.
-fn word(list: &[u64], at: usize) -> u64 {
-    if at < list.len() { list[at] } else { 0 }
 }
 
 // How many are in both sets.

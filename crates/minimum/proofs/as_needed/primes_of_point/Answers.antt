@@ -1,0 +1,48 @@
+use Rattle.std.proofs.Common.{◌≡◌, ◌∙◌, [], All, ap, sym, subst, arith}
+use Rattle.std.specs.List.{Contains}
+use Rattle.std.proofs.lemmas.Bool.{eqb-true}
+use Rattle.cube.specs.Cube.{Cube, IsCube, IsSubset, holds}
+use Rattle.cover.specs.Cubes.{AreCubes}
+use Rattle.cover.specs.Marks.{cube_at}
+use Rattle.cover.specs.Places.{places}
+use Rattle.cover.proofs.SumRows.{nothing_left}
+use Rattle.minimum.specs.Points.{IsDominated}
+use Rattle.minimum.specs.Dominating.{primes_outside, IsImplicant}
+use Rattle.minimum.proofs.AsNeeded.{have_size, columns_are_primes}
+use Rattle.minimum.proofs.as_needed.primes_of_point.Goals as goal
+
+pub columns_of_point-requires-clause-points : goal.columns_of_point-requires-clause-points
+columns_of_point-requires-clause-points c = subst (λ z. AreCubes z c.args.points.now) (sym c.loop.invariant.size) c.requires.points
+
+pub parts_left_out-requires : goal.parts_left_out-requires
+parts_left_out-requires c =
+    let size : c.in-Some.columns.size ≡ c.loop.outside.size = rw c.in-Some.is at c.in_ok-columns.ensures.size in
+    have_size c.in_ok-row.row.size c.args.all.now.size c.as_slice.result.now (c.in_ok-row.ensures.size ∙ size ∙ c.loop.invariant.size) c.as_slice.ensures.cubes
+
+pub returns-then-is_empty-clause-size : goal.returns-then-is_empty-clause-size
+returns-then-is_empty-clause-size c =
+    let size : c.in-Some.columns.size ≡ c.loop.outside.size = rw c.in-Some.is at c.in_ok-columns.ensures.size in
+    c.in_ok-row.ensures.size ∙ size ∙ c.loop.invariant.size
+
+pub returns-then-is_empty-clause-columns : goal.returns-then-is_empty-clause-columns
+returns-then-is_empty-clause-columns c =
+    let all = c.args.all.now in
+    let outside = c.loop.outside in
+    let points = c.args.points.now in
+    let columns = c.in-Some.columns in
+    let row = c.in_ok-row.row in
+    let refused = c.in_ok-refused.refused.items in
+    let primes : (d : Cube) → Contains columns.cubes d → Contains (primes_outside outside) d = rw c.in-Some.is at c.in_ok-columns.ensures.primes in
+    let dominated : (d : Cube) → IsCube outside.size d → IsImplicant outside d → IsSubset (holds (cube_at points c.args.number)) (holds d) → IsDominated c.args.choice points columns.cubes d = rw c.in-Some.is at c.in_ok-columns.ensures.dominated in
+    let no_refused : refused ≡ [] = nothing_left refused (
+    let e = eqb-true c.in_ok-refused.refused.len 0 (sym c.is_empty.ensures ∙ c.if-is_empty.true) in
+    let long = c.in_ok-refused.refused.ok.0 in
+    omega (arith, e, long)) in
+    let within : All (λ d. IsSubset (holds d) (places all.cubes)) row.cubes = subst (All (λ d. IsSubset (holds d) (places all.cubes))) c.as_slice.ensures.value (c.in_ok-refused.ensures.held no_refused) in
+    columns_are_primes all outside c.loop.invariant c.args.choice points (cube_at points c.args.number) columns.cubes row.cubes c.in_ok-row.ensures.cubes primes dominated within
+
+pub add_refusals-requires-clause-parts : goal.add_refusals-requires-clause-parts
+add_refusals-requires-clause-parts c d k = c.in_ok-refused.ensures.cubes d (subst (λ l. Contains l d) c.deref.ensures.value k)
+
+pub add_refusals-requires-clause-apart : goal.add_refusals-requires-clause-apart
+add_refusals-requires-clause-apart c d k = c.in_ok-refused.ensures.apart d (subst (λ l. Contains l d) c.deref.ensures.value k)
