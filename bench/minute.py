@@ -21,9 +21,7 @@ sys.dont_write_bytecode = True
 import results  # noqa: E402
 from peers import comparisons, done, measured  # noqa: E402
 from results import Run  # noqa: E402
-from tools import JOBS, MEMORY, MINUTE, OPTIONS, build_of  # noqa: E402
-
-MINUTES = 20.0                     # after which sizes are asked for a second alone
+from tools import JOBS, MEMORY, MINUTE, MINUTES, OPTIONS, build_of  # noqa: E402
 
 
 def words():
@@ -69,7 +67,7 @@ def main():
     resource.setrlimit(resource.RLIMIT_AS, (MEMORY, resource.getrlimit(resource.RLIMIT_AS)[1]))
     compared = comparisons(os.path.abspath(chosen.program))
     labels = {comparison.name: main_tool(comparison).label for comparison in compared}
-    run = Run(chosen.limit, chosen.jobs, program=build_of(chosen.program))
+    run = Run(chosen.limit, chosen.jobs, deadline=chosen.minutes, program=build_of(chosen.program))
     begin = time.monotonic()
     run.rows = run_all(compared, chosen)
     run.minutes = (time.monotonic() - begin) / 60

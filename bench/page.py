@@ -7,7 +7,7 @@ import textwrap
 
 from picture import Panel, Series, picture, power
 from results import kept_minute
-from tools import JOBS, LIMIT, MEMORY, MINUTE, SECOND, SHORT, is_installed, start, version
+from tools import JOBS, LIMIT, MEMORY, MINUTE, MINUTES, SECOND, SHORT, is_installed, start, version
 
 TOP = os.path.dirname(os.path.dirname(os.path.abspath(__file__)))
 DOCS = os.path.join(TOP, "docs")
@@ -388,12 +388,14 @@ either, with the bounds that HiGHS then had on a least cover of the first that i
 
 HARDEST = "In an hour of one processor, subgradient steps, cbc and a local search came to these bounds on least covers: {told}."
 
+LATE = ".\nAfter {deadline:g} minutes the first asked larger files for a second alone"
+
 SHORTER = "Files that are minimised already are not always answered sooner than their sources: {told}."
 
 COMMAND = """## How it was measured
 
 Two commands write this page, its pictures and the tables, and the table in README.md. The first asks this tool alone, for the first table
-here, and took {asked:.0f} minutes; the second runs all tools, writes the pages, and took {minutes:.0f} minutes{builds}:
+here, and took {asked:.0f} minutes; the second runs all tools, writes the pages, and took {minutes:.0f} minutes{builds}{late}:
 
     bench/minute.py PROGRAM --write{minute_options}
     bench/peers.py PROGRAM --write{options}
@@ -466,11 +468,16 @@ def options_of(run, limit):
     return ("" if run.limit == limit else f" --limit {run.limit:g}") + ("" if run.jobs == JOBS else f" --jobs {run.jobs}")
 
 
+def minute_options(minute):
+    return options_of(minute, MINUTE) + ("" if minute.deadline == MINUTES else f" --minutes {minute.deadline:g}")
+
+
 def how(compared, run, minute):
     count = {2: "Two", 3: "Three", 4: "Four"}.get(run.jobs, run.jobs)
     running = "One process ran at a time" if run.jobs == 1 else f"{count} processes ran at a time, each on a processor of its own"
     machine = {name: value for name, value in run.facts.items() if name != "tools"}
-    yield COMMAND.format(minutes=run.minutes, asked=minute.minutes, options=options_of(run, LIMIT), minute_options=options_of(minute, MINUTE),
+    yield COMMAND.format(minutes=run.minutes, asked=minute.minutes, options=options_of(run, LIMIT), minute_options=minute_options(minute),
+                         late=LATE.format(deadline=minute.deadline) if minute.minutes > minute.deadline else "",
                          builds="" if run.program == minute.program else ", on another build of this tool")
     yield filled(FILES)
     yield filled(MACHINE, running=running, short=SHORT, limit=run.limit, minute=minute_told(minute), bytes=MEMORY / 2 ** 30, **machine)

@@ -38,10 +38,11 @@ class Row:
 @dataclass
 class Run:
     """The rows of all families, by the names of their comparison and their own, and how they were found. `program` tells the builds
-    of the program apart."""
+    of the program apart; after `deadline` minutes sizes were asked for a second alone."""
     limit: float
     jobs: int
     minutes: float = 0
+    deadline: float = 0
     facts: dict = field(default_factory=dict)
     rows: dict = field(default_factory=dict)
     program: str = ""
@@ -65,11 +66,11 @@ def keep_minute(run, labels, with_others=False):
         totals = [(row.label, row.totals[labels[name[0]]]) for row in rows]
         return [[size, total.longest and round(total.longest, 4), total.why] for size, total in totals]
     found = {": ".join(name): told(name, rows) for name, rows in run.rows.items()}
-    head = {"limit": run.limit, "jobs": run.jobs, "minutes": round(run.minutes, 1), "program": run.program}
+    head = {"limit": run.limit, "jobs": run.jobs, "minutes": round(run.minutes, 1), "deadline": run.deadline, "program": run.program}
     if with_others and os.path.exists(MINUTE):
         with open(MINUTE) as file:
             before = json.load(file)
-        head["minutes"] = before["minutes"]
+        head |= {name: before[name] for name in ("minutes", "deadline")}
         found = {name: found.get(name, sizes) for name, sizes in before.items() if name not in head} | found
     with open(MINUTE, "w") as out:
         out.write("{\n" + ",\n".join(f"{json.dumps(name, ensure_ascii=False)}: {json.dumps(value, ensure_ascii=False)}"
@@ -82,7 +83,7 @@ def kept_minute(labels):
         return Run(60, 1)
     with open(MINUTE) as file:
         told = json.load(file)
-    run = Run(*(told.pop(name) for name in ("limit", "jobs", "minutes")), program=told.pop("program"))
+    run = Run(*(told.pop(name) for name in ("limit", "jobs", "minutes", "deadline")), program=told.pop("program"))
     for names, sizes in told.items():
         name = tuple(names.split(": ", 1))
         run.rows[name] = [Row(size, 0, {labels[name[0]]: Total(seconds, seconds, why=why)}, None, "") for size, seconds, why in sizes]

@@ -26,6 +26,7 @@ LIMIT = 5                          # seconds that a run may take, and how many r
 JOBS = 3
 MEMORY = 4 << 30                   # bytes that a run may take
 SECOND, MINUTE = 1.0, 60.0
+MINUTES = 20.0                     # of minute.py, after which sizes are asked for a second alone
 SHORT = 0.5                        # seconds; shorter runs are made three times, and the least time counts
 START = 5                          # seconds more for a tool that tells its own time, for its start
 SYSTEM_PYTHON = "/usr/bin/python3"  # has scipy, if the package is installed
