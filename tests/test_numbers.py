@@ -129,7 +129,7 @@ COVERED = {
     "docs/TRUSTED.md": (),
     "docs/FORMAT.md": (),
     "docs/ARCHITECTURE.md": (),
-    "README.md": ("10 to 20 minutes on four processors", "42 minutes on two processors", "Python 3.9", "`rattle-kit-13f`"),
+    "README.md": ("10 to 20 minutes on four processors", "40 to 60 minutes on two processors", "Python 3.9", "`rattle-kit-13f`"),
 }
 
 
