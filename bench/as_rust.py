@@ -4,6 +4,7 @@
     bench/as_rust.py FOLDER [CRATE ..]       writes FOLDER/crates, and builds FOLDER/CRATE (none named: FOLDER/espresso)
     bench/as_rust.py FOLDER --lines ..       likewise, with the lines of the sources for callgrind and perf
     bench/as_rust.py FOLDER --write ..       writes the sources and builds nothing
+    bench/as_rust.py FOLDER effort           builds bench/effort.rs: what the covering solver does on a file, in figures
 
 Contracts, ghost items and tactics are left out; the rest of each file stays as it is, line by line, so that a line of
 the Rust is the line of the .rt file. What the crates use of Rattle's library and of its ports stands in
@@ -19,6 +20,7 @@ import sys
 TOP = os.path.dirname(os.path.dirname(os.path.realpath(__file__)))
 SHIM = os.path.join(TOP, "bench/rust_shim")
 MAIN = "espresso_program"          # the crate of the program, whose file is called espresso
+OWN = {"effort": ["pla", "minimum"]}   # programs of the workbench itself, bench/NAME.rs, with their libraries
 PORTS = ("smallvec", "memchr", "itoa", "itertools", "clap")          # each is a file of the shim
 
 # What is no code: comments, texts, characters and lifetimes.
@@ -105,10 +107,10 @@ def as_rust(text, is_root):
 
 
 def listed():
-    """Each crate of crates.txt with its libraries."""
+    """Each crate of crates.txt with its libraries, and the programs of the workbench."""
     with open(os.path.join(TOP, "crates.txt")) as file:
         lines = [line.partition("#")[0].partition(":") for line in file]
-    return {name.split()[0]: needs.split() for name, colon, needs in lines if colon}
+    return {**OWN, **{name.split()[0]: needs.split() for name, colon, needs in lines if colon}}
 
 
 def needed(programs):
@@ -149,6 +151,12 @@ def as_it_is(path, text):
     return text
 
 
+def write_own(folder, name, needs):
+    write_package(folder, name, ["rattle_std", *needs])
+    with open(os.path.join(TOP, "bench", name + ".rs")) as file:
+        write_if_new(os.path.join(folder, name, "src/main.rs"), file.read())
+
+
 def write_crate(folder, name, needs, changed):
     write_package(folder, name, ["rattle_std", *needs])
     source, target = os.path.join(TOP, "crates", name, "src"), os.path.join(folder, name, "src")
@@ -173,7 +181,10 @@ def write_all(folder, programs, changed=as_it_is):
     crates = needed(programs)
     write_shim(folder)
     for name, needs in crates.items():
-        write_crate(folder, name, needs, changed)
+        if name in OWN:
+            write_own(folder, name, needs)
+        else:
+            write_crate(folder, name, needs, changed)
     members = ", ".join(f'"{name}"' for name in [*crates, "rattle_std", *PORTS])
     write_if_new(os.path.join(folder, "Cargo.toml"), f"""[workspace]
 members = [{members}]

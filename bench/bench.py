@@ -11,8 +11,7 @@ is meant to stay within. Some cases also run berkeley-abc's `cec` or minisat on 
 same question, where these are installed. With --instructions, callgrind counts the
 instructions of one more run of each case, where valgrind is installed, and with --against
 those of OTHER too: how many times as many they are, and whether both write the same. With --effort,
-EFFORT, the program of crates/effort (crates/effort/out/effort, once the gate has
-built it), prints for each case of `exact` what its search did: primes, rows and live
+EFFORT, which `bench/as_rust.py FOLDER effort` builds of bench/effort.rs, prints for each case of `exact` what its search did: primes, rows and live
 columns of the reduced table, tables that were looked at (the nodes of the search),
 questions, rounds of steps, and products of the answer.
 """

@@ -24,7 +24,7 @@ NO_SOURCE = "their sources have no answers"
 
 # The rows of README's table, and the families that they are.
 README_ROWS = {
-    "control logic, as inputs / outputs": ("control logic", "decoded control logic"),
+    "decoded control logic, as inputs / outputs": ("control logic", "decoded control logic"),
     "tables of truth: two numbers added": ("tables of truth", "sums"),
     "samples of type fr: 100 points": ("samples", "one output, 100 rows"),
     "tables of truth: a number squared": ("tables of truth", "squares")}

@@ -43,7 +43,8 @@ pub fn is_within_either(list: &Cover, other: &Cover, dc: &Cover) -> Result<bool,
 
 /// Whether the lists agree outside `dc`: each place that is in no cube of `dc` is in both lists or
 /// in neither (equivalence modulo don't-cares). Rows that both lists have, in any order, are
-/// skipped in time linear in the lists, but for a few that may be missed.
+/// skipped in time linear in the lists, but for a few that may be missed. For callers of the library:
+/// the command `verify` asks either way itself, as under fr no DC list is made.
 pub fn agree_outside(list: &Cover, other: &Cover, dc: &Cover) -> Result<bool, AllocError>
     requires other { other.now.size ≡ list.now.size }
     requires dc { dc.now.size ≡ list.now.size }

@@ -10,7 +10,7 @@ use rows::{opposite, universal_cube};
 use std::alloc::{AllocError, Global};
 
 // How often a walk goes over the rows.
-const ROUNDS: u64 = 8;
+const PASSES: u64 = 8;
 
 // The volume of all points in fixed point. That of a row with `k` literals is 2^-k of it, and at
 // least 1, so that a sum is never too small.
@@ -117,7 +117,7 @@ fn point_of_zeros(alloc: Global, shape: Shape) -> Result<Cube, AllocError> {
 /// with the first output.
 fn has_points_of_walk(list: &Cover) -> Result<bool, AllocError> {
     let mut point = point_of_zeros(list.allocator(), list.shape())?;
-    for round in 0..ROUNDS {
+    for round in 0..PASSES {
         if !walk_round(list, round, &mut point) {
             return Ok(false);
         }

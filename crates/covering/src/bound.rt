@@ -1,4 +1,6 @@
-//! Budgets, the scaled costs of columns under a bound, and the columns that its gap leaves.
+//! Budgets, the scaled costs of columns under a bound, and the columns that its gap leaves. The weights
+//! of rows come from `warm_start`, whose steps are in `heuristics`; here and in `lagrangian` they are
+//! checked.
 
 ghost use Rattle.std.specs.Prelude.{◌≡◌, ◌<◌, ◌*◌, ◌+◌, ◌-◌, IfOk, IfSome, length, map, nat_le};
 ghost use Rattle.std.specs.List.{range_with_len};
@@ -35,6 +37,7 @@ fn scaled_cost(choice: Choice, literals: &[u32], one: u32, each: u32, column: us
     u64::from(one) + u64::from(each) * u64::from(cost(choice, literals, column))
 }
 
+/// The scaled cost of each column.
 pub(crate) fn scaled_costs(
     alloc: Global,
     choice: Choice,

@@ -14,14 +14,14 @@ use crate::columns::union_of;
 use crate::table::Table;
 use std::alloc::{AllocError, Global};
 
-/// The column with the number, 0 if there is none.
+/// The live column at the index, 0 past the end.
 fn column_at(live: &[usize], number: usize) -> usize
     ensures { result ≡ pick live.now number }
 {
     if number < live.len() { live[number] } else { 0 }
 }
 
-/// The number of the column.
+/// The index of the column in `live`, whose columns rise; `None` if it is not live.
 fn number_of(live: &[usize], column: usize) -> Option<usize>
     ensures { IfSome result (λ i. pick live.now i ≡ column) }
 {
@@ -37,7 +37,7 @@ fn number_of(live: &[usize], column: usize) -> Option<usize>
     }
 }
 
-/// The numbers of the row's columns.
+/// The row with each column as its index in `live`; `None` if one is not live.
 fn numbers_of(
     alloc: Global,
     live: &[usize],
@@ -55,7 +55,7 @@ fn numbers_of(
     Ok(Some(numbers))
 }
 
-/// The numbers of the columns of each row.
+/// The rows with each column as its index in `live`; `None` if one is not live.
 fn numbers_of_rows(
     alloc: Global,
     live: &[usize],

@@ -32,8 +32,8 @@ fn option_with_value<'a>(alloc: Global, name: &'a str, letter: char) -> Arg<'a>
     Arg::new(alloc, name).short(letter)
 }
 
-// The files.
-fn file_arguments<'a>(alloc: Global) -> Arg<'a>
+// The argument that takes all words for files; how many there may be is checked later.
+fn files_argument<'a>(alloc: Global) -> Arg<'a>
     ensures rule { rule_of result ≡ files_arg }
     ensures local { result.global ≡ false }
 {
@@ -61,7 +61,7 @@ pub(crate) fn espresso_command<'a>(alloc: Global) -> Result<clap::Command<'a>, A
         command,
         out,
         eat,
-        file_arguments(alloc),
+        files_argument(alloc),
         literals_option(alloc),
     ]?;
     bare_command(alloc).args(args)

@@ -64,8 +64,8 @@ fn preference(row: &[usize], counts: &[i64]) -> i64 {
     sum_of_counts(row, counts).wrapping_mul(weight)
 }
 
-/// The likeliest column of the row that is preferred most: a short one whose columns are in many
-/// rows. One pass over the rows.
+/// The likeliest column of the row that is preferred most, a short one whose columns are in many
+/// rows; of equals the one in more rows; 0 if there are no rows. One pass over the rows.
 ///
 /// `likely` and `counts` have a number for each column: how likely it is thought to be in a cover,
 /// and how many rows it is in.

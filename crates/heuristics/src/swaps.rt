@@ -139,7 +139,8 @@ impl LocalSearch {
         }
     }
 
-    /// Enters the column into the list of chosen ones.
+    /// Enters the column into the list of chosen ones, with its loss, and adds its cost; `now` is the step.
+    /// What becomes of its rows is left to the caller.
     fn choose(&mut self, table: &Compact, column: usize, now: usize) -> Result<(), AllocError> {
         set(&mut self.stamps, column, now);
         mark(&mut self.inside, column, true);
@@ -397,7 +398,8 @@ impl LocalSearch {
     }
 
     /// Keeps the list, which covers all rows, if it is less than the least so far, and drops a
-    /// column; answers whether the search is over.
+    /// column; answers whether the search is over: at the goal, or with no column to drop, and then
+    /// none is dropped.
     fn keep_and_drop(
         &mut self,
         alloc: Global,

@@ -15,15 +15,18 @@ ghost use Rattle.minimum.specs.PrimeTable.{HasPrimeColumns, HasPrimeCovers};
 ghost use Rattle.minimum.specs.PrimeRows.{AreEnough, AreRowsOf};
 
 mod halving_input;
+mod known_rows;
 mod split_rows;
 
 use crate::cubes::one_output;
+use crate::prime_table::known_rows::KnownRows;
 use crate::prime_table::split_rows::{Candidates, Lists};
 use cover::Cover;
 use covering::{Table, numbers};
 use cube::{Cube, Shape};
 use pla::Sets;
 use std::alloc::{AllocError, Global};
+use std::mem::replace;
 
 /// The number of literals.
 fn weight(cube: &Cube) -> u32
@@ -60,12 +63,12 @@ fn rows_of(alloc: Global, lists: &Lists, shape: Shape) -> Result<Vec<Vec<usize>>
         on: numbers(alloc, lists.on.len())?,
         dc: numbers(alloc, lists.dc.len())?,
     };
-    let mut rows = Vec::new(alloc);
+    let mut known = KnownRows::new(alloc, lists.primes.len())?;
     for j in 0..shape.outputs() {
         let region = one_output(alloc, shape, j)?;
-        lists.add_rows_by_halves(alloc, &candidates, &region, &mut rows)?;
+        lists.add_rows_by_halves(alloc, &candidates, &region, &mut known)?;
     }
-    Ok(rows)
+    Ok(replace(&mut known.rows, Vec::new(alloc)))
 }
 
 /// What is made of all primes: `Table::build` is called through it, since a table knows no cubes.

@@ -28,8 +28,8 @@ pub fn sets(alloc: Global, pla: &Pla, dc: bool, off: bool) -> Result<Sets, Alloc
     Ok(Sets::new(on, dc, off))
 }
 
-// The DC list that [`sets`] gives: a copy, or computed if the type does not give it and `compute`
-// asks for it.
+// The DC list that [`sets`] gives: the description's own under fd and fdr; under fr, if `compute`
+// asks for it, what neither ON nor OFF holds; else an empty one.
 fn dc_list_of(alloc: Global, pla: &Pla, compute: bool) -> Result<Cover, AllocError>
     ensures { IfOk result (λ list. list ≡ record {
       size = pla.now.size;
@@ -42,8 +42,8 @@ fn dc_list_of(alloc: Global, pla: &Pla, compute: bool) -> Result<Cover, AllocErr
     }
 }
 
-// The OFF list that [`sets`] gives: a copy, or computed if the type does not give it and `compute`
-// asks for it.
+// The OFF list that [`sets`] gives: the description's own under fr and fdr; under f and fd, if
+// `compute` asks for it, what neither ON nor DC holds; else an empty one.
 fn off_list_of(alloc: Global, pla: &Pla, compute: bool) -> Result<Cover, AllocError>
     ensures { IfOk result (λ list. list ≡ record {
       size = pla.now.size;

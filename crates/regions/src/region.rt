@@ -259,9 +259,10 @@ impl Splits {
         }
     }
 
-    // An implicant of the rows that contains the region, or a part of it of which they hold no
-    // place. The rows `near`, which are some of the rows, are looked at alone while one of them has
-    // at most `bound` open literals.
+    // `Ok`: an implicant of the rows that contains the region. `LeftOut`: a part of it of which they
+    // hold no place. `Spent`: the rows that a limit lets it look at are spent. The rows `near`,
+    // which are some of the rows, are looked at alone while one of them has at most `bound` open
+    // literals.
     #[cycle(reason)]
     fn reason(
         &mut self,

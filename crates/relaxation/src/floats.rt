@@ -49,7 +49,7 @@ pub(crate) fn fill_floats(numbers: &mut [f64], to: f64) {
     }
 }
 
-/// Adds a multiple of the other numbers.
+/// Adds `factor` times the other numbers, as far as both lists go.
 pub(crate) fn add_multiple(numbers: &mut [f64], others: &[f64], factor: f64) {
     for index in 0..numbers.len().min(others.len()) {
         numbers[index] += factor * others[index];

@@ -64,7 +64,7 @@ pub(crate) enum End {
     Past,
     /// There are no values within the bounds.
     Infeasible,
-    /// After as many steps as they may take.
+    /// After as many steps as they may take, or too many that were inexact.
     Spent,
 }
 
@@ -395,7 +395,7 @@ impl Simplex {
         }
     }
 
-    /// The reduced cost of a variable: that of a surplus is the weight of its row.
+    /// The reduced cost of a variable: that of a surplus is the weight of its row, or 0 if that is below 0.
     fn reduced_cost(&self, variable: usize) -> f64 {
         match self.basis.row_of(variable) {
             None => float(&self.basis.reduced_costs, variable),

@@ -99,7 +99,8 @@ impl Analysis {
         }
     }
 
-    /// Puts two numbers on the stack.
+    /// Puts a pair on the stack: a variable and a place in its reason, or a place and a reason. It is
+    /// dropped if there is no room, as what it is for is a hint.
     pub(crate) fn push_on_stack(&mut self, one: u32, other: u32) {
         let _ = self.stack.push((one, other));
     }

@@ -134,7 +134,8 @@ impl Search {
         self.assignment.put_phase(variable, negated);
     }
 
-    // Sets the literal of a given clause that has no other.
+    // Sets the literal of a given clause of one literal, and learns what follows: units, or, if the
+    // literal is false already, that no point is left.
     fn set_given_unit(&mut self, clause: u32) -> Result<(), AllocError> {
         let literal = at(self.clauses.literals_of(clause), 0);
         match self.assignment.value(literal) {

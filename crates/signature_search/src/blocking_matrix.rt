@@ -65,6 +65,7 @@ pub(crate) struct BlockingMatrix {
 }
 
 impl BlockingMatrix {
+    /// A matrix of no cube, for sets of inputs of `width` words.
     pub(crate) fn new(alloc: Global, width: usize) -> BlockingMatrix {
         BlockingMatrix {
             width,

@@ -26,7 +26,7 @@ use std::alloc::{AllocError, Global};
 use std::collections::BTreeSet;
 
 // At most this many regions are looked at for a place of a cube's own.
-const REGION_BUDGET: u64 = 300;
+const MOST_REGIONS_OF_OWN: u64 = 300;
 
 /// A signature cube with a place of its own.
 pub(crate) struct Signature {
@@ -183,7 +183,7 @@ impl<'a> Finder<'a> {
         if self.function.samples {
             return self.has_on_place_outside_avoided(&signature.cube.literals, output);
         }
-        let mut budget = REGION_BUDGET;
+        let mut budget = MOST_REGIONS_OF_OWN;
         self.question
             .ask(&signature.cube.literals, &self.avoided, &mut budget)
     }
@@ -234,7 +234,7 @@ impl<'a> Finder<'a> {
         output: usize,
     ) -> Result<bool, AllocError> {
         let width = self.function.width;
-        let mut budget = REGION_BUDGET;
+        let mut budget = MOST_REGIONS_OF_OWN;
         let list = list_at(&self.function.on, output);
         for index in 0..row_count(list, width) {
             let wanted = row_at(list, index.wrapping_mul(width), width);

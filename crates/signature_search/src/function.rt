@@ -49,7 +49,7 @@ impl Drop for Function {
 
 // At most about this many words of cubes are made, for all outputs, where ON with DC is the
 // complement of OFF.
-const COMPLEMENT_BUDGET: usize = 1 << 18;
+const MOST_WORDS_OF_COMPLEMENT: usize = 1 << 18;
 
 /// The rows of each output, without other outputs.
 fn rows_by_output(
@@ -115,7 +115,7 @@ impl Function {
 
     // Takes ON with DC as the complements of OFF. `false` if that is past the budget.
     fn join_complements(&mut self, alloc: Global) -> Result<bool, AllocError> {
-        let mut budget = COMPLEMENT_BUDGET;
+        let mut budget = MOST_WORDS_OF_COMPLEMENT;
         for output in 0..self.outputs {
             let list = list_at(&self.off, output);
             let Some(outside) = complement(alloc, list, self.width, &mut budget)? else {

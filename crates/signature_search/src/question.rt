@@ -39,7 +39,7 @@ pub(crate) struct Question {
 }
 
 /// Writes the row that begins at `from` to `to`, without its literals at the inputs of `taken`, and
-/// notes that the others occur. How many these are (0, 1 or more).
+/// joins the others to `occurring`; answers how many these are: 0, 1, or more.
 fn move_row_without(
     rows: &mut [Literals],
     from: usize,
@@ -112,6 +112,7 @@ impl Notes {
 }
 
 impl Question {
+    /// Memory for questions about cubes of so many words, at least one; none is asked yet.
     pub(crate) fn new(alloc: Global, words: usize) -> Result<Question, AllocError> {
         let width = words.max(1);
         let forced: Vec<Literals> = vec![in alloc; Literals::NONE; width]?;

@@ -11,7 +11,7 @@ use std::alloc::{AllocError, Global};
 use std::mem::replace;
 
 // At most this many regions are looked at for a place of an ON cube that a cover leaves out.
-const REGION_BUDGET: u64 = 1 << 16;
+const MOST_REGIONS_OF_LEFT_OUT: u64 = 1 << 16;
 
 // At most this many signature cubes are looked for at a time.
 const MOST_SIGNATURES: usize = 20000;
@@ -166,7 +166,7 @@ impl<'a> Search<'a> {
         let mut held = list_at(&self.finder.function.dc, output).to_vec(self.finder.alloc)?;
         push_signatures_meeting(&mut held, &self.signatures, wide, output)?;
         push_rows_meeting(&mut held, cover, wide, output)?;
-        let mut budget = REGION_BUDGET;
+        let mut budget = MOST_REGIONS_OF_LEFT_OUT;
         self.finder.question.ask(wide, &held, &mut budget)
     }
 

@@ -172,7 +172,8 @@ impl WarmStart {
         self.missing
     }
 
-    /// A copy of what is remembered, without the relaxation and what branches gained.
+    /// A copy of what is remembered for a branch or a question, without the relaxation and what branches
+    /// gained; its bounds take all steps again.
     pub fn copy(&self, alloc: Global) -> Result<WarmStart, AllocError> {
         let mut copy = WarmStart::new(alloc, self.effort);
         copy.column = self.column;
@@ -187,7 +188,8 @@ impl WarmStart {
     }
 
     /// Takes over what a branch or a question has learned, which started with a copy: the weights
-    /// of the rows that are known here, the multiplier of a column, and the work.
+    /// of the rows that are known here, the multiplier of a column, the work, and whether it was
+    /// hard.
     pub fn learn(&mut self, branch: &WarmStart) {
         for (number, weight) in branch.weights.iter().enumerate() {
             put(&mut self.weights, number, *weight);

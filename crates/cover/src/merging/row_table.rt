@@ -42,7 +42,7 @@ pub(crate) fn hashes_of(alloc: Global, rows: &[Cube]) -> Result<Vec<u64>, AllocE
     Ok(hashes)
 }
 
-/// The hash at an index.
+/// The hash at an index, 0 past the end.
 pub(crate) fn hash_at(hashes: &[u64], i: usize) -> u64 {
     match hashes.get(i) {
         Some(hash) => *hash,

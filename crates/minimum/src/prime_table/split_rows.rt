@@ -17,7 +17,8 @@ ghost use Rattle.minimum.specs.PrimeRows.{holds_at, IsFree, IsSplit, IsIntersect
 
 use crate::numbered_cubes::{any_contains, first_inside, numbers_containing, numbers_intersecting};
 use crate::prime_table::halving_input::halving_input;
-use covering::{copy_of, is_blank, is_within};
+use crate::prime_table::known_rows::KnownRows;
+use covering::{copy_of, is_blank};
 use cube::{Cube, Symbol};
 use std::alloc::{AllocError, Global};
 use std::mem::replace;
@@ -53,19 +54,6 @@ fn is_alone(numbers: &[usize]) -> bool
     ensures { result ≡ (length numbers.now == 1) }
 {
     numbers.len() == 1
-}
-
-/// Whether some row has none but these columns.
-fn any_within(rows: &[Vec<usize>], columns: &[usize]) -> bool
-    requires { RisesFrom 0 columns.now }
-    ensures { result ≡ list_any (λ row. holds_all columns.now row.items) rows.now }
-{
-    for row in rows {
-        if is_within(row, columns) {
-            return true;
-        }
-    }
-    false
 }
 
 impl<'a> Lists<'a> {
@@ -114,19 +102,19 @@ impl<'a> Lists<'a> {
         alloc: Global,
         candidates: &Candidates,
         region: &Cube,
-        rows: &[Vec<usize>],
+        known: &KnownRows,
     ) -> Result<bool, AllocError>
         requires { IsIntersecting self.now.primes.now self.now.on.now self.now.dc.now region.now
             candidates.now.primes.items candidates.now.on.items candidates.now.dc.items }
         ensures { IfOk result (λ b. MatchBool b (HasRowsFor self.now.primes.now self.now.on.now
-            self.now.dc.now (holds region.now) (items_of rows.now))
+            self.now.dc.now (holds region.now) (items_of known.now.rows.items))
             (IsOpen self.now.dc.now region.now candidates.now.on.items candidates.now.dc.items)) }
     {
         if is_blank(&candidates.on) || any_contains(self.dc, region, &candidates.dc) {
             return Ok(true);
         }
         let common_primes = self.common_primes(alloc, candidates, region)?;
-        Ok(any_within(rows, &common_primes))
+        Ok(known.any_within(&common_primes))
     }
 
     /// An input to split the region at; `None` if its wanted places are in the same primes.
@@ -153,27 +141,27 @@ impl<'a> Lists<'a> {
         alloc: Global,
         candidates: &Candidates,
         region: &Cube,
-        rows: &mut Vec<Vec<usize>>,
+        known: &mut KnownRows,
     ) -> Result<(), AllocError>
         requires { IsSplit self.now.primes.now self.now.on.now self.now.dc.now region.now
             candidates.now.primes.items candidates.now.on.items candidates.now.dc.items }
         ensures { OnOk result (AddsRows self.now.primes.now self.now.on.now self.now.dc.now
-            (holds region.now) (items_of rows.old.items) (items_of rows.new.items)) }
+            (holds region.now) (items_of known.old.rows.items) (items_of known.new.rows.items)) }
     {
         let mut candidates = self.candidates(alloc, candidates, region)?;
-        if self.needs_no_row(alloc, &candidates, region, rows)? {
+        if self.needs_no_row(alloc, &candidates, region, known)? {
             return Ok(());
         }
         let Some(i) = self.split(&candidates, region) else {
-            rows.push(replace(&mut candidates.primes, Vec::new(alloc)))?;
+            known.push(replace(&mut candidates.primes, Vec::new(alloc)))?;
             return Ok(());
         };
         {
             let low = region.with_symbol(i, Symbol::Zero)?;
-            self.add_rows(alloc, &candidates, &low, rows)?;
+            self.add_rows(alloc, &candidates, &low, known)?;
         }
         let high = region.with_symbol(i, Symbol::One)?;
-        self.add_rows(alloc, &candidates, &high, rows)
+        self.add_rows(alloc, &candidates, &high, known)
     }
 
     /// Adds them ON cube by ON cube: so primes that are of no use to a cube's places do not
@@ -183,16 +171,16 @@ impl<'a> Lists<'a> {
         alloc: Global,
         candidates: &Candidates,
         region: &Cube,
-        rows: &mut Vec<Vec<usize>>,
+        known: &mut KnownRows,
     ) -> Result<(), AllocError>
         requires { IsSplit self.now.primes.now self.now.on.now self.now.dc.now region.now
             candidates.now.primes.items candidates.now.on.items candidates.now.dc.items }
         ensures { OnOk result (AddsRows self.now.primes.now self.now.on.now self.now.dc.now
-            (holds region.now) (items_of rows.old.items) (items_of rows.new.items)) }
+            (holds region.now) (items_of known.old.rows.items) (items_of known.new.rows.items)) }
     {
         for number in &candidates.on {
             if let Some(part) = self.on[*number].meet(region)? {
-                self.add_rows(alloc, candidates, &part, rows)?;
+                self.add_rows(alloc, candidates, &part, known)?;
             }
         }
         Ok(())
@@ -216,22 +204,22 @@ impl<'a> Lists<'a> {
         alloc: Global,
         candidates: &Candidates,
         region: &Cube,
-        rows: &mut Vec<Vec<usize>>,
+        known: &mut KnownRows,
     ) -> Result<(), AllocError>
         requires { IsSplit self.now.primes.now self.now.on.now self.now.dc.now region.now
             candidates.now.primes.items candidates.now.on.items candidates.now.dc.items }
         ensures { OnOk result (AddsRows self.now.primes.now self.now.on.now self.now.dc.now
-            (holds region.now) (items_of rows.old.items) (items_of rows.new.items)) }
+            (holds region.now) (items_of known.old.rows.items) (items_of known.new.rows.items)) }
     {
         let candidates = self.candidates(alloc, candidates, region)?;
         let Some(i) = self.halving_input(&candidates, region) else {
-            return self.add_rows_by_cubes(alloc, &candidates, region, rows);
+            return self.add_rows_by_cubes(alloc, &candidates, region, known);
         };
         {
             let low = region.with_symbol(i, Symbol::Zero)?;
-            self.add_rows_by_halves(alloc, &candidates, &low, rows)?;
+            self.add_rows_by_halves(alloc, &candidates, &low, known)?;
         }
         let high = region.with_symbol(i, Symbol::One)?;
-        self.add_rows_by_halves(alloc, &candidates, &high, rows)
+        self.add_rows_by_halves(alloc, &candidates, &high, known)
     }
 }

@@ -257,7 +257,7 @@ impl RowBits {
         Ok(columns)
     }
 
-    // For each output of the region its column.
+    // For each output of the region its column: a bit for each row that has it.
     fn output_columns(&self, alloc: Global, region: &Cube) -> Result<Vec<&[u64]>, AllocError> {
         let mut columns = Vec::new(alloc);
         for j in 0..region.shape().outputs() {

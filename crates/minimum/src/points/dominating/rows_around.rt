@@ -52,7 +52,7 @@ fn cube_of_output(
     }
 }
 
-/// For each output the cube of it with the other literals than the point.
+/// For each output the cube of it that has at each input the opposite of the point's literal.
 fn cubes_against(alloc: Global, point: &Cube) -> Result<Vec<Cube>, AllocError>
     ensures { IfOk result (λ v. All (IsAgainst (size_of point.now) point.now) v.items) }
 {

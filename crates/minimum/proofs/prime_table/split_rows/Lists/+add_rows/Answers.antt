@@ -1,4 +1,4 @@
-use Rattle.std.proofs.Common.{◌∙◌, ◌++◌, ◌∷◌, [], ap, subst, arith}
+use Rattle.std.proofs.Common.{◌∙◌, ◌++◌, ◌∷◌, [], ap, arith}
 use Rattle.std.proofs.lemmas.Option.{slice_get_within}
 use Rattle.std.proofs.lemmas.Result.{IfOk-weaker}
 use Rattle.std.proofs.lemmas.List.{map-append}
@@ -19,9 +19,8 @@ needs_no_row-requires t c = c.in_ok-candidates.ensures
 pub returns-then-branch : goal.returns-then-branch
 returns-then-branch t c =
     let lists = c.args.self.now in
-    adds_nothing lists.primes.now lists.on.now lists.dc.now (holds c.args.region.now) (items_of c.args.rows.now.items)
-    (subst (λ rows. HasRowsFor lists.primes.now lists.on.now lists.dc.now (holds c.args.region.now) (items_of rows)) c.deref.ensures.value
-    (match_true _ _ c.in_ok-needs_no_row.field-0 c.if-branch.true c.in_ok-needs_no_row.ensures))
+    adds_nothing lists.primes.now lists.on.now lists.dc.now (holds c.args.region.now) (items_of c.args.known.now.rows.items)
+    (match_true (HasRowsFor lists.primes.now lists.on.now lists.dc.now (holds c.args.region.now) (items_of c.args.known.now.rows.items)) _ c.in_ok-needs_no_row.field-0 c.if-branch.true c.in_ok-needs_no_row.ensures)
 
 pub split-requires-clause-touched : goal.split-requires-clause-touched
 split-requires-clause-touched t c = c.in_ok-candidates.ensures
@@ -34,9 +33,9 @@ returns-in_default t c =
     let lists = c.args.self.now in
     let candidates = c.in_ok-candidates.candidates in
     let open' = match_false _ _ c.in_ok-needs_no_row.field-0 c.if-branch.false c.in_ok-needs_no_row.ensures in
-    adds_row lists.primes.now lists.on.now lists.dc.now c.args.region.now candidates.primes.items candidates.on.items candidates.dc.items (items_of c.args.rows.now.items) (items_of c.push.new.self.items)
-    c.in_ok-candidates.ensures open'.some_on c.in_default.ensures (ap items_of c.in_ok-push.ensures.items ∙ map-append (λ row. row.items) c.args.rows.now.items (c.replace.result ∷ [])
-    ∙ ap (λ row. items_of c.args.rows.now.items ++ row.items ∷ []) c.replace.ensures.value)
+    adds_row lists.primes.now lists.on.now lists.dc.now c.args.region.now candidates.primes.items candidates.on.items candidates.dc.items (items_of c.args.known.now.rows.items) (items_of c.push.new.self.rows.items)
+    c.in_ok-candidates.ensures open'.some_on c.in_default.ensures (ap items_of c.in_ok-push.ensures ∙ map-append (λ row. row.items) c.args.known.now.rows.items (c.replace.result ∷ [])
+    ∙ ap (λ row. items_of c.args.known.now.rows.items ++ row.items ∷ []) c.replace.ensures.value)
 
 pub with_symbol-requires : goal.with_symbol-requires
 with_symbol-requires t c = slice_get_within c.args.region.now.symbols c.in-Some.i Dash c.in-Some.ensures
@@ -62,6 +61,6 @@ pub returns : goal.returns
 returns t c =
     let lists = c.args.self.now in
     IfOk-weaker c.add_rows-2.result _ _
-    (λ _ two. adds_halves lists.primes.now lists.on.now lists.dc.now c.args.region.now c.in_ok-low.low c.in_ok-high.high c.in-Some.i (items_of c.args.rows.now.items) (items_of c.add_rows.new.rows.items)
-    (items_of c.add_rows-2.new.rows.items) c.in-Some.ensures c.in_ok-low.ensures.value c.in_ok-high.ensures.value c.in_ok-add_rows.ensures two)
+    (λ _ two. adds_halves lists.primes.now lists.on.now lists.dc.now c.args.region.now c.in_ok-low.low c.in_ok-high.high c.in-Some.i (items_of c.args.known.now.rows.items) (items_of c.add_rows.new.known.rows.items)
+    (items_of c.add_rows-2.new.known.rows.items) c.in-Some.ensures c.in_ok-low.ensures.value c.in_ok-high.ensures.value c.in_ok-add_rows.ensures two)
     c.add_rows-2.ensures

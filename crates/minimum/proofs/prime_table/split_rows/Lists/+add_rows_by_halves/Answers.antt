@@ -40,6 +40,6 @@ pub returns : goal.returns
 returns t c =
     let lists = c.args.self.now in
     IfOk-weaker c.add_rows_by_halves-2.result _ _
-    (λ _ two. adds_halves lists.primes.now lists.on.now lists.dc.now c.args.region.now c.in_ok-low.low c.in_ok-high.high c.in-Some.i (items_of c.args.rows.now.items) (items_of c.add_rows_by_halves.new.rows.items)
-    (items_of c.add_rows_by_halves-2.new.rows.items) c.in-Some.ensures c.in_ok-low.ensures.value c.in_ok-high.ensures.value c.in_ok-add_rows_by_halves.ensures two)
+    (λ _ two. adds_halves lists.primes.now lists.on.now lists.dc.now c.args.region.now c.in_ok-low.low c.in_ok-high.high c.in-Some.i (items_of c.args.known.now.rows.items) (items_of c.add_rows_by_halves.new.known.rows.items)
+    (items_of c.add_rows_by_halves-2.new.known.rows.items) c.in-Some.ensures c.in_ok-low.ensures.value c.in_ok-high.ensures.value c.in_ok-add_rows_by_halves.ensures two)
     c.add_rows_by_halves-2.ensures

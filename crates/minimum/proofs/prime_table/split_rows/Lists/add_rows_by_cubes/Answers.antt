@@ -25,9 +25,9 @@ loop-number-preserved c =
     let numbers = c.deref-number-items.result.now in
     let is = c.deref-number-items.ensures.value in
     let k = c.loop-number.number-index in
-    let old = items_of c.args.rows.now.items in
-    let mid = items_of c.loop-number.rows.items in
-    let new = items_of c.match-branch-2.rows.items in
+    let old = items_of c.args.known.now.rows.items in
+    let mid = items_of c.loop-number.known.rows.items in
+    let new = items_of c.match-branch-2.known.rows.items in
     let below = subst (All (λ i. i < length lists.on.now)) (sym is) c.requires.on_candidates.below k 0 c.loop-number-test.true in
     let cube = get_or lists.on.now (get_or numbers k 0) c.index-self-number.result in
     let at = get_or_default lists.on.now (get_or numbers k 0) c.index-self-number.result cube below in
@@ -36,18 +36,18 @@ loop-number-preserved c =
     elim c.match-branch-2.branch [
       | in-Some+in_ok-add_rows w ↦ parted_some lists.primes.now lists.on.now lists.dc.now c.args.region.now numbers k c.loop-number-test.true cube below at
           w.in-Some.part old mid new (rw w.in-Some.is at c.in_ok-part.ensures.places) before
-          (subst (λ r. AddsRows lists.primes.now lists.on.now lists.dc.now (holds w.in-Some.part) mid (items_of r.items)) (sym w.rows-is) w.in_ok-add_rows.ensures)
+          (subst (λ r. AddsRows lists.primes.now lists.on.now lists.dc.now (holds w.in-Some.part) mid (items_of r.rows.items)) (sym w.known-is) w.in_ok-add_rows.ensures)
       | in_default w ↦ (
           let apart = rw w.in_default.is at c.in_ok-part.ensures.none in
           parted_skip lists.primes.now lists.on.now lists.dc.now c.args.region.now numbers k c.loop-number-test.true cube below at
-          old new (apart.0 refl) (subst (λ r. AddsRows lists.primes.now lists.on.now lists.dc.now (among lists.on.now c.args.region.now numbers k) old (items_of r.items)) (sym w.rows-is) before))
+          old new (apart.0 refl) (subst (λ r. AddsRows lists.primes.now lists.on.now lists.dc.now (among lists.on.now c.args.region.now numbers k) old (items_of r.rows.items)) (sym w.known-is) before))
     ])
 
 pub returns : goal.returns
 returns c =
     let lists = c.args.self.now in
-    let old = items_of c.args.rows.now.items in
-    let new = items_of c.loop-number.rows.items in
+    let old = items_of c.args.known.now.rows.items in
+    let new = items_of c.loop-number.known.rows.items in
     let k = c.loop-number.number-index in
     let is = c.deref-number-items.ensures.value in
     parted_all lists.primes.now lists.on.now lists.dc.now c.args.region.now c.args.candidates.now.on.items k old new

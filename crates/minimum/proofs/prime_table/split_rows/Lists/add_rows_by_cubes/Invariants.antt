@@ -5,4 +5,4 @@ use Rattle.minimum.proofs.prime_table.split_rows.Lists.add_rows_by_cubes.Given a
 
 abbrev pub invariant-loop-number : goal.invariant-loop-number
 invariant-loop-number l = AddsRows l.self.primes.now l.self.on.now l.self.dc.now
-    (among l.self.on.now l.region l.candidates.on.items l.number-index) (items_of l.initial.rows.items) (items_of l.rows.items)
+    (among l.self.on.now l.region l.candidates.on.items l.number-index) (items_of l.initial.known.rows.items) (items_of l.known.rows.items)
