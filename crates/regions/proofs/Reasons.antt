@@ -21,7 +21,7 @@ use Rattle.rows.specs.Places.{places, is_disjoint, meeting, behind}
 use Rattle.rows.specs.Splits.{dashes}
 use Rattle.regions.specs.LeftOut.{IsLeftOut}
 use Rattle.regions.specs.Answer.{Explains, IsAnswer}
-use Rattle.regions.specs.Reason.{IsReason, Joins, IsClosed, Leads, Share, AreAmong, set_bits, extent}
+use Rattle.regions.specs.Reason.{IsReason, Joins, IsClosed, Leads, Share, AreAmong, AreRowsWithNear, set_bits, extent}
 use Rattle.regions.specs.declared.region.Step.TheVariants.{Row}
 use Rattle.regions.specs.declared.region.Stop.{Stop}
 use Rattle.regions.specs.declared.region.Stop.TheVariants.{Memory, Spent, LeftOut}
@@ -174,9 +174,12 @@ opposite_literal One h e = zero_literal e
 
 -- ---- reasons of parts
 
-pub sizes_part : (rows : List (Bor Cube)) (region part : Cube) → All (λ d. SameSize d.now region) rows → SameSize part region
-    → All (λ d. SameSize d.now part) rows
-sizes_part rows region part all s k d lt = let h = all k d lt in (h.0 ∙ sym s.0, h.1 ∙ sym s.1)
+pub rows_part : (rows near : List (Bor Cube)) (region part : Cube) → AreRowsWithNear region rows near → SameSize part region
+    → AreRowsWithNear part rows near
+rows_part rows near region part r s = record {
+  sizes = λ k d lt. let h = r.sizes k d lt in (h.0 ∙ sym s.0, h.1 ∙ sym s.1);
+  among = r.among;
+}
 
 pub SameSize-part : (c part region : Cube) → SameSize c part → SameSize part region → SameSize c region
 SameSize-part c part region s t = (s.0 ∙ t.0, s.1 ∙ t.1)
@@ -452,15 +455,15 @@ closed_leads near region k row lt at closed = (
 )
 
 -- what is known of a near row without an open literal
-pub row_leads : (rows near : List (Bor Cube)) (region : Cube) → All (λ d. SameSize d.now region) rows → AreAmong near rows
+pub row_leads : (rows near : List (Bor Cube)) (region : Cube) → AreRowsWithNear region rows near
     → All (λ d. IsDisjoint (holds d.now) (holds region) → ⊥) near → (k : ℕ) (row : Bor Cube) → Leads region (behind near) (Row k) → row ≡ get_or near k row
     → SameSize row.now region × (Contains (behind rows) row.now × ((IsDisjoint (holds row.now) (holds region) → ⊥) × IsClosed region row.now))
-row_leads rows near region sizes among meets k row h at =
+row_leads rows near region r meets k row h at =
     let lt : k < length near = omega (arith, h.0, length-behind near) in
     let member = behind_member near k row lt at in (
-      behind_all (λ d. SameSize d region) rows sizes row.now (among row.now member),
+      behind_all (λ d. SameSize d region) rows r.sizes row.now (r.among row.now member),
       (
-        among row.now member,
+        r.among row.now member,
         (
           behind_all (λ d. IsDisjoint (holds d) (holds region) → ⊥) near meets row.now member,
           h.1 row.now (slice_get-get_or (behind near) k row.now h.0 ∙ ap Some (behind_at near k row lt at)),

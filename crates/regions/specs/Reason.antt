@@ -37,6 +37,11 @@ Joins region one other (Some c) =
 abbrev pub AreAmong : List (Bor Cube) → List (Bor Cube) → Type 0
 AreAmong some rows = (d : Cube) → Contains (behind some) d → Contains (behind rows) d
 
+-- rows of the region's size, and some of them that are looked at first
+pub record AreRowsWithNear (region : Cube) (rows near : List (Bor Cube)) : Type 0 where
+  pub sizes : All (λ d. SameSize d.now region) rows
+  pub among : AreAmong near rows
+
 -- cubes of the size whose places are all in the list
 abbrev pub AreKnown : Size → List Cube → List Cube → Type 0
 AreKnown size known rows = All (λ d. HasSize d size) known × IsSubset (places known) (places rows)

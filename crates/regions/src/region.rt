@@ -27,7 +27,7 @@ ghost use Rattle.cube.specs.Cube.{Cube as Row, SameSize, IsSubset, IsDisjoint, h
 ghost use Rattle.rows.specs.Places.{places, meeting as meeting_of, behind};
 ghost use Rattle.regions.specs.Answer.{IsAnswer};
 ghost use Rattle.regions.specs.LeftOut.{LeavesOut};
-ghost use Rattle.regions.specs.Reason.{IsReason, Joins, IsClosed, Leads, Share, Shows, AreAmong, AreKnown};
+ghost use Rattle.regions.specs.Reason.{IsReason, Joins, IsClosed, Leads, Share, Shows, AreAmong, AreRowsWithNear, AreKnown};
 
 use crate::region::learned::{Learned, Shown, shown_by_search};
 use crate::region::step_hint::{Hint, next_step_hint};
@@ -271,8 +271,7 @@ impl Splits {
         bound: u32,
         region: &Cube,
     ) -> Result<Cube, Stop>
-        requires sizes { All (λ d. SameSize d.now region.now) rows.now }
-        requires near { AreAmong near.now rows.now }
+        requires { AreRowsWithNear region.now rows.now near.now }
         ensures limited { self.new.limited ≡ self.old.limited }
         ensures answer { IsAnswer region.now (behind rows.now) self.old.limited result }
     {
@@ -327,8 +326,7 @@ impl Splits {
         region: &Cube,
     ) -> Result<Cube, Stop>
         requires output { IsTrue (list_any (λ b. b) region.now.outputs) }
-        requires sizes { All (λ d. SameSize d.now region.now) rows.now }
-        requires near { AreAmong near.now rows.now }
+        requires rows { AreRowsWithNear region.now rows.now near.now }
         requires meets { All (λ d. IsDisjoint (holds d.now) (holds region.now) → ⊥) near.now }
         requires some { 1 ≤ length near.now }
         ensures limited { self.new.limited ≡ self.old.limited }
@@ -353,8 +351,7 @@ impl Splits {
         region: &Cube,
         row: &Cube,
     ) -> Result<Cube, Stop>
-        requires sizes { All (λ d. SameSize d.now region.now) rows.now }
-        requires near { AreAmong near.now rows.now }
+        requires rows { AreRowsWithNear region.now rows.now near.now }
         requires size { SameSize row.now region.now }
         requires member { Contains (behind rows.now) row.now }
         requires meets { IsDisjoint (holds row.now) (holds region.now) → ⊥ }
@@ -389,8 +386,7 @@ impl Splits {
         at: (usize, Symbol),
     ) -> Result<Cube, Stop>
         requires output { IsTrue (list_any (λ b. b) region.now.outputs) }
-        requires sizes { All (λ d. SameSize d.now region.now) rows.now }
-        requires near { AreAmong near.now rows.now }
+        requires rows { AreRowsWithNear region.now rows.now near.now }
         requires dash { slice_get region.now.symbols at.0 ≡ Some Symbol.Dash }
         requires literal { at.1 ≢ Symbol.Dash }
         ensures limited { self.new.limited ≡ self.old.limited }
@@ -420,8 +416,7 @@ impl Splits {
         one: &Cube,
     ) -> Result<Cube, Stop>
         requires output { IsTrue (list_any (λ b. b) region.now.outputs) }
-        requires sizes { All (λ d. SameSize d.now region.now) rows.now }
-        requires near { AreAmong near.now rows.now }
+        requires rows { AreRowsWithNear region.now rows.now near.now }
         requires dash { slice_get region.now.symbols at.0 ≡ Some Symbol.Dash }
         requires literal { at.1 ≢ Symbol.Dash }
         requires one_size { SameSize one.now region.now }
@@ -451,8 +446,7 @@ impl Splits {
         bound: u32,
         region: &Cube,
     ) -> Result<Shown, AllocError>
-        requires sizes { All (λ d. SameSize d.now region.now) rows.now }
-        requires near { AreAmong near.now rows.now }
+        requires { AreRowsWithNear region.now rows.now near.now }
         ensures shown { IfOk result (Shows (size_of region.now) (behind rows.now) region.now) }
         ensures nothing { IfOk result
             (λ shown. shown ≡ Shown.Nothing → IsTrue self.old.limited) }
@@ -508,8 +502,7 @@ fn shown_by_limited_splits(
     region: &Cube,
     learned: &mut Learned,
 ) -> Result<Shown, AllocError>
-    requires sizes { All (λ d. SameSize d.now region.now) rows.now }
-    requires near { AreAmong near.now rows.now }
+    requires { AreRowsWithNear region.now rows.now near.now }
     ensures known { learned.new.known ≡ learned.old.known }
     ensures shown { IfOk result (Shows (size_of region.now) (behind rows.now) region.now) }
 {
@@ -530,8 +523,7 @@ fn shown_by_splits_or_search(
     region: &Cube,
     learned: &mut Learned,
 ) -> Result<Shown, AllocError>
-    requires sizes { All (λ d. SameSize d.now region.now) rows.now }
-    requires near { AreAmong near.now rows.now }
+    requires rows { AreRowsWithNear region.now rows.now near.now }
     requires known { AreKnown (size_of region.now) learned.old.known.items (behind rows.now) }
     ensures known { OnOk result
         (AreKnown (size_of region.now) learned.new.known.items (behind rows.now)) }
@@ -563,8 +555,7 @@ pub(crate) fn part_left_out_by_splits_or_search(
     region: &Cube,
     learned: &mut Learned,
 ) -> Result<Option<Cube>, AllocError>
-    requires sizes { All (λ d. SameSize d.now region.now) rows.now }
-    requires near { AreAmong near.now rows.now }
+    requires rows { AreRowsWithNear region.now rows.now near.now }
     requires known { AreKnown (size_of region.now) learned.old.known.items (behind rows.now) }
     ensures known { OnOk result
         (AreKnown (size_of region.now) learned.new.known.items (behind rows.now)) }

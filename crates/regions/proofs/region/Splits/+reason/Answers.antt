@@ -6,29 +6,29 @@ use Rattle.cube.specs.declared.symbol.Symbol.TheVariants.{Dash}
 use Rattle.cube.specs.Cube.{SameSize, IsDisjoint, holds, with_symbol, size_of}
 use Rattle.rows.specs.Places.{behind, meeting}
 use Rattle.regions.specs.Answer.{IsAnswer}
-use Rattle.regions.specs.Reason.{IsReason, Joins, Leads, AreAmong}
+use Rattle.regions.specs.Reason.{IsReason, Joins, Leads, AreAmong, AreRowsWithNear}
 use Rattle.regions.specs.declared.region.Step.TheVariants.{Row}
 use Rattle.rows.proofs.Lists.{length-behind}
-use Rattle.regions.proofs.Reasons.{answer_lent, explains_more, freed_half, share_sides, opposite_literal, sizes_part, SameSize-part, reason_of_more, reason_joined, within_rows, reason_of_row, extent_half, row_inputs, row_above, size_rest, extent_rest, joined_stack, other_inputs, either_output, left_out_whole, half_within, rest_within, row_leads, reason_of_some, sizes_among, meets_among, among_lent, none_left, some_left}
+use Rattle.regions.proofs.Reasons.{answer_lent, explains_more, freed_half, share_sides, opposite_literal, rows_part, SameSize-part, reason_of_more, reason_joined, within_rows, reason_of_row, extent_half, row_inputs, row_above, size_rest, extent_rest, joined_stack, other_inputs, either_output, left_out_whole, half_within, rest_within, row_leads, reason_of_some, sizes_among, meets_among, among_lent, none_left, some_left}
 use Rattle.regions.proofs.region.Splits.+reason.Goals as goal
 
 pub reason_by_split-reason-requires : goal.reason_by_split-reason-requires
 reason_by_split-reason-requires t c =
     let less = extent_half c.args.region.now c.in_ok-first.first c.args.at.0 c.args.at.1 c.requires.dash c.requires.literal c.in_ok-first.ensures.value in
-    (omega (arith, less), (sizes_part c.args.rows.now c.args.region.now c.in_ok-first.first c.requires.sizes c.in_ok-first.ensures.size, c.requires.near))
+    (omega (arith, less), rows_part c.args.rows.now c.args.near.now c.args.region.now c.in_ok-first.first c.requires.rows c.in_ok-first.ensures.size)
 
 pub reason_by_split-reason_by_other_half-requires : goal.reason_by_split-reason_by_other_half-requires
 reason_by_split-reason_by_other_half-requires t c =
     let r = c.in_ok-one.ensures.answer in
     let size = SameSize-part c.in_ok-one.one c.in_ok-first.first c.args.region.now r.size c.in_ok-first.ensures.size in
     let half = subst (λ h. IsReason h (behind c.args.rows.now) c.in_ok-one.one) c.in_ok-first.ensures.value r in
-    (omega arith, (c.requires.output, (c.requires.sizes, (c.requires.near, (c.requires.dash, (c.requires.literal, (size, half)))))))
+    (omega arith, (c.requires.output, (c.requires.rows, (c.requires.dash, (c.requires.literal, (size, half))))))
 
 pub reason_by_other_half-reason-requires : goal.reason_by_other_half-reason-requires
 reason_by_other_half-reason-requires t c =
     let less = extent_half c.args.region.now c.in_ok-second.second c.args.at.0 c.opposite.result c.requires.dash
     (subst (λ s. s ≡ Dash → ⊥) (sym c.opposite.ensures) (opposite_literal c.args.at.1 c.requires.literal)) c.in_ok-second.ensures.value in
-    (omega (arith, less), (sizes_part c.args.rows.now c.args.region.now c.in_ok-second.second c.requires.sizes c.in_ok-second.ensures.size, c.requires.near))
+    (omega (arith, less), rows_part c.args.rows.now c.args.near.now c.args.region.now c.in_ok-second.second c.requires.rows c.in_ok-second.ensures.size)
 
 pub reason_by_other_half-consensus-requires-clause-input : goal.reason_by_other_half-consensus-requires-clause-input
 reason_by_other_half-consensus-requires-clause-input t c =
@@ -74,11 +74,8 @@ pub reason_by_outputs-reason-requires : goal.reason_by_outputs-reason-requires
 reason_by_outputs-reason-requires t c =
     let less = extent_rest (behind c.args.rows.now) c.args.region.now c.args.row.now c.in_ok-rest.rest c.requires.size c.requires.meets c.requires.closed c.in_ok-rest.ensures.value in (
       omega (arith, less),
-      (
-        sizes_part c.args.rows.now c.args.region.now c.in_ok-rest.rest c.requires.sizes
-            (size_rest (behind c.args.rows.now) c.args.region.now c.args.row.now c.in_ok-rest.rest c.requires.size c.requires.meets c.requires.closed c.in_ok-rest.ensures.value),
-        c.requires.near,
-      ),
+      rows_part c.args.rows.now c.args.near.now c.args.region.now c.in_ok-rest.rest c.requires.rows
+          (size_rest (behind c.args.rows.now) c.args.region.now c.args.row.now c.in_ok-rest.rest c.requires.size c.requires.meets c.requires.closed c.in_ok-rest.ensures.value),
     )
 
 pub reason_by_outputs-contains-requires : goal.reason_by_outputs-contains-requires
@@ -118,21 +115,21 @@ reason_by_outputs-returns-clause-answer t c =
     (MatchResult-at_ok _ _ c.in_ok-cube.field-0 c.in_ok-cube.was joins))
 
 pub reason_by_step-next_step-requires-clause-sizes : goal.reason_by_step-next_step-requires-clause-sizes
-reason_by_step-next_step-requires-clause-sizes t c = sizes_among c.args.near.now c.args.rows.now c.args.region.now c.requires.sizes c.requires.near
+reason_by_step-next_step-requires-clause-sizes t c = sizes_among c.args.near.now c.args.rows.now c.args.region.now c.requires.rows.sizes c.requires.rows.among
 
 pub reason_by_step-reason_by_outputs-requires : goal.reason_by_step-reason_by_outputs-requires
 reason_by_step-reason_by_outputs-requires t c =
     let h : Leads c.args.region.now (behind c.args.near.now) (Row c.in-Row.k) =
     subst (Leads c.args.region.now (behind c.args.near.now)) c.in-Row.is c.next_step.ensures in
-    let r = row_leads c.args.rows.now c.args.near.now c.args.region.now c.requires.sizes c.requires.near c.requires.meets c.in-Row.k c.index-near-k.result h c.index-near-k.is in
-    (omega arith, (c.requires.sizes, (c.requires.near, r)))
+    let r = row_leads c.args.rows.now c.args.near.now c.args.region.now c.requires.rows c.requires.meets c.in-Row.k c.index-near-k.result h c.index-near-k.is in
+    (omega arith, (c.requires.rows, r))
 
 pub reason-survey_rows-requires : goal.reason-survey_rows-requires
-reason-survey_rows-requires t c = sizes_among c.args.near.now c.args.rows.now c.args.region.now c.requires.sizes c.requires.near
+reason-survey_rows-requires t c = sizes_among c.args.near.now c.args.rows.now c.args.region.now c.requires.sizes c.requires.among
 
 pub reason-returns-in-Some-clause-answer : goal.reason-returns-in-Some-clause-answer
 reason-returns-in-Some-clause-answer t c =
-    reason_of_some c.args.near.now c.args.rows.now c.args.region.now c.in-Some.cube c.requires.near
+    reason_of_some c.args.near.now c.args.rows.now c.args.region.now c.in-Some.cube c.requires.among
     (subst (λ o. IfSome o (λ d. IsReason c.args.region.now (behind c.args.near.now) d)) c.in-Some.is c.in_ok-found.ensures.found)
 
 pub reason-reason_by_step-requires : goal.reason-reason_by_step-requires
@@ -143,19 +140,17 @@ reason-reason_by_step-requires t c =
     let nearest = c.in_ok-found.field-0.nearest.items in
     let inside : behind met ≡ meeting (size_of region) region (behind near) =
     subst (λ o. IfNone o (behind met ≡ meeting (size_of region) region (behind near))) c.in_default.is c.in_ok-found.ensures.meeting in
-    let sizes = sizes_among near c.args.rows.now region c.requires.sizes c.requires.near in
+    let sizes = sizes_among near c.args.rows.now region c.requires.sizes c.requires.among in
     let inner : AreAmong nearest met = c.in_ok-found.ensures.nearest in
-    let among : AreAmong nearest c.args.rows.now = λ d k. c.requires.near d (among_lent near met region inside d (inner d k)) in
     let there = c.in_ok-found.ensures.some (some_left met (vec_len c.in_ok-found.field-0.meeting) c.is_empty.result c.in_ok-found.field-0.meeting.ok.0 c.is_empty.ensures c.if-not-is_empty.true) in
-    let known : AreAmong nearest c.args.rows.now × (All (λ d. IsDisjoint (holds d.now) (holds region) → ⊥) nearest × (1 ≤ length nearest)) =
-    (among, (meets_among nearest near met region sizes inside inner, there)) in (
+    let known : AreRowsWithNear region c.args.rows.now nearest × (All (λ d. IsDisjoint (holds d.now) (holds region) → ⊥) nearest × (1 ≤ length nearest)) = (
+      record { sizes = c.requires.sizes; among = λ d k. c.requires.among d (among_lent near met region inside d (inner d k)) },
+      (meets_among nearest near met region sizes inside inner, there),
+    ) in (
       omega arith,
       (
         c.in_ok-found.ensures.output,
-        (
-          c.requires.sizes,
-          subst (λ l. AreAmong l c.args.rows.now × (All (λ d. IsDisjoint (holds d.now) (holds region) → ⊥) l × (1 ≤ length l))) (sym c.deref.ensures.value) known,
-        ),
+        subst (λ l. AreRowsWithNear region c.args.rows.now l × (All (λ d. IsDisjoint (holds d.now) (holds region) → ⊥) l × (1 ≤ length l))) (sym c.deref.ensures.value) known,
       ),
     )
 
@@ -170,17 +165,15 @@ reason_by_all_rows-reason_by_step-requires t c =
     c.in_ok-found.ensures.meeting in
     let among : AreAmong near met = c.in_ok-found.ensures.nearest in
     let there = c.in_ok-found.ensures.some (some_left met (vec_len c.in_ok-found.field-0.meeting) c.is_empty.result c.in_ok-found.field-0.meeting.ok.0 c.is_empty.ensures c.if-is_empty.false) in
-    let sizes = sizes_among met rows region c.requires (among_lent rows met region inside) in
-    let known : AreAmong near met × (All (λ d. IsDisjoint (holds d.now) (holds region) → ⊥) near × (1 ≤ length near)) =
-    (among, (meets_among near rows met region c.requires inside among, there)) in (
+    let known : AreRowsWithNear region met near × (All (λ d. IsDisjoint (holds d.now) (holds region) → ⊥) near × (1 ≤ length near)) = (
+      record { sizes = sizes_among met rows region c.requires (among_lent rows met region inside); among = among },
+      (meets_among near rows met region c.requires inside among, there),
+    ) in (
       omega arith,
       (
         c.in_ok-found.ensures.output,
-        (
-          subst (λ l. All (λ d. SameSize d.now region) l) (sym c.deref.ensures.value) sizes,
-          subst (λ l. AreAmong l c.deref.result.now × (All (λ d. IsDisjoint (holds d.now) (holds region) → ⊥) l × (1 ≤ length l))) (sym c.deref-2.ensures.value)
-              (subst (λ l. AreAmong near l × (All (λ d. IsDisjoint (holds d.now) (holds region) → ⊥) near × (1 ≤ length near))) (sym c.deref.ensures.value) known),
-        ),
+        subst (λ l. AreRowsWithNear region c.deref.result.now l × (All (λ d. IsDisjoint (holds d.now) (holds region) → ⊥) l × (1 ≤ length l))) (sym c.deref-2.ensures.value)
+            (subst (λ l. AreRowsWithNear region l near × (All (λ d. IsDisjoint (holds d.now) (holds region) → ⊥) near × (1 ≤ length near))) (sym c.deref.ensures.value) known),
       ),
     )
 
