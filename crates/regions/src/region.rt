@@ -25,7 +25,7 @@ ghost use Rattle.std.specs.Prelude.{◌≡◌, ◌≢◌, ℕ, ◌+◌, ◌≤�
 ghost use Rattle.std.specs.List.{list_any};
 ghost use Rattle.cube.specs.Cube.{Cube as Row, SameSize, IsSubset, IsDisjoint, holds, with_symbol, size_of};
 ghost use Rattle.rows.specs.Places.{places, meeting as meeting_of, behind};
-ghost use Rattle.regions.specs.Answer.{IsAnswer};
+ghost use Rattle.regions.specs.Answer.{IsAnswerOfSplits};
 ghost use Rattle.regions.specs.LeftOut.{LeavesOut};
 ghost use Rattle.regions.specs.Reason.{IsReason, Joins, IsClosed, Leads, Share, Shows, AreAmong, AreRowsWithNear, AreKnown};
 
@@ -272,8 +272,7 @@ impl Splits {
         region: &Cube,
     ) -> Result<Cube, Stop>
         requires { AreRowsWithNear region.now rows.now near.now }
-        ensures limited { self.new.limited ≡ self.old.limited }
-        ensures answer { IsAnswer region.now (behind rows.now) self.old.limited result }
+        ensures { IsAnswerOfSplits region.now rows.now self.old.limited self.new.limited result }
     {
         self.spend(near.len())?;
         let Survey {
@@ -296,8 +295,7 @@ impl Splits {
     #[cycle(reason)]
     fn reason_by_all_rows(&mut self, rows: &[&Cube], region: &Cube) -> Result<Cube, Stop>
         requires { All (λ d. SameSize d.now region.now) rows.now }
-        ensures limited { self.new.limited ≡ self.old.limited }
-        ensures answer { IsAnswer region.now (behind rows.now) self.old.limited result }
+        ensures { IsAnswerOfSplits region.now rows.now self.old.limited self.new.limited result }
     {
         self.spend(rows.len())?;
         let Survey {
@@ -329,8 +327,7 @@ impl Splits {
         requires rows { AreRowsWithNear region.now rows.now near.now }
         requires meets { All (λ d. IsDisjoint (holds d.now) (holds region.now) → ⊥) near.now }
         requires some { 1 ≤ length near.now }
-        ensures limited { self.new.limited ≡ self.old.limited }
-        ensures answer { IsAnswer region.now (behind rows.now) self.old.limited result }
+        ensures { IsAnswerOfSplits region.now rows.now self.old.limited self.new.limited result }
     {
         match next_step(rows, near, fewest, region) {
             Step::Row(k) => self.reason_by_outputs(rows, near, bound, region, near[k]),
@@ -356,8 +353,7 @@ impl Splits {
         requires member { Contains (behind rows.now) row.now }
         requires meets { IsDisjoint (holds row.now) (holds region.now) → ⊥ }
         requires closed { IsClosed region.now row.now }
-        ensures limited { self.new.limited ≡ self.old.limited }
-        ensures answer { IsAnswer region.now (behind rows.now) self.old.limited result }
+        ensures { IsAnswerOfSplits region.now rows.now self.old.limited self.new.limited result }
     {
         if !region.has_outputs_beyond(row) {
             return Ok(row.try_clone()?);
@@ -389,8 +385,7 @@ impl Splits {
         requires rows { AreRowsWithNear region.now rows.now near.now }
         requires dash { slice_get region.now.symbols at.0 ≡ Some Symbol.Dash }
         requires literal { at.1 ≢ Symbol.Dash }
-        ensures limited { self.new.limited ≡ self.old.limited }
-        ensures answer { IsAnswer region.now (behind rows.now) self.old.limited result }
+        ensures { IsAnswerOfSplits region.now rows.now self.old.limited self.new.limited result }
     {
         let (i, literal) = at;
         let one = {
@@ -421,8 +416,7 @@ impl Splits {
         requires literal { at.1 ≢ Symbol.Dash }
         requires one_size { SameSize one.now region.now }
         requires one { IsReason (with_symbol region.now at.0 at.1) (behind rows.now) one.now }
-        ensures limited { self.new.limited ≡ self.old.limited }
-        ensures answer { IsAnswer region.now (behind rows.now) self.old.limited result }
+        ensures { IsAnswerOfSplits region.now rows.now self.old.limited self.new.limited result }
     {
         let (i, literal) = at;
         let other = {

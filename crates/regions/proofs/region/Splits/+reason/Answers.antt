@@ -3,7 +3,7 @@ use Rattle.std.specs.Prelude.{vec_len}
 use Rattle.std.proofs.lemmas.Result.{MatchResult-at_ok, err_from_is_err_and}
 use Rattle.std.proofs.lemmas.Option.{slice_get_within}
 use Rattle.cube.specs.declared.symbol.Symbol.TheVariants.{Dash}
-use Rattle.cube.specs.Cube.{SameSize, IsDisjoint, holds, with_symbol, size_of}
+use Rattle.cube.specs.Cube.{IsDisjoint, holds, with_symbol, size_of}
 use Rattle.rows.specs.Places.{behind, meeting}
 use Rattle.regions.specs.Answer.{IsAnswer}
 use Rattle.regions.specs.Reason.{IsReason, Joins, Leads, AreAmong, AreRowsWithNear}
@@ -48,8 +48,8 @@ reason_by_other_half-consensus-requires-clause-sides t c =
     c.requires.output c.requires.dash refl
     (c.in_ok-second.ensures.value ∙ ap (λ s. with_symbol c.args.region.now c.args.at.0 s) c.opposite.ensures) c.requires.one.size q.size c.requires.one.above q.above
 
-pub reason_by_other_half-returns-clause-answer : goal.reason_by_other_half-returns-clause-answer
-reason_by_other_half-returns-clause-answer t c =
+pub reason_by_other_half-returns : goal.reason_by_other_half-returns
+reason_by_other_half-returns t c =
     let rows = behind c.args.rows.now in
     let region = c.args.region.now in
     let one = c.args.one.now in
@@ -61,14 +61,21 @@ reason_by_other_half-returns-clause-answer t c =
     let mine = freed_half region (with_symbol region at c.args.at.1) one at c.args.at.1 c.requires.dash c.requires.literal c.requires.one_size refl c.requires.one.above in
     let theirs = freed_half region second other at c.opposite.result c.requires.dash
     (subst (λ s. s ≡ Dash → ⊥) (sym c.opposite.ensures) (opposite_literal c.args.at.1 c.requires.literal)) size c.in_ok-second.ensures.value r.above in
-    reason_joined rows region one other c.in-Some.cube c.requires.one.within r.within
-    (subst (Joins region one other) c.in-Some.is (c.in_ok-cube.ensures region c.requires.output c.requires.one_size mine theirs))
+    record {
+      limited = c.in_ok-other.ensures.limited;
+      answer =
+          reason_joined rows region one other c.in-Some.cube c.requires.one.within r.within
+          (subst (Joins region one other) c.in-Some.is (c.in_ok-cube.ensures region c.requires.output c.requires.one_size mine theirs));
+    }
 
-pub reason_by_outputs-returns-then-not-has_outputs_beyond-clause-answer : goal.reason_by_outputs-returns-then-not-has_outputs_beyond-clause-answer
-reason_by_outputs-returns-then-not-has_outputs_beyond-clause-answer t c =
-    reason_of_row (behind c.args.rows.now) c.args.region.now c.args.row.now c.in_ok-try_clone.field-0 c.requires.member c.requires.size c.in_ok-try_clone.ensures.value
-    (row_above (behind c.args.rows.now) c.args.region.now c.args.row.now c.args.row.now c.requires.size c.requires.meets c.requires.closed
-    c.has_outputs_beyond.result c.has_outputs_beyond.ensures c.if-not-has_outputs_beyond.true)
+pub reason_by_outputs-returns-then-not-has_outputs_beyond : goal.reason_by_outputs-returns-then-not-has_outputs_beyond
+reason_by_outputs-returns-then-not-has_outputs_beyond t c = record {
+  limited = refl;
+  answer =
+      reason_of_row (behind c.args.rows.now) c.args.region.now c.args.row.now c.in_ok-try_clone.field-0 c.requires.member c.requires.size c.in_ok-try_clone.ensures.value
+      (row_above (behind c.args.rows.now) c.args.region.now c.args.row.now c.args.row.now c.requires.size c.requires.meets c.requires.closed
+      c.has_outputs_beyond.result c.has_outputs_beyond.ensures c.if-not-has_outputs_beyond.true);
+}
 
 pub reason_by_outputs-reason-requires : goal.reason_by_outputs-reason-requires
 reason_by_outputs-reason-requires t c =
@@ -84,12 +91,14 @@ reason_by_outputs-contains-requires t c =
     SameSize-part c.in_ok-other.other c.in_ok-rest.rest c.args.region.now r.size
     (size_rest (behind c.args.rows.now) c.args.region.now c.args.row.now c.in_ok-rest.rest c.requires.size c.requires.meets c.requires.closed c.in_ok-rest.ensures.value)
 
-pub reason_by_outputs-returns-then-contains-clause-answer : goal.reason_by_outputs-returns-then-contains-clause-answer
-reason_by_outputs-returns-then-contains-clause-answer t c =
-    let r = c.in_ok-other.ensures.answer in
-    reason_of_more (behind c.args.rows.now) c.in_ok-rest.rest c.args.region.now c.in_ok-other.other
-    (size_rest (behind c.args.rows.now) c.args.region.now c.args.row.now c.in_ok-rest.rest c.requires.size c.requires.meets c.requires.closed c.in_ok-rest.ensures.value)
-    r (c.contains.ensures.0 c.if-contains.true)
+pub reason_by_outputs-returns-then-contains : goal.reason_by_outputs-returns-then-contains
+reason_by_outputs-returns-then-contains t c = record {
+  limited = c.in_ok-other.ensures.limited;
+  answer =
+      reason_of_more (behind c.args.rows.now) c.in_ok-rest.rest c.args.region.now c.in_ok-other.other
+      (size_rest (behind c.args.rows.now) c.args.region.now c.args.row.now c.in_ok-rest.rest c.requires.size c.requires.meets c.requires.closed c.in_ok-rest.ensures.value)
+      c.in_ok-other.ensures.answer (c.contains.ensures.0 c.if-contains.true);
+}
 
 pub reason_by_outputs-output_consensus-requires : goal.reason_by_outputs-output_consensus-requires
 reason_by_outputs-output_consensus-requires t c =
@@ -98,8 +107,8 @@ reason_by_outputs-output_consensus-requires t c =
     (size_rest (behind c.args.rows.now) c.args.region.now c.args.row.now c.in_ok-rest.rest c.requires.size c.requires.meets c.requires.closed c.in_ok-rest.ensures.value) in
     (c.requires.size.0 ∙ sym size.0, c.requires.size.1 ∙ sym size.1)
 
-pub reason_by_outputs-returns-clause-answer : goal.reason_by_outputs-returns-clause-answer
-reason_by_outputs-returns-clause-answer t c =
+pub reason_by_outputs-returns : goal.reason_by_outputs-returns
+reason_by_outputs-returns t c =
     let rows = behind c.args.rows.now in
     let region = c.args.region.now in
     let row = c.args.row.now in
@@ -110,9 +119,13 @@ reason_by_outputs-returns-clause-answer t c =
     (other_inputs rows region row rest c.requires.size c.requires.meets c.requires.closed c.in_ok-rest.ensures.value other r.above (c.has_outputs_beyond.ensures.0 c.if-not-has_outputs_beyond.false))
     (either_output rows region row rest c.requires.size c.requires.meets c.requires.closed c.in_ok-rest.ensures.value other r.above)
     c.output_consensus.result c.output_consensus.ensures.none c.output_consensus.ensures.size c.output_consensus.ensures.places in
-    reason_joined rows region row other c.in-Some.cube (within_rows rows row c.requires.member) r.within
-    (subst (Joins region row other) c.in-Some.is
-    (MatchResult-at_ok _ _ c.in_ok-cube.field-0 c.in_ok-cube.was joins))
+    record {
+      limited = c.in_ok-other.ensures.limited;
+      answer =
+          reason_joined rows region row other c.in-Some.cube (within_rows rows row c.requires.member) r.within
+          (subst (Joins region row other) c.in-Some.is
+          (MatchResult-at_ok _ _ c.in_ok-cube.field-0 c.in_ok-cube.was joins));
+    }
 
 pub reason_by_step-next_step-requires-clause-sizes : goal.reason_by_step-next_step-requires-clause-sizes
 reason_by_step-next_step-requires-clause-sizes t c = sizes_among c.args.near.now c.args.rows.now c.args.region.now c.requires.rows.sizes c.requires.rows.among
@@ -127,10 +140,13 @@ reason_by_step-reason_by_outputs-requires t c =
 pub reason-survey_rows-requires : goal.reason-survey_rows-requires
 reason-survey_rows-requires t c = sizes_among c.args.near.now c.args.rows.now c.args.region.now c.requires.sizes c.requires.among
 
-pub reason-returns-in-Some-clause-answer : goal.reason-returns-in-Some-clause-answer
-reason-returns-in-Some-clause-answer t c =
-    reason_of_some c.args.near.now c.args.rows.now c.args.region.now c.in-Some.cube c.requires.among
-    (subst (λ o. IfSome o (λ d. IsReason c.args.region.now (behind c.args.near.now) d)) c.in-Some.is c.in_ok-found.ensures.found)
+pub reason-returns-in-Some : goal.reason-returns-in-Some
+reason-returns-in-Some t c = record {
+  limited = c.in_ok-spend.ensures.limited;
+  answer =
+      reason_of_some c.args.near.now c.args.rows.now c.args.region.now c.in-Some.cube c.requires.among
+      (subst (λ o. IfSome o (λ d. IsReason c.args.region.now (behind c.args.near.now) d)) c.in-Some.is c.in_ok-found.ensures.found);
+}
 
 pub reason-reason_by_step-requires : goal.reason-reason_by_step-requires
 reason-reason_by_step-requires t c =
@@ -177,17 +193,20 @@ reason_by_all_rows-reason_by_step-requires t c =
       ),
     )
 
-pub reason_by_all_rows-returns-clause-answer : goal.reason_by_all_rows-returns-clause-answer
-reason_by_all_rows-returns-clause-answer t c =
+pub reason_by_all_rows-returns : goal.reason_by_all_rows-returns
+reason_by_all_rows-returns t c =
     let region = c.args.region.now in
     let rows = c.args.rows.now in
     let met = c.in_ok-found.field-0.meeting.items in
     let inside : behind met ≡ meeting (size_of region) region (behind rows) =
     subst (λ o. IfNone o (behind met ≡ meeting (size_of region) region (behind rows))) c.in_default.is
     c.in_ok-found.ensures.meeting in
-    let lent = ap behind c.deref.ensures.value ∙ inside in
-    answer_lent rows c.deref.result.now region c.args.self.now.limited c.reason_by_step.result c.requires lent
-    (subst (λ l. IsAnswer region (behind c.deref.result.now) l c.reason_by_step.result) c.in_ok-spend.ensures.limited c.reason_by_step.ensures.answer)
+    record {
+      limited = c.reason_by_step.ensures.limited ∙ c.in_ok-spend.ensures.limited;
+      answer =
+          answer_lent rows c.deref.result.now region c.args.self.now.limited c.reason_by_step.result c.requires (ap behind c.deref.ensures.value ∙ inside)
+          (subst (λ l. IsAnswer region (behind c.deref.result.now) l c.reason_by_step.result) c.in_ok-spend.ensures.limited c.reason_by_step.ensures.answer);
+    }
 
 pub reason_by_split-with_symbol-requires : goal.reason_by_split-with_symbol-requires
 reason_by_split-with_symbol-requires t c = slice_get_within c.args.region.now.symbols c.args.at.0 Dash c.requires.dash
@@ -231,43 +250,56 @@ reason_by_other_half-unreachable-requires t c =
     (subst (λ s. s ≡ Dash → ⊥) (sym c.opposite.ensures) (opposite_literal c.args.at.1 c.requires.literal)) size c.in_ok-second.ensures.value r.above in
     subst (Joins region one other) c.in-None.is (c.in_ok-cube.ensures region c.requires.output c.requires.one_size mine theirs)
 
-pub reason_by_split-returns-in_err-one-clause-answer : goal.reason_by_split-returns-in_err-one-clause-answer
-reason_by_split-returns-in_err-one-clause-answer t c =
+pub reason_by_split-returns-in_err-one : goal.reason_by_split-returns-in_err-one
+reason_by_split-returns-in_err-one t c =
     let p = err_from_is_err_and c.from_residual-in_err-one.result c.from_residual-in_err-one.ensures.1 in
-    rw (p.1, p.2) (
-    explains_more (behind c.args.rows.now) c.in_ok-first.first c.args.region.now c.args.self.now.limited _ c.in_ok-first.ensures.size
-    (half_within c.args.region.now c.in_ok-first.first c.args.at.0 c.args.at.1 c.requires.dash c.in_ok-first.ensures.value)
-    c.in_err-one.ensures.answer)
+    rw (p.1, p.2) (record {
+      limited = c.in_err-one.ensures.limited;
+      answer =
+          explains_more (behind c.args.rows.now) c.in_ok-first.first c.args.region.now c.args.self.now.limited _ c.in_ok-first.ensures.size
+          (half_within c.args.region.now c.in_ok-first.first c.args.at.0 c.args.at.1 c.requires.dash c.in_ok-first.ensures.value)
+          c.in_err-one.ensures.answer;
+    })
 
-pub reason_by_other_half-returns-in_err-other-clause-answer : goal.reason_by_other_half-returns-in_err-other-clause-answer
-reason_by_other_half-returns-in_err-other-clause-answer t c =
+pub reason_by_other_half-returns-in_err-other : goal.reason_by_other_half-returns-in_err-other
+reason_by_other_half-returns-in_err-other t c =
     let p = err_from_is_err_and c.from_residual-in_err-other.result c.from_residual-in_err-other.ensures.1 in
-    rw (p.1, p.2) (
-    explains_more (behind c.args.rows.now) c.in_ok-second.second c.args.region.now c.args.self.now.limited _ c.in_ok-second.ensures.size
-    (half_within c.args.region.now c.in_ok-second.second c.args.at.0 c.opposite.result c.requires.dash c.in_ok-second.ensures.value)
-    c.in_err-other.ensures.answer)
+    rw (p.1, p.2) (record {
+      limited = c.in_err-other.ensures.limited;
+      answer =
+          explains_more (behind c.args.rows.now) c.in_ok-second.second c.args.region.now c.args.self.now.limited _ c.in_ok-second.ensures.size
+          (half_within c.args.region.now c.in_ok-second.second c.args.at.0 c.opposite.result c.requires.dash c.in_ok-second.ensures.value)
+          c.in_err-other.ensures.answer;
+    })
 
-pub reason_by_outputs-returns-in_err-other-clause-answer : goal.reason_by_outputs-returns-in_err-other-clause-answer
-reason_by_outputs-returns-in_err-other-clause-answer t c =
+pub reason_by_outputs-returns-in_err-other : goal.reason_by_outputs-returns-in_err-other
+reason_by_outputs-returns-in_err-other t c =
     let p = err_from_is_err_and c.from_residual-in_err-other.result c.from_residual-in_err-other.ensures.1 in
     let rows = behind c.args.rows.now in
     let region = c.args.region.now in
     let row = c.args.row.now in
     let rest = c.in_ok-rest.rest in
-    rw (p.1, p.2) (
-    explains_more rows rest region c.args.self.now.limited _
-    (size_rest rows region row rest c.requires.size c.requires.meets c.requires.closed c.in_ok-rest.ensures.value)
-    (rest_within rows region row rest c.requires.size c.requires.meets c.requires.closed c.in_ok-rest.ensures.value)
-    c.in_err-other.ensures.answer)
+    rw (p.1, p.2) (record {
+      limited = c.in_err-other.ensures.limited;
+      answer =
+          explains_more rows rest region c.args.self.now.limited _
+          (size_rest rows region row rest c.requires.size c.requires.meets c.requires.closed c.in_ok-rest.ensures.value)
+          (rest_within rows region row rest c.requires.size c.requires.meets c.requires.closed c.in_ok-rest.ensures.value)
+          c.in_err-other.ensures.answer;
+    })
 
-pub reason_by_all_rows-returns-then-is_empty-clause-answer : goal.reason_by_all_rows-returns-then-is_empty-clause-answer
-reason_by_all_rows-returns-then-is_empty-clause-answer t c =
+pub reason_by_all_rows-returns-then-is_empty : goal.reason_by_all_rows-returns-then-is_empty
+reason_by_all_rows-returns-then-is_empty t c =
     let region = c.args.region.now in
     let rows = c.args.rows.now in
     let met = c.in_ok-found.field-0.meeting.items in
     let inside : behind met ≡ meeting (size_of region) region (behind rows) =
     subst (λ o. IfNone o (behind met ≡ meeting (size_of region) region (behind rows))) c.in_default.is
     c.in_ok-found.ensures.meeting in
-    left_out_whole rows met region c.in_ok-try_clone.field-0 c.requires inside c.in_ok-found.ensures.output
-    (ap behind (none_left met (vec_len c.in_ok-found.field-0.meeting) c.is_empty.result c.in_ok-found.field-0.meeting.ok.0 c.is_empty.ensures c.if-is_empty.true))
-    c.in_ok-try_clone.ensures.value
+    record {
+      limited = c.in_ok-spend.ensures.limited;
+      answer =
+          left_out_whole rows met region c.in_ok-try_clone.field-0 c.requires inside c.in_ok-found.ensures.output
+          (ap behind (none_left met (vec_len c.in_ok-found.field-0.meeting) c.is_empty.result c.in_ok-found.field-0.meeting.ok.0 c.is_empty.ensures c.if-is_empty.true))
+          c.in_ok-try_clone.ensures.value;
+    }
