@@ -4,7 +4,7 @@ use Rattle.cube.specs.declared.symbol.Symbol.{Symbol}
 use Rattle.cube.specs.declared.symbol.Symbol.TheVariants.{Dash}
 use Rattle.cube.specs.Pattern.{agrees}
 use Rattle.cube.specs.Size.{Size}
-use Rattle.cube.specs.Cube.{Cube, HasSize, SameSize, IsSubset, holds}
+use Rattle.cube.specs.Cube.{Cube, HasSize, SameSize, IsSubset, holds, size_of}
 use Rattle.std.specs.List.{Contains}
 use Rattle.std.specs.Borrow.{Bor}
 use Rattle.rows.specs.Places.{places, behind}
@@ -22,10 +22,10 @@ pub record IsReason (region : Cube) (rows : List Cube) (c : Cube) : Type 0 where
   pub within : IsSubset (holds c) (places rows)
 
 -- what splits or a search show of a region
-abbrev pub Shows : Size → List Cube → Cube → Shown → Type 0
-Shows size rows region Held = IsSubset (holds region) (places rows)
-Shows size rows region (LeftOut part) = IsLeftOut size rows region part
-Shows size rows region Nothing = ⊤
+abbrev pub Shows : Cube → List (Bor Cube) → Shown → Type 0
+Shows region rows Held = IsSubset (holds region) (places (behind rows))
+Shows region rows (LeftOut part) = IsLeftOut (size_of region) (behind rows) region part
+Shows region rows Nothing = ⊤
 
 -- a cube is found that holds the region, and of which one of the two holds each place
 abbrev pub Joins : Cube → Cube → Cube → Option Cube → Type 0
@@ -45,6 +45,10 @@ pub record AreRowsWithNear (region : Cube) (rows near : List (Bor Cube)) : Type 
 -- cubes of the size whose places are all in the list
 abbrev pub AreKnown : Size → List Cube → List Cube → Type 0
 AreKnown size known rows = All (λ d. HasSize d size) known × IsSubset (places known) (places rows)
+
+-- cubes of the region's size that the rows hold, as a search learns them
+abbrev pub AreLearned : Cube → List (Bor Cube) → List Cube → Type 0
+AreLearned region rows known = AreKnown (size_of region) known (behind rows)
 
 -- the cube has no literal at an input where the region has none
 abbrev pub IsClosed : Cube → Cube → Type 0

@@ -27,7 +27,7 @@ ghost use Rattle.cube.specs.Cube.{Cube as Row, SameSize, IsSubset, IsDisjoint, h
 ghost use Rattle.rows.specs.Places.{places, meeting as meeting_of, behind};
 ghost use Rattle.regions.specs.Answer.{IsAnswerOfSplits};
 ghost use Rattle.regions.specs.LeftOut.{LeavesOut};
-ghost use Rattle.regions.specs.Reason.{IsReason, Joins, IsClosed, Leads, Share, Shows, AreAmong, AreRowsWithNear, AreKnown};
+ghost use Rattle.regions.specs.Reason.{IsReason, Joins, IsClosed, Leads, Share, Shows, AreAmong, AreRowsWithNear, AreLearned};
 
 use crate::region::learned::{Learned, Shown, shown_by_search};
 use crate::region::step_hint::{Hint, next_step_hint};
@@ -441,7 +441,7 @@ impl Splits {
         region: &Cube,
     ) -> Result<Shown, AllocError>
         requires { AreRowsWithNear region.now rows.now near.now }
-        ensures shown { IfOk result (Shows (size_of region.now) (behind rows.now) region.now) }
+        ensures shown { IfOk result (Shows region.now rows.now) }
         ensures nothing { IfOk result
             (λ shown. shown ≡ Shown.Nothing → IsTrue self.old.limited) }
     {
@@ -498,7 +498,7 @@ fn shown_by_limited_splits(
 ) -> Result<Shown, AllocError>
     requires { AreRowsWithNear region.now rows.now near.now }
     ensures known { learned.new.known ≡ learned.old.known }
-    ensures shown { IfOk result (Shows (size_of region.now) (behind rows.now) region.now) }
+    ensures shown { IfOk result (Shows region.now rows.now) }
 {
     learned.raise_rows_left(rows);
     let mut splits = Splits::limited_to(alloc, learned.rows_left);
@@ -518,10 +518,9 @@ fn shown_by_splits_or_search(
     learned: &mut Learned,
 ) -> Result<Shown, AllocError>
     requires rows { AreRowsWithNear region.now rows.now near.now }
-    requires known { AreKnown (size_of region.now) learned.old.known.items (behind rows.now) }
-    ensures known { OnOk result
-        (AreKnown (size_of region.now) learned.new.known.items (behind rows.now)) }
-    ensures shown { IfOk result (Shows (size_of region.now) (behind rows.now) region.now) }
+    requires known { AreLearned region.now rows.now learned.old.known.items }
+    ensures known { OnOk result (AreLearned region.now rows.now learned.new.known.items) }
+    ensures shown { IfOk result (Shows region.now rows.now) }
     ensures some { IfOk result (λ shown. shown ≢ Shown.Nothing) }
 {
     match shown_by_limited_splits(alloc, rows, near, bound, region, learned)? {
@@ -550,9 +549,8 @@ pub(crate) fn part_left_out_by_splits_or_search(
     learned: &mut Learned,
 ) -> Result<Option<Cube>, AllocError>
     requires rows { AreRowsWithNear region.now rows.now near.now }
-    requires known { AreKnown (size_of region.now) learned.old.known.items (behind rows.now) }
-    ensures known { OnOk result
-        (AreKnown (size_of region.now) learned.new.known.items (behind rows.now)) }
+    requires known { AreLearned region.now rows.now learned.old.known.items }
+    ensures known { OnOk result (AreLearned region.now rows.now learned.new.known.items) }
     ensures part { IfOk result (LeavesOut (size_of region.now) (behind rows.now) region.now) }
 {
     match shown_by_splits_or_search(alloc, rows, near, bound, region, learned)? {

@@ -8,9 +8,9 @@
 //! verification, 2017). The search has no contract: its answers count only if this check passes.
 ghost use Rattle.std.specs.Prelude.{◌≡◌, ◌<◌, ◌||◌, [], IsTrue, IfOk, IfSome, IfNone, OnOk, All, length};
 ghost use Rattle.std.specs.List.{list_any};
-ghost use Rattle.cube.specs.Cube.{HasSize, Place, SameSize, IsSubset, holds, size_of};
+ghost use Rattle.cube.specs.Cube.{HasSize, Place, SameSize, IsSubset, holds};
 ghost use Rattle.rows.specs.Places.{places, behind};
-ghost use Rattle.regions.specs.Reason.{AreKnown, Shows};
+ghost use Rattle.regions.specs.Reason.{AreKnown, AreLearned, Shows};
 
 use crate::region::passes::passes_before_search;
 use cube::{Cube, Shape, Symbol};
@@ -164,7 +164,7 @@ fn point_outside(
     literals: &[u32],
 ) -> Result<Shown, AllocError>
     requires { All (λ d. SameSize d.now region.now) rows.now }
-    ensures { IfOk result (Shows (size_of region.now) (behind rows.now) region.now) }
+    ensures { IfOk result (Shows region.now rows.now) }
 {
     let Some(point) = cube_of_literals(alloc, region.shape(), output, literals)? else {
         return Ok(Shown::Nothing);
@@ -367,9 +367,9 @@ fn shown_by_answer(
     answer: &Answer,
 ) -> Result<Shown, AllocError>
     requires sizes { All (λ d. SameSize d.now region.now) rows.now }
-    requires known { AreKnown (size_of region.now) known.old.items (behind rows.now) }
-    ensures known { OnOk result (AreKnown (size_of region.now) known.new.items (behind rows.now)) }
-    ensures shown { IfOk result (Shows (size_of region.now) (behind rows.now) region.now) }
+    requires known { AreLearned region.now rows.now known.old.items }
+    ensures known { OnOk result (AreLearned region.now rows.now known.new.items) }
+    ensures shown { IfOk result (Shows region.now rows.now) }
 {
     match answer {
         Answer::Unknown => Ok(Shown::Nothing),
@@ -395,10 +395,9 @@ fn shown_by_search_at(
     region: &Cube,
 ) -> Result<Shown, AllocError>
     requires sizes { All (λ d. SameSize d.now region.now) rows.now }
-    requires known { AreKnown (size_of region.now) learned.old.known.items (behind rows.now) }
-    ensures known { OnOk result
-        (AreKnown (size_of region.now) learned.new.known.items (behind rows.now)) }
-    ensures shown { IfOk result (Shows (size_of region.now) (behind rows.now) region.now) }
+    requires known { AreLearned region.now rows.now learned.old.known.items }
+    ensures known { OnOk result (AreLearned region.now rows.now learned.new.known.items) }
+    ensures shown { IfOk result (Shows region.now rows.now) }
 {
     learned.prepare_search(alloc, rows, output, region.shape())?;
     let answer = learned.ask_search(alloc, output, region)?;
@@ -432,10 +431,9 @@ pub(crate) fn shown_by_search(
     region: &Cube,
 ) -> Result<Shown, AllocError>
     requires sizes { All (λ d. SameSize d.now region.now) rows.now }
-    requires known { AreKnown (size_of region.now) learned.old.known.items (behind rows.now) }
-    ensures known { OnOk result
-        (AreKnown (size_of region.now) learned.new.known.items (behind rows.now)) }
-    ensures shown { IfOk result (Shows (size_of region.now) (behind rows.now) region.now) }
+    requires known { AreLearned region.now rows.now learned.old.known.items }
+    ensures known { OnOk result (AreLearned region.now rows.now learned.new.known.items) }
+    ensures shown { IfOk result (Shows region.now rows.now) }
 {
     for output in 0..region.shape().outputs() {
         let Some(part) = part_at_output(alloc, region, output)? else {

@@ -8,7 +8,7 @@ ghost use Rattle.std.specs.List.{AllZip};
 ghost use Rattle.cube.specs.Cube.{HasSize, SameSize, IsSubset, size_of};
 ghost use Rattle.rows.specs.Places.{places, behind};
 ghost use Rattle.regions.specs.LeftOut.{LeavesOut};
-ghost use Rattle.regions.specs.Reason.{AreAmong, AreKnown};
+ghost use Rattle.regions.specs.Reason.{AreAmong, AreLearned};
 
 use crate::region::learned::Learned;
 use crate::region::nearest_rows::RowBits;
@@ -94,9 +94,8 @@ fn part_left_out_nearest_first(
     learned: &mut Learned,
 ) -> Result<Option<Cube>, AllocError>
     requires sizes { All (λ d. SameSize d.now region.now) rows.now }
-    requires known { AreKnown (size_of region.now) learned.old.known.items (behind rows.now) }
-    ensures known { OnOk result
-        (AreKnown (size_of region.now) learned.new.known.items (behind rows.now)) }
+    requires known { AreLearned region.now rows.now learned.old.known.items }
+    ensures known { OnOk result (AreLearned region.now rows.now learned.new.known.items) }
     ensures part { IfOk result (LeavesOut (size_of region.now) (behind rows.now) region.now) }
 {
     let Some(bits) = bits else {
