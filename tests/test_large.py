@@ -2,7 +2,7 @@
 
 A program may give up for want of memory at any time, and would still be proved. So each command is asked here for more
 rows, inputs, outputs, primes and columns than a list that it would be tempted to keep short has."""
-from itertools import combinations
+from itertools import combinations, product
 
 from support import Case, ProgramTest, answer_in, closed, fault, folder_of, lines, on_input, pla, printed
 from worked import DIFFERENT, EQUAL, GAPS, NO_TAUTOLOGY, ON_OFF, PARTITION, TAUTOLOGY
@@ -25,6 +25,17 @@ def shuffled(rows):
 def odd(inputs):
     """The points with an odd number of ones. No two are neighbours, so each is a prime of a function of them."""
     return [point for point in points(inputs) if point.count("1") % 2]
+
+
+def less(bits):
+    """The primes of two numbers of so many bits of which the first is less: at one bit it is 0 and the other 1, and at each bit before
+    that the first is 0 or the other 1."""
+    found = []
+    for at in range(bits):
+        for choice in product((True, False), repeat=at):
+            zeros, ones = [i for i in range(at) if choice[i]], [bits + i for i in range(at) if not choice[i]]
+            found.append(cube_of(2 * bits, (*ones, bits + at), (*zeros, at)))
+    return found
 
 
 def below(inputs, bound):
@@ -157,6 +168,16 @@ class ManyPrimes(Large):
         self.each("4,096 points apart", (13, 1), shuffled(rows), rows, ("primes", "essen", "exact", "exact --literals"))
         both = [f"{row}1" for row in rows]
         self.each("4,096 points apart of two outputs", (13, 2), shuffled(both), both, ("primes", "essen", "exact"))
+        rows = listed(odd(17))
+        self.each("65,536 points apart", (17, 1), rows, rows, ("essen", "exact"))
+
+    def test_two_numbers_compared(self):
+        """Two numbers of nine bits, in 262,144 rows, of which each 513th has equal numbers: whether the first is less, equal, greater."""
+        rows = [f"{k:018b} {marked(3, [(k >> 9 > k % 512) + (k >> 9 >= k % 512)])}" for k in range(1 << 18)]
+        greater = [cube[9:] + cube[:9] for cube in less(9)]
+        equal = [number + number for number in points(9)]
+        due = sorted(listed(less(9), "100") + listed(equal, "010") + listed(greater, "001"))
+        self.each("two numbers", (18, 3), rows, due, ("essen", "exact"))
 
     def test_primes_by_weight(self):
         """2,970 primes of the points of 12 inputs with two to four ones; none is essential."""

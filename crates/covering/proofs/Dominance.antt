@@ -34,7 +34,7 @@ longer_not_within b a ra rb l = elim (cases_Bool (holds_all b a)) [
   | inr h ↦ sym h
 ]
 
-dominating_parts : (rows : List (List ℕ)) (at n : ℕ) → is_dominating_row rows at n ≡ true → (n ≢ at) × IsWithin (row_at rows at) (row_at rows n)
+pub dominating_parts : (rows : List (List ℕ)) (at n : ℕ) → is_dominating_row rows at n ≡ true → (n ≢ at) × IsWithin (row_at rows at) (row_at rows n)
 dominating_parts rows at n h =
     let p = and_parts (not (eqb n at)) (holds_all (row_at rows n) (row_at rows at)) h in
     ((λ e. true≢false (sym p.0 ∙ ap not (eq-eqb n at e))), within_from (row_at rows n) (row_at rows at) p.1)

@@ -1,4 +1,4 @@
--- The bits of a column's rows: a column in all rows of another has all bits of that one's.
+-- The bits of a column's rows, or of a row's columns: a column in all rows of another has all bits of that one's.
 use Rattle.std.proofs.Common.{◌≡◌, ℕ, ◌+◌, ◌<◌, max, inl, inr, Bool, true, false, List, [], ◌∷◌, ◌||◌, length, map, take, slice_index_or, bit_or, fold, refl, sym, ap, subst, ◌∙◌, arith}
 use Rattle.std.specs.Int.{bit_at}
 use Rattle.std.specs.Int.Bits.{or_zero_l}
@@ -9,9 +9,9 @@ use Rattle.std.proofs.lemmas.List.{take_more}
 use Rattle.std.proofs.lemmas.List.Folds.{list_any-append}
 use Rattle.std.proofs.Math.ListN.{get_or-map}
 use Rattle.covering.specs.Table.{has, IsWithin}
-use Rattle.covering.specs.Reduce.{row_at, bit_of, signature_of, has_bits, dominates}
+use Rattle.covering.specs.Reduce.{row_at, bit_of, signature_of, has_bits, dominates, is_dominating_row}
 use Rattle.covering.proofs.Sets.{has_here, has_later, has_cases}
-use Rattle.covering.proofs.Dominance.{dominates_parts}
+use Rattle.covering.proofs.Dominance.{dominates_parts, dominating_parts}
 
 -- the second number has all bits of the first
 abbrev pub IsUnder : ℕ → ℕ → Type 0
@@ -74,6 +74,16 @@ dominates_not preferred transpose signatures keep a b e h = elim (cases_Bool (do
   | inl d ↦ absurd (both_ways _
       (ap (λ bits. has_bits bits (signature_of (row_at transpose a))) (sym (get_or-map signature_of transpose b []) ∙ ap (λ l. slice_index_or l b 0) (sym e)) ∙ h)
       (signature_within (row_at transpose a) (row_at transpose b) (dominates_parts preferred transpose keep a b d).stands))
+  | inr d ↦ d
+]
+
+-- where the signature of the row n lacks a bit of that of the row at, n does not have all its columns
+pub dominating_not : (rows : List (List ℕ)) (signatures : List ℕ) (at n : ℕ) → signatures ≡ map signature_of rows
+    → has_bits (slice_index_or signatures n 0) (signature_of (row_at rows at)) ≡ false → is_dominating_row rows at n ≡ false
+dominating_not rows signatures at n e h = elim (cases_Bool (is_dominating_row rows at n)) [
+  | inl d ↦ absurd (both_ways _
+      (ap (λ bits. has_bits bits (signature_of (row_at rows at))) (sym (get_or-map signature_of rows n []) ∙ ap (λ l. slice_index_or l n 0) (sym e)) ∙ h)
+      (signature_within (row_at rows at) (row_at rows n) (dominating_parts rows at n d).1))
   | inr d ↦ d
 ]
 

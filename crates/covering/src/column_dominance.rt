@@ -27,7 +27,7 @@ fn bit_of(row: usize) -> u64
 }
 
 /// The signature of some rows: the bits of all of them.
-fn signature_of(rows: &[usize]) -> u64
+pub(crate) fn signature_of(rows: &[usize]) -> u64
     ensures { result ≡ signature_of rows.now }
 {
     let mut signature: u64 = 0;
@@ -37,8 +37,8 @@ fn signature_of(rows: &[usize]) -> u64
     signature
 }
 
-/// The signature of each column's rows.
-fn signatures_of(alloc: Global, transpose: &[Vec<usize>]) -> Result<Vec<u64>, AllocError>
+/// The signature of each list of rows.
+pub(crate) fn signatures_of(alloc: Global, transpose: &[Vec<usize>]) -> Result<Vec<u64>, AllocError>
     ensures { IfOk result (λ v. v.items ≡ map signature_of (items_of transpose.now)) }
 {
     let mut signatures = Vec::with_capacity(alloc, transpose.len())?;
@@ -49,7 +49,7 @@ fn signatures_of(alloc: Global, transpose: &[Vec<usize>]) -> Result<Vec<u64>, Al
 }
 
 /// Whether the signature of the column has all bits of the other one.
-fn has_bits(signatures: &[u64], column: usize, signature: u64) -> bool
+pub(crate) fn has_bits(signatures: &[u64], column: usize, signature: u64) -> bool
     ensures { result ≡ has_bits (slice_index_or signatures.now column 0) signature }
 {
     let bits = if column < signatures.len() {

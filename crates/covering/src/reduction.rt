@@ -7,12 +7,12 @@
 //! that is kept, so they could be dropped one by one. If a pass marks nothing, no step of its kind
 //! applies.
 
-ghost use Rattle.std.specs.Prelude.{◌≡◌, ◌<◌, ◌==◌, ◌||◌, IfOk, MatchBool, not, filter};
+ghost use Rattle.std.specs.Prelude.{◌≡◌, ◌<◌, ◌==◌, ◌||◌, IfOk, MatchBool, length, not, filter};
 ghost use Rattle.std.specs.List.{range_with_len};
 ghost use Rattle.covering.specs.Table.{IsTable, items_of, has};
 ghost use Rattle.covering.specs.Steps.{Steps, IsReduced, SameLeast};
 ghost use Rattle.covering.specs.Search.{IsWeakStep, IsWeaklyReduced, marked};
-ghost use Rattle.covering.specs.Reduce.{UnmarksEssentialColumn, MarksInessentialColumns, HasNoEssentialColumn, Shrinks};
+ghost use Rattle.covering.specs.Reduce.{UnmarksEssentialColumn, MarksInessentialColumns, HasNoEssentialColumn, IsTranspose, Shrinks};
 
 use crate::choice::Choice;
 use crate::marks::{all_kept, all_marked, is_marked, retain_marked, retain_untouched_rows, unmark};
@@ -67,6 +67,34 @@ fn with_unmarked(
     Ok(unmarked)
 }
 
+/// Which passes may drop something: a hint. A row comes to have all columns of another only where that
+/// one lost a column, and a column to be in all rows of another only where that one lost a row.
+#[derive(Clone, Copy)]
+pub(crate) struct Due {
+    rows: bool,
+    columns: bool,
+}
+
+impl Due {
+    /// All passes.
+    pub(crate) const ALL: Due = Due {
+        rows: true,
+        columns: true,
+    };
+
+    /// Those of a reduced table that lost rows.
+    pub(crate) const COLUMNS: Due = Due {
+        rows: false,
+        columns: true,
+    };
+
+    /// Those of a reduced table that lost columns.
+    pub(crate) const ROWS: Due = Due {
+        rows: true,
+        columns: false,
+    };
+}
+
 impl Table {
     /// Takes each column that is the only one of a row; answers whether there was one.
     fn take_essential_columns(&mut self, alloc: Global) -> Result<bool, AllocError>
@@ -85,42 +113,90 @@ impl Table {
         Ok(true)
     }
 
+    /// Drops each row that has all columns of another, if that is due; answers whether there was one.
+    fn drop_rows_if_due(
+        &mut self,
+        alloc: Global,
+        transpose: &[Vec<usize>],
+        due: &mut Due,
+    ) -> Result<bool, AllocError>
+        requires transpose { IsTranspose self.old.columns self.old.rows (items_of transpose.now) }
+        requires long { length transpose.now ≡ self.old.columns }
+        ensures { (choice : Choice) → IfOk result (λ is_changed. MatchBool is_changed
+            (Shrinks choice self.old self.new) (self.new ≡ self.old)) }
+    {
+        if !due.rows {
+            return Ok(false);
+        }
+        due.rows = false;
+        let is_changed = self.drop_dominating_rows(alloc, transpose)?;
+        due.columns = due.columns || is_changed;
+        Ok(is_changed)
+    }
+
+    /// Drops each column that another dominates which costs no more, if that is due; answers whether
+    /// there was one.
+    fn drop_columns_if_due(
+        &mut self,
+        alloc: Global,
+        choice: Choice,
+        transpose: &[Vec<usize>],
+        due: &mut Due,
+    ) -> Result<bool, AllocError>
+        requires transpose { IsTranspose self.old.columns self.old.rows (items_of transpose.now) }
+        requires long { length transpose.now ≡ self.old.columns }
+        ensures { IfOk result (λ is_changed. MatchBool is_changed
+            (IsWeakStep choice self.old self.new) (self.new ≡ self.old)) }
+    {
+        if !due.columns {
+            return Ok(false);
+        }
+        due.columns = false;
+        let is_changed = self.drop_weakly_dominated_columns(alloc, choice, transpose)?;
+        due.rows = due.rows || is_changed;
+        Ok(is_changed)
+    }
+
     /// Makes one pass that changes the table, in a search for some cover within a budget; answers
     /// whether there was one. The lists are memory for the rows of each column.
     fn reduce_weakly_once(
         &mut self,
         alloc: Global,
         choice: Choice,
+        due: &mut Due,
         lists: &mut Vec<Vec<usize>>,
     ) -> Result<bool, AllocError>
         ensures { IfOk result (λ is_changed. MatchBool is_changed
             (IsWeakStep choice self.old self.new) (self.new ≡ self.old)) }
     {
         if self.take_essential_columns(alloc)? {
+            due.columns = true;
             return Ok(true);
         }
         let transpose = self.transpose(alloc, replace(lists, Vec::new(alloc)))?;
-        let mut is_changed = self.drop_dominating_rows(alloc, &transpose)?;
+        let mut is_changed = self.drop_rows_if_due(alloc, &transpose, due)?;
         if !is_changed {
-            is_changed = self.drop_weakly_dominated_columns(alloc, choice, &transpose)?;
+            is_changed = self.drop_columns_if_due(alloc, choice, &transpose, due)?;
         }
         *lists = transpose;
         Ok(is_changed)
     }
 
-    /// The table after all passes, in a search for some cover within a budget. The lists are memory
-    /// for the rows of each column.
+    /// The table after all passes that are due, in a search for some cover within a budget. The lists
+    /// are memory for the rows of each column.
     pub(crate) fn reduce_weakly(
         self,
         alloc: Global,
         choice: Choice,
+        due: Due,
         lists: &mut Vec<Vec<usize>>,
     ) -> Result<Table, AllocError>
         ensures { IfOk result (λ u. IsWeaklyReduced choice self u) }
     {
         let mut table = self;
+        let mut due = due;
         loop {
-            if !table.reduce_weakly_once(alloc, choice, lists)? {
+            if !table.reduce_weakly_once(alloc, choice, &mut due, lists)? {
                 return Ok(table);
             }
         }

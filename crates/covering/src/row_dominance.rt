@@ -1,12 +1,14 @@
 //! Row dominance: a row that has all columns of another one is dropped.
 //!
-//! Such a row is among the rows of the other's rarest column, so candidates are few.
+//! Such a row is among the rows of the other's rarest column, so candidates are few. Most of these are
+//! ruled out by one word: a row that has all columns of another has all bits of its signature.
 
-ghost use Rattle.std.specs.Prelude.{◌≡◌, ◌≢◌, ◌<◌, ◌==◌, ◌&&◌, ℕ, [], IfOk, MatchBool, length, true};
+ghost use Rattle.std.specs.Prelude.{◌≡◌, ◌≢◌, ◌<◌, ◌==◌, ◌&&◌, ℕ, [], IfOk, MatchBool, length, map, true};
 ghost use Rattle.covering.specs.Table.{items_of, has};
-ghost use Rattle.covering.specs.Reduce.{row_at, AreRising, IsTranspose, UnmarksDominatingRows, LeavesNoDominatingRow, is_dominating_row, HasNoDominatingRow, Shrinks};
+ghost use Rattle.covering.specs.Reduce.{row_at, AreRising, IsTranspose, UnmarksDominatingRows, LeavesNoDominatingRow, is_dominating_row, HasNoDominatingRow, Shrinks, signature_of};
 
 use crate::choice::Choice;
+use crate::column_dominance::{has_bits, signature_of, signatures_of};
 use crate::columns::{entry, is_rising_within};
 use crate::marks::{all_marked, is_full, is_marked, retain_marked_rows, unmark};
 use crate::table::Table;
@@ -38,12 +40,20 @@ fn is_dominating_row(rows: &[Vec<usize>], at: usize, number: usize) -> bool
 
 /// Takes the marks from those of the rows `among` that have all columns of the row `at`, but not
 /// from `at`.
-fn unmark_dominating_rows(stay: &mut Vec<bool>, rows: &[Vec<usize>], among: &[usize], at: usize)
-    requires { AreRising (items_of rows.now) }
+fn unmark_dominating_rows(
+    stay: &mut Vec<bool>,
+    rows: &[Vec<usize>],
+    signatures: &[u64],
+    among: &[usize],
+    at: usize,
+)
+    requires rising { AreRising (items_of rows.now) }
+    requires signatures { signatures.now ≡ map signature_of (items_of rows.now) }
     ensures { UnmarksDominatingRows (items_of rows.now) at among.now stay.old.items stay.new.items }
 {
+    let signature = signature_of(entry(rows, at));
     for number in among {
-        if is_dominating_row(rows, at, *number) {
+        if has_bits(signatures, *number, signature) && is_dominating_row(rows, at, *number) {
             unmark(stay, *number);
         }
     }
@@ -64,11 +74,13 @@ fn row_dominance(
     requires filled { (i : ℕ) → i < length rows.now → row_at (items_of rows.now) i ≢ [] }
     ensures { IfOk result (λ v. LeavesNoDominatingRow (items_of rows.now) v.items) }
 {
+    let signatures = signatures_of(alloc, rows)?;
     let mut stay = all_marked(alloc, rows.len())?;
     for number in 0..rows.len() {
         if is_marked(&stay, number) {
             let column = rarest(transpose, entry(rows, number));
-            unmark_dominating_rows(&mut stay, rows, entry(transpose, column), number);
+            let among = entry(transpose, column);
+            unmark_dominating_rows(&mut stay, rows, &signatures, among, number);
         }
     }
     Ok(stay)

@@ -17,6 +17,7 @@ use crate::choice::{Choice, cost, total_cost};
 use crate::columns::{contains, copy_of};
 use crate::lagrangian::lagrangian;
 use crate::marks::{all_kept, all_marked};
+use crate::reduction::Due;
 use crate::table::Table;
 use heuristics::{Goal, Multipliers, likeliest, row_counts, steps_of_long_search};
 use number_lists::Compact;
@@ -232,13 +233,14 @@ impl Table {
         alloc: Global,
         choice: Choice,
         budget: Budget,
+        due: Due,
         warm_start: &mut WarmStart,
         lists: &mut Vec<Vec<usize>>,
     ) -> Result<Option<Table>, AllocError>
         ensures { IfOk result (λ o. MatchOption o (NoneWithin choice self budget.columns
             budget.cost) (IsPruned choice budget.columns budget.cost self)) }
     {
-        let mut table = self.reduce_weakly(alloc, choice, lists)?;
+        let mut table = self.reduce_weakly(alloc, choice, due, lists)?;
         loop {
             let live = table.live_columns().len();
             let Some(next) = table.drop_by_bound(alloc, choice, budget, warm_start)? else {
@@ -247,7 +249,7 @@ impl Table {
             if live <= next.live_columns().len() {
                 return Ok(Some(next));
             }
-            table = next.reduce_weakly(alloc, choice, lists)?;
+            table = next.reduce_weakly(alloc, choice, Due::ROWS, lists)?;
             if !is_worth_a_bound(live, table.live_columns().len()) {
                 return Ok(Some(table));
             }
@@ -281,15 +283,16 @@ impl Table {
         Ok(self.live.first().copied())
     }
 
-    /// A cover within the budget, or none if there is none: prunes and branches. It looks at no
-    /// more than `tables_left` tables, and subtracts those that it looked at. What it learns of row
-    /// weights goes back to the warm start once it is over.
+    /// A cover within the budget, or none if there is none: prunes, first by the passes that are due,
+    /// and branches. It looks at no more than `tables_left` tables, and subtracts those that it looked
+    /// at. What it learns of row weights goes back to the warm start once it is over.
     #[cycle(search)]
     fn search(
         self,
         alloc: Global,
         choice: Choice,
         budget: Budget,
+        due: Due,
         warm_start: &mut WarmStart,
         tables_left: &mut u64,
         lists: &mut Vec<Vec<usize>>,
@@ -303,7 +306,7 @@ impl Table {
         let mut own = warm_start.copy(alloc)?;
         own.count_table();
         own.take_relaxation(warm_start);
-        let found = match self.prune(alloc, choice, budget, &mut own, lists)? {
+        let found = match self.prune(alloc, choice, budget, due, &mut own, lists)? {
             None => Ok(None),
             Some(table) => table.branch(alloc, choice, budget, &mut own, tables_left, lists),
         };
@@ -338,13 +341,32 @@ impl Table {
         };
         let basis = warm_start.branch(alloc, column)?;
         let with = self.take(alloc, column)?;
-        if let Some(cover) = with.search(alloc, choice, budget, warm_start, tables_left, lists)? {
+        let found = with.search(
+            alloc,
+            choice,
+            budget,
+            Due::COLUMNS,
+            warm_start,
+            tables_left,
+            lists,
+        )?;
+        if let Some(cover) = found {
             return Ok(Some(cover));
         }
         warm_start.go_back(alloc, basis)?;
         match self.drop_live(alloc, column)? {
             None => Ok(None),
-            Some(rest) => rest.search(alloc, choice, budget, warm_start, tables_left, lists),
+            Some(rest) => {
+                rest.search(
+                    alloc,
+                    choice,
+                    budget,
+                    Due::ROWS,
+                    warm_start,
+                    tables_left,
+                    lists,
+                )
+            }
         }
     }
 
@@ -385,7 +407,7 @@ impl Table {
     {
         self.relax(alloc, choice, warm_start)?;
         let mut tables_left = most_tables;
-        let found = match self.prune(alloc, choice, budget, warm_start, lists)? {
+        let found = match self.prune(alloc, choice, budget, Due::ALL, warm_start, lists)? {
             None => Ok(None),
             Some(table) => {
                 table.branch(alloc, choice, budget, warm_start, &mut tables_left, lists)
@@ -468,7 +490,8 @@ impl Table {
         ensures { IfOk result (AnswersWithin choice self budget) }
     {
         let mut lists = Vec::new(alloc);
-        let Some(table) = self.prune(alloc, choice, budget, warm_start, &mut lists)? else {
+        let Some(table) = self.prune(alloc, choice, budget, Due::ALL, warm_start, &mut lists)?
+        else {
             return Ok(None);
         };
         table.find_or_refute_in_two_looks(
@@ -542,7 +565,8 @@ impl Table {
         }
         let mut lists = Vec::new(alloc);
         let copy = self.copy(alloc)?;
-        let Some(table) = copy.prune(alloc, choice, budget, warm_start, &mut lists)? else {
+        let Some(table) = copy.prune(alloc, choice, budget, Due::ALL, warm_start, &mut lists)?
+        else {
             return Ok(None);
         };
         let goal = table.goal(choice, budget);

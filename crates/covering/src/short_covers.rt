@@ -4,6 +4,7 @@ ghost use Rattle.std.specs.Prelude.{IfOk};
 ghost use Rattle.covering.specs.Cover.{IsCover};
 
 use crate::choice::Choice;
+use crate::reduction::Due;
 use crate::table::Table;
 use std::alloc::{AllocError, Global};
 use warm_start::{Effort, WarmStart};
@@ -18,7 +19,7 @@ pub fn short_cover(table: &Table) -> Result<Vec<usize>, AllocError>
     let alloc = *table.rows.allocator();
     let mut lists = Vec::new(alloc);
     let copy = table.copy(alloc)?;
-    let core = copy.reduce_weakly(alloc, Choice::First, &mut lists)?;
+    let core = copy.reduce_weakly(alloc, Choice::First, Due::ALL, &mut lists)?;
     let mut warm_start = WarmStart::new(alloc, Effort::none());
     core.short_cover(alloc, Choice::First, &mut warm_start)
 }

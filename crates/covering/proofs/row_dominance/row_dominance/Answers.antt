@@ -21,7 +21,7 @@ loop-number-preserved c =
           subst (λ marks. RowDominanceSoFar rows (number + 1) marks.items) (sym w.stay-is)
           (stay_next rows number c.loop-number.stay.items c.loop-number.invariant transpose w.rarest-column.result w.unmark_dominating_rows.new.stay.items (let long = length_items c.args.rows.now in let below = c.loop-number-test.true in omega arith) (sym mark ∙ w.if-is_marked.true)
           (subst (λ n. IsTranspose n rows transpose) (sym wide) c.requires.transpose) (let below = c.requires.within number w.rarest-column.result stands in omega arith) stands
-          (subst (λ among. UnmarksDominatingRows rows number among c.loop-number.stay.items w.unmark_dominating_rows.new.stay.items) w.entry-then-is_marked.ensures w.unmark_dominating_rows.ensures)))
+          (subst (λ among. UnmarksDominatingRows rows number among c.loop-number.stay.items w.unmark_dominating_rows.new.stay.items) w.entry-among.ensures w.unmark_dominating_rows.ensures)))
       | else-is_marked w ↦ subst (λ marks. RowDominanceSoFar rows (number + 1) marks.items) (sym w.stay-is) (stay_skip rows number c.loop-number.stay.items c.loop-number.invariant (sym mark ∙ w.if-is_marked.false))
     ]
 
