@@ -341,7 +341,7 @@ impl Table {
         };
         let basis = warm_start.branch(alloc, column)?;
         let with = self.take(alloc, column)?;
-        let found = with.search(
+        if let Some(cover) = with.search(
             alloc,
             choice,
             budget,
@@ -349,8 +349,7 @@ impl Table {
             warm_start,
             tables_left,
             lists,
-        )?;
-        if let Some(cover) = found {
+        )? {
             return Ok(Some(cover));
         }
         warm_start.go_back(alloc, basis)?;

@@ -25,7 +25,8 @@ use crate::rows::{Place, Rows};
 use std::alloc::{AllocError, Global};
 use std::collections::BTreeSet;
 
-// At most this many regions are looked at for a place of a cube's own.
+// At most this many regions are looked at for a place of a cube's own, or as many as there are inputs:
+// parts that share no input are decided one after the other.
 const MOST_REGIONS_OF_OWN: u64 = 300;
 
 /// A signature cube with a place of its own.
@@ -169,6 +170,11 @@ impl<'a> Finder<'a> {
         Ok(None)
     }
 
+    // How many regions are looked at for a place of a cube's own.
+    fn most_regions_of_own(&self) -> u64 {
+        MOST_REGIONS_OF_OWN.max(64u64.saturating_mul(self.function.width as u64))
+    }
+
     // Whether the cube has a place of its own under this output.
     fn has_own_place(&mut self, signature: &Signature, output: usize) -> Result<bool, AllocError> {
         if list_at(&self.function.on, output).is_empty() {
@@ -183,7 +189,7 @@ impl<'a> Finder<'a> {
         if self.function.samples {
             return self.has_on_place_outside_avoided(&signature.cube.literals, output);
         }
-        let mut budget = MOST_REGIONS_OF_OWN;
+        let mut budget = self.most_regions_of_own();
         self.question
             .ask(&signature.cube.literals, &self.avoided, &mut budget)
     }
@@ -234,7 +240,7 @@ impl<'a> Finder<'a> {
         output: usize,
     ) -> Result<bool, AllocError> {
         let width = self.function.width;
-        let mut budget = MOST_REGIONS_OF_OWN;
+        let mut budget = self.most_regions_of_own();
         let list = list_at(&self.function.on, output);
         for index in 0..row_count(list, width) {
             let wanted = row_at(list, index.wrapping_mul(width), width);
