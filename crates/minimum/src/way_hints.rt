@@ -42,10 +42,13 @@ pub(crate) fn uses_outside(sets: &Sets) -> bool {
     uses_points(shape) && shape.outputs() > 1
 }
 
-/// Whether to pick points where all primes are listed: with fewer inputs the rows from regions
-/// are made sooner, as points are picked by a look at all primes for each of them.
+// With more rows of the ON list than this, picking points by all primes takes minutes.
+const MOST_ROWS_FOR_POINTS: usize = 50_000;
+
+/// Whether to pick points where all primes are listed: with fewer inputs, or with very many rows, the
+/// rows from regions are made sooner, as points are picked by a look at all primes for each ON cube.
 pub(crate) fn uses_points_of_primes(sets: &Sets) -> bool {
-    sets.on().shape().inputs() > 20
+    sets.on().shape().inputs() > 20 && sets.on().len() <= MOST_ROWS_FOR_POINTS
 }
 
 /// Whether the two have the same outputs.
