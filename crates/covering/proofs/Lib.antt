@@ -20,6 +20,7 @@ pub mod Budgets
 pub mod TransposeSteps
 pub mod Dominance
 pub mod Signatures
+pub mod Unions
 pub mod Putting
 pub mod Reduced
 pub mod WeakDominance

@@ -1,6 +1,6 @@
 //! Lists of columns, most of them rising: what they have, and lists made of them.
 
-ghost use Rattle.std.specs.Prelude.{◌≡◌, IfOk};
+ghost use Rattle.std.specs.Prelude.{◌≡◌, ◌<◌, ℕ, true, IfOk, IfSome};
 ghost use Rattle.std.specs.List.{list_all, range_with_len};
 ghost use Rattle.covering.specs.Table.{has, RisesFrom, is_rising, items_of};
 ghost use Rattle.covering.specs.Cover.{meets};
@@ -9,6 +9,7 @@ ghost use Rattle.covering.specs.Choices.{union_of};
 ghost use Rattle.covering.specs.Reduce.{holds_all, row_at};
 ghost use Rattle.covering.specs.Search.{is_blank};
 
+use crate::marks::{all_but_each, with_unmarked};
 use std::alloc::{AllocError, Global};
 
 pub(crate) fn contains(row: &[usize], column: usize) -> bool
@@ -69,7 +70,21 @@ pub(crate) fn with_column(
     }
 }
 
-/// The rising list of both.
+/// A number above all of these, the next one after the highest; `None` if there is none.
+fn end_of(numbers: &[usize]) -> Option<usize>
+    ensures { IfSome result (λ end. (n : ℕ) → has n numbers.now ≡ true → n < end) }
+{
+    let mut end = 0usize;
+    for number in numbers {
+        let past = number.checked_add(1)?;
+        if past > end {
+            end = past;
+        }
+    }
+    Some(end)
+}
+
+/// The rising list of both: they are marked, and the marks are read in order.
 pub(crate) fn union_of(
     alloc: Global,
     taken: &[usize],
@@ -78,11 +93,15 @@ pub(crate) fn union_of(
     requires { RisesFrom 0 taken.now }
     ensures { IfOk result (λ v. v.items ≡ union_of taken.now choice.now) }
 {
-    if choice.is_empty() {
-        return copy_of(alloc, taken);
-    }
-    let rest = union_of(alloc, taken, &choice[1..])?;
-    with_column(alloc, &rest, choice[0])
+    let Some(end) = end_of(taken) else {
+        return Err(AllocError);
+    };
+    let Some(other) = end_of(choice) else {
+        return Err(AllocError);
+    };
+    let end = end.max(other);
+    let keep = all_but_each(alloc, choice, end)?;
+    with_unmarked(alloc, taken, &keep, end)
 }
 
 /// Whether the rising list has the number.

@@ -1,8 +1,8 @@
 //! Marks of columns and of rows, and lists of those that have one.
 
-ghost use Rattle.std.specs.Prelude.{◌≡◌, ◌<◌, IfOk, filter, map, not, ◌==◌, true, false, ◌*◌, ◌-◌, Vec, replicate};
+ghost use Rattle.std.specs.Prelude.{◌≡◌, ◌<◌, ◌||◌, ℕ, IfOk, filter, map, not, ◌==◌, true, false, ◌*◌, ◌-◌, Vec, replicate};
 ghost use Rattle.std.specs.List.{list_all, range_with_len};
-ghost use Rattle.covering.specs.Table.{items_of};
+ghost use Rattle.covering.specs.Table.{items_of, has};
 ghost use Rattle.covering.specs.Search.{marked};
 ghost use Rattle.covering.specs.Reduce.{Unmarks, rows_from};
 
@@ -29,6 +29,44 @@ pub(crate) fn all_but(alloc: Global, column: usize, end: usize) -> Result<Vec<bo
     let mut others = all_marked(alloc, end)?;
     unmark(&mut others, column);
     Ok(others)
+}
+
+/// Marks all but these.
+pub(crate) fn all_but_each(
+    alloc: Global,
+    columns: &[usize],
+    end: usize,
+) -> Result<Vec<bool>, AllocError>
+    ensures { IfOk result (λ v. (n : ℕ) → n < end → marked v.items n ≡ not (has n columns.now)) }
+{
+    let mut keep = all_marked(alloc, end)?;
+    for column in columns {
+        unmark(&mut keep, *column);
+    }
+    Ok(keep)
+}
+
+/// The rising list of the taken columns and the unmarked ones.
+pub(crate) fn with_unmarked(
+    alloc: Global,
+    taken: &[usize],
+    keep: &[bool],
+    columns: usize,
+) -> Result<Vec<usize>, AllocError>
+    ensures { IfOk result (λ v. v.items ≡ filter (λ n. has n taken.now || not (marked keep.now n))
+        (range_with_len 0 columns)) }
+{
+    let mut rest = keep.to_vec(alloc)?;
+    for column in taken {
+        unmark(&mut rest, *column);
+    }
+    let mut unmarked = Vec::new(alloc);
+    for n in 0..columns {
+        if !is_marked(&rest, n) {
+            unmarked.push(n)?;
+        }
+    }
+    Ok(unmarked)
 }
 
 /// Takes the mark from the place.

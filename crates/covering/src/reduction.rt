@@ -15,7 +15,9 @@ ghost use Rattle.covering.specs.Search.{IsWeakStep, IsWeaklyReduced, marked};
 ghost use Rattle.covering.specs.Reduce.{UnmarksEssentialColumn, MarksInessentialColumns, HasNoEssentialColumn, IsTranspose, Shrinks};
 
 use crate::choice::Choice;
-use crate::marks::{all_kept, all_marked, is_marked, retain_marked, retain_untouched_rows, unmark};
+use crate::marks::{
+    all_kept, all_marked, retain_marked, retain_untouched_rows, unmark, with_unmarked,
+};
 use crate::table::Table;
 use std::alloc::{AllocError, Global};
 use std::mem::replace;
@@ -42,29 +44,6 @@ fn inessential_columns(
         unmark_essential_column(&mut keep, row);
     }
     Ok(keep)
-}
-
-/// The rising list of the taken columns and the unmarked ones.
-fn with_unmarked(
-    alloc: Global,
-    taken: &[usize],
-    keep: &[bool],
-    columns: usize,
-) -> Result<Vec<usize>, AllocError>
-    ensures { IfOk result (λ v. v.items ≡ filter (λ n. has n taken.now || not (marked keep.now n))
-        (range_with_len 0 columns)) }
-{
-    let mut rest = keep.to_vec(alloc)?;
-    for column in taken {
-        unmark(&mut rest, *column);
-    }
-    let mut unmarked = Vec::new(alloc);
-    for n in 0..columns {
-        if !is_marked(&rest, n) {
-            unmarked.push(n)?;
-        }
-    }
-    Ok(unmarked)
 }
 
 /// Which passes may drop something: a hint. A row comes to have all columns of another only where that

@@ -3,7 +3,7 @@ use Rattle.std.specs.Prelude.{filter, not, ◌&&◌, ◌||◌}
 use Rattle.std.specs.List.{range_with_len}
 use Rattle.covering.specs.Table.{has}
 use Rattle.covering.specs.Search.{marked}
-use Rattle.covering.proofs.reduction.with_unmarked.Given as goal
+use Rattle.covering.proofs.marks.with_unmarked.Given as goal
 
 abbrev pub invariant-loop-column : goal.invariant-loop-column
 invariant-loop-column l = (n : ℕ) → marked l.rest.items n ≡ (marked l.keep n && not (has n (take l.column-index l.taken)))

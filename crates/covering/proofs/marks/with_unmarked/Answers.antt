@@ -4,8 +4,8 @@ use Rattle.covering.specs.Table.{has}
 use Rattle.covering.specs.Search.{marked}
 use Rattle.covering.proofs.TransposeSteps.{has_append}
 use Rattle.covering.proofs.Pushes.{number_passes, number_fails}
-use Rattle.covering.proofs.reduction.with_unmarked.Goals as goal
-use Rattle.covering.proofs.reduction.with_unmarked.Goals.{After-loop-column, then-not-is_marked+in_ok-push, else-not-is_marked}
+use Rattle.covering.proofs.marks.with_unmarked.Goals as goal
+use Rattle.covering.proofs.marks.with_unmarked.Goals.{After-loop-column, then-not-is_marked+in_ok-push, else-not-is_marked}
 
 -- what one more number that has no mark changes
 struck : (hit here mark : Bool) → cond hit false (mark && not here) ≡ (mark && not (here || hit))
