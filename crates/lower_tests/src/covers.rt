@@ -241,16 +241,6 @@ fn makes(alloc: Global, case: &Made, before: usize) -> Result<bool, Fail> {
     Ok(are_written(result_of(operation, &list, &other)?.as_slice(), made))
 }
 
-#[test]
-fn lists_make_lists(rt: HostRuntime) -> Result<(), Fail> {
-    for before in BEFORE {
-        for case in &MADE {
-            assert!(rt; makes(rt.alloc(), case, before)?);
-        }
-    }
-    Ok(())
-}
-
 // What is asked of up to three lists.
 #[derive(Clone, Copy)]
 pub(crate) enum Question {
@@ -400,10 +390,13 @@ fn answers(alloc: Global, case: &Answer, before: usize) -> Result<bool, Fail> {
 }
 
 #[test]
-fn lists_answer(rt: HostRuntime) -> Result<(), Fail> {
-    for before in BEFORE {
+fn lists_make_lists_and_answer(rt: HostRuntime) -> Result<(), Fail> {
+    for before in &BEFORE {
+        for case in &MADE {
+            assert!(rt; makes(rt.alloc(), case, *before)?);
+        }
         for case in &ANSWERS {
-            assert!(rt; answers(rt.alloc(), case, before)?);
+            assert!(rt; answers(rt.alloc(), case, *before)?);
         }
     }
     Ok(())

@@ -23,8 +23,6 @@ mod devices;
 #[cfg(test)]
 mod large;
 #[cfg(test)]
-mod large_files;
-#[cfg(test)]
 mod laws;
 #[cfg(test)]
 mod lists;
@@ -34,8 +32,6 @@ mod over_std;
 mod place_cases;
 #[cfg(test)]
 mod places;
-#[cfg(test)]
-mod printing;
 #[cfg(test)]
 mod reading;
 #[cfg(test)]
@@ -54,6 +50,8 @@ mod rules;
 mod sets;
 #[cfg(test)]
 mod sum_calls;
+#[cfg(test)]
+mod text_pieces;
 #[cfg(test)]
 mod wide;
 #[cfg(test)]

@@ -1,5 +1,6 @@
 //! Devices over readers and writers of std.
 use pla::{Input, Output, Reading, Writing};
+use std::alloc::Global;
 use std::cell::Cell;
 use std::io;
 use std::io::{Cursor, ErrorKind, Read, Write};
@@ -71,16 +72,17 @@ impl Write for Once<'_> {
     }
 }
 
-#[test]
-fn reads_a_slice(rt: HostRuntime) -> Result<(), Fail> {
+// Whether a slice is read in two pieces, of which the second leaves the rest of its room.
+fn is_slice_read() -> bool {
     let mut reading = Reading::new(b"abc".as_slice());
     let mut buffer = [0; 2];
-    assert!(rt; reading.read(&mut buffer) == Ok(2) && reading.read(&mut buffer) == Ok(1));
-    assert!(rt; buffer == *b"cb" && reading.read(&mut buffer) == Ok(0));
-    Ok(())
+    reading.read(&mut buffer) == Ok(2)
+        && reading.read(&mut buffer) == Ok(1)
+        && buffer == *b"cb"
+        && reading.read(&mut buffer) == Ok(0)
 }
 
-/// Whether 5,000 times an `a` is read into buffers of 1, 2 and 4,096 bytes, and then nothing.
+// Whether 5,000 times an `a` is read into buffers of 1, 2 and 4,096 bytes, and then nothing.
 fn is_read_in_pieces(text: &[u8]) -> bool {
     let mut reading = Reading::new(text);
     let mut one = [0; 1];
@@ -96,72 +98,78 @@ fn is_read_in_pieces(text: &[u8]) -> bool {
         && reading.read(&mut piece) == Ok(0)
 }
 
-#[test]
-fn reads_into_buffers_of_each_size(rt: HostRuntime) -> Result<(), Fail> {
-    let mut text = Vec::new(rt.alloc());
-    for _ in 0..5000 {
-        text.push(b'a')?;
-    }
-    assert!(rt; is_read_in_pieces(text.as_slice()));
-    Ok(())
-}
-
-#[test]
-fn a_failed_read_is_told_and_not_tried_again(rt: HostRuntime) -> Result<(), Fail> {
+// Whether a failed read is told, and not tried again.
+fn is_failed_read_told() -> bool {
     let tries = Tries::new();
     let mut reading = Reading::new(Once {
         failing: 2,
         tries: &tries,
     });
     let mut buffer = [0; 3];
-    assert!(rt; reading.read(&mut buffer) == Ok(3) && reading.read(&mut buffer).is_err());
-    assert!(rt; tries.are(2, 0, 0) && reading.read(&mut buffer) == Ok(3));
-    assert!(rt; tries.are(3, 0, 0));
-    Ok(())
+    reading.read(&mut buffer) == Ok(3)
+        && reading.read(&mut buffer).is_err()
+        && tries.are(2, 0, 0)
+        && reading.read(&mut buffer) == Ok(3)
+        && tries.are(3, 0, 0)
 }
 
-#[test]
-fn a_failed_write_is_told_and_not_tried_again(rt: HostRuntime) -> Result<(), Fail> {
+// Whether a failed write is told and not tried again, and a flush passed on once and its failure
+// told.
+fn are_failed_calls_told() -> bool {
     let tries = Tries::new();
     let mut writing = Writing::new(Once {
         failing: 2,
         tries: &tries,
     });
-    assert!(rt; writing.write(b"abc") == Ok(3) && writing.write(b"abc").is_err());
-    assert!(rt; tries.are(0, 2, 0) && writing.write(b"ab") == Ok(2));
-    assert!(rt; tries.are(0, 3, 0));
-    Ok(())
+    writing.write(b"abc") == Ok(3)
+        && writing.write(b"abc").is_err()
+        && tries.are(0, 2, 0)
+        && writing.write(b"ab") == Ok(2)
+        && tries.are(0, 3, 0)
+        && writing.flush().is_ok()
+        && tries.are(0, 3, 1)
+        && writing.flush().is_err()
+        && tries.are(0, 3, 2)
+        && writing.flush().is_ok()
+        && tries.are(0, 3, 3)
 }
 
-#[test]
-fn a_flush_is_passed_on_once_and_its_failure_told(rt: HostRuntime) -> Result<(), Fail> {
-    let tries = Tries::new();
-    let mut writing = Writing::new(Once {
-        failing: 2,
-        tries: &tries,
-    });
-    assert!(rt; writing.flush().is_ok() && tries.are(0, 0, 1));
-    assert!(rt; writing.flush().is_err() && tries.are(0, 0, 2));
-    assert!(rt; writing.flush().is_ok() && tries.are(0, 0, 3));
-    Ok(())
+fn is_long_text_read(alloc: Global) -> Result<bool, Fail> {
+    let text = vec![in alloc; b'a'; 5000]?;
+    Ok(is_read_in_pieces(&text))
 }
 
-#[test]
-fn a_large_write_is_taken_whole(rt: HostRuntime) -> Result<(), Fail> {
-    let text = vec![in rt.alloc(); b'a'; 131_073]?;
-    let mut room = vec![in rt.alloc(); 0; 131_073]?;
-    let mut writing = Writing::new(Cursor::new(room.as_mut_slice()));
-    assert!(rt; writing.write(&text) == Ok(131_073));
-    assert!(rt; room[131_072] == b'a');
-    Ok(())
+// Whether a long text is taken whole, in one write.
+fn is_taken_whole(text: &[u8], room: &mut [u8]) -> bool {
+    let mut writing = Writing::new(Cursor::new(room));
+    writing.write(text) == Ok(131_073)
 }
 
-#[test]
-fn writes_until_the_writer_takes_nothing(rt: HostRuntime) -> Result<(), Fail> {
+fn is_long_text_taken(alloc: Global) -> Result<bool, Fail> {
+    let text = vec![in alloc; b'a'; 131_073]?;
+    let mut room = vec![in alloc; 0; 131_073]?;
+    let is_whole = is_taken_whole(&text, &mut room);
+    Ok(is_whole && room.last().copied() == Some(b'a'))
+}
+
+// Whether a writer's bytes are taken until it takes none.
+fn are_taken_until_full() -> bool {
     let mut room = [0; 3];
     let mut writing = Writing::new(Cursor::new(room.as_mut_slice()));
-    assert!(rt; writing.write(b"ab") == Ok(2) && writing.write(b"cd") == Ok(1));
-    assert!(rt; writing.write(b"d").is_err() && writing.write(b"") == Ok(0));
-    assert!(rt; writing.flush().is_ok());
+    writing.write(b"ab") == Ok(2)
+        && writing.write(b"cd") == Ok(1)
+        && writing.write(b"d").is_err()
+        && writing.write(b"") == Ok(0)
+        && writing.flush().is_ok()
+}
+
+#[test]
+fn readers_and_writers_are_devices(rt: HostRuntime) -> Result<(), Fail> {
+    assert!(rt; is_slice_read());
+    assert!(rt; is_failed_read_told());
+    assert!(rt; are_failed_calls_told());
+    assert!(rt; are_taken_until_full());
+    assert!(rt; is_long_text_read(rt.alloc())?);
+    assert!(rt; is_long_text_taken(rt.alloc())?);
     Ok(())
 }

@@ -1,12 +1,11 @@
 //! What [`crate::places`] asks, and of which lists: small ones, long ones of 600 to 2,048 rows, and
 //! wide ones of 70 inputs and outputs and of 300 inputs.
+use crate::lists::{
+    HALF, LONG, LONG_HALF, LONG_REST, NONE, REST, UNIVERSE, WIDE, WIDE_HALF, WIDE_REST,
+};
 use crate::places::{Case, Question, answers};
 use crate::rules::{Rows, Rule};
 use std::test::Fail;
-
-const NONE: Rows = (Rule::Universe, 0, 0);
-
-const UNIVERSE: Rows = (Rule::Universe, 0, 1);
 
 const FREE: Rows = (Rule::Free, 0, 1);
 
@@ -308,26 +307,62 @@ const WITHIN: [Case; 9] = [
     ),
 ];
 
-#[test]
-fn places_outside_are_found(rt: HostRuntime) -> Result<(), Fail> {
-    for case in &OUTSIDE {
-        assert!(rt; answers(rt.alloc(), case)?);
-    }
-    Ok(())
-}
+// A row of each half.
+const LONG_ROW: Rows = (Rule::Points, 1234, 1235);
+
+const WIDE_ROW: Rows = (Rule::Front, 1234, 1235);
+
+const LONG_PLACES: [Case; 9] = [
+    (Question::Outside, 16, 1, LONG_HALF, NONE, REST, true),
+    (Question::Subtract, 16, 1, LONG, LONG_HALF, REST, true),
+    (Question::Containing, 16, 1, LONG, LONG_ROW, LONG_ROW, true),
+    (
+        Question::SumContaining, 16, 1,
+        LONG_REST,
+        LONG_ROW,
+        HALF,
+        true,
+    ),
+    (Question::RowOrder, 16, 1, LONG_REST, LONG_HALF, LONG, true),
+    (Question::Within, 16, 1, LONG, LONG_HALF, REST, true),
+    (Question::Within, 16, 1, LONG, LONG_HALF, HALF, false),
+    (Question::MeetsWithin, 16, 1, LONG, HALF, HALF, true),
+    (
+        Question::MeetsWithin, 16, 1,
+        UNIVERSE,
+        LONG_HALF,
+        REST,
+        false,
+    ),
+];
+
+const WIDE_PLACES: [Case; 9] = [
+    (Question::Outside, 1024, 1024, HALF, NONE, REST, true),
+    (Question::Subtract, 1024, 1024, WIDE, WIDE_HALF, REST, true),
+    (Question::Containing, 1024, 1024, WIDE, WIDE_ROW, WIDE_ROW, true),
+    (
+        Question::SumContaining, 1024, 1024,
+        WIDE_REST,
+        WIDE_ROW,
+        HALF,
+        true,
+    ),
+    (Question::RowOrder, 1024, 1024, WIDE_REST, WIDE_HALF, WIDE, true),
+    (Question::Within, 1024, 1024, WIDE, WIDE_HALF, REST, true),
+    (Question::Within, 1024, 1024, WIDE, WIDE_HALF, HALF, false),
+    (Question::MeetsWithin, 1024, 1024, WIDE, WIDE_HALF, HALF, true),
+    (Question::MeetsWithin, 1024, 1024, WIDE, WIDE_HALF, REST, false),
+];
+
+// Of places outside, of cubes of a region, and of lists within others.
+const TABLES: [&[Case]; 5] = [&OUTSIDE, &CONTAINING, &WITHIN, &LONG_PLACES, &WIDE_PLACES];
 
 #[test]
-fn cubes_of_a_region_are_found(rt: HostRuntime) -> Result<(), Fail> {
-    for case in &CONTAINING {
-        assert!(rt; answers(rt.alloc(), case)?);
-    }
-    Ok(())
-}
-
-#[test]
-fn lists_within_others_are_told(rt: HostRuntime) -> Result<(), Fail> {
-    for case in &WITHIN {
-        assert!(rt; answers(rt.alloc(), case)?);
+fn places_are_found(rt: HostRuntime) -> Result<(), Fail> {
+    for cases in &TABLES {
+        for case in *cases {
+            assert!(rt; answers(rt.alloc(), case)?);
+        }
     }
     Ok(())
 }

@@ -2,12 +2,13 @@
 //! program.
 ghost use Rattle.std.specs.Prelude.{◌<◌};
 
+use crate::text_pieces::{Piece, text_of};
 use pla::{Echo, Ending, FileType, Pla, ReadFault, ReadKind, Scan, read_pla};
 use std::alloc::Global;
 use std::test::Fail;
 use test_devices::{Given, Taken};
 
-/// What a file describes.
+// What a file describes.
 pub(crate) fn read(alloc: Global, text: &[u8]) -> Result<Pla, Fail> {
     let mut input = Given::new(text.to_vec(alloc)?, 4096, Ending::End);
     let mut output = Taken::new(alloc, 0, 1, false)?;
@@ -15,97 +16,233 @@ pub(crate) fn read(alloc: Global, text: &[u8]) -> Result<Pla, Fail> {
     Ok(read.ok().ok_or("the file has a fault")?)
 }
 
-/// A small file: comments, an unknown keyword, names, and rows that go over lines.
-const TEXT: &[u8] =
-    b"# two gates\n.i 2\n.o 2\n.ilb a b\n.ob f g\n.unknown x # y\n11 1-\n0- 0\n0 # last\n.e # end\njunk";
-
-/// What is passed on of it.
-const ECHOES: &[u8] = b"# two gates\n.unknown x # y\n# last\n# end\n";
-
-/// A description without lines that are passed on.
+// A description without lines that are passed on.
 const PLAIN: &[u8] = b".i 2\n.o 2\n.ilb a b\n.ob f g\n11 1-\n0- 0\n0\n.e\n";
 
-/// Whether the three lists have so many rows.
-pub(crate) fn has_rows(pla: &Pla, on: usize, dc: usize, off: usize) -> bool {
+// Whether the three lists have so many rows.
+fn has_rows(pla: &Pla, on: usize, dc: usize, off: usize) -> bool {
     pla.on().len() == on && pla.dc().len() == dc && pla.off().len() == off
 }
 
-#[test]
-fn a_file_is_read_in_pieces(rt: HostRuntime) -> Result<(), Fail> {
-    let alloc = rt.alloc();
-    let mut input = Given::new(TEXT.to_vec(alloc)?, 3, Ending::Failed);
-    let mut output = Taken::new(alloc, 100, 3, false)?;
-    let read = read_pla(alloc, &mut input, &mut output, Echo::Keep);
-    let pla = read.ok().ok_or("the file has a fault")?;
-    assert!(rt; output.bytes() == ECHOES && has_rows(&pla, 1, 1, 0));
-    Ok(())
-}
-
-#[test]
-fn a_file_says_sizes_types_and_lists(rt: HostRuntime) -> Result<(), Fail> {
-    let pla = read(rt.alloc(), PLAIN)?;
-    assert!(rt; pla.shape().inputs() == 2 && pla.shape().outputs() == 2);
-    assert!(rt; pla.file_type() == FileType::Fd && has_rows(&pla, 1, 1, 0));
-    Ok(())
-}
-
-#[test]
-fn a_file_says_names(rt: HostRuntime) -> Result<(), Fail> {
-    let pla = read(rt.alloc(), PLAIN)?;
-    assert!(rt; pla.input_names().is_some_and(|names| names.len() == 2));
-    assert!(rt; pla.output_names().is_some_and(|names| names.len() == 2));
-    Ok(())
-}
-
-#[test]
-fn no_more_is_asked_for_behind_the_end(rt: HostRuntime) -> Result<(), Fail> {
-    let alloc = rt.alloc();
-    let mut text = b".i 1\n.o 1\n.e\n".to_vec(alloc)?;
-    for _ in 0..3000 {
-        text.extend_from_slice(b"junk")?;
+fn are_two(names: Option<&[Vec<u8>]>) -> bool {
+    match names {
+        Some(names) => names.len() == 2,
+        None => false,
     }
-    let mut input = Given::new(text, 100, Ending::Failed);
-    let mut output = Taken::new(alloc, 100, 100, false)?;
-    assert!(rt; read_pla(alloc, &mut input, &mut output, Echo::Eat).is_ok());
-    assert!(rt; input.delivered() == 100);
+}
+
+// Whether the file says its sizes, its type, its lists and its names.
+fn is_plain(pla: &Pla) -> bool {
+    pla.shape().inputs() == 2
+        && pla.shape().outputs() == 2
+        && pla.file_type() == FileType::Fd
+        && has_rows(pla, 1, 1, 0)
+        && are_two(pla.input_names())
+        && are_two(pla.output_names())
+}
+
+#[test]
+fn a_file_is_described(rt: HostRuntime) -> Result<(), Fail> {
+    assert!(rt; is_plain(&read(rt.alloc(), PLAIN)?));
     Ok(())
 }
 
-/// Whether reading this text ends with this fault, behind these echoes, where the output has so
-/// much room.
-fn ends_with(
-    alloc: Global,
-    text: &[u8],
+// How the devices of a file behave, and what comes of reading it.
+#[derive(Clone, Copy)]
+struct Case {
+    text: &'static [Piece],
+    // How many bytes a read, and a write, is of at most.
+    most: usize,
+    ending: Ending,
+    // The numbers of the read and of the write that fail alone.
+    failing_read: u64,
+    failing_write: u64,
     room: usize,
-    fault: ReadFault,
-    written: &[u8],
-) -> Result<bool, Fail> {
-    let mut input = Given::new(text.to_vec(alloc)?, 4096, Ending::Failed);
-    let mut output = Taken::new(alloc, room, 7, false)?;
-    let read = read_pla(alloc, &mut input, &mut output, Echo::Keep);
-    Ok(read.err() == Some(fault) && output.bytes() == written)
+    fault: Option<ReadFault>,
+    on: usize,
+    dc: usize,
+    echoes: &'static [Piece],
+    delivered: usize,
 }
 
-/// A failed read is told with its line.
+// A number that no call has.
+const NEVER: u64 = 1_000_000;
+
+// A small file: comments, an unknown keyword, names, and rows that go over lines.
+const TEXT: Piece = Piece::Text(
+    b"# two gates\n.i 2\n.o 2\n.ilb a b\n.ob f g\n.unknown x # y\n11 1-\n0- 0\n0 # last\n.e # end\njunk",
+);
+
+// Read in pieces, and no further than its end.
+const SMALL: Case = Case {
+    text: &[TEXT],
+    most: 3,
+    ending: Ending::Failed,
+    failing_read: NEVER,
+    failing_write: NEVER,
+    room: 100,
+    fault: None,
+    on: 1,
+    dc: 1,
+    echoes: &[Piece::Text(b"# two gates\n.unknown x # y\n# last\n# end\n")],
+    delivered: 84,
+};
+
+const EMPTY: Case = Case { on: 0, dc: 0, ..SMALL };
+
+const WRITE_FAILED: Option<ReadFault> = Some(ReadFault {
+    line: 0,
+    kind: ReadKind::WriteFailed,
+});
+
+const CASES: [Case; 6] = [
+    SMALL,
+    // No more is asked for behind the end.
+    Case {
+        text: &[Piece::Text(b".i 1\n.o 1\n.e\n"), Piece::Times(3000, b"junk")],
+        most: 100,
+        echoes: &[],
+        delivered: 100,
+        ..EMPTY
+    },
+    // A failed read is told with its line.
+    Case {
+        text: &[Piece::Text(b".i 1\n.o ")],
+        most: 100,
+        fault: Some(ReadFault {
+            line: 2,
+            kind: ReadKind::ReadFailed,
+        }),
+        echoes: &[],
+        delivered: 8,
+        ..EMPTY
+    },
+    // A failed write is told before a fault behind it.
+    Case {
+        text: &[Piece::Text(b"# a\n.i 1\n.o 1\nz 1\n")],
+        most: 100,
+        room: 2,
+        fault: WRITE_FAILED,
+        echoes: &[Piece::Text(b"# ")],
+        delivered: 18,
+        ..EMPTY
+    },
+    Case {
+        most: 100,
+        room: 20,
+        fault: WRITE_FAILED,
+        echoes: &[Piece::Text(b"# two gates\n.unknown")],
+        delivered: 87,
+        ..EMPTY
+    },
+    // Many comments, and a long one.
+    Case {
+        text: &[
+            Piece::Times(20_000, b"# comment\n"),
+            Piece::Text(b"# "),
+            Piece::Times(60_000, b"n"),
+            Piece::Text(b"\n.i 1\n.o 1\n.e\n"),
+        ],
+        most: 4096,
+        room: 2_000_000,
+        echoes: &[
+            Piece::Times(20_000, b"# comment\n"),
+            Piece::Text(b"# "),
+            Piece::Times(60_000, b"n"),
+            Piece::Text(b"\n"),
+        ],
+        delivered: 260_016,
+        ..EMPTY
+    },
+];
+
+// Whether the file is read, or not, as the case says.
+fn is_read(alloc: Global, case: &Case) -> Result<bool, Fail> {
+    let most = case.most.max(1);
+    let echoes = text_of(alloc, case.echoes)?;
+    let input = Given::new(text_of(alloc, case.text)?, most, case.ending);
+    let mut input = input.failing_once_after(case.failing_read);
+    let output = Taken::new(alloc, case.room, most, false)?;
+    let mut output = output.failing_once_after(case.failing_write);
+    let is_told = match read_pla(alloc, &mut input, &mut output, Echo::Keep) {
+        Ok(pla) => case.fault.is_none() && has_rows(&pla, case.on, case.dc, 0),
+        Err(fault) => case.fault == Some(fault),
+    };
+    Ok(is_told && output.bytes() == echoes.as_slice() && input.delivered() == case.delivered)
+}
+
+// A file of four lines, in pieces of one byte.
+const FOUR_LINES: Case = Case {
+    text: &[Piece::Text(b"# a\n.i 1\n.o 1\n.e\n")],
+    most: 1,
+    ending: Ending::End,
+    echoes: &[],
+    ..EMPTY
+};
+
+// The numbers of the read and of the write that fails alone, the fault that is told of it, how much
+// was delivered until then, and what was passed on.
+type Failing = (u64, u64, Option<ReadFault>, usize, &'static [Piece]);
+
+const FIRST_LINE: Option<ReadFault> = Some(ReadFault {
+    line: 1,
+    kind: ReadKind::ReadFailed,
+});
+
+const SECOND_LINE: Option<ReadFault> = Some(ReadFault {
+    line: 2,
+    kind: ReadKind::ReadFailed,
+});
+
+const THIRD_LINE: Option<ReadFault> = Some(ReadFault {
+    line: 3,
+    kind: ReadKind::ReadFailed,
+});
+
+const COMMENT: &[Piece] = &[Piece::Text(b"# a\n")];
+
+const FAILING: [Failing; 14] = [
+    (0, NEVER, FIRST_LINE, 0, &[]),
+    (1, NEVER, FIRST_LINE, 1, &[]),
+    (2, NEVER, FIRST_LINE, 2, &[]),
+    (3, NEVER, FIRST_LINE, 3, &[]),
+    (4, NEVER, SECOND_LINE, 4, COMMENT),
+    (5, NEVER, SECOND_LINE, 5, COMMENT),
+    (6, NEVER, SECOND_LINE, 6, COMMENT),
+    (7, NEVER, SECOND_LINE, 7, COMMENT),
+    (8, NEVER, SECOND_LINE, 8, COMMENT),
+    (9, NEVER, THIRD_LINE, 9, COMMENT),
+    (NEVER, 0, WRITE_FAILED, 4, &[]),
+    (NEVER, 1, WRITE_FAILED, 4, &[Piece::Text(b"#")]),
+    (NEVER, 2, WRITE_FAILED, 4, &[Piece::Text(b"# ")]),
+    (NEVER, 3, WRITE_FAILED, 4, &[Piece::Text(b"# a")]),
+];
+
+// Nothing follows the call that fails alone.
+fn failing(case: Failing) -> Case {
+    let (failing_read, failing_write, fault, delivered, echoes) = case;
+    Case {
+        failing_read,
+        failing_write,
+        fault,
+        delivered,
+        echoes,
+        ..FOUR_LINES
+    }
+}
+
 #[test]
-fn a_read_that_fails_is_told(rt: HostRuntime) -> Result<(), Fail> {
-    let kind = ReadKind::ReadFailed;
-    let fault = ReadFault { line: 2, kind };
-    assert!(rt; ends_with(rt.alloc(), b".i 1\n.o ", 100, fault, b"")?);
+fn files_are_read(rt: HostRuntime) -> Result<(), Fail> {
+    for case in &CASES {
+        assert!(rt; is_read(rt.alloc(), case)?);
+    }
+    for case in &FAILING {
+        assert!(rt; is_read(rt.alloc(), &failing(*case))?);
+    }
     Ok(())
 }
 
-/// A failed write is told before a fault behind it.
-#[test]
-fn a_write_that_fails_is_told(rt: HostRuntime) -> Result<(), Fail> {
-    let kind = ReadKind::WriteFailed;
-    let fault = ReadFault { line: 0, kind };
-    assert!(rt; ends_with(rt.alloc(), b"# a\n.i 1\n.o 1\nz 1\n", 2, fault, b"# ")?);
-    assert!(rt; ends_with(rt.alloc(), TEXT, 20, fault, b"# two gates\n.unknown")?);
-    Ok(())
-}
-
-/// What these pieces describe, and whether the scan was done before the end.
+// What these pieces describe, and whether the scan was done before the end.
 fn scan_pieces(
     alloc: Global,
     echo: Echo,
@@ -120,85 +257,50 @@ fn scan_pieces(
     Ok((scan.finish(Ending::End, output)?, is_done))
 }
 
-/// The same, of pieces without a fault.
-pub(crate) fn scan_of(
+// Whether these pieces describe so many rows, and are done before the end or not, behind these
+// echoes.
+fn is_scanned(
     alloc: Global,
-    echo: Echo,
     pieces: &[&[u8]],
-    output: &mut Taken,
-) -> Result<(Pla, bool), Fail> {
-    match scan_pieces(alloc, echo, pieces, output) {
-        Ok(found) => Ok(found),
+    done: bool,
+    lists: [usize; 3],
+    echoes: &[u8],
+) -> Result<bool, Fail> {
+    let echo = if echoes.is_empty() { Echo::Eat } else { Echo::Keep };
+    let mut output = Taken::new(alloc, 100, 100, false)?;
+    let [on, dc, off] = lists;
+    match scan_pieces(alloc, echo, pieces, &mut output) {
+        Ok((pla, is_done)) => {
+            let is_told = is_done == done && has_rows(&pla, on, dc, off);
+            Ok(is_told && output.bytes() == echoes)
+        }
         Err(_) => Err("the pieces have a fault")?,
     }
 }
 
-/// Pieces that end in the middle of a row and of a comment.
-const PIECES: [&[u8]; 2] = [b".i 1\n.o 1\n1 ", b"1 # a"];
+// The points of 15 inputs in three lists.
+const LONG: [Piece; 5] = [
+    Piece::Text(b".i 15\n.o 1\n.type fdr\n"),
+    Piece::Points(15, 0, 20_000, b'1'),
+    Piece::Points(15, 20_000, 26_000, b'-'),
+    Piece::Points(15, 26_000, 32_768, b'0'),
+    Piece::Text(b".e\n"),
+];
+
+fn is_long_text_scanned(alloc: Global) -> Result<bool, Fail> {
+    let text = text_of(alloc, &LONG)?;
+    is_scanned(alloc, &[text.as_slice()], true, [20_000, 6000, 6768], b"")
+}
+
+// They end in the middle of a row and of a comment.
+const UNFINISHED: [&[u8]; 2] = [b".i 1\n.o 1\n1 ", b"1 # a"];
+
+const DONE: [&[u8]; 1] = [b".i 1\n.o 1\n.e\n"];
 
 #[test]
-fn a_scan_takes_pieces(rt: HostRuntime) -> Result<(), Fail> {
-    let mut output = Taken::new(rt.alloc(), 100, 100, false)?;
-    let (pla, is_done) = scan_of(rt.alloc(), Echo::Keep, &PIECES, &mut output)?;
-    assert!(rt; !is_done && pla.on().len() == 1 && output.bytes() == b"# a\n".as_slice());
-    Ok(())
-}
-
-#[test]
-fn a_scan_is_done_at_the_end(rt: HostRuntime) -> Result<(), Fail> {
-    let mut output = Taken::new(rt.alloc(), 100, 100, false)?;
-    let (pla, is_done) = scan_of(rt.alloc(), Echo::Eat, &[b".i 1\n.o 1\n.e\n"], &mut output)?;
-    assert!(rt; is_done && pla.on().is_empty());
-    Ok(())
-}
-
-/// A file of four lines.
-const FOUR_LINES: &[u8] = b"# a\n.i 1\n.o 1\n.e\n";
-
-/// How reading it ends, and how much was delivered, where the read of this number fails alone, in
-/// pieces of one byte.
-fn read_failing_after(alloc: Global, reads: u64) -> Result<(Option<ReadFault>, usize), Fail> {
-    let input = Given::new(FOUR_LINES.to_vec(alloc)?, 1, Ending::End);
-    let mut input = input.failing_once_after(reads);
-    let mut output = Taken::new(alloc, 100, 100, false)?;
-    let read = read_pla(alloc, &mut input, &mut output, Echo::Keep);
-    Ok((read.err(), input.delivered()))
-}
-
-/// Whether nothing follows the failed read of this number, which stands in this line.
-fn ends_at_read(alloc: Global, reads: u64, line: u64) -> Result<bool, Fail> {
-    let (fault, delivered) = read_failing_after(alloc, reads)?;
-    let kind = ReadKind::ReadFailed;
-    Ok(fault == Some(ReadFault { line, kind }) && u64::try_from(delivered) == Ok(reads))
-}
-
-#[test]
-fn a_read_that_fails_alone_is_the_last(rt: HostRuntime) -> Result<(), Fail> {
-    for reads in 0..4 {
-        assert!(rt; ends_at_read(rt.alloc(), reads, 1)?);
-    }
-    for reads in 4..9 {
-        assert!(rt; ends_at_read(rt.alloc(), reads, 2)?);
-    }
-    assert!(rt; ends_at_read(rt.alloc(), 9, 3)?);
-    Ok(())
-}
-
-/// Whether nothing follows the failed write of this number, in pieces of one byte.
-fn ends_at_write(alloc: Global, writes: u64) -> Result<bool, Fail> {
-    let mut input = Given::new(FOUR_LINES.to_vec(alloc)?, 1, Ending::End);
-    let output = Taken::new(alloc, 100, 1, false)?;
-    let mut output = output.failing_once_after(writes);
-    let read = read_pla(alloc, &mut input, &mut output, Echo::Keep);
-    let kind = ReadKind::WriteFailed;
-    let is_told = read.err() == Some(ReadFault { line: 0, kind });
-    Ok(is_told && u64::try_from(output.bytes().len()) == Ok(writes) && input.delivered() == 4)
-}
-
-#[test]
-fn a_write_that_fails_alone_is_the_last(rt: HostRuntime) -> Result<(), Fail> {
-    for writes in 0..4 {
-        assert!(rt; ends_at_write(rt.alloc(), writes)?);
-    }
+fn pieces_are_scanned(rt: HostRuntime) -> Result<(), Fail> {
+    assert!(rt; is_scanned(rt.alloc(), &UNFINISHED, false, [1, 0, 0], b"# a\n")?);
+    assert!(rt; is_scanned(rt.alloc(), &DONE, true, [0, 0, 0], b"")?);
+    assert!(rt; is_long_text_scanned(rt.alloc())?);
     Ok(())
 }

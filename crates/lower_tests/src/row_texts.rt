@@ -122,19 +122,43 @@ pub(crate) fn holds(list: &Cover, cube: &Cube) -> Result<bool, Fail> {
     Ok(held)
 }
 
+// Fails where calls for each of the cubes answer otherwise than one for all.
+fn are_held_alone(list: &Cover, cubes: &[Cube], held: &[bool]) -> Result<(), Fail> {
+    if held.len() != cubes.len() {
+        return Err("another number of answers")?;
+    }
+    for k in 0..cubes.len() {
+        if holds(list, &cubes[k])? != held[k] {
+            return Err("another answer")?;
+        }
+    }
+    Ok(())
+}
+
+// Fails unless a part of each cube is left out, or none of those that are held.
+fn all_fit(
+    list: &Cover,
+    cubes: &[Cube],
+    held: &[bool],
+    parts: &[Option<Cube>],
+) -> Result<(), Fail> {
+    if held.len() != cubes.len() || parts.len() != cubes.len() {
+        return Err("another number of parts")?;
+    }
+    for k in 0..cubes.len() {
+        fits(list, &cubes[k], held[k], &parts[k])?;
+    }
+    Ok(())
+}
+
 // Which of the cubes the list holds, in one call. Fails where calls for each of them answer
 // otherwise, or where the list leaves out another part of one.
 pub(crate) fn held_of(list: &Cover, cubes: &Cover) -> Result<Vec<bool>, Fail> {
     same_shape(list.shape(), cubes.shape())?;
     let held = list.holds_cubes(cubes.as_slice())?;
+    are_held_alone(list, cubes.as_slice(), &held)?;
     let parts = list.parts_left_out(cubes.as_slice())?;
-    for (k, cube) in cubes.as_slice().iter().enumerate() {
-        let is_held = *held.get(k).ok_or("too few answers")?;
-        if is_held != holds(list, cube)? {
-            return Err("another answer")?;
-        }
-        fits(list, cube, is_held, parts.get(k).ok_or("too few parts")?)?;
-    }
+    all_fit(list, cubes.as_slice(), &held, &parts)?;
     Ok(held)
 }
 

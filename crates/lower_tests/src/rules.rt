@@ -32,6 +32,18 @@ pub(crate) enum Rule {
     Free,
     // The largest cubes with this point that Pairs miss, in row order.
     Choices,
+    // The cubes of two inputs and two outputs.
+    Small,
+    // Three of them.
+    Three([usize; 3]),
+    // Stairs of 180 inputs from the last one on, each with two outputs of three and with two
+    // others, without the row of this number.
+    Steps(usize),
+    // Seven pigeons and six holes, where an input says whether a pigeon is in a hole: a pigeon is
+    // in no hole, or two are in one.
+    Pigeons,
+    // `0` at the first input, `1` there, `0` at the second, and so on.
+    Literals,
 }
 
 // How many inputs number points, from the last one on and from the first.
@@ -75,6 +87,108 @@ fn stair_of(number: usize, i: usize) -> Symbol {
     }
 }
 
+// Which of the symbols stands at an input of the small cube of this number.
+pub(crate) fn small_symbol(number: usize, i: usize) -> Symbol {
+    let digit = if i == 0 { number % 3 } else { number / 3 % 3 };
+    match digit {
+        0 => Symbol::Dash,
+        1 => Symbol::Zero,
+        _ => Symbol::One,
+    }
+}
+
+// Whether the small cube of this number has an output.
+pub(crate) fn small_output(number: usize, j: usize) -> bool {
+    match number / 9 {
+        0 => j == 0,
+        1 => j == 1,
+        _ => true,
+    }
+}
+
+fn one_of(numbers: [usize; 3], k: usize) -> usize {
+    let [one, two, three] = numbers;
+    match k {
+        0 => one,
+        1 => two,
+        _ => three,
+    }
+}
+
+// The place of a row among all steps, from the last one on.
+fn step_of(left_out: usize, number: usize) -> usize {
+    let row = if number < left_out {
+        number
+    } else {
+        number.saturating_add(1)
+    };
+    361usize.saturating_sub(row)
+}
+
+// Two pigeons.
+const PIGEONS: [(usize, usize); 21] = [
+    (1, 0),
+    (2, 0),
+    (2, 1),
+    (3, 0),
+    (3, 1),
+    (3, 2),
+    (4, 0),
+    (4, 1),
+    (4, 2),
+    (4, 3),
+    (5, 0),
+    (5, 1),
+    (5, 2),
+    (5, 3),
+    (5, 4),
+    (6, 0),
+    (6, 1),
+    (6, 2),
+    (6, 3),
+    (6, 4),
+    (6, 5),
+];
+
+// The symbol of Pigeons: first a pigeon in no hole, and then two in each hole.
+fn pigeon_symbol(number: usize, i: usize) -> Symbol {
+    let pigeon = i / 6;
+    if number < 7 {
+        return if pigeon == number {
+            Symbol::Zero
+        } else {
+            Symbol::Dash
+        };
+    }
+    match PIGEONS.get((number - 7) / 6) {
+        Some((one, other)) if i % 6 == (number - 7) % 6 && (pigeon == *one || pigeon == *other) => {
+            Symbol::One
+        }
+        _ => Symbol::Dash,
+    }
+}
+
+fn literal_symbol(number: usize, i: usize) -> Symbol {
+    if i != number / 2 {
+        Symbol::Dash
+    } else if number % 2 == 0 {
+        Symbol::Zero
+    } else {
+        Symbol::One
+    }
+}
+
+// Whether a row has an output. By most rules, it has all.
+fn output_of(rule: Rule, number: usize, j: usize) -> bool {
+    match rule {
+        Rule::Small => small_output(number, j),
+        Rule::Three(numbers) => small_output(one_of(numbers, number), j),
+        Rule::Steps(left_out) if step_of(left_out, number) % 2 == 0 => j != 0,
+        Rule::Steps(_) => j != 2,
+        _ => true,
+    }
+}
+
 fn symbol_of(rule: Rule, inputs: usize, number: usize, i: usize) -> Symbol {
     let place = inputs.saturating_sub(i).saturating_sub(1);
     match rule {
@@ -89,11 +203,16 @@ fn symbol_of(rule: Rule, inputs: usize, number: usize, i: usize) -> Symbol {
         Rule::Free if i >= 12 && i % 2 == 1 => Symbol::Zero,
         Rule::Free => Symbol::One,
         Rule::Choices => choice_of(number, i),
+        Rule::Small => small_symbol(number, i),
+        Rule::Three(numbers) => small_symbol(one_of(numbers, number), i),
+        Rule::Steps(left_out) => stair_of(step_of(left_out, number) / 2, i),
+        Rule::Pigeons => pigeon_symbol(number, i),
+        Rule::Literals => literal_symbol(number, i),
         _ => Symbol::Dash,
     }
 }
 
-// The cube of the row, with all outputs.
+// The cube of the row.
 pub(crate) fn cube_of_rule(
     alloc: Global,
     shape: Shape,
@@ -105,7 +224,10 @@ pub(crate) fn cube_of_rule(
     for i in 0..inputs {
         symbols[i] = symbol_of(rule, inputs, number, i);
     }
-    let bits = [true; 1024];
+    let mut bits = [true; 1024];
+    for j in 0..outputs {
+        bits[j] = output_of(rule, number, j);
+    }
     Ok(cube_of_symbols(alloc, &symbols[..inputs], &bits[..outputs])?.ok_or("no output")?)
 }
 
@@ -122,7 +244,7 @@ pub(crate) fn list_of(alloc: Global, shape: Shape, rows: Rows) -> Result<Cover, 
     Ok(list)
 }
 
-// Whether the cube is the row of this number, with all outputs.
+// Whether the cube is the row of this number.
 pub(crate) fn is_row(cube: &Cube, rule: Rule, number: usize) -> bool {
     let shape = cube.shape();
     for i in 0..shape.inputs() {
@@ -131,7 +253,7 @@ pub(crate) fn is_row(cube: &Cube, rule: Rule, number: usize) -> bool {
         }
     }
     for j in 0..shape.outputs() {
-        if !cube.output(j) {
+        if cube.output(j) != output_of(rule, number, j) {
             return false;
         }
     }

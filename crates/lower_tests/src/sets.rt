@@ -1,39 +1,155 @@
-//! The lists of the four types, asked for and not.
+//! The lists of the four types, asked for and not, and printed.
 use crate::reading::read;
+use crate::text_pieces::{Piece, text_of};
 use cover::Cover;
-use pla::{OutType, Pla, Sets, dc_unless_given, off_unless_given, write_pla};
-use std::alloc::Global;
+use pla::{
+    OutType, Pla, Sets, WriteFault, dc_unless_given, off_unless_given, write_covers, write_pla,
+};
+use std::alloc::{AllocError, Global};
 use std::test::Fail;
 use test_devices::Taken;
 
-// Whether the lists of the text, computed where they are asked for, are printed so behind the head.
-fn prints(alloc: Global, text: &[u8], dc: bool, off: bool, rows: &[u8]) -> Result<bool, Fail> {
-    let pla = read(alloc, text)?;
-    let sets = pla::sets(alloc, &pla, dc, off)?;
-    let mut out = Taken::new(alloc, 200, 200, false)?;
-    write_pla(&pla, &sets, OutType::Fdr, &mut out)?;
-    let head = b".i 2\n.o 1\n.type fdr\n".len();
-    Ok(out.bytes().get(head..) == Some(rows))
+// A text, whether its lists are computed that its type leaves open, DC and OFF, or written as they
+// are, and what is printed.
+struct Printed {
+    text: &'static [Piece],
+    computed: Option<(bool, bool)>,
+    printed: &'static [Piece],
+}
+
+// Half of the points of 13 inputs, and a quarter that is not in it.
+const ONES: Piece = Piece::Points(13, 0, 4096, b'1');
+
+const ZEROS: Piece = Piece::Points(13, 4096, 6144, b'0');
+
+const SAMPLES: &[Piece] = &[Piece::Text(b".i 13\n.o 1\n.type fr\n"), ONES, ZEROS];
+
+// Points of 15 inputs in the three lists.
+const ON: Piece = Piece::Points(15, 0, 20_000, b'1');
+
+const DC: Piece = Piece::Points(15, 20_000, 26_000, b'-');
+
+const OFF: Piece = Piece::Points(15, 26_000, 32_768, b'0');
+
+const LETTERS: Piece = Piece::Times(60_000, b"n");
+
+const END: Piece = Piece::Text(b".e\n");
+
+const PRINTED: [Printed; 8] = [
+    Printed {
+        text: &[Piece::Text(b".i 2\n.o 1\n11 1\n0- -\n")],
+        computed: Some((true, true)),
+        printed: &[Piece::Text(b".i 2\n.o 1\n.type fdr\n.p 3\n11 1\n0- -\n10 0\n.e\n")],
+    },
+    Printed {
+        text: &[Piece::Text(b".i 2\n.o 1\n.type fr\n11 1\n0- 0\n")],
+        computed: Some((true, true)),
+        printed: &[Piece::Text(b".i 2\n.o 1\n.type fdr\n.p 3\n11 1\n10 -\n0- 0\n.e\n")],
+    },
+    // Lists that are not asked for.
+    Printed {
+        text: &[Piece::Text(b".i 1\n.o 1\n.type fr\n1 1\n")],
+        computed: Some((false, true)),
+        printed: &[Piece::Text(b".i 1\n.o 1\n.type fdr\n.p 1\n1 1\n.e\n")],
+    },
+    Printed {
+        text: &[Piece::Text(b".i 1\n.o 1\n1 1\n")],
+        computed: Some((true, false)),
+        printed: &[Piece::Text(b".i 1\n.o 1\n.type fdr\n.p 1\n1 1\n.e\n")],
+    },
+    // Long lists, wide rows and long names.
+    Printed {
+        text: SAMPLES,
+        computed: Some((true, true)),
+        printed: &[
+            Piece::Text(b".i 13\n.o 1\n.type fdr\n.p 6145\n"),
+            ONES,
+            Piece::Text(b"11----------- -\n"),
+            ZEROS,
+            END,
+        ],
+    },
+    Printed {
+        text: &[Piece::Text(b".i 15\n.o 1\n.type fdr\n"), ON, DC, OFF, END],
+        computed: None,
+        printed: &[Piece::Text(b".i 15\n.o 1\n.type fdr\n.p 32768\n"), ON, DC, OFF, END],
+    },
+    Printed {
+        text: &[
+            Piece::Text(b".i 1024\n.o 1024\n.type fdr\n"),
+            Piece::Widest(0, 600, b'1'),
+            END,
+        ],
+        computed: None,
+        printed: &[
+            Piece::Text(b".i 1024\n.o 1024\n.type fdr\n.p 600\n"),
+            Piece::Widest(0, 600, b'1'),
+            END,
+        ],
+    },
+    Printed {
+        text: &[
+            Piece::Text(b".i 1\n.o 1\n.ilb "),
+            LETTERS,
+            Piece::Text(b"\n.ob "),
+            LETTERS,
+            Piece::Text(b"\n.type fdr\n1 1\n.e\n"),
+        ],
+        computed: None,
+        printed: &[
+            Piece::Text(b".i 1\n.o 1\n.ilb "),
+            LETTERS,
+            Piece::Text(b"\n.ob "),
+            LETTERS,
+            Piece::Text(b"\n.type fdr\n.p 1\n1 1\n.e\n"),
+        ],
+    },
+];
+
+// Writes the lists of the file, or, where it is asked for, those that are computed of it.
+fn write(
+    alloc: Global,
+    pla: &Pla,
+    computed: Option<(bool, bool)>,
+    out: &mut Taken,
+) -> Result<Result<(), WriteFault>, AllocError> {
+    match computed {
+        Some((dc, off)) => {
+            let sets = pla::sets(alloc, pla, dc, off)?;
+            Ok(write_pla(pla, &sets, OutType::Fdr, out))
+        }
+        None => Ok(write_covers(pla, OutType::Fdr, pla.on(), pla.dc(), pla.off(), out)),
+    }
+}
+
+// Whether the lists of the text are printed so.
+fn is_printed(alloc: Global, case: &Printed) -> Result<bool, Fail> {
+    let printed = text_of(alloc, case.printed)?;
+    let pla = read(alloc, &text_of(alloc, case.text)?)?;
+    let mut out = Taken::new(alloc, 2_000_000, 2_000_000, false)?;
+    let done = write(alloc, &pla, case.computed, &mut out)?;
+    Ok(done.is_ok() && out.bytes() == printed.as_slice())
 }
 
 #[test]
-fn lists_are_computed_where_they_are_asked_for(rt: HostRuntime) -> Result<(), Fail> {
-    let alloc = rt.alloc();
-    let text = b".i 2\n.o 1\n11 1\n0- -\n";
-    assert!(rt; prints(alloc, text, true, true, b".p 3\n11 1\n0- -\n10 0\n.e\n")?);
-    let text = b".i 2\n.o 1\n.type fr\n11 1\n0- 0\n";
-    assert!(rt; prints(alloc, text, true, true, b".p 3\n11 1\n10 -\n0- 0\n.e\n")?);
+fn lists_are_printed(rt: HostRuntime) -> Result<(), Fail> {
+    for case in &PRINTED {
+        assert!(rt; is_printed(rt.alloc(), case)?);
+    }
     Ok(())
 }
 
-#[test]
-fn lists_are_left_out_where_they_are_not_asked_for(rt: HostRuntime) -> Result<(), Fail> {
-    let alloc = rt.alloc();
-    let text = b".i 1\n.o 1\n.type fr\n1 1\n";
-    assert!(rt; prints(alloc, text, false, true, b".p 1\n1 1\n.e\n")?);
-    assert!(rt; prints(alloc, b".i 1\n.o 1\n1 1\n", true, false, b".p 1\n1 1\n.e\n")?);
-    Ok(())
-}
+// A text, and how many rows the lists have that its type leaves open, DC and OFF.
+type Open = (&'static [Piece], Option<usize>, Option<usize>);
+
+const OPEN: [Open; 6] = [
+    (&[Piece::Text(b".i 1\n.o 1\n.type f\n1 1\n")], Some(0), Some(1)),
+    (&[Piece::Text(b".i 1\n.o 1\n.type fd\n1 1\n")], None, Some(1)),
+    (&[Piece::Text(b".i 1\n.o 1\n.type fr\n1 1\n")], Some(1), None),
+    (&[Piece::Text(b".i 1\n.o 1\n.type fdr\n1 1\n")], None, None),
+    (&[Piece::Text(b".i 13\n.o 1\n.type f\n"), ONES], Some(0), Some(1)),
+    (SAMPLES, Some(1), None),
+];
 
 fn row_count(list: &Option<Cover>) -> Option<usize> {
     match list {
@@ -42,35 +158,20 @@ fn row_count(list: &Option<Cover>) -> Option<usize> {
     }
 }
 
-// Whether the lists that the type of the file leaves open have so many rows, DC and OFF.
-pub(crate) fn are_open(
-    alloc: Global,
-    text: &[u8],
-    dc: Option<usize>,
-    off: Option<usize>,
-) -> Result<bool, Fail> {
-    let pla = read(alloc, text)?;
-    let dc_list = dc_unless_given(alloc, &pla, true)?;
-    let off_list = off_unless_given(alloc, &pla, true)?;
-    Ok(row_count(&dc_list) == dc && row_count(&off_list) == off)
+// Whether the lists of the case that its type leaves open have its numbers of rows.
+fn are_open(alloc: Global, case: &Open) -> Result<bool, Fail> {
+    let (text, dc, off) = *case;
+    let pla = read(alloc, &text_of(alloc, text)?)?;
+    let is_dc = row_count(&dc_unless_given(alloc, &pla, true)?) == dc;
+    Ok(is_dc && row_count(&off_unless_given(alloc, &pla, true)?) == off)
 }
 
-#[test]
-fn lists_that_the_type_leaves_open(rt: HostRuntime) -> Result<(), Fail> {
-    let alloc = rt.alloc();
-    assert!(rt; are_open(alloc, b".i 1\n.o 1\n.type f\n1 1\n", Some(0), Some(1))?);
-    assert!(rt; are_open(alloc, b".i 1\n.o 1\n.type fd\n1 1\n", None, Some(1))?);
-    assert!(rt; are_open(alloc, b".i 1\n.o 1\n.type fr\n1 1\n", Some(1), None)?);
-    assert!(rt; are_open(alloc, b".i 1\n.o 1\n.type fdr\n1 1\n", None, None)?);
-    Ok(())
-}
-
-/// Whether the sets have so many rows.
+// Whether the sets have so many rows.
 fn has_rows(sets: &Sets, on: usize, dc: usize, off: usize) -> bool {
     sets.on().len() == on && sets.dc().len() == dc && sets.off().len() == off
 }
 
-/// Whether sets hold the lists of the file, first OFF in place of ON, and then ON itself.
+// Whether sets hold the lists of the file, first OFF in place of ON, and then ON itself.
 fn are_put_together(pla: &Pla) -> Result<bool, Fail> {
     let off = pla.off().try_clone()?;
     let sets = Sets::new(off, pla.dc().try_clone()?, pla.off().try_clone()?);
@@ -80,7 +181,10 @@ fn are_put_together(pla: &Pla) -> Result<bool, Fail> {
 }
 
 #[test]
-fn lists_are_put_together(rt: HostRuntime) -> Result<(), Fail> {
+fn lists_are_left_open_and_put_together(rt: HostRuntime) -> Result<(), Fail> {
+    for case in &OPEN {
+        assert!(rt; are_open(rt.alloc(), case)?);
+    }
     let text = b".i 1\n.o 1\n.type fdr\n1 1\n1 1\n1 1\n1 -\n1 -\n0 0\n";
     assert!(rt; are_put_together(&read(rt.alloc(), text)?)?);
     Ok(())
