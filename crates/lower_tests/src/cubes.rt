@@ -45,13 +45,6 @@ const SYMBOLS: [Symbol; 5] = [
     Symbol::Zero,
 ];
 
-#[test]
-fn reads_symbols(rt: HostRuntime) -> Result<(), Fail> {
-    assert!(rt; symbols_are(rt.alloc(), &SYMBOLS, &[true, false, true], "-01-0 101")?);
-    assert!(rt; symbols_are(rt.alloc(), &[Symbol::Zero], &[false, false], "")?);
-    Ok(())
-}
-
 // Symbols, outputs and the mask of the outputs that are set, with the row that is read.
 const BYTES: [(&str, &str, u8, &str); 5] = [
     ("-01-0", "101", 1, "-01-0 101"),
@@ -78,20 +71,94 @@ fn bytes_are(alloc: Global, case: &(&str, &str, u8, &str)) -> Result<bool, Fail>
     }
 }
 
-#[test]
-fn reads_bytes(rt: HostRuntime) -> Result<(), Fail> {
-    for case in &BYTES {
-        assert!(rt; bytes_are(rt.alloc(), case)?);
-    }
-    Ok(())
+// The first words of a row, its literals, the inputs with literals and those with `1`, its outputs,
+// and its key. The next words have no bits.
+struct Bits {
+    row: &'static str,
+    literals: u64,
+    inputs: u64,
+    ones: u64,
+    outputs: u64,
+    key: u64,
+}
+
+const BITS: [Bits; 4] = [
+    Bits {
+        row: "01-1 1",
+        literals: 0b01_00_01_10,
+        inputs: 0b01_00_01_01,
+        ones: 0b01_00_01_00,
+        outputs: 0b1,
+        key: 0b01_10_00_10 << 56,
+    },
+    Bits {
+        row: "01 1011",
+        literals: 0b01_10,
+        inputs: 0b01_01,
+        ones: 0b01_00,
+        outputs: 0b1101,
+        key: 0b01_10 << 60,
+    },
+    Bits {
+        row: "--- 1",
+        literals: 0,
+        inputs: 0,
+        ones: 0,
+        outputs: 0b1,
+        key: 0,
+    },
+    Bits {
+        row: "-0 11",
+        literals: 0b10_00,
+        inputs: 0b01_00,
+        ones: 0,
+        outputs: 0b11,
+        key: 1 << 60,
+    },
+];
+
+fn has_bits(cube: &Cube, bits: &Bits) -> bool {
+    cube.literal_bits(0) == bits.literals
+        && cube.literal_bits(1) == 0
+        && cube.output_bits(0) == bits.outputs
+        && cube.output_bits(1) == 0
+}
+
+fn has_sets(cube: &Cube, bits: &Bits) -> bool {
+    cube.literal_inputs(0) == bits.inputs
+        && cube.literal_inputs(1) == 0
+        && cube.one_inputs(0) == bits.ones
+        && cube.has_literal(0) == (bits.inputs & 1 == 1)
+        && !cube.has_literal(32)
+        && cube.order_key_of_32_inputs() == bits.key
+}
+
+fn bits_are(alloc: Global, bits: &Bits) -> Result<bool, Fail> {
+    let cube = cube_of(alloc, bits.row)?;
+    Ok(has_bits(&cube, bits) && has_sets(&cube, bits))
+}
+
+fn limits_are_kept() -> bool {
+    Shape::new(limits::INPUTS, limits::OUTPUTS).is_some()
+        && Shape::new(0, 1).is_some()
+        && Shape::new(1, 0).is_none()
+        && Shape::new(1025, 1).is_none()
+        && Shape::new(1, 1025).is_none()
+        && limits::LINE_BYTES == 131_072
+        && limits::LINES == 16_777_216
 }
 
 #[test]
-fn keeps_the_limits(rt: HostRuntime) -> Result<(), Fail> {
-    let widest = Shape::new(limits::INPUTS, limits::OUTPUTS);
-    assert!(rt; widest.is_some() && Shape::new(0, 1).is_some() && Shape::new(1, 0).is_none());
-    assert!(rt; Shape::new(1025, 1).is_none() && Shape::new(1, 1025).is_none());
-    assert!(rt; limits::LINE_BYTES == 131_072 && limits::LINES == 16_777_216);
+fn cubes_are_read(rt: HostRuntime) -> Result<(), Fail> {
+    assert!(rt; symbols_are(rt.alloc(), &SYMBOLS, &[true, false, true], "-01-0 101")?);
+    assert!(rt; symbols_are(rt.alloc(), &[Symbol::Zero], &[false, false], "")?);
+    for case in &BYTES {
+        assert!(rt; bytes_are(rt.alloc(), case)?);
+    }
+    for case in &BITS {
+        assert!(rt; bits_are(rt.alloc(), case)?);
+    }
+    assert!(rt; limits_are_kept());
     laws::complete_sum_is_maximal_cubes();
     laws::same_places_same_cube();
     laws::limits_are_constants();
@@ -177,33 +244,6 @@ fn makes(alloc: Global, case: &(Product, &str, &str, &[&str])) -> Result<bool, F
     product_is(product, &a, &b, rows)
 }
 
-#[test]
-fn two_cubes_make_rows(rt: HostRuntime) -> Result<(), Fail> {
-    for case in &PRODUCTS {
-        assert!(rt; makes(rt.alloc(), case)?);
-    }
-    Ok(())
-}
-
-// Whether the first words of the row have these bits, and the next ones none.
-fn bits_are(alloc: Global, row: &str, literals: u64, outputs: u64) -> Result<bool, Fail> {
-    let cube = cube_of(alloc, row)?;
-    let (literal_rest, output_rest) = (cube.literal_bits(1), cube.output_bits(1));
-    Ok(
-        cube.literal_bits(0) == literals
-            && cube.output_bits(0) == outputs
-            && literal_rest == 0
-            && output_rest == 0,
-    )
-}
-
-#[test]
-fn gives_bits(rt: HostRuntime) -> Result<(), Fail> {
-    assert!(rt; bits_are(rt.alloc(), "01-1 1", 0b01_00_01_10, 0b1)?);
-    assert!(rt; bits_are(rt.alloc(), "01 1011", 0b01_10, 0b1101)?);
-    Ok(())
-}
-
 // Two rows, the inputs at which they have opposite literals, and those at which the first has a
 // literal that the second does not have.
 const LITERALS: [(&str, &str, &[usize], &[usize]); 5] = [
@@ -245,45 +285,29 @@ fn are_beyond(a: &Cube, b: &Cube, inputs: &[usize]) -> bool {
     a.next_beyond(b, from).is_none()
 }
 
+// Whether the two cubes have these literals.
+fn literals_compare(a: &Cube, b: &Cube, opposites: &[usize], beyond: &[usize]) -> bool {
+    are_opposite(a, b, opposites)
+        && are_beyond(a, b, beyond)
+        && a.opposites(b) as usize == opposites.len()
+        && a.literals_beyond(b) as usize == beyond.len()
+}
+
 // Whether the two rows of the case have its literals.
 fn has_literals(alloc: Global, case: &(&str, &str, &[usize], &[usize])) -> Result<bool, Fail> {
     let (a, b, opposites, beyond) = *case;
     let a = cube_of(alloc, a)?;
     let b = cube_of(alloc, b)?;
-    Ok(
-        are_opposite(&a, &b, opposites)
-            && are_beyond(&a, &b, beyond)
-            && a.opposites(&b) as usize == opposites.len()
-            && a.literals_beyond(&b) as usize == beyond.len(),
-    )
+    Ok(literals_compare(&a, &b, opposites, beyond))
 }
 
 #[test]
-fn compares_literals(rt: HostRuntime) -> Result<(), Fail> {
+fn two_cubes_make_rows_and_compare(rt: HostRuntime) -> Result<(), Fail> {
+    for case in &PRODUCTS {
+        assert!(rt; makes(rt.alloc(), case)?);
+    }
     for case in &LITERALS {
         assert!(rt; has_literals(rt.alloc(), case)?);
     }
-    Ok(())
-}
-
-// Whether the row has literals at the inputs of the set, `1` at those of the second, and the key.
-fn sets_are(alloc: Global, row: &str, literals: u64, ones: u64, key: u64) -> Result<bool, Fail> {
-    let cube = cube_of(alloc, row)?;
-    Ok(
-        cube.literal_inputs(0) == literals
-            && cube.one_inputs(0) == ones
-            && cube.literal_inputs(1) == 0
-            && cube.has_literal(0) == (literals & 1 == 1)
-            && !cube.has_literal(32)
-            && cube.order_key_of_32_inputs() == key,
-    )
-}
-
-#[test]
-fn gives_sets_of_inputs(rt: HostRuntime) -> Result<(), Fail> {
-    let key = 0b01_10_00_10 << 56;
-    assert!(rt; sets_are(rt.alloc(), "01-1 1", 0b01_00_01_01, 0b01_00_01_00, key)?);
-    assert!(rt; sets_are(rt.alloc(), "--- 1", 0, 0, 0)?);
-    assert!(rt; sets_are(rt.alloc(), "-0 11", 0b01_00, 0, 1 << 60)?);
     Ok(())
 }

@@ -16,7 +16,7 @@ use cube::{Cube, Shape};
 use std::alloc::Global;
 use std::test::Fail;
 
-// Operation, the two lists and the rows that are made.
+// Size, operation, the two lists and the rows that are made.
 type Made = (Size, Operation, Rows, Rows, Rows);
 
 const MADE: [Made; 23] = [
@@ -54,7 +54,7 @@ fn makes(alloc: Global, case: &Made) -> Result<bool, Fail> {
     Ok(has_rows(&result_of(operation, &list, &other)?, made))
 }
 
-// Question, the three lists and the answer.
+// Size, question, the three lists and the answer.
 type Answer = (Size, Question, Rows, Rows, Rows, bool);
 
 const ANSWERS: [Answer; 18] = [

@@ -7,13 +7,13 @@ use crate::lists::{
 };
 use crate::rules::{Rows, Rule, are_rows, list_of};
 use cover::Cover;
-use cube::Shape;
+use cube::Cube;
 use regions::{
     Relation, are_disjoint, are_meets_held_by_halves, are_related, part_left_out,
     part_left_out_of_each, rows_not_among,
 };
 use rows::clone_referents;
-use std::alloc::Global;
+use std::alloc::{AllocError, Global};
 use std::test::Fail;
 
 #[derive(Clone, Copy)]
@@ -248,13 +248,9 @@ const CASES: [Case; 29] = [
     },
 ];
 
-// Whether the rows hold the first of the others. Fails where the part that they leave out is none.
-fn holds_first(alloc: Global, list: &Cover, others: &Cover) -> Result<bool, Fail>
-    requires { others.now.size ≡ list.now.size }
-{
-    let rows = references_to(alloc, list)?;
-    let region = first_of(others)?;
-    match part_left_out(alloc, &rows, region)? {
+// Whether no part of the region is left out. Fails where one that is left out is no part of it.
+fn is_none_left_out(region: &Cube, part: &Option<Cube>) -> Result<bool, Fail> {
+    match part {
         Some(part) => {
             let is_part = region.shape() == part.shape() && part.literals() >= region.literals();
             if !is_part {
@@ -266,16 +262,22 @@ fn holds_first(alloc: Global, list: &Cover, others: &Cover) -> Result<bool, Fail
     }
 }
 
-// Whether the rows hold each of the others, which are as many as the answers.
-fn holds_each(alloc: Global, list: &Cover, others: &Cover) -> Result<bool, Fail>
+// Whether the rows hold the first of the others. Fails where the part that they leave out is none.
+fn holds_first(alloc: Global, list: &Cover, others: &Cover) -> Result<bool, Fail>
     requires { others.now.size ≡ list.now.size }
 {
+    let region = first_of(others)?;
     let rows = references_to(alloc, list)?;
-    let parts = part_left_out_of_each(alloc, list.shape(), &rows, others.as_slice())?;
-    if parts.len() != others.len() {
+    let part = part_left_out(alloc, &rows, region)?;
+    is_none_left_out(region, &part)
+}
+
+// Whether there are so many parts, none of which is left out. Fails where there are others.
+fn are_none(parts: &[Option<Cube>], count: usize) -> Result<bool, Fail> {
+    if parts.len() != count {
         return Err("too few parts")?;
     }
-    for part in &parts {
+    for part in parts {
         if part.is_some() {
             return Ok(false);
         }
@@ -283,14 +285,28 @@ fn holds_each(alloc: Global, list: &Cover, others: &Cover) -> Result<bool, Fail>
     Ok(true)
 }
 
+// Whether the rows hold each of the others, which are as many as the answers.
+fn holds_each(alloc: Global, list: &Cover, others: &Cover) -> Result<bool, Fail>
+    requires { others.now.size ≡ list.now.size }
+{
+    let rows = references_to(alloc, list)?;
+    let parts = part_left_out_of_each(alloc, list.shape(), &rows, others.as_slice())?;
+    are_none(&parts, others.len())
+}
+
 // Whether the relation holds, with as many splits as there are inputs and without any.
-fn is_related(alloc: Global, relation: Relation, list: &Cover, others: &Cover) -> Result<bool, Fail>
+fn is_related(
+    alloc: Global,
+    relation: Relation,
+    list: &Cover,
+    others: &Cover,
+) -> Result<bool, AllocError>
     requires { others.now.size ≡ list.now.size }
 {
     let rows = references_to(alloc, list)?;
     let all = references_to(alloc, others)?;
     let shape = list.shape();
-    Ok(are_related(alloc, shape, relation, shape.inputs(), &rows, &all)?)
+    are_related(alloc, shape, relation, shape.inputs(), &rows, &all)
 }
 
 // Whether the lists have no place in common. Fails where the two calls differ.
@@ -304,20 +320,20 @@ fn have_no_common_place(alloc: Global, list: &Cover, others: &Cover) -> Result<b
     Ok(apart)
 }
 
-fn meets_are_held(alloc: Global, list: &Cover, others: &Cover) -> Result<bool, Fail>
+fn meets_are_held(alloc: Global, list: &Cover, others: &Cover) -> Result<bool, AllocError>
     requires { others.now.size ≡ list.now.size }
 {
     let all = references_to(alloc, others)?;
     let rows = list.as_slice();
-    Ok(are_meets_held_by_halves(alloc, list.shape(), rows, rows, &all)?)
+    are_meets_held_by_halves(alloc, list.shape(), rows, rows, &all)
 }
 
-// Whether the rows that are not among the others are all rows, in their order.
-fn none_is_among(alloc: Global, list: &Cover, others: &Cover, given: Rows) -> Result<bool, Fail> {
+// The rows that are not among the others.
+fn not_among(alloc: Global, list: &Cover, others: &Cover) -> Result<Vec<Cube>, AllocError> {
     let rows = references_to(alloc, list)?;
     let all = references_to(alloc, others)?;
     let rest = rows_not_among(alloc, list.shape(), &rows, &all)?;
-    Ok(are_rows(clone_referents(alloc, &rest)?.as_slice(), given))
+    clone_referents(alloc, &rest)
 }
 
 fn answer_of(alloc: Global, case: Case, list: &Cover, others: &Cover) -> Result<bool, Fail>
@@ -326,10 +342,10 @@ fn answer_of(alloc: Global, case: Case, list: &Cover, others: &Cover) -> Result<
     match case.question {
         Question::HoldsFirst => holds_first(alloc, list, others),
         Question::HoldsEach => holds_each(alloc, list, others),
-        Question::Contained => is_related(alloc, Relation::Contained, list, others),
+        Question::Contained => Ok(is_related(alloc, Relation::Contained, list, others)?),
         Question::Disjoint => have_no_common_place(alloc, list, others),
-        Question::MeetsHeld => meets_are_held(alloc, list, others),
-        Question::NotAmong => none_is_among(alloc, list, others, case.rows),
+        Question::MeetsHeld => Ok(meets_are_held(alloc, list, others)?),
+        Question::NotAmong => Ok(are_rows(not_among(alloc, list, others)?.as_slice(), case.rows)),
     }
 }
 

@@ -1,17 +1,16 @@
 //! Each public call of `rows` that answers rows, on small, long and wide lists.
-ghost use Rattle.std.specs.Prelude.{◌≡◌, ◌<◌};
+ghost use Rattle.std.specs.Prelude.{◌≡◌, ◌<◌, All, length};
 
 use crate::lists::{
     HALF, LONG, LONG_HALF, LONG_REST, NONE, REST, Size, UNIVERSE, WIDE, WIDE_HALF, WIDE_REST,
     copies_of, first_of, references_to, shape_of,
 };
-use crate::row_texts::new_shape;
 use crate::rules::{Rows, Rule, are_rows, list_of};
 use cover::Cover;
 use cube::{Cube, Shape, Symbol};
 use rows::{
-    clone_cubes, clone_referents, cube_of_output, meets_by_pairs, merge, push_copy, push_meets,
-    rows_of_both, rows_with_compatible_symbol, rows_with_symbol, sort_rows, universal_cube,
+    clone_cubes, clone_referents, meets_by_pairs, merge, push_copy, push_meets,
+    references_to_cubes,     rows_of_both, rows_with_compatible_symbol, rows_with_symbol, sort_rows, universal_cube,
     with_copies,
 };
 use std::alloc::{AllocError, Global};
@@ -327,13 +326,7 @@ fn copied(
     others: &[Cube],
 ) -> Result<Vec<Cube>, AllocError> {
     match call {
-        Call::CloneReferents => {
-            let mut rows = Vec::new(alloc);
-            for cube in list {
-                rows.push(cube)?;
-            }
-            clone_referents(alloc, &rows)
-        }
+        Call::CloneReferents => clone_referents(alloc, &references_to_cubes(alloc, list)?),
         Call::PushCopies => pushed_copies(alloc, list),
         Call::WithCopies => with_copies(clone_cubes(alloc, list)?, others),
         Call::RowsOfBoth => rows_of_both(clone_cubes(alloc, list)?, clone_cubes(alloc, others)?),
@@ -341,14 +334,16 @@ fn copied(
     }
 }
 
-// The rows of both lists merged, or those of the first sorted.
-fn ordered(alloc: Global, call: Call, list: &Cover, others: &Cover) -> Result<Vec<Cube>, AllocError>
+fn merged(alloc: Global, list: &Cover, others: &Cover) -> Result<Vec<Cube>, AllocError>
     requires { others.now.size ≡ list.now.size }
 {
-    match call {
-        Call::Merge => merge(alloc, copies_of(alloc, list)?, copies_of(alloc, others)?),
-        _ => sort_rows(alloc, copies_of(alloc, list)?),
-    }
+    let mine = copies_of(alloc, list)?;
+    let theirs = copies_of(alloc, others)?;
+    merge(alloc, mine, theirs)
+}
+
+fn sorted(alloc: Global, list: &Cover) -> Result<Vec<Cube>, AllocError> {
+    sort_rows(alloc, copies_of(alloc, list)?)
 }
 
 fn meets_of_pairs(alloc: Global, list: &Cover, others: &Cover) -> Result<Vec<Cube>, AllocError>
@@ -369,15 +364,21 @@ fn meets_of_first(alloc: Global, list: &Cover, others: &Cover) -> Result<Vec<Cub
 }
 
 // The rows with `0`, or with `0` or `-`, at the first input.
-fn chosen(alloc: Global, call: Call, list: &Cover) -> Result<Vec<Cube>, Fail>
+fn kept<'a>(alloc: Global, call: Call, rows: &[&'a Cube]) -> Result<Vec<&'a Cube>, AllocError>
+    requires { All (λ d. 0 < length d.now.symbols) rows.now }
+{
+    match call {
+        Call::WithZero => rows_with_symbol(alloc, rows, 0, Symbol::Zero),
+        _ => rows_with_compatible_symbol(alloc, rows, 0, Symbol::Zero),
+    }
+}
+
+fn chosen(alloc: Global, call: Call, list: &Cover) -> Result<Vec<Cube>, AllocError>
     requires { 0 < list.now.size.inputs }
 {
     let rows = references_to(alloc, list)?;
-    let kept = match call {
-        Call::WithZero => rows_with_symbol(alloc, &rows, 0, Symbol::Zero)?,
-        _ => rows_with_compatible_symbol(alloc, &rows, 0, Symbol::Zero)?,
-    };
-    Ok(clone_referents(alloc, &kept)?)
+    let kept = kept(alloc, call, &rows)?;
+    clone_referents(alloc, &kept)
 }
 
 fn universal(alloc: Global, shape: Shape) -> Result<Vec<Cube>, AllocError> {
@@ -390,14 +391,15 @@ fn answer_of(alloc: Global, call: Call, list: &Cover, others: &Cover) -> Result<
     requires { others.now.size ≡ list.now.size }
 {
     match call {
-        Call::Merge | Call::Sort => Ok(ordered(alloc, call, list, others)?),
+        Call::Merge => Ok(merged(alloc, list, others)?),
+        Call::Sort => Ok(sorted(alloc, list)?),
         Call::Meets => Ok(meets_of_pairs(alloc, list, others)?),
         Call::PushMeets => meets_of_first(alloc, list, others),
         Call::WithZero | Call::WithZeroOrDash => {
             if list.shape().inputs() == 0 {
                 return Err("no input")?;
             }
-            chosen(alloc, call, list)
+            Ok(chosen(alloc, call, list)?)
         }
         Call::Universal => Ok(universal(alloc, list.shape())?),
         _ => Ok(copied(alloc, call, list.as_slice(), others.as_slice())?),
@@ -413,47 +415,14 @@ fn is_answered(alloc: Global, case: Case) -> Result<bool, Fail> {
     Ok(are_rows(made.as_slice(), case.answer))
 }
 
-#[test]
-fn rows_are_copied(rt: HostRuntime) -> Result<(), Fail> {
-    for case in &COPIES {
-        assert!(rt; is_answered(rt.alloc(), *case)?);
-    }
-    Ok(())
-}
+// Of calls that copy rows, put them in order, and meet or choose them.
+const TABLES: [&[Case]; 3] = [&COPIES, &ORDERS, &CHOICES];
 
 #[test]
-fn rows_are_put_in_order(rt: HostRuntime) -> Result<(), Fail> {
-    for case in &ORDERS {
-        assert!(rt; is_answered(rt.alloc(), *case)?);
-    }
-    Ok(())
-}
-
-#[test]
-fn rows_are_met_and_chosen(rt: HostRuntime) -> Result<(), Fail> {
-    for case in &CHOICES {
-        assert!(rt; is_answered(rt.alloc(), *case)?);
-    }
-    Ok(())
-}
-
-// Whether the cube has `-` at each input, and this output alone.
-fn is_of_output(cube: &Cube, output: usize) -> bool {
-    let shape = cube.shape();
-    for j in 0..shape.outputs() {
-        if cube.output(j) != (j == output) {
-            return false;
-        }
-    }
-    cube.literals() == 0
-}
-
-#[test]
-fn cubes_have_one_output(rt: HostRuntime) -> Result<(), Fail> {
-    let shape = new_shape(300, 130)?;
-    for j in [0usize, 1, 63, 64, 129] {
-        if j < shape.outputs() {
-            assert!(rt; is_of_output(&cube_of_output(rt.alloc(), shape, j)?, j));
+fn rows_are_answered(rt: HostRuntime) -> Result<(), Fail> {
+    for cases in &TABLES {
+        for case in *cases {
+            assert!(rt; is_answered(rt.alloc(), *case)?);
         }
     }
     Ok(())

@@ -15,7 +15,7 @@ use rows::{
     lacks_output, literal_of_value, open_bits, opposite, row_hash, sample_size, share_output,
     symbol_contains, universal_cube, word_hash,
 };
-use std::alloc::Global;
+use std::alloc::{AllocError, Global};
 use std::test::Fail;
 
 // Two lists, whether the first of the others meets none of the rows, and where it stands among them
@@ -103,14 +103,6 @@ fn place_is_found(alloc: Global, place: Place) -> Result<bool, Fail> {
     is_placed(alloc, place, &list, first_of(&others)?)
 }
 
-#[test]
-fn rows_are_placed(rt: HostRuntime) -> Result<(), Fail> {
-    for place in &PLACES {
-        assert!(rt; place_is_found(rt.alloc(), *place)?);
-    }
-    Ok(())
-}
-
 // A list, and how many rows have `0` and how many `1` at the last input.
 #[derive(Clone, Copy)]
 struct Counted {
@@ -147,31 +139,58 @@ const COUNTS: [Counted; 4] = [
     },
 ];
 
+// The two counts of literals at an input, where there are some.
+fn counts_at(counts: &LiteralCounts, i: usize) -> Option<(u32, u32)> {
+    match (counts.zeros.get(i), counts.ones.get(i)) {
+        (Some(zeros), Some(ones)) => Some((*zeros, *ones)),
+        _ => None,
+    }
+}
+
+fn counts_of(
+    alloc: Global,
+    shape: Shape,
+    rows: &[&Cube],
+    i: usize,
+) -> Result<Option<(u32, u32)>, AllocError> {
+    Ok(counts_at(&LiteralCounts::of(alloc, rows, shape.inputs())?, i))
+}
+
+fn sampled_counts_of(
+    alloc: Global,
+    shape: Shape,
+    rows: &[&Cube],
+    i: usize,
+) -> Result<Option<(u32, u32)>, AllocError> {
+    Ok(counts_at(&LiteralCounts::of_sample(alloc, shape, rows)?, i))
+}
+
 // Whether so many rows have each literal at the last input. A sample counts one row in some, and
 // none that has another literal.
-fn counts_are(alloc: Global, counted: Counted, list: &Cover) -> Result<bool, Fail> {
-    let refs = references_to(alloc, list)?;
+fn counts_are(alloc: Global, counted: Counted, list: &Cover) -> Result<bool, AllocError> {
+    let rows = references_to(alloc, list)?;
     let shape = list.shape();
     let last = shape.inputs().saturating_sub(1);
-    let all = LiteralCounts::of(alloc, &refs, shape.inputs())?;
-    let some = LiteralCounts::of_sample(alloc, shape, &refs)?;
-    let zeros = some.zeros.get(last).copied().unwrap_or(u32::MAX);
-    let ones = some.ones.get(last).copied().unwrap_or(u32::MAX);
-    Ok(
-        all.zeros.get(last).copied() == Some(counted.zeros)
-            && all.ones.get(last).copied() == Some(counted.ones)
-            && zeros <= counted.zeros
-            && ones <= counted.ones
-            && sample_size(list.len()) <= 64,
-    )
+    let all = counts_of(alloc, shape, &rows, last)?;
+    let is_sampled = match sampled_counts_of(alloc, shape, &rows, last)? {
+        Some((zeros, ones)) => zeros <= counted.zeros && ones <= counted.ones,
+        None => false,
+    };
+    Ok(is_sampled && all == Some((counted.zeros, counted.ones)))
+}
+
+fn literals_are_counted(alloc: Global, counted: Counted) -> Result<bool, Fail> {
+    let list = list_of(alloc, shape_of(counted.size)?, counted.rows)?;
+    Ok(counts_are(alloc, counted, &list)? && sample_size(list.len()) <= 64)
 }
 
 #[test]
-fn literals_are_counted(rt: HostRuntime) -> Result<(), Fail> {
+fn rows_are_placed_and_counted(rt: HostRuntime) -> Result<(), Fail> {
+    for place in &PLACES {
+        assert!(rt; place_is_found(rt.alloc(), *place)?);
+    }
     for counted in &COUNTS {
-        let shape = shape_of(counted.size)?;
-        let list = list_of(rt.alloc(), shape, counted.rows)?;
-        assert!(rt; counts_are(rt.alloc(), *counted, &list)?);
+        assert!(rt; literals_are_counted(rt.alloc(), *counted)?);
     }
     Ok(())
 }
@@ -244,14 +263,13 @@ fn tests_agree(cube: &Cube, i: usize) -> bool
         && agrees_at(cube, i, true) == (symbol != Symbol::Zero)
 }
 
-#[test]
-fn symbols_are_tested(rt: HostRuntime) -> Result<(), Fail> {
-    let shape = new_shape(300, 1)?;
-    let cube = cube_of_rule(rt.alloc(), shape, Rule::Stairs, 150)?;
+fn symbols_are_tested(cube: &Cube) -> bool {
     for i in 0..cube.shape().inputs() {
-        assert!(rt; tests_agree(&cube, i));
+        if !tests_agree(cube, i) {
+            return false;
+        }
     }
-    Ok(())
+    true
 }
 
 // Whether the open literals of a row beside one with `0` at the first 32 inputs are found: `0` up to
@@ -271,14 +289,24 @@ fn counts_open_literals(row: &Cube, region: &Cube) -> bool {
     counts[0] == 0 && counts[1] == 3 && counts[63] == 3
 }
 
-#[test]
-fn open_literals_are_found(rt: HostRuntime) -> Result<(), Fail> {
-    let shape = new_shape(300, 130)?;
-    let row = cube_of_rule(rt.alloc(), shape, Rule::Stairs, 150)?;
-    let region = cube_of_rule(rt.alloc(), shape, Rule::Zeros, 32)?;
-    assert!(rt; finds_open_literals(shape, &row, &region));
-    assert!(rt; counts_open_literals(&row, &region));
-    Ok(())
+// Whether the row of stairs beside one with `0` at the first 32 inputs is told so.
+fn open_literals_are_found(alloc: Global, shape: Shape) -> Result<bool, Fail> {
+    let row = cube_of_rule(alloc, shape, Rule::Stairs, 150)?;
+    let region = cube_of_rule(alloc, shape, Rule::Zeros, 32)?;
+    Ok(symbols_are_tested(&row)
+        && finds_open_literals(shape, &row, &region)
+        && counts_open_literals(&row, &region))
+}
+
+// Whether the cube has `-` at each input, and this output alone.
+fn is_of_output(cube: &Cube, output: usize) -> bool {
+    let shape = cube.shape();
+    for j in 0..shape.outputs() {
+        if cube.output(j) != (j == output) {
+            return false;
+        }
+    }
+    cube.literals() == 0
 }
 
 // Whether the cube of an output has it in common with the cube of all places, and with that of
@@ -289,28 +317,44 @@ fn output_is_shared(alloc: Global, shape: Shape, j: usize, other: usize) -> Resu
     }
     let cube = cube_of_output(alloc, shape, j)?;
     let all = universal_cube(alloc, shape)?;
-    let shares = share_output(&cube, &cube_of_output(alloc, shape, other)?);
-    Ok(share_output(&cube, &all) && shares == (j == other))
+    let second = cube_of_output(alloc, shape, other)?;
+    Ok(is_of_output(&cube, j)
+        && share_output(&cube, &all)
+        && share_output(&cube, &second) == (j == other))
+}
+
+// Two outputs.
+const OUTPUTS: [(usize, usize); 10] = [
+    (0, 64),
+    (0, 129),
+    (1, 64),
+    (1, 129),
+    (63, 64),
+    (63, 129),
+    (64, 64),
+    (64, 129),
+    (129, 64),
+    (129, 129),
+];
+
+fn hash_of_stairs(alloc: Global, shape: Shape, number: usize) -> Result<u64, Fail> {
+    Ok(row_hash(shape, &cube_of_rule(alloc, shape, Rule::Stairs, number)?, 1))
+}
+
+// Whether equal rows have equal hashes, and others have others.
+fn hashes_tell_rows_apart(alloc: Global, shape: Shape) -> Result<bool, Fail> {
+    let hash = hash_of_stairs(alloc, shape, 150)?;
+    let is_same = hash == hash_of_stairs(alloc, shape, 150)?;
+    Ok(is_same && hash != hash_of_stairs(alloc, shape, 151)? && word_hash(1) != word_hash(2))
 }
 
 #[test]
-fn outputs_are_shared(rt: HostRuntime) -> Result<(), Fail> {
+fn cubes_of_several_words_are_told(rt: HostRuntime) -> Result<(), Fail> {
     let shape = new_shape(300, 130)?;
-    for j in [0usize, 63, 64, 129] {
-        assert!(rt; output_is_shared(rt.alloc(), shape, j, 64)?);
-        assert!(rt; output_is_shared(rt.alloc(), shape, j, 129)?);
+    assert!(rt; open_literals_are_found(rt.alloc(), shape)?);
+    assert!(rt; hashes_tell_rows_apart(rt.alloc(), shape)?);
+    for (j, other) in &OUTPUTS {
+        assert!(rt; output_is_shared(rt.alloc(), shape, *j, *other)?);
     }
-    Ok(())
-}
-
-#[test]
-fn equal_rows_have_equal_hashes(rt: HostRuntime) -> Result<(), Fail> {
-    let shape = new_shape(300, 130)?;
-    let row = cube_of_rule(rt.alloc(), shape, Rule::Stairs, 150)?;
-    let same = cube_of_rule(rt.alloc(), shape, Rule::Stairs, 150)?;
-    let other = cube_of_rule(rt.alloc(), shape, Rule::Stairs, 151)?;
-    let hash = row_hash(shape, &row, 1);
-    assert!(rt; hash == row_hash(shape, &same, 1) && hash != row_hash(shape, &other, 1));
-    assert!(rt; word_hash(1) != word_hash(2));
     Ok(())
 }

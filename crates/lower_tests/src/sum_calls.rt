@@ -8,7 +8,7 @@ use crate::lists::{
 use crate::rules::{Rows, Rule, are_rows, list_of};
 use cover::Cover;
 use cube::{Cube, Shape};
-use std::alloc::Global;
+use std::alloc::{AllocError, Global};
 use std::test::Fail;
 use sums::{largest_containing, rows_containing, sum_of_both, sum_of_difference};
 
@@ -150,6 +150,35 @@ const CASES: [Case; 16] = [
     },
 ];
 
+// What a call makes of copies of two lists.
+fn sum_of_copies(
+    alloc: Global,
+    call: Call,
+    shape: Shape,
+    list: &Cover,
+    others: &Cover,
+) -> Result<Vec<Cube>, AllocError>
+    requires rows { list.now.size ≡ shape }
+    requires others { others.now.size ≡ shape }
+{
+    let mine = copies_of(alloc, list)?;
+    let theirs = copies_of(alloc, others)?;
+    match call {
+        Call::Both => sum_of_both(alloc, shape, mine, theirs),
+        _ => sum_of_difference(alloc, shape, mine, theirs),
+    }
+}
+
+// What contains the first of the others, of the places outside the list.
+fn largest(alloc: Global, shape: Shape, list: &Cover, others: &Cover) -> Result<Vec<Cube>, Fail>
+    requires rows { list.now.size ≡ shape }
+    requires others { others.now.size ≡ shape }
+{
+    let region = first_of(others)?;
+    let sum = largest_containing(alloc, shape, region, list.as_slice(), MOST)?;
+    Ok(sum.ok_or("too many cubes")?)
+}
+
 // What the call makes of two lists.
 fn answer_of(
     alloc: Global,
@@ -162,19 +191,8 @@ fn answer_of(
     requires others { others.now.size ≡ shape }
 {
     match call {
-        Call::Difference => {
-            let (minuend, subtrahend) = (copies_of(alloc, list)?, copies_of(alloc, others)?);
-            Ok(sum_of_difference(alloc, shape, minuend, subtrahend)?)
-        }
-        Call::Both => {
-            let (mine, theirs) = (copies_of(alloc, list)?, copies_of(alloc, others)?);
-            Ok(sum_of_both(alloc, shape, mine, theirs)?)
-        }
-        Call::Largest => {
-            let region = first_of(others)?;
-            let sum = largest_containing(alloc, shape, region, list.as_slice(), MOST)?;
-            Ok(sum.ok_or("too many cubes")?)
-        }
+        Call::Difference | Call::Both => Ok(sum_of_copies(alloc, call, shape, list, others)?),
+        Call::Largest => largest(alloc, shape, list, others),
         Call::Containing => Ok(rows_containing(alloc, first_of(others)?, list.as_slice())?),
     }
 }

@@ -245,8 +245,8 @@ fn comparisons_agree(a: Row, b: Row, p: &Cube, q: &Cube) -> bool
 // Whether each call on two cubes agrees with the form that goes symbol by symbol.
 fn calls_agree(a: Row, b: Row, p: &Cube, q: &Cube) -> Result<bool, Fail> {
     same_shape(p.shape(), q.shape())?;
-    for operation in OPERATIONS {
-        if !call_agrees(operation, a, b, p, q)? {
+    for operation in &OPERATIONS {
+        if !call_agrees(*operation, a, b, p, q)? {
             return Ok(false);
         }
     }
@@ -358,7 +358,8 @@ fn all_agree(alloc: Global, row: Row, cube: &Cube) -> Result<bool, Fail> {
     if !cube.sharp(cube)?.is_empty() {
         return Ok(false);
     }
-    for kind in KINDS {
+    for kind in &KINDS {
+        let kind = *kind;
         if !pair_agrees(alloc, row, Row { kind, ..row }, cube)? {
             return Ok(false);
         }
@@ -373,21 +374,34 @@ fn row_and_cube_agree(alloc: Global, row: Row) -> Result<bool, Fail> {
     }
 }
 
-#[test]
-fn wide_cubes_agree(rt: HostRuntime) -> Result<(), Fail> {
+const INPUTS: [usize; 10] = [0, 1, 31, 32, 33, 127, 128, 129, 256, 1024];
+
+const OUTPUTS: [usize; 6] = [1, 63, 64, 65, 256, 1024];
+
+// Whether the cubes of so many inputs agree with their rows.
+fn cubes_of_width_agree(alloc: Global, inputs: usize) -> Result<bool, Fail> {
     let replaced = None;
-    for inputs in [0usize, 1, 31, 32, 33, 127, 128, 129, 256, 1024] {
-        for outputs in [1usize, 63, 64, 65, 256, 1024] {
-            for kind in KINDS {
-                let row = Row {
-                    inputs,
-                    outputs,
-                    kind,
-                    replaced,
-                };
-                assert!(rt; row_and_cube_agree(rt.alloc(), row)?);
+    for outputs in &OUTPUTS {
+        for kind in &KINDS {
+            let (outputs, kind) = (*outputs, *kind);
+            let row = Row {
+                inputs,
+                outputs,
+                kind,
+                replaced,
+            };
+            if !row_and_cube_agree(alloc, row)? {
+                return Ok(false);
             }
         }
+    }
+    Ok(true)
+}
+
+#[test]
+fn wide_cubes_agree(rt: HostRuntime) -> Result<(), Fail> {
+    for inputs in &INPUTS {
+        assert!(rt; cubes_of_width_agree(rt.alloc(), *inputs)?);
     }
     Ok(())
 }
