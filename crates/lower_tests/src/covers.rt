@@ -233,7 +233,7 @@ const MANY: usize = 140;
 const BEFORE: [usize; 2] = [0, MANY];
 
 // Whether the operation of the case makes its last rows of the others.
-fn makes(alloc: Global, case: &Made, before: usize) -> Result<bool, Fail> {
+fn makes(alloc: Global, case: &Made, before: usize) -> Result<bool, AllocError> {
     let (operation, inputs, outputs, rows, others, made) = *case;
     let shape = new_shape(inputs.saturating_add(before), outputs)?;
     let list = cover_of(alloc, shape, rows)?;
@@ -380,7 +380,7 @@ pub(crate) fn answer(
 }
 
 // Whether the lists of the case answer its question so.
-fn answers(alloc: Global, case: &Answer, before: usize) -> Result<bool, Fail> {
+fn answers(alloc: Global, case: &Answer, before: usize) -> Result<bool, AllocError> {
     let (question, inputs, outputs, rows, others, frees, yes) = *case;
     let shape = new_shape(inputs.saturating_add(before), outputs)?;
     let list = cover_of(alloc, shape, rows)?;

@@ -4,7 +4,7 @@ use crate::row_texts::{
 };
 use crate::wide::{Operation, answer};
 use cube::{Cube, Shape, Symbol, laws, limits};
-use std::alloc::Global;
+use std::alloc::{AllocError, Global};
 use std::test::Fail;
 
 // Whether the cube `-01-0 101` puts these bytes, and leaves what follows.
@@ -27,7 +27,7 @@ fn symbols_are(
     symbols: &[Symbol],
     outputs: &[bool],
     row: &str,
-) -> Result<bool, Fail> {
+) -> Result<bool, AllocError> {
     match cube_of_symbols(alloc, symbols, outputs)? {
         Some(cube) => {
             let is_row = puts_bytes(&cube) && is_written(&cube, row);
@@ -63,7 +63,7 @@ const BYTES: [(&str, &str, u8, &str); 5] = [
 ];
 
 // Whether the bytes are read as the row of the case; nothing is written for none.
-fn bytes_are(alloc: Global, case: &(&str, &str, u8, &str)) -> Result<bool, Fail> {
+fn bytes_are(alloc: Global, case: &(&str, &str, u8, &str)) -> Result<bool, AllocError> {
     let (inputs, outputs, mask, row) = *case;
     match cube_of_bytes(alloc, inputs.as_bytes(), outputs.as_bytes(), mask)? {
         Some(cube) => Ok(is_written(&cube, row)),
@@ -133,7 +133,7 @@ fn has_sets(cube: &Cube, bits: &Bits) -> bool {
         && cube.order_key_of_32_inputs() == bits.key
 }
 
-fn bits_are(alloc: Global, bits: &Bits) -> Result<bool, Fail> {
+fn bits_are(alloc: Global, bits: &Bits) -> Result<bool, AllocError> {
     let cube = cube_of(alloc, bits.row)?;
     Ok(has_bits(&cube, bits) && has_sets(&cube, bits))
 }
@@ -221,7 +221,7 @@ fn is_told(a: &Cube, b: &Cube, are_equal: bool) -> bool {
 }
 
 // Whether the two cubes make these rows.
-fn product_is(product: Product, a: &Cube, b: &Cube, rows: &[&str]) -> Result<bool, Fail> {
+fn product_is(product: Product, a: &Cube, b: &Cube, rows: &[&str]) -> Result<bool, AllocError> {
     if let Product::Equal = product {
         return Ok(is_told(a, b, !rows.is_empty()));
     }
@@ -237,7 +237,7 @@ fn product_is(product: Product, a: &Cube, b: &Cube, rows: &[&str]) -> Result<boo
 }
 
 // Whether the two cubes of the case make its rows.
-fn makes(alloc: Global, case: &(Product, &str, &str, &[&str])) -> Result<bool, Fail> {
+fn makes(alloc: Global, case: &(Product, &str, &str, &[&str])) -> Result<bool, AllocError> {
     let (product, a, b, rows) = *case;
     let a = cube_of(alloc, a)?;
     let b = cube_of(alloc, b)?;
@@ -294,7 +294,10 @@ fn literals_compare(a: &Cube, b: &Cube, opposites: &[usize], beyond: &[usize]) -
 }
 
 // Whether the two rows of the case have its literals.
-fn has_literals(alloc: Global, case: &(&str, &str, &[usize], &[usize])) -> Result<bool, Fail> {
+fn has_literals(
+    alloc: Global,
+    case: &(&str, &str, &[usize], &[usize]),
+) -> Result<bool, AllocError> {
     let (a, b, opposites, beyond) = *case;
     let a = cube_of(alloc, a)?;
     let b = cube_of(alloc, b)?;

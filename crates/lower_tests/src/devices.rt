@@ -1,6 +1,6 @@
 //! Reads and writes of the devices for tests.
 use pla::{Ending, Input, Output};
-use std::alloc::Global;
+use std::alloc::{AllocError, Global};
 use std::test::Fail;
 use test_devices::{Given, Taken};
 
@@ -67,7 +67,7 @@ fn delivers(given: &mut Given, reads: &[(Option<usize>, [u8; 3])]) -> bool {
     true
 }
 
-fn is_delivered(alloc: Global, case: &Delivery) -> Result<bool, Fail> {
+fn is_delivered(alloc: Global, case: &Delivery) -> Result<bool, AllocError> {
     let bytes = Vec::from_slice(alloc, case.bytes)?;
     let given = Given::new(bytes, case.most.max(1), case.ending);
     Ok(delivers(&mut given.failing_once_after(case.failing), case.reads))
@@ -130,12 +130,14 @@ fn is_flushed(taken: &mut Taken, fails: bool) -> bool {
     is_told && calls.flushed && calls.counts.flushes == 1
 }
 
-fn is_taken(alloc: Global, case: &Taking) -> Result<bool, Fail> {
+fn is_taken(alloc: Global, case: &Taking) -> Result<bool, AllocError> {
     let taken = Taken::new(alloc, 5, 3, case.flush_fails)?;
     let mut taken = taken.failing_once_after(case.failing);
-    Ok(takes(&mut taken, case.writes)
-        && is_flushed(&mut taken, case.flush_fails)
-        && taken.bytes() == case.taken)
+    Ok(
+        takes(&mut taken, case.writes)
+            && is_flushed(&mut taken, case.flush_fails)
+            && taken.bytes() == case.taken,
+    )
 }
 
 #[test]

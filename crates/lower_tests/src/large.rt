@@ -13,7 +13,7 @@ use crate::lists::{
 use crate::row_texts::{cube_of_bytes, new_shape, same_shape};
 use crate::rules::{Rows, Rule, are_rows, cube_of_rule, has_rows, is_row, list_of};
 use cube::{Cube, Shape};
-use std::alloc::Global;
+use std::alloc::{AllocError, Global};
 use std::test::Fail;
 
 // Size, operation, the two lists and the rows that are made.
@@ -29,24 +29,54 @@ const MADE: [Made; 23] = [
     (Size::Long, Operation::Append, LONG_HALF, LONG_REST, LONG),
     (Size::Long, Operation::Intersect, LONG_HALF, LONG, HALF),
     (Size::Long, Operation::Difference, LONG, LONG_HALF, REST),
-    (Size::Long, Operation::Cofactor, LONG_HALF, UNIVERSE, LONG_HALF),
-    (Size::Long, Operation::Cofactor, LONG, (Rule::Points, 7, 8), UNIVERSE),
+    (
+        Size::Long,
+        Operation::Cofactor,
+        LONG_HALF,
+        UNIVERSE,
+        LONG_HALF,
+    ),
+    (
+        Size::Long,
+        Operation::Cofactor,
+        LONG,
+        (Rule::Points, 7, 8),
+        UNIVERSE,
+    ),
     (Size::Wide, Operation::Clone, WIDE_HALF, NONE, WIDE_HALF),
     (Size::Wide, Operation::Cubes, WIDE_HALF, NONE, WIDE_HALF),
     (Size::Wide, Operation::CompleteSum, WIDE_HALF, NONE, HALF),
     (Size::Wide, Operation::Complement, WIDE_HALF, NONE, REST),
     (Size::Wide, Operation::Contain, WIDE_HALF, NONE, WIDE_HALF),
     (Size::Wide, Operation::Merge, WIDE_HALF, NONE, WIDE_HALF),
-    (Size::Wide, Operation::Contain, (Rule::Zeros, 0, 1024), NONE, UNIVERSE),
+    (
+        Size::Wide,
+        Operation::Contain,
+        (Rule::Zeros, 0, 1024),
+        NONE,
+        UNIVERSE,
+    ),
     (Size::Wide, Operation::Append, WIDE_HALF, WIDE_REST, WIDE),
     (Size::Wide, Operation::Intersect, WIDE_HALF, WIDE, HALF),
     (Size::Wide, Operation::Difference, WIDE, WIDE_HALF, REST),
-    (Size::Wide, Operation::Cofactor, WIDE_HALF, UNIVERSE, WIDE_HALF),
-    (Size::Wide, Operation::Cofactor, WIDE, (Rule::Front, 7, 8), UNIVERSE),
+    (
+        Size::Wide,
+        Operation::Cofactor,
+        WIDE_HALF,
+        UNIVERSE,
+        WIDE_HALF,
+    ),
+    (
+        Size::Wide,
+        Operation::Cofactor,
+        WIDE,
+        (Rule::Front, 7, 8),
+        UNIVERSE,
+    ),
 ];
 
 // Whether the operation of the case makes its last rows of the others.
-fn makes(alloc: Global, case: &Made) -> Result<bool, Fail> {
+fn makes(alloc: Global, case: &Made) -> Result<bool, AllocError> {
     let (size, operation, first, second, made) = *case;
     let shape = shape_of(size)?;
     let list = list_of(alloc, shape, first)?;
@@ -59,27 +89,111 @@ type Answer = (Size, Question, Rows, Rows, Rows, bool);
 
 const ANSWERS: [Answer; 18] = [
     (Size::Long, Question::Tautology, LONG, NONE, NONE, true),
-    (Size::Long, Question::Tautology, LONG_HALF, NONE, NONE, false),
+    (
+        Size::Long,
+        Question::Tautology,
+        LONG_HALF,
+        NONE,
+        NONE,
+        false,
+    ),
     (Size::Long, Question::HoldsCube, LONG_HALF, HALF, NONE, true),
-    (Size::Long, Question::HoldsCube, LONG_HALF, UNIVERSE, NONE, false),
-    (Size::Long, Question::Intersects, LONG_HALF, LONG_REST, NONE, false),
-    (Size::Long, Question::Intersects, LONG, LONG_REST, NONE, true),
+    (
+        Size::Long,
+        Question::HoldsCube,
+        LONG_HALF,
+        UNIVERSE,
+        NONE,
+        false,
+    ),
+    (
+        Size::Long,
+        Question::Intersects,
+        LONG_HALF,
+        LONG_REST,
+        NONE,
+        false,
+    ),
+    (
+        Size::Long,
+        Question::Intersects,
+        LONG,
+        LONG_REST,
+        NONE,
+        true,
+    ),
     (Size::Long, Question::Agrees, LONG_HALF, HALF, NONE, true),
-    (Size::Long, Question::Agrees, LONG_HALF, LONG_REST, NONE, false),
-    (Size::Long, Question::Agrees, LONG_HALF, UNIVERSE, LONG_REST, true),
+    (
+        Size::Long,
+        Question::Agrees,
+        LONG_HALF,
+        LONG_REST,
+        NONE,
+        false,
+    ),
+    (
+        Size::Long,
+        Question::Agrees,
+        LONG_HALF,
+        UNIVERSE,
+        LONG_REST,
+        true,
+    ),
     (Size::Wide, Question::Tautology, WIDE, NONE, NONE, true),
-    (Size::Wide, Question::Tautology, WIDE_HALF, NONE, NONE, false),
+    (
+        Size::Wide,
+        Question::Tautology,
+        WIDE_HALF,
+        NONE,
+        NONE,
+        false,
+    ),
     (Size::Wide, Question::HoldsCube, WIDE_HALF, HALF, NONE, true),
-    (Size::Wide, Question::HoldsCube, WIDE_HALF, UNIVERSE, NONE, false),
-    (Size::Wide, Question::Intersects, WIDE_HALF, WIDE_REST, NONE, false),
-    (Size::Wide, Question::Intersects, WIDE, WIDE_REST, NONE, true),
+    (
+        Size::Wide,
+        Question::HoldsCube,
+        WIDE_HALF,
+        UNIVERSE,
+        NONE,
+        false,
+    ),
+    (
+        Size::Wide,
+        Question::Intersects,
+        WIDE_HALF,
+        WIDE_REST,
+        NONE,
+        false,
+    ),
+    (
+        Size::Wide,
+        Question::Intersects,
+        WIDE,
+        WIDE_REST,
+        NONE,
+        true,
+    ),
     (Size::Wide, Question::Agrees, WIDE_HALF, HALF, NONE, true),
-    (Size::Wide, Question::Agrees, WIDE_HALF, WIDE_REST, NONE, false),
-    (Size::Wide, Question::Agrees, WIDE_HALF, UNIVERSE, WIDE_REST, true),
+    (
+        Size::Wide,
+        Question::Agrees,
+        WIDE_HALF,
+        WIDE_REST,
+        NONE,
+        false,
+    ),
+    (
+        Size::Wide,
+        Question::Agrees,
+        WIDE_HALF,
+        UNIVERSE,
+        WIDE_REST,
+        true,
+    ),
 ];
 
 // Whether the lists of the case answer its question so.
-fn answers(alloc: Global, case: &Answer) -> Result<bool, Fail> {
+fn answers(alloc: Global, case: &Answer) -> Result<bool, AllocError> {
     let (size, question, first, second, third, yes) = *case;
     let shape = shape_of(size)?;
     let list = list_of(alloc, shape, first)?;
@@ -89,7 +203,7 @@ fn answers(alloc: Global, case: &Answer) -> Result<bool, Fail> {
 }
 
 // Whether the bytes that the cube puts are read as an equal one.
-fn is_read_again(alloc: Global, cube: &Cube) -> Result<bool, Fail> {
+fn is_read_again(alloc: Global, cube: &Cube) -> Result<bool, AllocError> {
     let shape = cube.shape();
     if shape.inputs() != 1024 || shape.outputs() != 1024 {
         return Ok(false);
@@ -112,7 +226,7 @@ fn has_last_bits(cube: &Cube) -> bool {
 }
 
 // Whether all places without those with `0` at each input are those with `1` at one of them.
-fn leaves_a_cube_an_input(alloc: Global, shape: Shape) -> Result<bool, Fail> {
+fn leaves_a_cube_an_input(alloc: Global, shape: Shape) -> Result<bool, AllocError> {
     let whole = cube_of_rule(alloc, shape, Rule::Universe, 0)?;
     let zeros = cube_of_rule(alloc, shape, Rule::Zeros, shape.inputs())?;
     same_shape(whole.shape(), zeros.shape())?;
@@ -122,7 +236,7 @@ fn leaves_a_cube_an_input(alloc: Global, shape: Shape) -> Result<bool, Fail> {
     ))
 }
 
-fn is_widest_read(alloc: Global, shape: Shape) -> Result<bool, Fail> {
+fn is_widest_read(alloc: Global, shape: Shape) -> Result<bool, AllocError> {
     let cube = cube_of_rule(alloc, shape, Rule::Free, 0)?;
     Ok(has_last_bits(&cube) && is_read_again(alloc, &cube)?)
 }

@@ -4,14 +4,15 @@
 //! time with it. Each public function is called once with ample memory, each generic one at a
 //! concrete type; what whole texts come to is tested on the built program. The functions here are
 //! kept plain, as each has to be proved, and that is dear where it holds many cubes or lists: so
-//! the tests hold none, and go over tables.
+//! the tests hold none, and go over tables. What cannot be asked fails with `AllocError` too, since a
+//! `Fail` is dear to prove where it may come from many calls: a test that ends so has failed.
 //!
-//! - Cubes and lists, from rows of text (`rows`): `cubes`, `covers`, `reasons`, `wide`;
-//!   from rules (`rules`): `places`, `place_cases`, and `large` for each call on long lists and
-//!   wide rows.
+//! - Cubes and lists, from rows of text (`row_texts`): `cubes`, `covers`, `wide`; from rules
+//!   (`rules`): `reasons`, `places`, `place_cases`, and `large` for each call on long lists and wide
+//!   rows.
 //! - Lists of rows (`lists`): `row_calls`, `row_questions`, `region_calls` and `sum_calls`.
-//! - The format: `devices`, `over_std` and `writing` of its devices, `reading`, `sets`, `printing`
-//!   and `laws` of its files, `large_files` with long names too.
+//! - The format, of texts and long ones (`text_pieces`): `devices`, `over_std` and `writing` of its
+//!   devices, `reading`, `sets` and `laws` of its files.
 #![tactic(auto)]
 
 #[cfg(test)]

@@ -10,7 +10,6 @@ use cover::Cover;
 use cube::{Cube, Shape};
 use rows::{clone_cubes, references_to_cubes};
 use std::alloc::{AllocError, Global};
-use std::test::Fail;
 
 pub(crate) const NONE: Rows = (Rule::Universe, 0, 0);
 
@@ -47,7 +46,7 @@ pub(crate) enum Size {
     Wide,
 }
 
-pub(crate) fn shape_of(size: Size) -> Result<Shape, Fail> {
+pub(crate) fn shape_of(size: Size) -> Result<Shape, AllocError> {
     match size {
         Size::Small => new_shape(2, 1),
         Size::Long => new_shape(16, 1),
@@ -72,10 +71,10 @@ pub(crate) fn copies_of(alloc: Global, list: &Cover) -> Result<Vec<Cube>, AllocE
 }
 
 // The first cube of a list.
-pub(crate) fn first_of(list: &Cover) -> Result<&Cube, Fail>
+pub(crate) fn first_of(list: &Cover) -> Result<&Cube, AllocError>
     ensures { IfOk result (λ c. HasSize c.now list.now.size) }
 {
-    let first = list.get(0).ok_or("no row")?;
+    let first = list.get(0).ok_or(AllocError)?;
     same_shape(list.shape(), first.shape())?;
     Ok(first)
 }

@@ -1,6 +1,6 @@
 //! Devices over readers and writers of std.
 use pla::{Input, Output, Reading, Writing};
-use std::alloc::Global;
+use std::alloc::{AllocError, Global};
 use std::cell::Cell;
 use std::io;
 use std::io::{Cursor, ErrorKind, Read, Write};
@@ -134,7 +134,7 @@ fn are_failed_calls_told() -> bool {
         && tries.are(0, 3, 3)
 }
 
-fn is_long_text_read(alloc: Global) -> Result<bool, Fail> {
+fn is_long_text_read(alloc: Global) -> Result<bool, AllocError> {
     let text = vec![in alloc; b'a'; 5000]?;
     Ok(is_read_in_pieces(&text))
 }
@@ -145,7 +145,7 @@ fn is_taken_whole(text: &[u8], room: &mut [u8]) -> bool {
     writing.write(text) == Ok(131_073)
 }
 
-fn is_long_text_taken(alloc: Global) -> Result<bool, Fail> {
+fn is_long_text_taken(alloc: Global) -> Result<bool, AllocError> {
     let text = vec![in alloc; b'a'; 131_073]?;
     let mut room = vec![in alloc; 0; 131_073]?;
     let is_whole = is_taken_whole(&text, &mut room);

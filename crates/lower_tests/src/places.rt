@@ -8,7 +8,6 @@ use cover::{
     is_within_either, outside, subtract, sum_containing,
 };
 use std::alloc::{AllocError, Global};
-use std::test::Fail;
 
 // What is asked of up to three lists.
 #[derive(Clone, Copy)]
@@ -119,14 +118,19 @@ fn order_is(list: &Cover, other: &Cover, rows: Rows) -> Result<bool, AllocError>
 }
 
 // Whether the meets are in the other list. It is asked for once as it is and once as free places.
-fn meets_are_within(alloc: Global, list: &Cover, mask: &Cover, other: &Cover) -> Result<bool, Fail>
+fn meets_are_within(
+    alloc: Global,
+    list: &Cover,
+    mask: &Cover,
+    other: &Cover,
+) -> Result<bool, AllocError>
     requires mask { mask.now.size ≡ list.now.size }
     requires other { other.now.size ≡ list.now.size }
 {
     let none = Cover::new(alloc, list.shape());
     let is_held = are_meets_within_either(list, mask, other, &none)?;
     if are_meets_within_either(list, mask, &none, other)? != is_held {
-        return Err("other and free places differ")?;
+        return Err(AllocError);
     }
     Ok(is_held)
 }
@@ -138,23 +142,23 @@ fn answer(
     other: &Cover,
     third: &Cover,
     rows: Rows,
-) -> Result<bool, Fail>
+) -> Result<bool, AllocError>
     requires other { other.now.size ≡ list.now.size }
     requires third { third.now.size ≡ list.now.size }
 {
     match question {
-        Question::Outside => Ok(outside_is(alloc, list, third)?),
-        Question::Subtract => Ok(subtract_is(alloc, list, other, third)?),
-        Question::Containing => Ok(containing_is(list, other, rows)?),
-        Question::SumContaining => Ok(sum_is(list, other, rows)?),
-        Question::RowOrder => Ok(order_is(list, other, rows)?),
-        Question::Within => Ok(is_within_either(list, other, third)?),
+        Question::Outside => outside_is(alloc, list, third),
+        Question::Subtract => subtract_is(alloc, list, other, third),
+        Question::Containing => containing_is(list, other, rows),
+        Question::SumContaining => sum_is(list, other, rows),
+        Question::RowOrder => order_is(list, other, rows),
+        Question::Within => is_within_either(list, other, third),
         Question::MeetsWithin => meets_are_within(alloc, list, other, third),
     }
 }
 
 // Whether the lists of the case answer its question so.
-pub(crate) fn answers(alloc: Global, case: &Case) -> Result<bool, Fail> {
+pub(crate) fn answers(alloc: Global, case: &Case) -> Result<bool, AllocError> {
     let (question, inputs, outputs, first, second, third, yes) = *case;
     let shape = new_shape(inputs, outputs)?;
     let list = list_of(alloc, shape, first)?;

@@ -4,16 +4,16 @@ ghost use Rattle.std.specs.Prelude.{◌<◌};
 
 use crate::text_pieces::{Piece, text_of};
 use pla::{Echo, Ending, FileType, Pla, ReadFault, ReadKind, Scan, read_pla};
-use std::alloc::Global;
+use std::alloc::{AllocError, Global};
 use std::test::Fail;
 use test_devices::{Given, Taken};
 
 // What a file describes.
-pub(crate) fn read(alloc: Global, text: &[u8]) -> Result<Pla, Fail> {
+pub(crate) fn read(alloc: Global, text: &[u8]) -> Result<Pla, AllocError> {
     let mut input = Given::new(text.to_vec(alloc)?, 4096, Ending::End);
     let mut output = Taken::new(alloc, 0, 1, false)?;
     let read = read_pla(alloc, &mut input, &mut output, Echo::Eat);
-    Ok(read.ok().ok_or("the file has a fault")?)
+    read.ok().ok_or(AllocError)
 }
 
 // A description without lines that are passed on.
@@ -88,7 +88,11 @@ const SMALL: Case = Case {
     delivered: 84,
 };
 
-const EMPTY: Case = Case { on: 0, dc: 0, ..SMALL };
+const EMPTY: Case = Case {
+    on: 0,
+    dc: 0,
+    ..SMALL
+};
 
 const WRITE_FAILED: Option<ReadFault> = Some(ReadFault {
     line: 0,
@@ -99,7 +103,10 @@ const CASES: [Case; 6] = [
     SMALL,
     // No more is asked for behind the end.
     Case {
-        text: &[Piece::Text(b".i 1\n.o 1\n.e\n"), Piece::Times(3000, b"junk")],
+        text: &[
+            Piece::Text(b".i 1\n.o 1\n.e\n"),
+            Piece::Times(3000, b"junk"),
+        ],
         most: 100,
         echoes: &[],
         delivered: 100,
@@ -156,18 +163,23 @@ const CASES: [Case; 6] = [
     },
 ];
 
+// Whether the lists of the case are read, or its fault is told.
+fn is_told(alloc: Global, case: &Case, input: &mut Given, output: &mut Taken) -> bool {
+    match read_pla(alloc, input, output, Echo::Keep) {
+        Ok(pla) => case.fault.is_none() && has_rows(&pla, case.on, case.dc, 0),
+        Err(fault) => case.fault == Some(fault),
+    }
+}
+
 // Whether the file is read, or not, as the case says.
-fn is_read(alloc: Global, case: &Case) -> Result<bool, Fail> {
+fn is_read(alloc: Global, case: &Case) -> Result<bool, AllocError> {
     let most = case.most.max(1);
-    let echoes = text_of(alloc, case.echoes)?;
     let input = Given::new(text_of(alloc, case.text)?, most, case.ending);
     let mut input = input.failing_once_after(case.failing_read);
     let output = Taken::new(alloc, case.room, most, false)?;
     let mut output = output.failing_once_after(case.failing_write);
-    let is_told = match read_pla(alloc, &mut input, &mut output, Echo::Keep) {
-        Ok(pla) => case.fault.is_none() && has_rows(&pla, case.on, case.dc, 0),
-        Err(fault) => case.fault == Some(fault),
-    };
+    let is_told = is_told(alloc, case, &mut input, &mut output);
+    let echoes = text_of(alloc, case.echoes)?;
     Ok(is_told && output.bytes() == echoes.as_slice() && input.delivered() == case.delivered)
 }
 
@@ -265,8 +277,12 @@ fn is_scanned(
     done: bool,
     lists: [usize; 3],
     echoes: &[u8],
-) -> Result<bool, Fail> {
-    let echo = if echoes.is_empty() { Echo::Eat } else { Echo::Keep };
+) -> Result<bool, AllocError> {
+    let echo = if echoes.is_empty() {
+        Echo::Eat
+    } else {
+        Echo::Keep
+    };
     let mut output = Taken::new(alloc, 100, 100, false)?;
     let [on, dc, off] = lists;
     match scan_pieces(alloc, echo, pieces, &mut output) {
@@ -274,7 +290,7 @@ fn is_scanned(
             let is_told = is_done == done && has_rows(&pla, on, dc, off);
             Ok(is_told && output.bytes() == echoes)
         }
-        Err(_) => Err("the pieces have a fault")?,
+        Err(_) => Err(AllocError),
     }
 }
 
@@ -287,7 +303,7 @@ const LONG: [Piece; 5] = [
     Piece::Text(b".e\n"),
 ];
 
-fn is_long_text_scanned(alloc: Global) -> Result<bool, Fail> {
+fn is_long_text_scanned(alloc: Global) -> Result<bool, AllocError> {
     let text = text_of(alloc, &LONG)?;
     is_scanned(alloc, &[text.as_slice()], true, [20_000, 6000, 6768], b"")
 }

@@ -3,7 +3,7 @@ use crate::lists::{HALF, LONG_HALF, NONE, UNIVERSE, WIDE_HALF};
 use crate::row_texts::{held_of, new_shape};
 use crate::rules::{Rows, Rule, list_of, small_output, small_symbol};
 use cube::Symbol;
-use std::alloc::Global;
+use std::alloc::{AllocError, Global};
 use std::test::Fail;
 
 // Which of the cubes are held.
@@ -80,7 +80,7 @@ fn are_these(answers: &[bool], held: Held) -> bool {
 }
 
 // Whether the list of the case holds what it is to hold.
-fn is_as_defined(alloc: Global, case: Case) -> Result<bool, Fail> {
+fn is_as_defined(alloc: Global, case: Case) -> Result<bool, AllocError> {
     let shape = new_shape(case.inputs, case.outputs)?;
     let list = list_of(alloc, shape, case.rows)?;
     let cubes = list_of(alloc, shape, case.cubes)?;

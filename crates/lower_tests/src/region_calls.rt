@@ -249,12 +249,12 @@ const CASES: [Case; 29] = [
 ];
 
 // Whether no part of the region is left out. Fails where one that is left out is no part of it.
-fn is_none_left_out(region: &Cube, part: &Option<Cube>) -> Result<bool, Fail> {
+fn is_none_left_out(region: &Cube, part: &Option<Cube>) -> Result<bool, AllocError> {
     match part {
         Some(part) => {
             let is_part = region.shape() == part.shape() && part.literals() >= region.literals();
             if !is_part {
-                return Err("another part")?;
+                return Err(AllocError);
             }
             Ok(false)
         }
@@ -263,7 +263,7 @@ fn is_none_left_out(region: &Cube, part: &Option<Cube>) -> Result<bool, Fail> {
 }
 
 // Whether the rows hold the first of the others. Fails where the part that they leave out is none.
-fn holds_first(alloc: Global, list: &Cover, others: &Cover) -> Result<bool, Fail>
+fn holds_first(alloc: Global, list: &Cover, others: &Cover) -> Result<bool, AllocError>
     requires { others.now.size ≡ list.now.size }
 {
     let region = first_of(others)?;
@@ -273,9 +273,9 @@ fn holds_first(alloc: Global, list: &Cover, others: &Cover) -> Result<bool, Fail
 }
 
 // Whether there are so many parts, none of which is left out. Fails where there are others.
-fn are_none(parts: &[Option<Cube>], count: usize) -> Result<bool, Fail> {
+fn are_none(parts: &[Option<Cube>], count: usize) -> Result<bool, AllocError> {
     if parts.len() != count {
-        return Err("too few parts")?;
+        return Err(AllocError);
     }
     for part in parts {
         if part.is_some() {
@@ -286,7 +286,7 @@ fn are_none(parts: &[Option<Cube>], count: usize) -> Result<bool, Fail> {
 }
 
 // Whether the rows hold each of the others, which are as many as the answers.
-fn holds_each(alloc: Global, list: &Cover, others: &Cover) -> Result<bool, Fail>
+fn holds_each(alloc: Global, list: &Cover, others: &Cover) -> Result<bool, AllocError>
     requires { others.now.size ≡ list.now.size }
 {
     let rows = references_to(alloc, list)?;
@@ -310,12 +310,12 @@ fn is_related(
 }
 
 // Whether the lists have no place in common. Fails where the two calls differ.
-fn have_no_common_place(alloc: Global, list: &Cover, others: &Cover) -> Result<bool, Fail>
+fn have_no_common_place(alloc: Global, list: &Cover, others: &Cover) -> Result<bool, AllocError>
     requires { others.now.size ≡ list.now.size }
 {
     let apart = are_disjoint(alloc, list.shape(), list.as_slice(), others.as_slice())?;
     if is_related(alloc, Relation::Disjoint, list, others)? != apart {
-        return Err("another answer")?;
+        return Err(AllocError);
     }
     Ok(apart)
 }
@@ -336,21 +336,21 @@ fn not_among(alloc: Global, list: &Cover, others: &Cover) -> Result<Vec<Cube>, A
     clone_referents(alloc, &rest)
 }
 
-fn answer_of(alloc: Global, case: Case, list: &Cover, others: &Cover) -> Result<bool, Fail>
+fn answer_of(alloc: Global, case: Case, list: &Cover, others: &Cover) -> Result<bool, AllocError>
     requires { others.now.size ≡ list.now.size }
 {
     match case.question {
         Question::HoldsFirst => holds_first(alloc, list, others),
         Question::HoldsEach => holds_each(alloc, list, others),
-        Question::Contained => Ok(is_related(alloc, Relation::Contained, list, others)?),
+        Question::Contained => is_related(alloc, Relation::Contained, list, others),
         Question::Disjoint => have_no_common_place(alloc, list, others),
-        Question::MeetsHeld => Ok(meets_are_held(alloc, list, others)?),
+        Question::MeetsHeld => meets_are_held(alloc, list, others),
         Question::NotAmong => Ok(are_rows(not_among(alloc, list, others)?.as_slice(), case.rows)),
     }
 }
 
 // Whether the lists of the case answer its question so.
-fn is_answered(alloc: Global, case: Case) -> Result<bool, Fail> {
+fn is_answered(alloc: Global, case: Case) -> Result<bool, AllocError> {
     let shape = shape_of(case.size)?;
     let list = list_of(alloc, shape, case.rows)?;
     let others = list_of(alloc, shape, case.others)?;

@@ -10,8 +10,8 @@ use cover::Cover;
 use cube::{Cube, Shape, Symbol};
 use rows::{
     clone_cubes, clone_referents, meets_by_pairs, merge, push_copy, push_meets,
-    references_to_cubes,     rows_of_both, rows_with_compatible_symbol, rows_with_symbol, sort_rows, universal_cube,
-    with_copies,
+    references_to_cubes, rows_of_both, rows_with_compatible_symbol, rows_with_symbol, sort_rows,
+    universal_cube, with_copies,
 };
 use std::alloc::{AllocError, Global};
 use std::test::Fail;
@@ -355,7 +355,7 @@ fn meets_of_pairs(alloc: Global, list: &Cover, others: &Cover) -> Result<Vec<Cub
 }
 
 // The meets of the first row with the others.
-fn meets_of_first(alloc: Global, list: &Cover, others: &Cover) -> Result<Vec<Cube>, Fail>
+fn meets_of_first(alloc: Global, list: &Cover, others: &Cover) -> Result<Vec<Cube>, AllocError>
     requires { others.now.size ≡ list.now.size }
 {
     let mut all = Vec::new(alloc);
@@ -387,27 +387,32 @@ fn universal(alloc: Global, shape: Shape) -> Result<Vec<Cube>, AllocError> {
     Ok(all)
 }
 
-fn answer_of(alloc: Global, call: Call, list: &Cover, others: &Cover) -> Result<Vec<Cube>, Fail>
+fn answer_of(
+    alloc: Global,
+    call: Call,
+    list: &Cover,
+    others: &Cover,
+) -> Result<Vec<Cube>, AllocError>
     requires { others.now.size ≡ list.now.size }
 {
     match call {
-        Call::Merge => Ok(merged(alloc, list, others)?),
-        Call::Sort => Ok(sorted(alloc, list)?),
-        Call::Meets => Ok(meets_of_pairs(alloc, list, others)?),
+        Call::Merge => merged(alloc, list, others),
+        Call::Sort => sorted(alloc, list),
+        Call::Meets => meets_of_pairs(alloc, list, others),
         Call::PushMeets => meets_of_first(alloc, list, others),
         Call::WithZero | Call::WithZeroOrDash => {
             if list.shape().inputs() == 0 {
-                return Err("no input")?;
+                return Err(AllocError);
             }
-            Ok(chosen(alloc, call, list)?)
+            chosen(alloc, call, list)
         }
-        Call::Universal => Ok(universal(alloc, list.shape())?),
-        _ => Ok(copied(alloc, call, list.as_slice(), others.as_slice())?),
+        Call::Universal => universal(alloc, list.shape()),
+        _ => copied(alloc, call, list.as_slice(), others.as_slice()),
     }
 }
 
 // Whether the call answers the rows of the case.
-fn is_answered(alloc: Global, case: Case) -> Result<bool, Fail> {
+fn is_answered(alloc: Global, case: Case) -> Result<bool, AllocError> {
     let shape = shape_of(case.size)?;
     let list = list_of(alloc, shape, case.rows)?;
     let others = list_of(alloc, shape, case.others)?;

@@ -82,7 +82,7 @@ const PLACES: [Place; 6] = [
 ];
 
 // Whether the row stands at its place among the rows, and meets some of them or none.
-fn is_placed(alloc: Global, place: Place, list: &Cover, row: &Cube) -> Result<bool, Fail>
+fn is_placed(alloc: Global, place: Place, list: &Cover, row: &Cube) -> Result<bool, AllocError>
     requires { HasSize row.now list.now.size }
 {
     let rows = list.as_slice();
@@ -96,7 +96,7 @@ fn is_placed(alloc: Global, place: Place, list: &Cover, row: &Cube) -> Result<bo
     )
 }
 
-fn place_is_found(alloc: Global, place: Place) -> Result<bool, Fail> {
+fn place_is_found(alloc: Global, place: Place) -> Result<bool, AllocError> {
     let shape = shape_of(place.size)?;
     let list = list_of(alloc, shape, place.rows)?;
     let others = list_of(alloc, shape, place.others)?;
@@ -179,7 +179,7 @@ fn counts_are(alloc: Global, counted: Counted, list: &Cover) -> Result<bool, All
     Ok(is_sampled && all == Some((counted.zeros, counted.ones)))
 }
 
-fn literals_are_counted(alloc: Global, counted: Counted) -> Result<bool, Fail> {
+fn literals_are_counted(alloc: Global, counted: Counted) -> Result<bool, AllocError> {
     let list = list_of(alloc, shape_of(counted.size)?, counted.rows)?;
     Ok(counts_are(alloc, counted, &list)? && sample_size(list.len()) <= 64)
 }
@@ -290,12 +290,14 @@ fn counts_open_literals(row: &Cube, region: &Cube) -> bool {
 }
 
 // Whether the row of stairs beside one with `0` at the first 32 inputs is told so.
-fn open_literals_are_found(alloc: Global, shape: Shape) -> Result<bool, Fail> {
+fn open_literals_are_found(alloc: Global, shape: Shape) -> Result<bool, AllocError> {
     let row = cube_of_rule(alloc, shape, Rule::Stairs, 150)?;
     let region = cube_of_rule(alloc, shape, Rule::Zeros, 32)?;
-    Ok(symbols_are_tested(&row)
-        && finds_open_literals(shape, &row, &region)
-        && counts_open_literals(&row, &region))
+    Ok(
+        symbols_are_tested(&row)
+            && finds_open_literals(shape, &row, &region)
+            && counts_open_literals(&row, &region),
+    )
 }
 
 // Whether the cube has `-` at each input, and this output alone.
@@ -311,16 +313,23 @@ fn is_of_output(cube: &Cube, output: usize) -> bool {
 
 // Whether the cube of an output has it in common with the cube of all places, and with that of
 // another output only if the outputs are one.
-fn output_is_shared(alloc: Global, shape: Shape, j: usize, other: usize) -> Result<bool, Fail> {
+fn output_is_shared(
+    alloc: Global,
+    shape: Shape,
+    j: usize,
+    other: usize,
+) -> Result<bool, AllocError> {
     if j >= shape.outputs() || other >= shape.outputs() {
         return Ok(false);
     }
     let cube = cube_of_output(alloc, shape, j)?;
     let all = universal_cube(alloc, shape)?;
     let second = cube_of_output(alloc, shape, other)?;
-    Ok(is_of_output(&cube, j)
-        && share_output(&cube, &all)
-        && share_output(&cube, &second) == (j == other))
+    Ok(
+        is_of_output(&cube, j)
+            && share_output(&cube, &all)
+            && share_output(&cube, &second) == (j == other),
+    )
 }
 
 // Two outputs.
@@ -337,12 +346,12 @@ const OUTPUTS: [(usize, usize); 10] = [
     (129, 129),
 ];
 
-fn hash_of_stairs(alloc: Global, shape: Shape, number: usize) -> Result<u64, Fail> {
+fn hash_of_stairs(alloc: Global, shape: Shape, number: usize) -> Result<u64, AllocError> {
     Ok(row_hash(shape, &cube_of_rule(alloc, shape, Rule::Stairs, number)?, 1))
 }
 
 // Whether equal rows have equal hashes, and others have others.
-fn hashes_tell_rows_apart(alloc: Global, shape: Shape) -> Result<bool, Fail> {
+fn hashes_tell_rows_apart(alloc: Global, shape: Shape) -> Result<bool, AllocError> {
     let hash = hash_of_stairs(alloc, shape, 150)?;
     let is_same = hash == hash_of_stairs(alloc, shape, 150)?;
     Ok(is_same && hash != hash_of_stairs(alloc, shape, 151)? && word_hash(1) != word_hash(2))

@@ -3,15 +3,11 @@ ghost use Rattle.std.specs.Prelude.{◌≡◌, IfOk, OnOk};
 
 use cover::Cover;
 use cube::{Cube, Shape, Symbol};
-use std::alloc::Global;
-use std::test::Fail;
+use std::alloc::{AllocError, Global};
 
 // The shape of so many inputs and outputs.
-pub(crate) fn new_shape(inputs: usize, outputs: usize) -> Result<Shape, Fail> {
-    match Shape::new(inputs, outputs) {
-        Some(shape) => Ok(shape),
-        None => Err("limits")?,
-    }
+pub(crate) fn new_shape(inputs: usize, outputs: usize) -> Result<Shape, AllocError> {
+    Shape::new(inputs, outputs).ok_or(AllocError)
 }
 
 // The cube of these symbols and outputs, or `None` where it has no output.
@@ -19,11 +15,11 @@ pub(crate) fn cube_of_symbols(
     alloc: Global,
     symbols: &[Symbol],
     outputs: &[bool],
-) -> Result<Option<Cube>, Fail> {
+) -> Result<Option<Cube>, AllocError> {
     let Some(shape) = Shape::new(symbols.len(), outputs.len()) else {
-        return Err("limits")?;
+        return Err(AllocError);
     };
-    Ok(Cube::from_symbols(alloc, shape, symbols, outputs)?)
+    Cube::from_symbols(alloc, shape, symbols, outputs)
 }
 
 // The cube of a row's bytes, where a mark is 1 for `1` and `4`, and 2 for `-`.
@@ -32,15 +28,15 @@ pub(crate) fn cube_of_bytes(
     inputs: &[u8],
     outputs: &[u8],
     mask: u8,
-) -> Result<Option<Cube>, Fail> {
+) -> Result<Option<Cube>, AllocError> {
     let Some(shape) = Shape::new(inputs.len(), outputs.len()) else {
-        return Err("limits")?;
+        return Err(AllocError);
     };
     let mut marks = [0u8; 256];
     marks[49] = 1;
     marks[52] = 1;
     marks[45] = 2;
-    Ok(Cube::from_bytes(alloc, shape, inputs, outputs, &marks, mask)?)
+    Cube::from_bytes(alloc, shape, inputs, outputs, &marks, mask)
 }
 
 // How many bytes stand before the space.
@@ -54,19 +50,19 @@ fn inputs_of(row: &[u8]) -> usize {
 }
 
 // The cube of a row, with so many inputs before those of the row, at which it has `-`.
-fn wide_cube_of(alloc: Global, row: &str, more: usize) -> Result<Cube, Fail> {
+fn wide_cube_of(alloc: Global, row: &str, more: usize) -> Result<Cube, AllocError> {
     let row = row.as_bytes();
     let inputs = inputs_of(row);
     if inputs >= row.len() {
-        return Err("no space")?;
+        return Err(AllocError);
     }
     let mut symbols: Vec<u8> = vec![in alloc; b'-'; more]?;
     symbols.extend_from_slice(&row[..inputs])?;
-    Ok(cube_of_bytes(alloc, &symbols, &row[inputs + 1..], 1)?.ok_or("no output")?)
+    cube_of_bytes(alloc, &symbols, &row[inputs + 1..], 1)?.ok_or(AllocError)
 }
 
 // The cube of a row: symbols, a space, outputs.
-pub(crate) fn cube_of(alloc: Global, row: &str) -> Result<Cube, Fail> {
+pub(crate) fn cube_of(alloc: Global, row: &str) -> Result<Cube, AllocError> {
     wide_cube_of(alloc, row, 0)
 }
 
@@ -76,22 +72,22 @@ fn inputs_before(inputs: usize, row: &str) -> usize {
 }
 
 // Fails where the shapes are not the same.
-pub(crate) fn same_shape(mine: Shape, theirs: Shape) -> Result<(), Fail>
+pub(crate) fn same_shape(mine: Shape, theirs: Shape) -> Result<(), AllocError>
     ensures { OnOk result (theirs ≡ mine) }
 {
-    if mine.inputs() != theirs.inputs() || mine.outputs() != theirs.outputs() {
-        return Err("shape")?;
+    if mine != theirs {
+        return Err(AllocError);
     }
     Ok(())
 }
 
-pub(crate) fn push(list: &mut Cover, row: Cube) -> Result<(), Fail> {
+pub(crate) fn push(list: &mut Cover, row: Cube) -> Result<(), AllocError> {
     same_shape(list.shape(), row.shape())?;
-    Ok(list.push(row).ok().ok_or("memory")?)
+    list.push(row).ok().ok_or(AllocError)
 }
 
 // Whether the part lies in the cube and meets no cube of the list.
-fn is_left_out(list: &Cover, cube: &Cube, part: &Cube) -> Result<bool, Fail> {
+fn is_left_out(list: &Cover, cube: &Cube, part: &Cube) -> Result<bool, AllocError> {
     same_shape(cube.shape(), part.shape())?;
     for row in list.as_slice() {
         same_shape(row.shape(), part.shape())?;
@@ -103,19 +99,19 @@ fn is_left_out(list: &Cover, cube: &Cube, part: &Cube) -> Result<bool, Fail> {
 }
 
 // Fails unless a part of the cube is left out, or none is left out of a cube that is held.
-fn fits(list: &Cover, cube: &Cube, held: bool, part: &Option<Cube>) -> Result<(), Fail> {
+fn fits(list: &Cover, cube: &Cube, held: bool, part: &Option<Cube>) -> Result<(), AllocError> {
     let is_fit = match part {
         Some(part) => !held && is_left_out(list, cube, part)?,
         None => held,
     };
     if !is_fit {
-        return Err("another part")?;
+        return Err(AllocError);
     }
     Ok(())
 }
 
 // Whether the list holds the cube. Fails where it leaves out another part.
-pub(crate) fn holds(list: &Cover, cube: &Cube) -> Result<bool, Fail> {
+pub(crate) fn holds(list: &Cover, cube: &Cube) -> Result<bool, AllocError> {
     same_shape(list.shape(), cube.shape())?;
     let held = list.holds_cube(cube)?;
     fits(list, cube, held, &list.part_left_out(cube)?)?;
@@ -123,13 +119,13 @@ pub(crate) fn holds(list: &Cover, cube: &Cube) -> Result<bool, Fail> {
 }
 
 // Fails where calls for each of the cubes answer otherwise than one for all.
-fn are_held_alone(list: &Cover, cubes: &[Cube], held: &[bool]) -> Result<(), Fail> {
+fn are_held_alone(list: &Cover, cubes: &[Cube], held: &[bool]) -> Result<(), AllocError> {
     if held.len() != cubes.len() {
-        return Err("another number of answers")?;
+        return Err(AllocError);
     }
     for k in 0..cubes.len() {
         if holds(list, &cubes[k])? != held[k] {
-            return Err("another answer")?;
+            return Err(AllocError);
         }
     }
     Ok(())
@@ -141,9 +137,9 @@ fn all_fit(
     cubes: &[Cube],
     held: &[bool],
     parts: &[Option<Cube>],
-) -> Result<(), Fail> {
+) -> Result<(), AllocError> {
     if held.len() != cubes.len() || parts.len() != cubes.len() {
-        return Err("another number of parts")?;
+        return Err(AllocError);
     }
     for k in 0..cubes.len() {
         fits(list, &cubes[k], held[k], &parts[k])?;
@@ -153,7 +149,7 @@ fn all_fit(
 
 // Which of the cubes the list holds, in one call. Fails where calls for each of them answer
 // otherwise, or where the list leaves out another part of one.
-pub(crate) fn held_of(list: &Cover, cubes: &Cover) -> Result<Vec<bool>, Fail> {
+pub(crate) fn held_of(list: &Cover, cubes: &Cover) -> Result<Vec<bool>, AllocError> {
     same_shape(list.shape(), cubes.shape())?;
     let held = list.holds_cubes(cubes.as_slice())?;
     are_held_alone(list, cubes.as_slice(), &held)?;
@@ -163,7 +159,7 @@ pub(crate) fn held_of(list: &Cover, cubes: &Cover) -> Result<Vec<bool>, Fail> {
 }
 
 // The list of these rows, wider ones where the shape has more inputs.
-pub(crate) fn cover_of(alloc: Global, shape: Shape, rows: &[&str]) -> Result<Cover, Fail>
+pub(crate) fn cover_of(alloc: Global, shape: Shape, rows: &[&str]) -> Result<Cover, AllocError>
     ensures { IfOk result (λ c. c.size ≡ shape) }
 {
     let mut list = Cover::new(alloc, shape);

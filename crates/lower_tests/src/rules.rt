@@ -4,8 +4,7 @@ ghost use Rattle.std.specs.Prelude.{◌≡◌, IfOk};
 use crate::row_texts::{cube_of_symbols, push, same_shape};
 use cover::Cover;
 use cube::{Cube, Shape, Symbol};
-use std::alloc::Global;
-use std::test::Fail;
+use std::alloc::{AllocError, Global};
 
 // What symbols the row with number k has. All other inputs have `-`.
 #[derive(Clone, Copy)]
@@ -218,7 +217,7 @@ pub(crate) fn cube_of_rule(
     shape: Shape,
     rule: Rule,
     number: usize,
-) -> Result<Cube, Fail> {
+) -> Result<Cube, AllocError> {
     let (inputs, outputs) = (shape.inputs().min(1024), shape.outputs().min(1024));
     let mut symbols = [Symbol::Dash; 1024];
     for i in 0..inputs {
@@ -228,11 +227,11 @@ pub(crate) fn cube_of_rule(
     for j in 0..outputs {
         bits[j] = output_of(rule, number, j);
     }
-    Ok(cube_of_symbols(alloc, &symbols[..inputs], &bits[..outputs])?.ok_or("no output")?)
+    cube_of_symbols(alloc, &symbols[..inputs], &bits[..outputs])?.ok_or(AllocError)
 }
 
 // The list of these rows.
-pub(crate) fn list_of(alloc: Global, shape: Shape, rows: Rows) -> Result<Cover, Fail>
+pub(crate) fn list_of(alloc: Global, shape: Shape, rows: Rows) -> Result<Cover, AllocError>
     ensures { IfOk result (λ c. c.size ≡ shape) }
 {
     let (rule, from, to) = rows;

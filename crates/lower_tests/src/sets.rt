@@ -72,7 +72,13 @@ const PRINTED: [Printed; 8] = [
     Printed {
         text: &[Piece::Text(b".i 15\n.o 1\n.type fdr\n"), ON, DC, OFF, END],
         computed: None,
-        printed: &[Piece::Text(b".i 15\n.o 1\n.type fdr\n.p 32768\n"), ON, DC, OFF, END],
+        printed: &[
+            Piece::Text(b".i 15\n.o 1\n.type fdr\n.p 32768\n"),
+            ON,
+            DC,
+            OFF,
+            END,
+        ],
     },
     Printed {
         text: &[
@@ -123,12 +129,11 @@ fn write(
 }
 
 // Whether the lists of the text are printed so.
-fn is_printed(alloc: Global, case: &Printed) -> Result<bool, Fail> {
-    let printed = text_of(alloc, case.printed)?;
+fn is_printed(alloc: Global, case: &Printed) -> Result<bool, AllocError> {
     let pla = read(alloc, &text_of(alloc, case.text)?)?;
     let mut out = Taken::new(alloc, 2_000_000, 2_000_000, false)?;
     let done = write(alloc, &pla, case.computed, &mut out)?;
-    Ok(done.is_ok() && out.bytes() == printed.as_slice())
+    Ok(done.is_ok() && out.bytes() == text_of(alloc, case.printed)?.as_slice())
 }
 
 #[test]
@@ -143,11 +148,27 @@ fn lists_are_printed(rt: HostRuntime) -> Result<(), Fail> {
 type Open = (&'static [Piece], Option<usize>, Option<usize>);
 
 const OPEN: [Open; 6] = [
-    (&[Piece::Text(b".i 1\n.o 1\n.type f\n1 1\n")], Some(0), Some(1)),
-    (&[Piece::Text(b".i 1\n.o 1\n.type fd\n1 1\n")], None, Some(1)),
-    (&[Piece::Text(b".i 1\n.o 1\n.type fr\n1 1\n")], Some(1), None),
+    (
+        &[Piece::Text(b".i 1\n.o 1\n.type f\n1 1\n")],
+        Some(0),
+        Some(1),
+    ),
+    (
+        &[Piece::Text(b".i 1\n.o 1\n.type fd\n1 1\n")],
+        None,
+        Some(1),
+    ),
+    (
+        &[Piece::Text(b".i 1\n.o 1\n.type fr\n1 1\n")],
+        Some(1),
+        None,
+    ),
     (&[Piece::Text(b".i 1\n.o 1\n.type fdr\n1 1\n")], None, None),
-    (&[Piece::Text(b".i 13\n.o 1\n.type f\n"), ONES], Some(0), Some(1)),
+    (
+        &[Piece::Text(b".i 13\n.o 1\n.type f\n"), ONES],
+        Some(0),
+        Some(1),
+    ),
     (SAMPLES, Some(1), None),
 ];
 
@@ -159,7 +180,7 @@ fn row_count(list: &Option<Cover>) -> Option<usize> {
 }
 
 // Whether the lists of the case that its type leaves open have its numbers of rows.
-fn are_open(alloc: Global, case: &Open) -> Result<bool, Fail> {
+fn are_open(alloc: Global, case: &Open) -> Result<bool, AllocError> {
     let (text, dc, off) = *case;
     let pla = read(alloc, &text_of(alloc, text)?)?;
     let is_dc = row_count(&dc_unless_given(alloc, &pla, true)?) == dc;
@@ -172,7 +193,7 @@ fn has_rows(sets: &Sets, on: usize, dc: usize, off: usize) -> bool {
 }
 
 // Whether sets hold the lists of the file, first OFF in place of ON, and then ON itself.
-fn are_put_together(pla: &Pla) -> Result<bool, Fail> {
+fn are_put_together(pla: &Pla) -> Result<bool, AllocError> {
     let off = pla.off().try_clone()?;
     let sets = Sets::new(off, pla.dc().try_clone()?, pla.off().try_clone()?);
     let first = has_rows(&sets, 1, 2, 1);

@@ -170,13 +170,18 @@ fn sum_of_copies(
 }
 
 // What contains the first of the others, of the places outside the list.
-fn largest(alloc: Global, shape: Shape, list: &Cover, others: &Cover) -> Result<Vec<Cube>, Fail>
+fn largest(
+    alloc: Global,
+    shape: Shape,
+    list: &Cover,
+    others: &Cover,
+) -> Result<Vec<Cube>, AllocError>
     requires rows { list.now.size ≡ shape }
     requires others { others.now.size ≡ shape }
 {
     let region = first_of(others)?;
     let sum = largest_containing(alloc, shape, region, list.as_slice(), MOST)?;
-    Ok(sum.ok_or("too many cubes")?)
+    sum.ok_or(AllocError)
 }
 
 // What the call makes of two lists.
@@ -186,19 +191,19 @@ fn answer_of(
     shape: Shape,
     list: &Cover,
     others: &Cover,
-) -> Result<Vec<Cube>, Fail>
+) -> Result<Vec<Cube>, AllocError>
     requires rows { list.now.size ≡ shape }
     requires others { others.now.size ≡ shape }
 {
     match call {
-        Call::Difference | Call::Both => Ok(sum_of_copies(alloc, call, shape, list, others)?),
+        Call::Difference | Call::Both => sum_of_copies(alloc, call, shape, list, others),
         Call::Largest => largest(alloc, shape, list, others),
         Call::Containing => Ok(rows_containing(alloc, first_of(others)?, list.as_slice())?),
     }
 }
 
 // Whether the call answers the rows of the case.
-fn is_answered(alloc: Global, case: Case) -> Result<bool, Fail> {
+fn is_answered(alloc: Global, case: Case) -> Result<bool, AllocError> {
     let shape = shape_of(case.size)?;
     let list = list_of(alloc, shape, case.rows)?;
     let others = list_of(alloc, shape, case.others)?;

@@ -78,7 +78,7 @@ fn output_at(row: Row, j: usize) -> bool {
 }
 
 // The cube of the row, if it has an output.
-fn cube_of_row(alloc: Global, row: Row) -> Result<Option<Cube>, Fail> {
+fn cube_of_row(alloc: Global, row: Row) -> Result<Option<Cube>, AllocError> {
     let (inputs, outputs) = (row.inputs.min(1024), row.outputs.min(1024));
     let mut symbols = [Symbol::Dash; 1024];
     for i in 0..inputs {
@@ -224,7 +224,7 @@ fn is_row(cube: &Cube, row: Row) -> bool {
 }
 
 // Whether the call makes of two cubes what the operation makes of their rows.
-fn call_agrees(operation: Operation, a: Row, b: Row, p: &Cube, q: &Cube) -> Result<bool, Fail>
+fn call_agrees(operation: Operation, a: Row, b: Row, p: &Cube, q: &Cube) -> Result<bool, AllocError>
     requires { SameSize p.now q.now }
 {
     match answer(operation, p, q)? {
@@ -243,7 +243,7 @@ fn comparisons_agree(a: Row, b: Row, p: &Cube, q: &Cube) -> bool
 }
 
 // Whether each call on two cubes agrees with the form that goes symbol by symbol.
-fn calls_agree(a: Row, b: Row, p: &Cube, q: &Cube) -> Result<bool, Fail> {
+fn calls_agree(a: Row, b: Row, p: &Cube, q: &Cube) -> Result<bool, AllocError> {
     same_shape(p.shape(), q.shape())?;
     for operation in &OPERATIONS {
         if !call_agrees(*operation, a, b, p, q)? {
@@ -254,7 +254,7 @@ fn calls_agree(a: Row, b: Row, p: &Cube, q: &Cube) -> Result<bool, Fail> {
 }
 
 // Whether the calls agree on the cube of the first row and that of the second, if it has one.
-fn pair_agrees(alloc: Global, a: Row, b: Row, p: &Cube) -> Result<bool, Fail> {
+fn pair_agrees(alloc: Global, a: Row, b: Row, p: &Cube) -> Result<bool, AllocError> {
     match cube_of_row(alloc, b)? {
         Some(q) => calls_agree(a, b, p, &q),
         None => Ok(true),
@@ -327,7 +327,7 @@ fn row_agrees(cube: &Cube, row: Row) -> bool {
 }
 
 // Whether a copy is as the row, and as the replaced one once the symbol was set in it.
-fn copy_agrees(cube: &Cube, row: Row, i: usize) -> Result<bool, Fail> {
+fn copy_agrees(cube: &Cube, row: Row, i: usize) -> Result<bool, AllocError> {
     let mut copy = cube.try_clone()?;
     let is_same = is_row(&copy, row);
     if i < copy.shape().inputs() {
@@ -338,7 +338,7 @@ fn copy_agrees(cube: &Cube, row: Row, i: usize) -> Result<bool, Fail> {
 }
 
 // Whether the cube with a symbol replaced is as the row where it was replaced too.
-fn replaced_agrees(cube: &Cube, row: Row, i: usize) -> Result<bool, Fail> {
+fn replaced_agrees(cube: &Cube, row: Row, i: usize) -> Result<bool, AllocError> {
     if i >= cube.shape().inputs() {
         return Ok(true);
     }
@@ -349,7 +349,7 @@ fn replaced_agrees(cube: &Cube, row: Row, i: usize) -> Result<bool, Fail> {
 
 // Whether each call agrees on the cube and on it beside those of each kind, and nothing is left of
 // it without itself.
-fn all_agree(alloc: Global, row: Row, cube: &Cube) -> Result<bool, Fail> {
+fn all_agree(alloc: Global, row: Row, cube: &Cube) -> Result<bool, AllocError> {
     let middle = row.inputs / 2;
     let is_alike = row_agrees(cube, row) && copy_agrees(cube, row, middle)?;
     if !is_alike || !replaced_agrees(cube, row, middle)? {
@@ -367,7 +367,7 @@ fn all_agree(alloc: Global, row: Row, cube: &Cube) -> Result<bool, Fail> {
     Ok(true)
 }
 
-fn row_and_cube_agree(alloc: Global, row: Row) -> Result<bool, Fail> {
+fn row_and_cube_agree(alloc: Global, row: Row) -> Result<bool, AllocError> {
     match cube_of_row(alloc, row)? {
         Some(cube) => all_agree(alloc, row, &cube),
         None => Ok(true),
@@ -379,7 +379,7 @@ const INPUTS: [usize; 10] = [0, 1, 31, 32, 33, 127, 128, 129, 256, 1024];
 const OUTPUTS: [usize; 6] = [1, 63, 64, 65, 256, 1024];
 
 // Whether the cubes of so many inputs agree with their rows.
-fn cubes_of_width_agree(alloc: Global, inputs: usize) -> Result<bool, Fail> {
+fn cubes_of_width_agree(alloc: Global, inputs: usize) -> Result<bool, AllocError> {
     let replaced = None;
     for outputs in &OUTPUTS {
         for kind in &KINDS {

@@ -1,7 +1,7 @@
 //! Texts and lists on an output that takes them and on one that fails.
 use crate::reading::read;
 use pla::{OutType, WriteFault, write_bytes, write_covers, write_next};
-use std::alloc::Global;
+use std::alloc::{AllocError, Global};
 use std::test::Fail;
 use test_devices::Taken;
 
@@ -10,7 +10,12 @@ use test_devices::Taken;
 const PARTS: [(usize, bool, &[u8]); 2] = [(10, true, b"abcde"), (2, false, b"ab")];
 
 // Whether the parts are written, or nothing behind a failure.
-fn are_written(alloc: Global, room: usize, is_done: bool, taken: &[u8]) -> Result<bool, Fail> {
+fn are_written(
+    alloc: Global,
+    room: usize,
+    is_done: bool,
+    taken: &[u8],
+) -> Result<bool, AllocError> {
     let mut out = Taken::new(alloc, room, 2, false)?;
     let wanted = if is_done { Ok(()) } else { Err(WriteFault) };
     let first = write_bytes(&mut out, b"abc");
@@ -32,7 +37,12 @@ const PRINTED: [(usize, bool, &[u8]); 2] = [
 ];
 
 // Whether the three lists are printed, or nothing behind a failure.
-fn are_printed(alloc: Global, room: usize, is_done: bool, taken: &[u8]) -> Result<bool, Fail> {
+fn are_printed(
+    alloc: Global,
+    room: usize,
+    is_done: bool,
+    taken: &[u8],
+) -> Result<bool, AllocError> {
     let pla = read(alloc, TEXT)?;
     let mut out = Taken::new(alloc, room, 3, false)?;
     let done = write_covers(&pla, OutType::Fdr, pla.on(), pla.dc(), pla.off(), &mut out);
