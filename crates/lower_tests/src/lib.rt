@@ -4,8 +4,8 @@
 //! time with it. Each public function is called once with ample memory, each generic one at a
 //! concrete type; what whole texts come to is tested on the built program. The functions here are
 //! kept plain, as each has to be proved, and that is dear where it holds many cubes or lists: so
-//! the tests hold none, and go over tables. What cannot be asked fails with `AllocError` too, since a
-//! `Fail` is dear to prove where it may come from many calls: a test that ends so has failed.
+//! the tests hold none, and go over tables. Helpers answer, or fail with `AllocError` whatever
+//! failed, since a `Fail` that may come from many calls is dear to prove too.
 //!
 //! - Cubes and lists, from rows of text (`row_texts`): `cubes`, `covers`, `wide`; from rules
 //!   (`rules`): `reasons`, `places`, `place_cases`, and `large` for each call on long lists and wide

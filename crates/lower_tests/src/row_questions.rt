@@ -1,5 +1,5 @@
 //! Each public call of `rows` that answers a question about rows or symbols, or counts.
-ghost use Rattle.std.specs.Prelude.{◌<◌, length};
+ghost use Rattle.std.specs.Prelude.{◌<◌, All, length};
 ghost use Rattle.cube.specs.Cube.{HasSize};
 
 use crate::lists::{
@@ -152,7 +152,9 @@ fn counts_of(
     shape: Shape,
     rows: &[&Cube],
     i: usize,
-) -> Result<Option<(u32, u32)>, AllocError> {
+) -> Result<Option<(u32, u32)>, AllocError>
+    requires { All (λ d. HasSize d.now shape) rows.now }
+{
     Ok(counts_at(&LiteralCounts::of(alloc, rows, shape.inputs())?, i))
 }
 
@@ -161,7 +163,9 @@ fn sampled_counts_of(
     shape: Shape,
     rows: &[&Cube],
     i: usize,
-) -> Result<Option<(u32, u32)>, AllocError> {
+) -> Result<Option<(u32, u32)>, AllocError>
+    requires { All (λ d. HasSize d.now shape) rows.now }
+{
     Ok(counts_at(&LiteralCounts::of_sample(alloc, shape, rows)?, i))
 }
 
