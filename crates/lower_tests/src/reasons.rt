@@ -2,6 +2,7 @@
 use crate::lists::{HALF, LONG_HALF, NONE, UNIVERSE, WIDE_HALF};
 use crate::row_texts::{held_of, new_shape};
 use crate::rules::{Rows, Rule, list_of, small_output, small_symbol};
+use cover::Cover;
 use cube::Symbol;
 use std::alloc::{AllocError, Global};
 use std::test::Fail;
@@ -79,13 +80,19 @@ fn are_these(answers: &[bool], held: Held) -> bool {
     true
 }
 
-// Whether the list of the case holds what it is to hold.
-fn is_as_defined(alloc: Global, case: Case) -> Result<bool, AllocError> {
-    let shape = new_shape(case.inputs, case.outputs)?;
-    let list = list_of(alloc, shape, case.rows)?;
-    let cubes = list_of(alloc, shape, case.cubes)?;
-    let held = held_of(&list, &cubes)?;
+// Whether the list of the case holds what it is to hold of the cubes.
+fn holds_as_defined(alloc: Global, case: Case, cubes: &Cover) -> Result<bool, AllocError> {
+    let list = list_of(alloc, cubes.shape(), case.rows)?;
+    let held = held_of(&list, cubes)?;
     Ok(list.tautology()? == case.is_tautology && are_these(&held, case.held))
+}
+
+fn cubes_of(alloc: Global, case: Case) -> Result<Cover, AllocError> {
+    list_of(alloc, new_shape(case.inputs, case.outputs)?, case.cubes)
+}
+
+fn is_as_defined(alloc: Global, case: Case) -> Result<bool, AllocError> {
+    holds_as_defined(alloc, case, &cubes_of(alloc, case)?)
 }
 
 // All cubes of two inputs and two outputs, and none of them in a list.
@@ -110,16 +117,24 @@ fn three(one: usize, two: usize, three: usize) -> Case {
     }
 }
 
-#[test]
-fn all_small_covers(rt: HostRuntime) -> Result<(), Fail> {
-    assert!(rt; is_as_defined(rt.alloc(), SMALL)?);
+// Whether all lists of three small cubes hold what they are to hold.
+fn all_hold(alloc: Global, cubes: &Cover) -> Result<bool, AllocError> {
     for one in 0..27usize {
         for two in 0..one + 1 {
             for last in 0..two + 1 {
-                assert!(rt; is_as_defined(rt.alloc(), three(one, two, last))?);
+                if !holds_as_defined(alloc, three(one, two, last), cubes)? {
+                    return Ok(false);
+                }
             }
         }
     }
+    Ok(true)
+}
+
+#[test]
+fn all_small_covers(rt: HostRuntime) -> Result<(), Fail> {
+    assert!(rt; is_as_defined(rt.alloc(), SMALL)?);
+    assert!(rt; all_hold(rt.alloc(), &cubes_of(rt.alloc(), SMALL)?)?);
     Ok(())
 }
 
