@@ -76,7 +76,7 @@ SENTENCES = (
     ("docs/espresso.1", "one output or up to # inputs", "many inputs"),
     ("docs/espresso.1", "So they are with up to # inputs", "many inputs"),
     ("docs/espresso.1", "several outputs and more than # inputs all primes are listed only past", "many inputs"),
-    ("docs/espresso.1", "with more than # inputs or under fr, places", "very many inputs"),
+    ("docs/espresso.1", "with more than # inputs, unless rows are very many, or under fr, places", "very many inputs"),
     ("docs/espresso.1", "those that take more than # looks at a cube or a picked place wait until there are no others, and none that take more than # are",
      "few looks", "most looks"),
     ("docs/espresso.1", "on the second way # words of cubes for the columns of all rounds", "words as needed"),
@@ -131,7 +131,7 @@ COVERED = {
     "docs/TRUSTED.md": (),
     "docs/FORMAT.md": (),
     "docs/ARCHITECTURE.md": (),
-    "README.md": ("10 to 20 minutes on four processors", "40 to 60 minutes on two processors", "Python 3.9", "x86-64", "`rattle-kit-13f`"),
+    "README.md": ("10 to 20 minutes on four processors", "30 to 50 minutes on two processors", "Python 3.9", "x86-64", "`rattle-kit-13f`"),
 }
 
 

@@ -190,7 +190,7 @@ impl Partial {
         let table = self.table.cyclic_core(alloc, choice)?;
         questions.note_reduction(table.live_columns().len());
         let goal = table.goal(choice, budget);
-        let steps = WITNESS_STEPS;
+        let steps = WITNESS_STEPS.saturating_mul(table.row_lists().len());
         match table.find_by_local_search(alloc, choice, budget, goal, &self.witness, steps)? {
             Some(witness) => Ok(Partial { table, witness }),
             None => Ok(self),

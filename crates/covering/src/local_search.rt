@@ -82,7 +82,7 @@ impl Table {
         Ok(Some(cover))
     }
 
-    /// A cover within the budget, if a local search of `steps` steps a row finds one.
+    /// A cover within the budget, if a local search of so many steps finds one.
     pub(crate) fn find_by_local_search(
         &self,
         alloc: Global,
@@ -96,7 +96,7 @@ impl Table {
             budget.cost v.items)) }
     {
         let compact = self.compact(alloc, choice)?;
-        let steps = steps.saturating_mul(self.row_lists().len()).min(MOST_STEPS);
+        let steps = steps.min(MOST_STEPS);
         let live = self.live_columns();
         let found = local_search(alloc, &compact, live, self.columns(), hint, goal, steps)?;
         let marks = marks_of(alloc, self.live_columns(), &found, self.columns())?;

@@ -33,6 +33,23 @@ const BRIEF_TABLES: u64 = 40;
 /// after a local search of this part of the steps that one before a long look takes.
 const BRIEF_PART: usize = 8;
 
+/// A local search near the last cover takes three steps a row, and no more than so many: in a large table
+/// what a question changes is near what it asks for.
+const MOST_STEPS_NEAR: usize = 1_000;
+
+/// One in the reduced table takes twelve steps a row, and no more than so many.
+const MOST_STEPS_REDUCED: usize = 5_000;
+
+/// How many steps a local search near the last cover takes in a table of so many rows.
+fn steps_near(rows: usize) -> usize {
+    rows.saturating_mul(3).min(MOST_STEPS_NEAR)
+}
+
+/// How many steps a local search takes in a reduced table of so many rows.
+fn steps_in_reduced(rows: usize) -> usize {
+    rows.saturating_mul(12).min(MOST_STEPS_REDUCED)
+}
+
 /// Why a question has no answer.
 #[derive(Drop)]
 pub(crate) enum Stop {
@@ -432,6 +449,7 @@ impl Table {
     {
         let goal = self.goal(choice, budget);
         let hint = warm_start.hint();
+        let steps = steps.saturating_mul(self.row_lists().len());
         let found = self.find_by_local_search(alloc, choice, budget, goal, hint, steps)?;
         if let Some(cover) = found {
             return Ok(Some(cover));
@@ -558,7 +576,15 @@ impl Table {
         warm_start.count_question();
         warm_start.count_table();
         let goal = self.goal(choice, budget);
-        let found = self.find_by_local_search(alloc, choice, budget, goal, warm_start.hint(), 3)?;
+        let steps = steps_near(self.row_lists().len());
+        let found = self.find_by_local_search(
+            alloc,
+            choice,
+            budget,
+            goal,
+            warm_start.hint(),
+            steps,
+        )?;
         if let Some(cover) = found {
             return Ok(Some(cover));
         }
@@ -569,7 +595,15 @@ impl Table {
             return Ok(None);
         };
         let goal = table.goal(choice, budget);
-        let found = table.find_by_local_search(alloc, choice, budget, goal, warm_start.hint(), 12)?;
+        let steps = steps_in_reduced(table.row_lists().len());
+        let found = table.find_by_local_search(
+            alloc,
+            choice,
+            budget,
+            goal,
+            warm_start.hint(),
+            steps,
+        )?;
         if let Some(cover) = found {
             return Ok(Some(cover));
         }

@@ -41,6 +41,7 @@ impl Table {
             columns: i64::try_from(others).unwrap_or(0),
             cost: 0,
         };
+        let steps = steps.saturating_mul(self.row_lists().len());
         match self.find_by_local_search(alloc, choice, budget, goal, &[], steps)? {
             None => self.all_columns(alloc),
             Some(cover) => Ok(cover),
