@@ -65,8 +65,9 @@ fn have_equal_literal_counts(rows: &[Cube]) -> bool {
     true
 }
 
-// Whether the rows rise in row order and all have literals at the same inputs, as points have. Then
-// none lies in another. Shapes of more than 32 inputs are not looked at.
+// Whether the rows rise in row order by their symbols alone, and all have literals at the same
+// inputs, at least one, as points have. Then none lies in another. `false` for shapes of more than
+// 32 inputs.
 fn rise_with_literals_at_same_inputs(shape: Shape, rows: &[Cube]) -> bool {
     if shape.inputs() > 32 {
         return false;
@@ -158,15 +159,16 @@ pub(crate) fn drop_absorbed_by_if_short(
     drop_absorbed_by(alloc, &rows, others)
 }
 
-/// Whether rows that lie in others were looked for among the rows, or are not to be looked for
-/// among the part. (The rows are in row order, so the part is too.)
+/// Whether a part of the rows needs no `absorb_if_short`, by the numbers of rows alone: rows that
+/// lie in others were looked for among the rows, or are not to be looked for among the part. (The
+/// rows are in row order, so the part is too.)
 pub(crate) fn is_part_absorbed(rows: &[Cube], part: &[Cube]) -> bool {
     rows.len() <= MANY || part.len() > MANY
 }
 
-/// The rows, without the rows that lie in an earlier one in row order, if they are few: each pair
-/// is looked at. Of more than `MANY` rows only repetitions are dropped. Rows that are known to be
-/// like this stay as they are.
+/// The rows in row order, without the rows that lie in an earlier one, if they are few: each pair
+/// is looked at. Of more than `MANY` rows only repetitions are dropped. With `is_absorbed` the rows
+/// are known to be like this, and stay as they are.
 pub(crate) fn absorb_if_short(
     alloc: Global,
     shape: Shape,

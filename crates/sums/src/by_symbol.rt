@@ -28,7 +28,8 @@ pub(crate) fn push_freed(rows: &mut Vec<Cube>, row: &Cube, i: usize) -> Result<(
     Ok(())
 }
 
-/// Splits the rows by their symbol at input `i`, and puts `-` there.
+/// Copies of the rows, split by their symbol at input `i`, with `-` there. Each part keeps their
+/// order.
 pub(crate) fn split_by_symbol(
     alloc: Global,
     rows: &[Cube],

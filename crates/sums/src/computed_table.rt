@@ -40,7 +40,7 @@ struct Entry {
 }
 
 impl Entry {
-    // How many rows are kept.
+    // How many rows the two lists and the sum have together.
     fn rows(&self) -> usize {
         self.minuend
             .len()
@@ -76,7 +76,8 @@ pub(crate) struct ComputedTable {
 }
 
 impl ComputedTable {
-    /// No sum yet. Memory is taken with the first one kept.
+    /// No sum yet. Memory is taken with the first one kept. `order` has the inputs in the order in
+    /// which ties are broken.
     pub(crate) fn new(alloc: Global, order: Vec<usize>) -> ComputedTable {
         ComputedTable {
             slots: Vec::new(alloc),
@@ -86,12 +87,13 @@ impl ComputedTable {
         }
     }
 
-    /// The order of the inputs.
+    /// The inputs in the order in which ties are broken.
     pub(crate) fn order(&self) -> &[usize] {
         self.order.as_slice()
     }
 
-    /// The complete sum of the places of the first list that are not in the second, if it is kept.
+    /// A copy of the complete sum of the places of the first list that are not in the second, if it
+    /// is kept. `hash` is that of the lists, by `hash_of_lists`.
     pub(crate) fn find(
         &self,
         alloc: Global,
@@ -113,7 +115,8 @@ impl ComputedTable {
         Ok(Some(clone_cubes(alloc, &known.sum)?))
     }
 
-    /// Keeps a sum with its lists, unless it is longer than all that may be kept.
+    /// Keeps a copy of a sum with its lists, in place of what is in the slot of their hash, unless
+    /// they have more than `ROWS` rows together. Other sums may be forgotten for it.
     pub(crate) fn keep(
         &mut self,
         alloc: Global,
@@ -157,7 +160,7 @@ impl ComputedTable {
         Ok(())
     }
 
-    // Doubles the number of slots, and puts all sums into the new ones.
+    // Doubles the number of slots, or makes the first ones, and puts all sums into them.
     fn double_slots(&mut self, alloc: Global) -> Result<(), AllocError> {
         let len = self.slots.len().saturating_mul(2).max(FIRST_SLOTS);
         let mut slots = Vec::with_capacity(alloc, len)?;
@@ -175,7 +178,8 @@ impl ComputedTable {
         Ok(())
     }
 
-    // Puts a sum into its slot.
+    // Puts a sum into its slot, in place of the one there. It is dropped if there are no slots, or
+    // if it has too many rows.
     fn put(&mut self, known: Entry) {
         let rows = known.rows();
         if rows > ROWS {
@@ -192,7 +196,8 @@ impl ComputedTable {
         }
     }
 
-    // The slot that a hash picks. Their number is a power of two.
+    // The index of the slot that a hash picks; 0, past the end, if there are no slots. Their number
+    // is a power of two.
     fn slot_of(&self, hash: u64) -> usize {
         hash as usize & self.slots.len().saturating_sub(1)
     }

@@ -19,7 +19,8 @@ use cube::Cube;
 use rows::{rows_of_both, sort_rows};
 use std::alloc::{AllocError, Global};
 
-// The row without a literal, with the outputs of the one found before it, if there is one.
+// The join of the row and the constant row so far, neither of which has a literal; a copy of the
+// row if there is none so far.
 fn join_constant_rows(constant: Option<Cube>, row: &Cube) -> Result<Option<Cube>, AllocError>
     requires { IfSome constant (λ c. SameSize c row.now) }
     ensures { IfOk result (λ found. (size : Size) → (cubes : List Row) → IsCube size row.now

@@ -61,7 +61,8 @@ pub fn rows_containing(
     Ok(kept)
 }
 
-// The cube without the outputs of the row, if it has others and then contains the region.
+// The cube without the outputs of the row, alone in a list, if it has others and then contains the
+// region; else an empty list.
 fn rest_containing(
     alloc: Global,
     region: &Cube,
@@ -118,8 +119,9 @@ fn has_one_output(shape: Shape, row: &Cube) -> bool {
     shape.outputs() <= 64 && row.output_bits(0).count_ones() == 1
 }
 
-// The pieces that a cut by the row made, without pieces that lie in earlier ones. If the row has
-// one output there are none, as long as no cube of the list lies in another.
+// The pieces that a cut by the row made, in row order and without pieces that lie in earlier ones.
+// If the row has one output they stay as they are: none lies in another, as long as no cube of the
+// list does.
 fn absorb_pieces(
     alloc: Global,
     shape: Shape,
@@ -136,7 +138,7 @@ fn absorb_pieces(
 }
 
 // The list with each cube that meets the row replaced by its pieces outside the row that contain
-// the region.
+// the region. The other cubes come first, and pieces that lie in one of them are left out.
 fn cut_by_row(
     alloc: Global,
     shape: Shape,

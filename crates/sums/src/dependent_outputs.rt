@@ -25,7 +25,8 @@ const MOST: usize = 1 << 14;
 // The number of sums of codes: one for each of 32 inputs and each of 64 outputs.
 const SUMS: usize = 32 * 64;
 
-// Adds a code to the sums of one input and of these outputs.
+// Adds a code, without carry, to the sums of one of the 32 inputs and each of these outputs, where
+// output `k` is bit `k`.
 fn add_code(input: usize, outputs: u64, code: u64, sums: &mut [u64]) {
     let mut left = outputs;
     for _ in 0..outputs.count_ones() {

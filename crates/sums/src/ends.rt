@@ -14,7 +14,7 @@ ghost use Rattle.rows.specs.Reduced.{IsUnate, LeftOutputs};
 use cube::{Cube, Shape, Symbol};
 use std::alloc::{AllocError, Global};
 
-// Whether the meet of all rows is not empty, so that they have a place in common.
+// Whether the first row and all of the rows have a place in common: their meet is not empty.
 fn have_common_place(first: &Cube, rows: &[Cube]) -> Result<bool, AllocError>
     requires size { All (λ d. SameSize d first.now) rows.now }
     requires output { IsTrue (list_any (λ b. b) first.now.outputs) }
@@ -100,8 +100,8 @@ pub(crate) fn has_row_without_literals(rows: &[Cube]) -> bool
     false
 }
 
-/// Whether all rows have the same outputs and no input has both literals, so that they have a
-/// place in common.
+/// Whether all rows have the same outputs and no input has both literals, so that they have a place
+/// in common; `false` for an empty list.
 pub(crate) fn is_unate(shape: Shape, rows: &[Cube]) -> Result<bool, AllocError>
     requires { AreCubes shape rows.now }
     ensures { IfOk result (λ unate. IsTrue unate → IsUnate shape rows.now) }
@@ -131,7 +131,7 @@ fn any_has_output(rows: &[Cube], j: usize) -> bool
     false
 }
 
-// The outputs that some row of the minuend has, and no row of the subtrahend.
+// For each output whether some row of the minuend has it, and no row of the subtrahend.
 fn outputs_left_over(
     alloc: Global,
     shape: Shape,
@@ -149,8 +149,8 @@ fn outputs_left_over(
     Ok(bits)
 }
 
-/// The complete sum of the places of the minuend that are not in the subtrahend, if no row has a
-/// literal.
+/// The complete sum of the places of the minuend that are not in the subtrahend, where no row of
+/// either has a literal: one row, or none if no output is left over.
 pub(crate) fn sum_without_literals(
     alloc: Global,
     shape: Shape,

@@ -51,7 +51,7 @@ fn has_symbols_at(row: &Cube, i: usize, symbol: Symbol, j: usize, other: Symbol)
     has_symbol_at(row, i, symbol) && has_symbol_at(row, j, other)
 }
 
-// The meet of two rows without their literals at input `i`.
+// The meet of two rows without their literals at input `i`; `None` if it is empty.
 #[inline(always)]
 fn freed_meet(i: usize, row: &Cube, other: &Cube) -> Result<Option<Cube>, AllocError>
     requires { (size : Size) × (i < size.inputs) × IsCube size row.now × IsCube size other.now }
@@ -154,7 +154,8 @@ fn sum_of_square(
 }
 
 // The complete sum of the places of the rows, if they are four with the four pairs of literals at
-// two inputs, in row order.
+// two inputs, in row order; else `None`. The two inputs are the first at which the first row is
+// opposite to the fourth, and to the second.
 fn sum_of_four_rows(alloc: Global, rows: &[Cube]) -> Result<Option<Vec<Cube>>, AllocError>
     requires { HaveOneSize rows.now }
     ensures { IfOk result (λ found. IfSome found (λ sum. (size : Size) → AreCubes size rows.now

@@ -22,7 +22,8 @@ pub(crate) struct Parts {
     pub(crate) other: Vec<Cube>,
 }
 
-// Whether all literals of the row are at inputs of the group.
+// Whether all literals of the row are at inputs `i` where `groups[i]` is `group`; `true` if it has
+// no literal.
 fn is_in_group(row: &Cube, groups: &[bool], group: bool) -> bool
     requires { length groups.now ≡ length row.now.symbols }
     ensures { IsTrue result → IsOnSide groups.now group row.now }
@@ -37,8 +38,9 @@ fn is_in_group(row: &Cube, groups: &[bool], group: bool) -> bool
     true
 }
 
-// The rows with literals in the one group of inputs and the rows with literals in the other, if
-// each row is one of these.
+// The rows with literals in the one group of inputs, which `groups` marks, and the rows with
+// literals in the other; `None` if a row has literals in both. Rows without a literal are with the
+// first.
 fn divide_by_groups(
     alloc: Global,
     rows: &[Cube],
@@ -63,7 +65,7 @@ fn divide_by_groups(
     Ok(Some(Parts { one, other }))
 }
 
-// Whether the first row has a literal.
+// Whether the first row has a literal; `false` if there is no row.
 fn first_row_has_literal(rows: &[Cube]) -> bool
     ensures { IsTrue result → (size : Size) → AreCubes size rows.now
         → HasSomeLiteral size rows.now }
@@ -74,8 +76,8 @@ fn first_row_has_literal(rows: &[Cube]) -> bool
     }
 }
 
-/// Two parts of the rows that have no input in common, each with a literal, if there are any and
-/// all rows have the same outputs.
+/// Two parts of the rows that have no input in common, each with a literal, if the hint tells some
+/// and all rows have the same outputs; else `None`.
 pub(crate) fn independent_parts(
     alloc: Global,
     shape: Shape,

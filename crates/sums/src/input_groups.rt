@@ -94,7 +94,8 @@ fn join_inputs(row: &Cube, leaders: &mut [usize]) {
     }
 }
 
-// How many rows have literals in each component, at the input that stands for it.
+// How many rows have literals in each component, at the input that stands for it, and 0 at other
+// inputs. A row without a literal counts for the component of input 0.
 fn group_sizes(alloc: Global, rows: &[Cube], leaders: &[usize]) -> Result<Vec<usize>, AllocError> {
     let mut sizes = vec![in alloc; 0usize; leaders.len()]?;
     for row in rows {
@@ -150,7 +151,8 @@ fn inputs_of_groups(
     Ok(inputs)
 }
 
-/// For each input whether it is in the one group, or `None` if all rows are connected.
+/// For each input whether it is in the one group, or `None` if all rows are seen to be connected.
+/// There may be no row with a literal in one of the groups.
 pub(crate) fn groups_hint(
     alloc: Global,
     shape: Shape,

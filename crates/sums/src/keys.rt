@@ -49,7 +49,7 @@ pub(crate) fn keys_of(
     Ok(Some(keys))
 }
 
-// The first index from `from` on whose key is not below `key`.
+// The first index from `from` on whose key is not below `key`; the number of keys if there is none.
 fn first_key_not_below(keys: &[u64], from: usize, key: u64) -> usize
     requires { from ≤ length keys.now }
     ensures from_on { from ≤ result }
@@ -64,7 +64,7 @@ fn first_key_not_below(keys: &[u64], from: usize, key: u64) -> usize
     keys.len()
 }
 
-// The first index from `from` on whose key is above `key`.
+// The first index from `from` on whose key is above `key`; the number of keys if there is none.
 fn first_key_above(keys: &[u64], from: usize, key: u64) -> usize
     requires { from ≤ length keys.now }
     ensures from_on { from ≤ result }
@@ -79,7 +79,8 @@ fn first_key_above(keys: &[u64], from: usize, key: u64) -> usize
     keys.len()
 }
 
-/// The meets of a row of each list, by their keys.
+/// The meets of a row of one list with a row of the other that has the same key. The keys are those
+/// that `keys_of` gives for the same inputs: rows with other keys have no place in common.
 pub(crate) fn meets_by_keys(
     alloc: Global,
     rows: &[Cube],

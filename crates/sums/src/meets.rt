@@ -61,7 +61,8 @@ fn cut_in_three<'a>(rows: &'a [Cube], i: usize) -> Option<Thirds<'a>>
     })
 }
 
-/// The meets of a row of each list.
+/// The meets of a row of one list with a row of the other, of each pair that has a place in common.
+/// They are in no order, and some may be equal.
 pub fn meets(
     alloc: Global,
     shape: Shape,
