@@ -56,7 +56,7 @@ pub(crate) fn add_multiple(numbers: &mut [f64], others: &[f64], factor: f64) {
     }
 }
 
-/// Multiplies each number; answers the sum of their squares.
+/// Multiplies each number by the factor; answers the sum of the squares of the products.
 pub(crate) fn scale(numbers: &mut [f64], factor: f64) -> f64 {
     let mut squares = 0.0;
     for number in numbers.iter_mut() {
@@ -88,8 +88,8 @@ pub(crate) fn inner_product(a: &[f64], b: &[f64]) -> f64 {
     sums.reduce_sum() + short_product(my_rest, their_rest)
 }
 
-/// Subtracts a multiple of the other numbers, those that are left after the last eight; answers the
-/// sum of the squares.
+/// Subtracts `factor` times the other numbers, those that are left after the last eight; answers
+/// the sum of the squares of what is left of the numbers.
 fn short_eliminate(numbers: &mut [f64], others: &[f64], factor: f64) -> f64 {
     let mut squares = 0.0;
     for index in 0..numbers.len().min(others.len()) {
@@ -100,8 +100,8 @@ fn short_eliminate(numbers: &mut [f64], others: &[f64], factor: f64) -> f64 {
     squares
 }
 
-/// Subtracts a multiple of the other numbers, as far as there are as many; answers the sum of the
-/// squares.
+/// Subtracts `factor` times the other numbers, as far as both lists go; answers the sum of the
+/// squares of what is left of the numbers.
 pub(crate) fn eliminate(numbers: &mut [f64], others: &[f64], factor: f64) -> f64 {
     let length = numbers.len().min(others.len());
     let (mine, my_rest) = numbers[..length].as_chunks_mut::<8>();

@@ -13,19 +13,20 @@ pub(crate) struct Matrix {
 }
 
 impl Matrix {
-    /// A matrix of zeros.
+    /// A matrix of zeros, with so many rows and as many columns.
     pub(crate) fn new(alloc: Global, order: usize) -> Result<Matrix, AllocError> {
         let entries = vec![in alloc; 0.0; order.saturating_mul(order)]?;
         Ok(Matrix { order, entries })
     }
 
-    /// Where the first entries of a row begin and end; an empty range where there are fewer.
+    /// Where the first `length` entries of a row begin and end in `entries`; not checked against
+    /// the end of these.
     fn range(&self, row: usize, length: usize) -> (usize, usize) {
         let begin = row.saturating_mul(self.order);
         (begin, begin.saturating_add(length))
     }
 
-    /// The first `length` entries of a row; none where there are fewer.
+    /// The first `length` entries of a row, at most `order`; none past the last row.
     pub(crate) fn row(&self, row: usize, length: usize) -> &[f64] {
         let (begin, end) = self.range(row, length);
         if begin <= end && end <= self.entries.len() {
@@ -35,7 +36,7 @@ impl Matrix {
         }
     }
 
-    /// The first `length` entries of a row; none where there are fewer.
+    /// The first `length` entries of a row, at most `order`; none past the last row.
     pub(crate) fn row_mut(&mut self, row: usize, length: usize) -> &mut [f64] {
         let (begin, end) = self.range(row, length);
         if begin <= end && end <= self.entries.len() {
@@ -45,7 +46,7 @@ impl Matrix {
         }
     }
 
-    /// The entry of a row at a column; 0 where there is none.
+    /// The entry of a row at a column, which is below `order`; 0 past the last row.
     pub(crate) fn entry(&self, row: usize, column: usize) -> f64 {
         let index = row.saturating_mul(self.order).saturating_add(column);
         if index < self.entries.len() {
@@ -55,7 +56,7 @@ impl Matrix {
         }
     }
 
-    /// Sets the entry of a row at a column, if there is one.
+    /// Sets the entry of a row at a column, which is below `order`; does nothing past the last row.
     pub(crate) fn set(&mut self, row: usize, column: usize, number: f64) {
         let index = row.saturating_mul(self.order).saturating_add(column);
         if index < self.entries.len() {
@@ -70,7 +71,7 @@ impl Matrix {
         }
     }
 
-    /// Overwrites a column with another.
+    /// Overwrites the column `to` with the column `from`.
     pub(crate) fn move_column(&mut self, from: usize, to: usize) {
         for row in 0..self.order {
             let entry = self.entry(row, from);
@@ -78,7 +79,7 @@ impl Matrix {
         }
     }
 
-    /// Adds a multiple of a column to the numbers, one for each row.
+    /// Adds `factor` times a column to the numbers, one for each row.
     pub(crate) fn add_column(&self, column: usize, factor: f64, numbers: &mut [f64]) {
         for row in 0..self.order {
             add_float(numbers, row, factor * self.entry(row, column));

@@ -40,9 +40,9 @@ pub(crate) struct Branching {
 
 /// A basis from which a search branched, and to which it returns.
 pub struct BranchBasis {
-    /// Its variables.
+    /// For each variable whether it is in the basis.
     basic: Vec<bool>,
-    /// The rows that were looked at.
+    /// For each row whether it was looked at.
     active: Vec<bool>,
     /// The column that was branched on.
     branching: Branching,
@@ -60,7 +60,7 @@ impl Drop for BranchBasis {
 }
 
 impl BranchBasis {
-    /// No basis.
+    /// No basis, for a search without a relaxation.
     pub fn none(alloc: Global) -> BranchBasis {
         BranchBasis {
             basic: Vec::new(alloc),
@@ -78,7 +78,7 @@ impl BranchBasis {
 pub struct Relaxation {
     /// The relaxation of the present table.
     pub(crate) simplex: Simplex,
-    /// The column of each index.
+    /// The column of each index: the live columns of the first table, in their order.
     pub(crate) columns: Vec<usize>,
     /// The index of each column, or `NONE`.
     indices: Vec<usize>,
@@ -125,7 +125,7 @@ pub fn is_small_enough(rows: usize, columns: usize) -> bool {
     rows <= MOST_ROWS && columns <= MOST_COLUMNS
 }
 
-/// The index of each live column, or `NONE`.
+/// For each column below `columns` its index among the live ones, or `NONE` if it is not live.
 fn indices_of(alloc: Global, live: &[usize], columns: usize) -> Result<Vec<usize>, AllocError> {
     let mut indices = vec![in alloc; NONE; columns]?;
     for (index, column) in live.iter().enumerate() {
@@ -161,7 +161,8 @@ fn mark_each(marks: &mut Vec<bool>, list: &[u32], to: bool) {
     }
 }
 
-/// The first of the rows whose columns are all marked; their number if there is none.
+/// The index of the first of the rows whose columns are all marked; the number of rows if there is
+/// none.
 fn first_inside(rows: &[Vec<usize>], marks: &[bool]) -> usize {
     for (index, row) in rows.iter().enumerate() {
         if is_marked_throughout(row, marks) {
@@ -171,7 +172,7 @@ fn first_inside(rows: &[Vec<usize>], marks: &[bool]) -> usize {
     rows.len()
 }
 
-/// The weights in whole numbers.
+/// The weights times `UNIT`, rounded down to whole numbers.
 fn whole(alloc: Global, weights: &[f64]) -> Result<Vec<u64>, AllocError> {
     let mut numbers = Vec::with_capacity(alloc, weights.len())?;
     for weight in weights {
@@ -225,7 +226,7 @@ impl Relaxation {
         gains
     }
 
-    /// Takes a table for the present one.
+    /// Makes the table with these live and these taken columns the present one.
     pub(crate) fn look_at(
         &mut self,
         alloc: Global,
@@ -238,7 +239,8 @@ impl Relaxation {
         Ok(())
     }
 
-    /// Fixes the columns that are not live; answers how many of them are taken.
+    /// Fixes the columns that are not live, at 1 if they are taken and else at 0, and frees the
+    /// others; answers how many are taken.
     fn fix_columns(&mut self) -> i64 {
         let mut ones: i64 = 0;
         for index in 0..self.columns.len() {
@@ -255,7 +257,8 @@ impl Relaxation {
         ones
     }
 
-    /// Solves the relaxation of the present table, unless no cover within `goal` columns is left.
+    /// Solves the relaxation of the present table, or stops where its objective shows that no cover
+    /// has at most `goal` columns beside the taken ones; notes how the steps ended.
     pub(crate) fn solve(&mut self, alloc: Global, goal: i64) -> Result<(), AllocError> {
         let ones = self.fix_columns();
         self.cutoff = nearest_i64_to_f64(goal.saturating_add(ones)) + MARGIN;
@@ -265,8 +268,8 @@ impl Relaxation {
         Ok(())
     }
 
-    /// The active row of the first table, from an index on, that this row is the live part of; the
-    /// number of rows if there is none.
+    /// The index of the first active row of the first table, from an index on, that this row is the
+    /// live part of; the number of rows if there is none.
     fn matching_row(&self, row: &[usize], from: usize) -> usize {
         for index in from..self.rows.len() {
             if self.simplex.is_active(index)
@@ -278,7 +281,8 @@ impl Relaxation {
         self.rows.len()
     }
 
-    /// The row of the first table that each row is the live part of.
+    /// For each row the index of the row of the first table that it is the live part of, in rising
+    /// order; `NONE` if none is found.
     fn first_rows(&self, alloc: Global, rows: &[Vec<usize>]) -> Result<Vec<usize>, AllocError> {
         let mut origins = vec![in alloc; NONE; rows.len()]?;
         let mut from: usize = 0;
@@ -292,8 +296,9 @@ impl Relaxation {
         Ok(origins)
     }
 
-    /// The weights of the rows of the table, in whole numbers: those of the relaxation, solved until
-    /// its objective is past `goal` more columns.
+    /// The weights of the rows of the table with these live and taken columns, in whole numbers,
+    /// where a column costs `UNIT`: those of the relaxation, solved until its objective is past
+    /// `goal` more columns. Notes what the last branch gained.
     pub fn multipliers(
         &mut self,
         alloc: Global,
@@ -313,7 +318,7 @@ impl Relaxation {
         whole(alloc, &weights)
     }
 
-    /// The weights of these rows of the first table.
+    /// The weights of these rows of the first table, at least 0; 0 for `NONE`.
     fn own_weights(&self, alloc: Global, origins: &[usize]) -> Result<Vec<f64>, AllocError> {
         let all = self.simplex.weights(self.end);
         let mut weights = Vec::with_capacity(alloc, origins.len())?;
@@ -323,7 +328,9 @@ impl Relaxation {
         Ok(weights)
     }
 
-    /// Hands the weights of rows that are not in the table over to rows inside them.
+    /// Hands the weights of rows of the first table that are not used over to `weights`, each to
+    /// the first of the rows inside it. Those of rows with a taken column, or with no row inside,
+    /// are dropped.
     fn hand_over(
         &mut self,
         alloc: Global,
@@ -344,7 +351,7 @@ impl Relaxation {
         Ok(())
     }
 
-    /// Notes what the last branch gained.
+    /// Notes what the last branch gained, unless this was done already or the steps were spent.
     fn note_gain(&mut self) {
         let Some((branching, taken)) = self.branched else {
             return;

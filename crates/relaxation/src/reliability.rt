@@ -13,7 +13,7 @@ use number_lists::{add_to, number};
 use std::alloc::{AllocError, Global};
 use std::num::{nearest_u64_to_f64, saturating_f64_to_u64};
 
-/// So many trials make a pseudo-cost reliable.
+/// So many gains of a column either way make its pseudo-costs reliable.
 const RELIABLE: usize = 8;
 
 /// So many columns in a row that are no better than the best one end the choice.
@@ -115,7 +115,8 @@ impl PseudoCosts {
         })
     }
 
-    /// Notes what it gained to move a column from its value to 1 or to 0.
+    /// Notes what it gained to move a column from its value to 1, if `up`, or to 0. A value too
+    /// near to 0 or 1 is passed over.
     pub(crate) fn note(&mut self, column: usize, value: f64, up: bool, gain: f64) {
         if value < LEAST_MOVE || value > 1.0 - LEAST_MOVE {
             return;
@@ -150,7 +151,8 @@ enum Look {
 }
 
 impl Relaxation {
-    /// A live column to branch on, if one can be told.
+    /// A live column to branch on, if one can be told, in the table with these live and taken
+    /// columns, where a cover may have `goal` more columns.
     pub fn branching_column(
         &mut self,
         alloc: Global,
@@ -169,7 +171,8 @@ impl Relaxation {
         Ok(self.columns.get(best).copied())
     }
 
-    /// The free columns with fractional values, the most promising ones first.
+    /// The indices of the free columns with fractional values, each after a number that is less the
+    /// more promising it is; the most promising ones first.
     fn fractional_columns(&self, alloc: Global) -> Result<Vec<(u64, usize)>, AllocError> {
         let up = self.gains.up.mean();
         let down = self.gains.down.mean();
@@ -188,7 +191,8 @@ impl Relaxation {
         Ok(order)
     }
 
-    /// A free column whose value is 1, if there is one.
+    /// The first free column whose value is above one half, which is 1 where none is fractional;
+    /// `None` if there is none.
     fn highest_column(&self) -> Option<usize> {
         for index in 0..self.columns.len() {
             if self.simplex.is_free(index) && self.simplex.value(index) > 0.5 {
@@ -198,7 +202,9 @@ impl Relaxation {
         None
     }
 
-    /// The index of the best of these columns to branch on.
+    /// The index of the best of these columns to branch on, which `fractional_columns` gives: the
+    /// first one of which a branch has no cover, or that of the highest score. `NONE` if there are
+    /// no columns.
     fn best_of(&mut self, alloc: Global, order: &[(u64, usize)]) -> Result<usize, AllocError> {
         let mut best = NONE;
         let mut highest = -1.0;
@@ -244,13 +250,13 @@ impl Relaxation {
         Ok(Look::Score(score_of(up, down)))
     }
 
-    /// How much the objective may rise before it is past the goal.
+    /// How much the objective may rise before it is past the goal; at least `MARGIN`.
     fn room(&self) -> f64 {
         (self.cutoff - self.simplex.basis.objective).max(MARGIN)
     }
 
     /// What it gains to fix a column at a value, as far as some steps tell, and whether they show
-    /// that no cover is left.
+    /// that no cover is left. It returns to the saved basis and frees the column.
     fn trial(
         &mut self,
         alloc: Global,

@@ -40,7 +40,7 @@ const NO_COST: f64 = 1e-10;
 /// bound of a cover of a hundred columns loses a hundredth.
 const PERTURBATION: f64 = 1e-4;
 
-/// The numbers of 53 bits, which a figure holds exactly.
+/// How many numbers of 53 bits there are; a figure holds each of them exactly.
 const RANDOM_RANGE: f64 = 9007199254740992.0;
 
 /// A pivot is too inexact if its row and its column of the tableau differ by more than this part of it.
@@ -99,7 +99,7 @@ pub(crate) struct Simplex {
     active: Vec<bool>,
     /// The columns that were not fixed when the steps began.
     open: Vec<usize>,
-    /// Those of each row.
+    /// The open columns of each row.
     open_rows: Lists,
     /// A row of the tableau: an entry for each column.
     tableau_row: Vec<f64>,
@@ -226,7 +226,8 @@ impl Simplex {
         &self.active
     }
 
-    /// The weights of rows that the last steps ended with.
+    /// The weights of rows after steps that ended so: those of the ray if no values are within the
+    /// bounds, and else those of the basis.
     pub(crate) fn weights(&self, end: End) -> &[f64] {
         match end {
             End::Infeasible => &self.ray,
@@ -272,7 +273,7 @@ impl Simplex {
         Ok(())
     }
 
-    /// Lists the columns of a row that are not fixed.
+    /// Lists the columns of a row that are not fixed, as the next list of `open_rows`.
     fn list_open_of(&mut self, row: usize) -> Result<(), AllocError> {
         for column in self.rows.list(row) {
             let place = *column as usize;
@@ -307,7 +308,8 @@ impl Simplex {
         }
     }
 
-    /// Makes steps until the optimum or until the objective is past the cutoff.
+    /// Makes at most so many steps, until the optimum, until the objective is past the cutoff, or
+    /// until no values are within the bounds; answers how they ended.
     pub(crate) fn optimize(
         &mut self,
         alloc: Global,
@@ -331,7 +333,8 @@ impl Simplex {
         Ok(End::Spent)
     }
 
-    /// One step of the dual simplex method.
+    /// One step of the dual simplex method, or how the steps end. The cutoff only tells how far a
+    /// ray is followed.
     fn step(&mut self, alloc: Global, cutoff: f64) -> Result<Step, AllocError> {
         if self.pivots > PIVOTS_TO_FACTOR {
             self.factor(alloc)?;
@@ -428,7 +431,8 @@ impl Simplex {
         }
     }
 
-    /// Moves the reduced costs of open columns outside the basis.
+    /// Subtracts a multiple of the row of the tableau from the reduced costs of open columns
+    /// outside the basis.
     fn move_reduced_costs(&mut self, multiple: f64) {
         for index in 0..self.open.len() {
             let column = number(&self.open, index);
@@ -441,7 +445,7 @@ impl Simplex {
         }
     }
 
-    /// Moves the values of the basis by a multiple of the column of the tableau.
+    /// Subtracts `step` times the column of the tableau from the values of the basis.
     fn move_values(&mut self, step: f64) {
         for position in 0..self.basis.values.len() {
             add_float(

@@ -95,7 +95,7 @@ impl Basis {
         Ok(basis)
     }
 
-    /// Makes this the basis of all surpluses.
+    /// Makes this the basis of all surpluses. Values, weights and reduced costs stay as they are.
     pub(crate) fn reset(&mut self) {
         self.tight.clear();
         forget(&mut self.positions);
@@ -118,7 +118,7 @@ impl Basis {
         self.positions.len()
     }
 
-    /// The surplus of a row.
+    /// The variable that is the surplus of a row.
     pub(crate) fn surplus_of(&self, row: usize) -> usize {
         self.at_one.len().saturating_add(row)
     }
@@ -174,7 +174,7 @@ impl Basis {
         }
     }
 
-    /// Marks the variables that are in the basis.
+    /// For each variable whether it is in the basis.
     pub(crate) fn marks(&self, alloc: Global) -> Result<Vec<bool>, AllocError> {
         let mut marks = vec![in alloc; false; self.variables()]?;
         for variable in &self.basic {
@@ -193,7 +193,8 @@ impl Basis {
         Ok(())
     }
 
-    /// Makes the row no longer tight.
+    /// Takes the slot of a row away, so that the row is not tight. The row of the last slot moves
+    /// there.
     fn close_slot(&mut self, row: usize) {
         let slot = self.slot_of(row);
         set(&mut self.slots, row, NONE);
@@ -316,7 +317,8 @@ impl Basis {
         }
     }
 
-    /// Adds the column of the inverse for a row to the numbers, one for each position.
+    /// Adds `factor` times the column of the inverse for a row to the numbers, one for each
+    /// position.
     pub(crate) fn add_inverse_column(&self, row: usize, factor: f64, numbers: &mut [f64]) {
         let slot = self.slot_of(row);
         if slot == NONE {

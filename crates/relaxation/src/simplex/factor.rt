@@ -24,8 +24,8 @@ impl Simplex {
         }
     }
 
-    /// The rows that are active on the way to a basis: those that are now and in the end, and those
-    /// that are tight in the basis.
+    /// The rows that are active on the way to the basis of the marked variables: those that are now
+    /// and in the end, and those that are tight in that basis.
     fn active_on_the_way(
         &self,
         alloc: Global,
@@ -41,8 +41,9 @@ impl Simplex {
         Ok(way)
     }
 
-    /// Goes to the basis of the marked variables, with these active rows: each of its variables that
-    /// is not in the basis enters, and one that is not marked leaves.
+    /// Goes to the basis of the marked variables, with these active rows: each of its variables
+    /// that is not in the basis enters, and one that is not marked leaves. Computes the weights and
+    /// the reduced costs, but not the values.
     pub(crate) fn go_to(
         &mut self,
         alloc: Global,
@@ -61,7 +62,8 @@ impl Simplex {
         Ok(())
     }
 
-    /// Lets a variable enter the basis, for the one with the largest pivot that is not marked.
+    /// Lets a variable enter the basis, for the one with the largest pivot that is not marked; it
+    /// stays out if no pivot is large enough.
     fn enter(&mut self, variable: usize, basic: &[bool]) -> Result<(), AllocError> {
         self.basis
             .fill_entering(&self.column_rows, variable, &mut self.entering);
@@ -79,7 +81,8 @@ impl Simplex {
         )
     }
 
-    /// The position of the largest entry of the column of the tableau whose variable is not marked.
+    /// The position of the largest entry of the column of the tableau whose variable is not marked;
+    /// `NONE` if no entry is large enough.
     fn largest_entry(&self, basic: &[bool]) -> usize {
         let mut best = NONE;
         let mut largest = LEAST_PIVOT_TO_FACTOR;
@@ -96,7 +99,7 @@ impl Simplex {
         best
     }
 
-    /// Computes the inverse anew.
+    /// Computes the inverse anew, and the weights, reduced costs and values from it.
     pub(super) fn factor(&mut self, alloc: Global) -> Result<(), AllocError> {
         let basic = self.basis.marks(alloc)?;
         let active = self.active.to_vec(alloc)?;
@@ -124,7 +127,7 @@ impl Simplex {
         cost
     }
 
-    /// Gathers what tight rows want.
+    /// Puts what tight rows want into `room`, by their slots.
     fn gather_wanted(&mut self) {
         for slot in 0..self.basis.tight.len() {
             let wanted = float(&self.wanted, number(&self.basis.tight, slot));
@@ -161,7 +164,8 @@ impl Simplex {
         }
     }
 
-    /// Adds up the rows of the inverse, times what their columns cost: the weights of tight rows.
+    /// Adds up the rows of the inverse, times what their columns cost, in `room`: the weights of
+    /// tight rows, by their slots.
     fn add_up_costs(&mut self) {
         fill_floats(&mut self.room, 0.0);
         for position in 0..self.basis.basic.len() {
@@ -172,7 +176,7 @@ impl Simplex {
         }
     }
 
-    /// Sets the weights of tight rows, and those of others to 0.
+    /// Sets the weights of tight rows from `room`, at least to 0, and those of others to 0.
     fn set_weights(&mut self) {
         fill_floats(&mut self.basis.weights, 0.0);
         for slot in 0..self.basis.tight.len() {
@@ -194,7 +198,8 @@ impl Simplex {
         }
     }
 
-    /// Computes the reduced cost of a column: what it costs less the weights of its rows.
+    /// Computes the reduced cost of a column: what it costs less the weights of its rows; 0 in the
+    /// basis.
     fn compute_reduced_cost(&mut self, column: usize) {
         let mut reduced_cost = 0.0;
         if !self.basis.is_basic(column) {

@@ -14,7 +14,8 @@ const TOLERANCE: f64 = 1e-9;
 /// bring them back.
 const PAST_CUTOFF: f64 = 0.1;
 
-/// The least step with the tolerance, over the variables that may enter.
+/// The least step with the tolerance, over the variables that may enter; infinity if there are
+/// none.
 fn least_step(candidates: &[Candidate]) -> f64 {
     let mut least = f64::INFINITY;
     for candidate in candidates {
@@ -23,7 +24,8 @@ fn least_step(candidates: &[Candidate]) -> f64 {
     least
 }
 
-/// The largest pivot within the step.
+/// The candidate with the largest pivot, of those whose own step is no longer than this one; `None`
+/// if there is none.
 fn largest_pivot(candidates: &[Candidate], step: f64) -> Option<Candidate> {
     let mut largest = None;
     let mut size = 0.0;
@@ -37,7 +39,7 @@ fn largest_pivot(candidates: &[Candidate], step: f64) -> Option<Candidate> {
 }
 
 impl Simplex {
-    /// The bounds of a variable.
+    /// The lower and the upper bound of a variable.
     fn bounds(&self, variable: usize) -> (f64, f64) {
         if self.basis.row_of(variable).is_some() {
             (0.0, f64::INFINITY)
@@ -62,7 +64,8 @@ impl Simplex {
         }
     }
 
-    /// The position whose value is furthest outside its bounds, measured by the norm of its row.
+    /// The position whose value is furthest outside its bounds, measured by the norm of its row;
+    /// `None` if none is outside.
     pub(super) fn leaving_position(&self) -> Option<usize> {
         let mut best = None;
         let mut highest = 0.0;
@@ -77,7 +80,8 @@ impl Simplex {
         best
     }
 
-    /// The bound that the value at the position breaks, and the sign of the step to it.
+    /// The bound that the value at the position breaks, and the side on which it does: -1 below the
+    /// lower one, and 1 above the upper one.
     pub(super) fn broken_bound(&self, position: usize) -> (f64, f64) {
         let (lower, upper) = self.bounds(number(&self.basis.basic, position));
         if float(&self.basis.values, position) < lower {
@@ -102,7 +106,8 @@ impl Simplex {
         }
     }
 
-    /// A column outside the basis, if it may enter.
+    /// A column as a candidate, if it is free and outside the basis and may enter; `sign` is that
+    /// of `broken_bound`.
     fn column_candidate(&self, column: usize, sign: f64) -> Option<Candidate> {
         let entry = float(&self.tableau_row, column);
         if entry.abs() <= LEAST_PIVOT || self.basis.is_basic(column) || !self.is_free(column) {
@@ -153,7 +158,7 @@ impl Simplex {
         Ok(())
     }
 
-    /// Lists the tight rows whose surplus may enter.
+    /// Adds the surpluses of tight rows that may enter to the candidates.
     fn list_surpluses(&mut self, position: usize, sign: f64) -> Result<(), AllocError> {
         for slot in 0..self.basis.tight.len() {
             if let Some(candidate) = self.surplus_candidate(position, slot, sign) {
