@@ -7,7 +7,8 @@ pub struct Effort {
     pub tables: u64,
     /// How often it was asked whether there is a cover within a budget.
     pub questions: u64,
-    /// How many bounds were computed, each by a round of subgradient steps.
+    /// How many bounds were computed, each by a round of subgradient steps or by the linear
+    /// relaxation.
     pub rounds: u64,
 }
 

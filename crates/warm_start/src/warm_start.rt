@@ -18,12 +18,13 @@ use relaxation::{BranchBasis, PseudoCosts, Relaxation, is_small_enough};
 use std::alloc::{AllocError, Global};
 
 /// Whether to compute a bound again: `before` is how many columns there were at the last one, `now`
-/// how many are left, and at least an eighth has to be gone.
+/// how many are left, and at least an eighth, rounded down, has to be gone.
 pub fn is_worth_a_bound(before: usize, now: usize) -> bool {
     now <= before.saturating_sub(before / 8)
 }
 
-/// The first of the rows, from an index on, whose live columns are this row.
+/// The index of the first of the rows, from an index on, whose live columns are this row; the
+/// number of rows if there is none.
 fn matching_row(rows: &Lists, row: &[usize], live: &[bool], from: usize) -> usize {
     for index in from..rows.len() {
         if row.len() <= rows.list(index).len() && is_live_part_of(row, rows.list(index), live) {
@@ -42,7 +43,8 @@ fn most_rows(table: &Compact, row: usize) -> i64 {
     i64::try_from(most).unwrap_or(i64::MAX)
 }
 
-/// Even weights, perturbed at random.
+/// A weight for each row: `UNIT` divided by the most rows that a column of the row is in, and
+/// perturbed at random by up to a half.
 fn first_weights(alloc: Global, table: &Compact) -> Result<Vec<i64>, AllocError> {
     let mut seed = SEED;
     let mut weights = vec![in alloc; 0; table.rows.len()]?;
@@ -72,7 +74,7 @@ pub struct WarmStart {
     weights: Vec<i64>,
     /// The multiplier of a column.
     column: i64,
-    /// How likely each column is thought to be in a cover.
+    /// How likely each column is thought to be in a cover: a larger number is likelier.
     likely: Vec<i64>,
     /// By how much the last bound fell short.
     missing: u64,
@@ -161,13 +163,14 @@ impl WarmStart {
         self.effort.questions = self.effort.questions.saturating_add(1);
     }
 
-    /// How likely each column is thought to be in a cover.
+    /// How likely each column is thought to be in a cover: a larger number is likelier. Empty
+    /// before the first bound.
     pub fn likely(&self) -> &[i64] {
         &self.likely
     }
 
-    /// By how much the last bound fell short of its goal: in columns, or in cost where columns have
-    /// different costs.
+    /// By how much the last bound by subgradient steps fell short of its goal, in columns, or in
+    /// cost where columns have different costs; rounded down, and 0 if it did not.
     pub fn shortfall(&self) -> u64 {
         self.missing
     }
@@ -205,7 +208,7 @@ impl WarmStart {
     }
 
     /// How many tables a search looks at before it is begun anew with the linear relaxation of its
-    /// first one, which has so many rows and columns.
+    /// first one, which has so many rows and columns; `u64::MAX` if that is too large for it.
     pub fn quick_tables(&self, rows: usize, columns: usize) -> u64 {
         if !is_small_enough(rows, columns) {
             u64::MAX
@@ -216,8 +219,8 @@ impl WarmStart {
         }
     }
 
-    /// From now on tables are bounded by their linear relaxation. This is the first, each column of
-    /// which costs one; the arguments are those of `multipliers`.
+    /// From now on tables are bounded by their linear relaxation, and `is_hard` is `true`. This is
+    /// the first, each column of which costs one; the arguments are those of `multipliers`.
     pub fn relax(
         &mut self,
         alloc: Global,
@@ -249,7 +252,7 @@ impl WarmStart {
         self.gains = from.gains.take();
     }
 
-    /// Takes the relaxation over.
+    /// Takes the relaxation over from another, which is left without one; drops its own.
     pub fn take_relaxation(&mut self, from: &mut WarmStart) {
         self.relaxation = from.relaxation.take();
     }
@@ -269,7 +272,8 @@ impl WarmStart {
         }
     }
 
-    /// The basis of a search that branches on the column, first taking it, if there is one.
+    /// The basis of the relaxation, from which a search branches on the column, first taking it; no
+    /// basis if there is no relaxation.
     pub fn branch(&mut self, alloc: Global, column: usize) -> Result<BranchBasis, AllocError> {
         match &mut self.relaxation {
             None => Ok(BranchBasis::none(alloc)),
@@ -277,7 +281,8 @@ impl WarmStart {
         }
     }
 
-    /// Returns to where a search branched, to go on without the column.
+    /// Returns the relaxation, if there is one, to the basis from which a search branched, to go on
+    /// without the column.
     pub fn go_back(&mut self, alloc: Global, to: BranchBasis) -> Result<(), AllocError> {
         match &mut self.relaxation {
             None => Ok(()),
@@ -321,7 +326,7 @@ impl WarmStart {
         Ok(numbers)
     }
 
-    /// The weights of the rows with these numbers.
+    /// The weights of the rows with these numbers; half of `UNIT` for new numbers.
     fn weights_of(&self, alloc: Global, numbers: &[usize]) -> Result<Vec<i64>, AllocError> {
         let mut weights = vec![in alloc; UNIT / 2; numbers.len()]?;
         for (i, number) in numbers.iter().enumerate() {
@@ -332,12 +337,13 @@ impl WarmStart {
         Ok(weights)
     }
 
-    /// Whether there was no bound yet.
+    /// Whether no rows are remembered, as there was no bound by subgradient steps yet.
     fn is_new(&self) -> bool {
         self.rows.len() == 0
     }
 
-    /// The start of the steps.
+    /// The start of the steps: from the remembered weights of the rows with these numbers, or from
+    /// first weights if no rows are remembered.
     fn ascent(
         &self,
         alloc: Global,
@@ -384,7 +390,8 @@ impl WarmStart {
         self.keep_likely(alloc, live, ascent.likely(), columns)
     }
 
-    /// Keeps how likely each live column is; columns are below `columns`.
+    /// Keeps how likely each live column is, which `likely` tells in their order; columns are below
+    /// `columns`, and the others get 0.
     fn keep_likely(
         &mut self,
         alloc: Global,
@@ -463,7 +470,8 @@ impl WarmStart {
         Ok(())
     }
 
-    /// Notes by how much the steps fell short, and their multiplier of a column.
+    /// Notes by how much the steps fell short, and their multiplier of a column if columns have
+    /// different costs.
     fn note_shortfall(&mut self, ascent: &Ascent) {
         let short = 0i64.wrapping_sub(ascent.best.value).max(0);
         let mut unit = UNIT;
