@@ -37,7 +37,8 @@ impl RowTable {
         Ok(table)
     }
 
-    // Puts the index of a row into the first free slot, if one is near.
+    // Puts the index of a row with this hash into the first free slot from the one that the hash
+    // picks. The row is left out if none of `PROBES` slots is free.
     fn put(&mut self, hash: u64, index: usize) {
         let first = self.first_slot(hash);
         for k in 0..PROBES {
@@ -79,7 +80,8 @@ impl RowTable {
     }
 }
 
-/// The rows without those that are found among the others. Some that stand there may be missed.
+/// The rows without those that are found among the others, in their order. Some that stand there
+/// may be missed, and stay.
 pub fn rows_not_among<'a>(
     alloc: Global,
     shape: Shape,

@@ -38,7 +38,8 @@ fn are_meets_held(
     are_related(alloc, shape, Relation::Contained, depth, &met, others)
 }
 
-/// Whether the others hold each meet of a row with a cube of the mask, half by half.
+/// Whether the others hold each meet of a row with a cube of the mask; `true` if there is none.
+/// Many rows are asked for half by half.
 pub fn are_meets_held_by_halves(
     alloc: Global,
     shape: Shape,

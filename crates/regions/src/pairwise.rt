@@ -45,7 +45,7 @@ fn are_disjoint_by_pairs(rows: &[&Cube], others: &[&Cube]) -> bool
     true
 }
 
-// Whether the lists are related, row by row.
+// Whether the places of the rows have the relation to those of the others, row by row.
 fn are_related_without_splits(
     alloc: Global,
     shape: Shape,
@@ -78,10 +78,10 @@ fn count_opposite_pairs(rows: &LiteralCounts, others: &LiteralCounts, i: usize) 
 // If both lists are long, a split pays if it separates more than one pair in this many.
 const SHARE: u64 = 32;
 
-// The least number of sampled pairs that a split must separate to pay for one more pass. A row that
-// is left is compared with all others, so a split has to save two rows' worth of pairs, and
-// `pairs / SHARE` where bits compare 64 rows at once. Disjoint lists are compared pair by pair, so
-// each split pays.
+// A split pays for one more pass if it separates more sampled pairs than this. A row that is left
+// is compared with all others, so a split has to save two rows' worth of pairs, and `pairs / SHARE`
+// where bits compare 64 rows at once. Disjoint lists are compared pair by pair, so each split pays
+// that separates a pair.
 fn least_opposite_pairs(relation: Relation, rows: usize, others: usize) -> u64 {
     let pairs = (sample_size(rows) as u64).saturating_mul(sample_size(others) as u64);
     match relation {
@@ -140,8 +140,8 @@ fn split_input_of_pairs(
     Ok(most_opposite_input(&mine, &theirs, shape.inputs(), least))
 }
 
-/// Whether the relation holds between the lists. At most `depth` inputs are split at, one below the
-/// other.
+/// Whether the places of the rows have the relation to those of the others: all are among them, or
+/// none is. At most `depth` inputs are split at, one below the other.
 #[cycle(are_related)]
 pub fn are_related(
     alloc: Global,

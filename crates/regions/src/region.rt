@@ -42,13 +42,15 @@ struct Survey<'a> {
     found: Option<Cube>,
     // The rows that meet the region.
     meeting: Vec<&'a Cube>,
-    // The rows of `meeting` with fewest open literals, and how many open literals they have.
+    // The rows of `meeting` with fewest open literals, and how many those are: one more for a row
+    // that lacks an output of the region, and `u32::MAX` without a row.
     nearest: Vec<&'a Cube>,
     fewest: u32,
 }
 
 impl<'a> Survey<'a> {
-    // Adds a row that meets the region and has `open` open literals.
+    // Adds a row that meets the region and has `open` open literals. If no row has fewer, it is one
+    // of the nearest too, and those that have more are dropped from these.
     fn add(&mut self, row: &'a Cube, open: u32) -> Result<(), AllocError>
         requires { AreAmong self.old.nearest.items self.old.meeting.items }
         ensures found { self.new.found ≡ self.old.found }
@@ -133,14 +135,14 @@ fn first_open_input(row: &Cube, region: &Cube) -> Option<usize>
 // The next step for a region.
 #[derive(Clone, Copy)]
 pub(crate) enum Step {
-    // The row at this index has no open literal: take out its outputs.
+    // The row at this index of `near` has no open literal: take its outputs from the region.
     Row(usize),
     // Split the region at the input, and ask for the half with this literal first.
     Split(usize, Symbol),
 }
 
 // The next step for a region that all of the rows `near` meet, where they have `fewest` open
-// literals.
+// literals. `rows` and `fewest` are for a hint alone, which may be poor.
 fn next_step(rows: &[&Cube], near: &[&Cube], fewest: u32, region: &Cube) -> Step
     requires sizes { All (λ d. SameSize d.now region.now) near.now }
     requires some { 1 ≤ length near.now }
@@ -168,7 +170,7 @@ fn next_step(rows: &[&Cube], near: &[&Cube], fewest: u32, region: &Cube) -> Step
 }
 
 // The consensus at the input: the cube that has `-` there, elsewhere the literals of both, and the
-// outputs that both have.
+// outputs that both have. `None` if they have opposite literals elsewhere, or no output in common.
 fn consensus(i: usize, one: &Cube, other: &Cube) -> Result<Option<Cube>, AllocError>
     requires input { i < length one.now.symbols }
     requires size { SameSize other.now one.now }
@@ -313,7 +315,8 @@ impl Splits {
         self.reason_by_step(&meeting, &nearest, fewest, fewest, region)
     }
 
-    // The reason, found by the next step. All of the rows `near` meet the region.
+    // The reason, found by the next step. All of the rows `near` meet the region, and have `fewest`
+    // open literals there; `bound` is as for a reason.
     #[cycle(reason)]
     fn reason_by_step(
         &mut self,
@@ -432,7 +435,8 @@ impl Splits {
         }
     }
 
-    // What the splits show of the region, with `near` and `bound` as for a reason.
+    // What the splits show of the region, with `near` and `bound` as for a reason; `Nothing` if the
+    // rows that a limit lets them look at are spent.
     fn show(
         &mut self,
         rows: &[&Cube],
@@ -468,7 +472,7 @@ pub fn part_left_out(
 }
 
 /// Whether splits that look at no more than `rows_left` rows show that the rows hold each place of
-/// the region.
+/// the region; `false` too if those are spent first.
 pub(crate) fn holds_by_splits(
     alloc: Global,
     rows: &[&Cube],
@@ -487,7 +491,9 @@ pub(crate) fn holds_by_splits(
     }
 }
 
-// What splits show of the region that look at no more rows than `learned` lets them.
+// What splits show of the region that look at no more rows than `learned` lets them, with those
+// that one more question adds; `Nothing` if these are spent. The rows looked at are taken from
+// them.
 fn shown_by_limited_splits(
     alloc: Global,
     rows: &[&Cube],

@@ -21,8 +21,9 @@ use rows::{
 use sat_search::{Answer, Limits, Refutation, Search};
 use std::alloc::{AllocError, Global};
 
-// If the row has one open literal in the region, takes the half that the row holds from the region.
-// Answers whether it did.
+// If the row has one open literal in the region and all of its outputs, takes the half that the row
+// holds from the region. Answers whether it did; if not, the region may be changed, and says
+// nothing.
 fn remove_held_half(region: &mut Cube, row: &Cube) -> bool
     requires { SameSize row.now region.old }
     ensures size { SameSize region.new region.old }
@@ -40,7 +41,8 @@ fn remove_held_half(region: &mut Cube, row: &Cube) -> bool
     held
 }
 
-// Whether the hints show that the known cubes hold each place of the cube.
+// Whether the hints, indices of known cubes, show in their order that these hold each place of the
+// cube; `false` if one is past the end.
 fn holds_by_hints(known: &[Cube], hints: &[u32], cube: &Cube) -> Result<bool, AllocError>
     requires { All (λ d. SameSize d cube.now) known.now }
     ensures { IfOk result
@@ -62,7 +64,8 @@ fn holds_by_hints(known: &[Cube], hints: &[u32], cube: &Cube) -> Result<bool, Al
 }
 
 // The cube of one output with these literals, numbered as in `sat_search`: literal `2 i` is `1` at
-// input `i`, and `2 i + 1` is `0` there.
+// input `i`, and `2 i + 1` is `0` there. `None` if there is no such output; literals past the last
+// input are left out.
 fn cube_of_literals(
     alloc: Global,
     shape: Shape,
@@ -87,6 +90,7 @@ fn cube_of_literals(
 }
 
 // Adds the cube with these literals to the known cubes, if the hints show that they hold it.
+// Answers whether it was added.
 fn accept_nogood(
     alloc: Global,
     shape: Shape,
@@ -133,7 +137,7 @@ fn accept_refutation(
     Ok(true)
 }
 
-// Whether the known cube at the index contains the region.
+// Whether the known cube at the index contains the region; `false` past the end.
 fn known_cube_contains(known: &[Cube], index: usize, region: &Cube) -> bool
     requires { All (λ d. SameSize d region.now) known.now }
     ensures { IsTrue result → IsSubset (holds region.now) (places known.now) }
@@ -155,7 +159,8 @@ pub(crate) enum Shown {
     Nothing,
 }
 
-// The point with these literals, as a cube of this output, if it lies in the region and in no row.
+// `LeftOut` with the point of these literals, as a cube of this output, if it lies in the region
+// and in no row; else `Nothing`.
 fn point_outside(
     alloc: Global,
     rows: &[&Cube],
@@ -273,7 +278,8 @@ impl Learned {
         size
     }
 
-    // Asks the search of the output for the region. The answer is not checked yet.
+    // Asks the search of the output for the region; `Unknown` past its limits, or if it was not
+    // built. The answer is not checked yet.
     fn ask_search(
         &mut self,
         alloc: Global,
@@ -357,7 +363,8 @@ fn build_search_if_none(
     Ok(())
 }
 
-// What the answer of a search shows of the region, once it is checked.
+// What the answer of a search shows of the region, once it is checked; `Nothing` if the check fails.
+// The nogoods that their hints show are added to the known cubes.
 fn shown_by_answer(
     alloc: Global,
     rows: &[&Cube],
@@ -423,7 +430,8 @@ fn part_at_output(alloc: Global, region: &Cube, output: usize) -> Result<Option<
     region.meet(&all)
 }
 
-/// What searches show of the region, output by output.
+/// What searches show of the region, output by output: `Held` if the part at each is shown to be
+/// held, else what is shown at the first output where it is not.
 pub(crate) fn shown_by_search(
     alloc: Global,
     rows: &[&Cube],

@@ -29,11 +29,11 @@ pub(crate) struct RowBits {
     first_digit: usize,
     // How many words a column has.
     words: usize,
-    // The fewest literals of a row.
+    // The fewest literals of a row, `u32::MAX` if there is none.
     fewest: u32,
 }
 
-// The fewest literals of a row.
+// The fewest literals of a row, `u32::MAX` if there is none.
 fn fewest_literals(rows: &[&Cube]) -> u32 {
     let mut fewest = u32::MAX;
     for row in rows {
@@ -51,7 +51,7 @@ fn empty_columns(alloc: Global, count: usize, words: usize) -> Result<Vec<Vec<u6
     Ok(columns)
 }
 
-// Puts row `k` into a column.
+// Puts row `k` into the column at an index. Nothing changes past the last column, or past its end.
 fn put_row(columns: &mut [Vec<u64>], at: usize, k: usize) {
     if let Some(column) = columns.get_mut(at) {
         if let Some(word) = column.get_mut(k / 64) {
@@ -89,7 +89,7 @@ fn word_at(column: &[u64], w: usize) -> u64 {
     }
 }
 
-// The rows of word `w` that are in all columns.
+// The rows of word `w` that are in all columns, as bits; all 64 if there is no column.
 fn rows_in_all(columns: &[&[u64]], w: usize) -> u64 {
     let mut rows = u64::MAX;
     for column in columns {
@@ -111,7 +111,8 @@ fn decrement_numbers(numbers: &mut [u64; DIGITS], rows: u64) {
     }
 }
 
-// The rows, among these, whose number is least, and that number. The numbers have `digits` digits.
+// The rows, among these, whose number is least, and that number, which says nothing if there is no
+// row. The numbers have `digits` digits.
 fn rows_with_least(numbers: &[u64; DIGITS], digits: usize, rows: u64) -> (u64, u32) {
     let mut rows = rows;
     let mut number = 0u32;
@@ -152,8 +153,9 @@ fn push_rows_at_bits<'a>(
     Ok(())
 }
 
-// Adds the rows of word `w` whose bits are set, which have `open` open literals, unless the others
-// have fewer than that: `fewest`. Answers how many those have then.
+// Adds the rows of word `w` whose bits are set, which have `open` open literals, unless those of
+// `some` have fewer than that: `fewest`. If those have more, they are dropped. Answers how many
+// open literals the rows of `some` have then.
 fn add_nearest<'a>(
     rows: &[&'a Cube],
     w: usize,
@@ -213,7 +215,7 @@ impl RowBits {
         Ok(bits)
     }
 
-    /// The fewest literals of a row.
+    /// The fewest literals of a row, `u32::MAX` if there is none.
     pub(crate) fn fewest_literals(&self) -> u32 {
         self.fewest
     }
@@ -269,7 +271,8 @@ impl RowBits {
     }
 
     // The rows with fewest open literals among the rows of word `w` that meet the region and have
-    // all of its outputs, and how many open literals they have.
+    // all of its outputs, as bits, and how many open literals they have, which says nothing if
+    // there is no such row.
     fn nearest_in_word(&self, columns: &Columns, w: usize) -> (u64, u32) {
         let mut numbers = [0u64; DIGITS];
         let mut digits = 0;

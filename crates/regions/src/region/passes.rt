@@ -8,7 +8,8 @@ const SAMPLE: usize = 64;
 // Rows with at most this many literals on average are short.
 const SHORT: usize = 4;
 
-// Whether the rows are short, as far as some of them show, evenly from the list.
+// Whether the rows are short on average, as far as some of them show, evenly from the list; `true`
+// if there is no row.
 fn are_short(rows: &[&Cube]) -> bool {
     let step = rows.len() / SAMPLE + 1;
     let mut literals: usize = 0;

@@ -14,15 +14,16 @@ const SAMPLE: usize = 64;
 // One of the nearest rows counts as much as this many of all rows.
 const NEAR: u32 = 64;
 
-// Counts the open literals of the nearest rows at the inputs of word `w`.
+// Adds the open literals of the nearest rows at the inputs of word `w` to the counts, each `NEAR`
+// times.
 fn count_open_of_nearest(near: &[&Cube], region: &Cube, w: usize, counts: &mut [u32; 64]) {
     for row in near {
         count_bits(open_bits(row, region, w), NEAR, counts);
     }
 }
 
-// Counts the open literals of at most `SAMPLE` rows, evenly from the list, at the inputs of word
-// `w`.
+// Adds the open literals of at most `SAMPLE` rows, evenly from the list, at the inputs of word `w`
+// to the counts.
 fn count_open_of_sample(rows: &[&Cube], region: &Cube, w: usize, counts: &mut [u32; 64]) {
     let step = rows.len() / SAMPLE + 1;
     for k in 0..SAMPLE {
@@ -34,7 +35,7 @@ fn count_open_of_sample(rows: &[&Cube], region: &Cube, w: usize, counts: &mut [u
 }
 
 // The input of word `w` with the highest count of both literals together, the literal with the
-// lower count, and the sum of both.
+// lower count, and the sum of both; input 0 and a sum of 0 if nothing is counted.
 fn heaviest_literal_of_word(w: usize, counts: &[u32; 64]) -> ((usize, Symbol), u64) {
     let mut best = (0usize, Symbol::Zero);
     let mut most = 0u64;
@@ -53,7 +54,8 @@ fn heaviest_literal_of_word(w: usize, counts: &[u32; 64]) -> ((usize, Symbol), u
     (best, most)
 }
 
-// The input at which most of the nearest rows have an open literal, and the literal to ask first.
+// The input at which most of the nearest rows have an open literal, and the literal to ask first. A
+// sample of all rows tells between inputs that are even; it is input 0 if no literal is open.
 fn split_literal(shape: Shape, near: &[&Cube], rows: &[&Cube], region: &Cube) -> (usize, Symbol) {
     let mut best = (0usize, Symbol::Zero);
     let mut most = 0u64;
