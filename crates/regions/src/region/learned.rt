@@ -363,8 +363,8 @@ fn build_search_if_none(
     Ok(())
 }
 
-// What the answer of a search shows of the region, once it is checked; `Nothing` if the check fails.
-// The nogoods that their hints show are added to the known cubes.
+// What the answer of a search shows of the region, once it is checked; `Nothing` if the check
+// fails. The nogoods that their hints show are added to the known cubes.
 fn shown_by_answer(
     alloc: Global,
     rows: &[&Cube],

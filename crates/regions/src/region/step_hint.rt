@@ -75,13 +75,14 @@ fn split_literal(shape: Shape, near: &[&Cube], rows: &[&Cube], region: &Cube) ->
 /// A hint for the next step.
 #[derive(Clone, Copy)]
 pub(crate) enum Hint {
-    // Take out the outputs of the row at this index, which has no open literal.
+    // Take out the outputs of the row at this index of `near`, which has no open literal.
     Row(usize),
     // Split at this input, and ask for the half with the literal first.
     Split(usize, Symbol),
 }
 
-// A row without open literals, or a split at the open literal of a unit, whichever comes first.
+// A row without open literals, or a split at the open literal of a unit, whichever comes first;
+// `None` if there is neither. The half that the unit holds is asked for first.
 fn closed_row_or_unit(shape: Shape, near: &[&Cube], region: &Cube) -> Option<Hint> {
     for (k, row) in near.iter().enumerate() {
         let inputs = row.literals_beyond(region);
