@@ -72,6 +72,7 @@ pub(crate) fn meets(a: &[Literals], b: &[Literals]) -> bool {
 }
 
 /// Whether the first cube contains the second: each literal of the first is one of the second.
+/// Words past the end of the shorter one are not looked at.
 pub(crate) fn contains(a: &[Literals], b: &[Literals]) -> bool {
     for k in 0..a.len().min(b.len()) {
         let (one, other) = (literals_at(a, k), literals_at(b, k));
@@ -126,7 +127,7 @@ pub(crate) fn join_literals(row: &mut [Literals], other: &[Literals], inputs: &[
     }
 }
 
-/// The `width` words from an index on, none if that is past the end.
+/// The `width` words from an index on, none if not all of them are there.
 pub(crate) fn row_at<T>(rows: &[T], begin: usize, width: usize) -> &[T] {
     let end = begin.saturating_add(width);
     if begin <= end && end <= rows.len() {
@@ -136,7 +137,7 @@ pub(crate) fn row_at<T>(rows: &[T], begin: usize, width: usize) -> &[T] {
     }
 }
 
-/// Adds a copy of the `width` words from an index on.
+/// Adds a copy of the `width` words from an index on, at the end of the same list.
 pub(crate) fn push_copy<T: Copy>(
     rows: &mut Vec<T>,
     begin: usize,
@@ -156,7 +157,7 @@ pub(crate) fn row_count<T>(rows: &[T], width: usize) -> usize {
     rows.len() / width.max(1)
 }
 
-/// The words from an index on.
+/// The words from an index on, none past the end.
 pub(crate) fn tail<T>(rows: &[T], begin: usize) -> &[T] {
     if begin <= rows.len() {
         &rows[begin..]
@@ -165,7 +166,7 @@ pub(crate) fn tail<T>(rows: &[T], begin: usize) -> &[T] {
     }
 }
 
-/// Whether an input has a literal.
+/// Whether an input has a literal; `false` past the end.
 pub(crate) fn has_literal_at(row: &[Literals], input: usize) -> bool {
     match row.get(input / 64) {
         Some(word) => word.inputs() >> (input % 64) & 1 != 0,
@@ -173,7 +174,7 @@ pub(crate) fn has_literal_at(row: &[Literals], input: usize) -> bool {
     }
 }
 
-/// The literal at an input: whether it has one, and which.
+/// Whether the literal at an input is `1`; `None` if it has none, or past the end.
 pub(crate) fn literal_at(row: &[Literals], input: usize) -> Option<bool> {
     let bit = 1 << (input % 64);
     let word = row.get(input / 64)?;
@@ -186,7 +187,7 @@ pub(crate) fn literal_at(row: &[Literals], input: usize) -> Option<bool> {
     }
 }
 
-/// Gives an input a literal, in place of any other.
+/// Gives an input the literal `1`, or `0`, in place of any other. Nothing changes past the end.
 pub(crate) fn put_literal(row: &mut [Literals], input: usize, one: bool) {
     let (k, bit) = (input / 64, 1 << (input % 64));
     if k < row.len() {
@@ -215,7 +216,7 @@ pub(crate) fn words_for(bits: usize) -> usize
     (bits / 64).saturating_add((bits % 64 != 0) as usize).max(1)
 }
 
-/// Whether the bit at an index is set.
+/// Whether the bit at an index is set; `false` past the end.
 pub(crate) fn has_bit(words: &[u64], index: usize) -> bool {
     match words.get(index / 64) {
         Some(word) => *word >> (index % 64) & 1 != 0,
@@ -223,7 +224,7 @@ pub(crate) fn has_bit(words: &[u64], index: usize) -> bool {
     }
 }
 
-/// Sets the bit at an index.
+/// Sets the bit at an index; none past the end.
 pub(crate) fn put_bit(words: &mut [u64], index: usize) {
     let k = index / 64;
     if k < words.len() {
@@ -239,7 +240,8 @@ pub(crate) fn drop_bit(words: &mut [u64], index: usize) {
     }
 }
 
-/// Whether each bit of the first set is in the second.
+/// Whether each bit of the first set is in the second. Words past the end of the shorter one are
+/// not looked at.
 pub(crate) fn is_within(a: &[u64], b: &[u64]) -> bool {
     for k in 0..a.len().min(b.len()) {
         if word_at(a, k) & !word_at(b, k) != 0 {
@@ -275,7 +277,7 @@ pub(crate) fn join_bits(words: &mut [u64], others: &[u64]) {
     }
 }
 
-/// Adds the bits of another set to the one that begins at an index.
+/// Adds the bits of another set to the one that begins at the word at an index.
 pub(crate) fn join_bits_at(words: &mut [u64], begin: usize, others: &[u64]) {
     for k in 0..others.len() {
         let at = begin.wrapping_add(k);
@@ -295,7 +297,7 @@ pub(crate) fn has_bits(words: &[u64]) -> bool {
     false
 }
 
-/// Takes the bits of another set away from the one that begins at an index.
+/// Takes the bits of another set away from the one that begins at the word at an index.
 pub(crate) fn drop_bits_at(words: &mut [u64], begin: usize, others: &[u64]) {
     for k in 0..others.len() {
         let at = begin.wrapping_add(k);
@@ -314,7 +316,7 @@ pub(crate) fn shared_count(a: &[u64], b: &[u64]) -> u32 {
     count
 }
 
-/// Leaves the bits that are in both.
+/// Takes the bits away that the other set lacks. Words past its end stay.
 pub(crate) fn meet_bits(words: &mut [u64], others: &[u64]) {
     for k in 0..words.len().min(others.len()) {
         words[k] &= others[k];

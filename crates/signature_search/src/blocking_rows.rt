@@ -89,7 +89,7 @@ impl Shorter {
         })
     }
 
-    // Takes the rows of a group that have the input, without it.
+    // Takes the longer rows that have the input, without it, in place of what was taken before.
     fn take_without(&mut self, rows: &[u64], input: usize) -> Result<(), AllocError> {
         self.singles.fill(0);
         self.longer.clear();
@@ -182,7 +182,8 @@ impl BlockingRows {
         }
     }
 
-    // The group at an index.
+    // The group at an index: 0 for the rows without an output, then one for each output. It has no
+    // row past the end.
     fn group(&self, index: usize) -> Group<'_> {
         let (begin, end) = (self.begin_of(index), self.end_of(index));
         Group {
@@ -258,8 +259,9 @@ impl BlockingRows {
         Ok(())
     }
 
-    // Adds what a step leaves of a group: the rows that it makes shorter, and of the others those
-    // within which none of these lies, and none of those without an output.
+    // Adds what a step leaves of a group, and ends it: the rows that it makes shorter, `own`, and
+    // of the others those within which none of these lies, and none of `common`: those that it
+    // makes shorter without an output.
     fn add_group_left(
         &mut self,
         group: Group<'_>,

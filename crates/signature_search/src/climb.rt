@@ -26,7 +26,7 @@ fn is_new(cube: &Cube, step: Step) -> bool {
     }
 }
 
-/// Takes a step.
+/// Leaves the literal of a step out of the cube, or adds its output.
 fn take_step(cube: &mut Cube, step: Step) {
     match step {
         Step::WithoutLiteral(input) => free_input(&mut cube.literals, input),
@@ -35,7 +35,8 @@ fn take_step(cube: &mut Cube, step: Step) {
 }
 
 impl Finder<'_> {
-    // The signature cube of what comes of a step. `None` if that meets OFF.
+    // The signature cube of what comes of a step that no row forbids, without a place. `None` if
+    // that meets OFF.
     fn signature_after(
         &mut self,
         at: &Signature,
@@ -50,7 +51,8 @@ impl Finder<'_> {
         Ok(Some(Signature::of_rows(self.alloc, self.function, &cube, rows)?))
     }
 
-    // Tries a step, unless an earlier one led as far. Whether it leads on.
+    // Replaces a signature cube by that of what comes of a step, if that has a place of its own.
+    // Whether it does; `false` too for a step that is taken already, or that a row forbids.
     fn try_step(&mut self, at: &mut Signature, step: Step) -> Result<bool, AllocError> {
         if !is_new(&at.cube, step) || at.rows.forbid(step) {
             return Ok(false);

@@ -61,7 +61,7 @@ fn push_with_literal(
     Ok(())
 }
 
-/// The complement of a cube: a cube for each literal.
+/// The complement of a cube: for each literal a cube that has its opposite alone.
 fn complement_of_cube(alloc: Global, row: &[Literals]) -> Result<Vec<Literals>, AllocError> {
     let all: Vec<Literals> = vec![in alloc; Literals::NONE; row.len()]?;
     let mut list: Vec<Literals> = Vec::new(alloc);
@@ -129,7 +129,7 @@ impl Halves {
     }
 
     /// Parts the cubes of `zeros`, the half where the input is `one`: those that lie in a cube of
-    /// the other half, or all of them, are in both.
+    /// the other half, or all of them if `all`, go to `both`, and the rest to `parted`.
     fn part(&mut self, one: bool, all: bool) -> Result<(), AllocError> {
         for index in 0..row_count(&self.zeros, self.width) {
             let row = row_at(&self.zeros, index.wrapping_mul(self.width), self.width);
@@ -175,7 +175,7 @@ fn within_budget(list: Vec<Literals>, budget: &mut usize) -> Option<Vec<Literals
     Some(list)
 }
 
-/// The complement of a list of one cube or none.
+/// The complement of a list of one cube or none; `None` past the budget.
 fn complement_of_one(
     alloc: Global,
     row: &[Literals],
@@ -189,7 +189,7 @@ fn complement_of_one(
 }
 
 /// The complement of a list without absorbed cubes, by at most `depth` splits one within the other:
-/// one for each input is enough.
+/// one for each input is enough. `None` past these, or past the budget.
 fn complement_to_depth(
     alloc: Global,
     rows: &[Literals],

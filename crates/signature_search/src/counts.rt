@@ -31,7 +31,7 @@ fn count_inputs(word: u64, first: usize, counts: &mut [u32]) {
 }
 
 impl Counts {
-    /// No literals, at rows of this many words.
+    /// No literals yet, for cubes of this many words.
     pub(crate) fn new(alloc: Global, width: usize) -> Result<Counts, AllocError> {
         let inputs = width.saturating_mul(64);
         let zeros: Vec<u32> = vec![in alloc; 0; inputs]?;
@@ -57,12 +57,12 @@ impl Counts {
         }
     }
 
-    /// How many inputs are counted.
+    /// How many inputs have a count: 64 for each word of a cube.
     pub(crate) fn inputs(&self) -> usize {
         self.zeros.len()
     }
 
-    /// How often an input is 0, and how often 1.
+    /// How often an input is 0, and how often 1; 0 both past the end.
     pub(crate) fn of(&self, input: usize) -> (u32, u32) {
         (count_at(&self.zeros, input), count_at(&self.ones, input))
     }

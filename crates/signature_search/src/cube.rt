@@ -39,7 +39,7 @@ impl Cube {
         })
     }
 
-    /// All points under all outputs.
+    /// The cube of all points under all of so many outputs, with `width` words of literals.
     pub(crate) fn whole(alloc: Global, width: usize, outputs: usize) -> Result<Cube, AllocError> {
         let mut all: Vec<u64> = vec![in alloc; 0; words_for(outputs)]?;
         for output in 0..outputs {
@@ -51,7 +51,7 @@ impl Cube {
         })
     }
 
-    /// These literals with one output.
+    /// These literals with one output, in so many words of outputs.
     pub(crate) fn of_output(
         alloc: Global,
         literals: &[Literals],

@@ -45,8 +45,8 @@ fn input_weight(rows: &BlockingRows, width: usize, input: usize) -> u64 {
     weight
 }
 
-/// The literals that the wide cube lacks, by decreasing weight: each as a number that decreases with
-/// the weight, its input, and its sense.
+/// The literals of the signature cube at inputs where the wide cube has none, by decreasing weight:
+/// each as a number that decreases with the weight, its input, and whether it is 1.
 fn missing_literals(
     alloc: Global,
     signature: &Signature,
@@ -75,8 +75,8 @@ fn put_missing_zeros(literals: &mut [Literals], inputs: usize) {
 }
 
 impl Finder<'_> {
-    // The signature cube of a point of the cube, with the point as its own place. Inputs where the
-    // cube has no literal are 0.
+    // The signature cube of a point of the cube, with the point as its own place; `None` if it is
+    // in OFF. The cube becomes the point: inputs where it has no literal are 0.
     fn signature_at_point(
         &mut self,
         cube: &mut Cube,
@@ -91,7 +91,7 @@ impl Finder<'_> {
     }
 
     // The signature cube of the question's answer or, if no place of its own is found, of a point
-    // of it.
+    // of it; `None` if that is in OFF.
     fn first_signature(&mut self, output: usize) -> Result<Option<Signature>, AllocError> {
         let words = self.function.output_words;
         let mut cube = Cube::of_output(self.alloc, self.question.answer(), output, words)?;
@@ -117,7 +117,7 @@ impl Finder<'_> {
     }
 
     // Replaces a signature cube by that of the wide cube with as few of the first literals as will
-    // do.
+    // do. It stays if that takes all of them.
     fn leave_out_literals(
         &mut self,
         best: &mut Signature,

@@ -43,7 +43,8 @@ fn meets_with_any_row_exchanged(other: &[Literals], cube: &[Literals], rows: &[u
     false
 }
 
-/// Adds the literals of a word, whose first bit is that of the input `first`.
+/// Adds the literals of a word, whose first bit is that of the input `first`: each as its input and
+/// whether it is 1.
 fn push_literals_of(
     found: &mut Vec<(usize, bool)>,
     word: Literals,
@@ -70,6 +71,7 @@ pub(crate) struct Exchanges {
 }
 
 impl Exchanges {
+    /// No signature cube yet.
     pub(crate) fn new(alloc: Global) -> Exchanges {
         Exchanges {
             cube: Vec::new(alloc),
@@ -78,7 +80,7 @@ impl Exchanges {
         }
     }
 
-    /// Takes a signature cube.
+    /// Takes a signature cube, in place of any other, to be compared with the cubes of lists.
     pub(crate) fn begin(&mut self, cube: &[Literals]) -> Result<(), AllocError> {
         self.cube.clear();
         self.cube.extend_from_slice(cube)?;
@@ -89,7 +91,7 @@ impl Exchanges {
         Ok(())
     }
 
-    // Finds the cubes of a word of the sets.
+    // The cubes of word `k` of the sets that meet the signature cube with a row exchanged, or may.
     fn find(&self, occurrences: &Occurrences, k: usize, rows: Group<'_>) -> Found {
         let asks_longer = !rows.longer.is_empty();
         let (mut parted, mut parted_twice, mut elsewhere) = (0, 0, 0);
@@ -123,7 +125,8 @@ impl Exchanges {
             || meets_with_any_row_exchanged(other, &self.cube, rows.longer)
     }
 
-    // Adds the cofactors of the cubes found of a word of the sets.
+    // Adds the cofactors of those of the cubes found, whose first bit is that of cube `first`, that
+    // do meet it with a row exchanged. Stops with `Nothing` at one without a literal left.
     fn push_found(
         &self,
         avoided: &mut Vec<Literals>,
@@ -149,6 +152,7 @@ impl Exchanges {
     }
 
     /// Adds the cofactors of the cubes of a list that the signature cube meets with a row exchanged.
+    /// Stops with `Nothing` at one without a literal left.
     pub(crate) fn push_met(
         &mut self,
         avoided: &mut Vec<Literals>,

@@ -25,8 +25,8 @@ use crate::rows::{Place, Rows};
 use std::alloc::{AllocError, Global};
 use std::collections::BTreeSet;
 
-// At most this many regions are looked at for a place of a cube's own, or as many as there are inputs:
-// parts that share no input are decided one after the other.
+// At most this many regions are looked at for a place of a cube's own, or as many as there are
+// inputs, if those are more: parts that share no input are decided one after the other.
 const MOST_REGIONS_OF_OWN: u64 = 300;
 
 /// A signature cube with a place of its own.
@@ -91,6 +91,8 @@ pub(crate) struct Finder<'a> {
 }
 
 impl<'a> Finder<'a> {
+    /// A finder of signature cubes of the function, by its OFF cubes or, where they are known, by
+    /// all primes. None was looked for yet.
     pub(crate) fn new(
         alloc: Global,
         function: &'a Function,
@@ -121,7 +123,8 @@ impl<'a> Finder<'a> {
         }
     }
 
-    /// The signature cube of a cube, if it has a place of its own.
+    /// The signature cube of a cube, with a place of its own; `None` if none is found, or if the
+    /// cube meets OFF.
     pub(crate) fn signature_of(&mut self, cube: &Cube) -> Result<Option<Signature>, AllocError> {
         let Some(mut signature) = self.signature_cube(cube)? else {
             return Ok(None);
@@ -133,7 +136,8 @@ impl<'a> Finder<'a> {
         }
     }
 
-    /// Whether a signature cube has a place of its own; not looked for where there was none before.
+    /// Whether a place of a signature cube's own is found, which is then put into it; not looked
+    /// for where there was none before.
     pub(crate) fn finds_own_place(
         &mut self,
         signature: &mut Signature,
@@ -175,7 +179,8 @@ impl<'a> Finder<'a> {
         MOST_REGIONS_OF_OWN.max(64u64.saturating_mul(self.function.width as u64))
     }
 
-    // Whether the cube has a place of its own under this output.
+    // Whether a place of the cube's own under this output is found, which is then the answer of the
+    // question. `false` too if the budget is spent.
     fn has_own_place(&mut self, signature: &Signature, output: usize) -> Result<bool, AllocError> {
         if list_at(&self.function.on, output).is_empty() {
             return Ok(false);
@@ -194,7 +199,8 @@ impl<'a> Finder<'a> {
             .ask(&signature.cube.literals, &self.avoided, &mut budget)
     }
 
-    // Gathers the cubes to be avoided for the rows with an output.
+    // Gathers the cubes to be avoided for the rows with an output. Stops with `Nothing` at one that
+    // leaves no place to the signature cube.
     fn avoid_rows_with_outputs(&mut self, signature: &Signature) -> Result<Outside, AllocError> {
         for output in 0..self.function.outputs {
             let rows = signature.rows.of_output(output);
@@ -233,7 +239,7 @@ impl<'a> Finder<'a> {
         push_cofactors(&mut self.avoided, dc, &cube.literals, self.function.width)
     }
 
-    // Whether the cube has a place of an ON cube outside all that was gathered.
+    // Whether a place that the cube shares with an ON cube is found outside all that was gathered.
     fn has_on_place_outside_avoided(
         &mut self,
         cube: &[Literals],

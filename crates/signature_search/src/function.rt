@@ -19,11 +19,11 @@ pub(crate) struct Function {
     pub(crate) samples: bool,
     /// Whether a cube's own place can be looked for: by ON with DC, or by a list of all primes.
     pub(crate) finds_own_places: bool,
-    /// The cubes of each output.
+    /// The input parts of the cubes of each output; no lists of `off` where it is not given.
     pub(crate) on: Vec<Vec<Literals>>,
     pub(crate) dc: Vec<Vec<Literals>>,
     pub(crate) off: Vec<Vec<Literals>>,
-    /// Cubes that hold the points of ON and DC.
+    /// For each output cubes that hold the points of ON and DC; no lists where OFF is not given.
     pub(crate) on_and_dc: Vec<Vec<Literals>>,
     /// Which of these have each literal.
     pub(crate) occurrences: Vec<Occurrences>,
@@ -51,7 +51,7 @@ impl Drop for Function {
 // complement of OFF.
 const MOST_WORDS_OF_COMPLEMENT: usize = 1 << 18;
 
-/// The rows of each output, without other outputs.
+/// For each output the input parts of the rows that have it.
 fn rows_by_output(
     alloc: Global,
     rows: &Rows,
@@ -113,7 +113,8 @@ impl Function {
         Ok(())
     }
 
-    // Takes ON with DC as the complements of OFF. `false` if that is past the budget.
+    // Takes ON with DC as the complements of OFF. `false` if that is past the budget: then lists
+    // are missing.
     fn join_complements(&mut self, alloc: Global) -> Result<bool, AllocError> {
         let mut budget = MOST_WORDS_OF_COMPLEMENT;
         for output in 0..self.outputs {
@@ -137,7 +138,7 @@ impl Function {
         Ok(())
     }
 
-    /// The function of these rows, without OFF.
+    /// The function of these rows, without OFF, and without lists of ON with DC.
     pub(crate) fn without_off(
         alloc: Global,
         on: &Rows,

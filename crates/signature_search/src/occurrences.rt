@@ -29,7 +29,7 @@ impl Occurrences {
         self.words
     }
 
-    /// Takes the cubes of a list.
+    /// Takes the cubes of a list, in place of any others.
     pub(crate) fn take(&mut self, list: &[Literals], width: usize) -> Result<(), AllocError> {
         let count = row_count(list, width);
         self.words = words_for(count);
@@ -67,18 +67,18 @@ impl Occurrences {
         }
     }
 
-    /// A word of the set of all cubes.
+    /// Word `k` of the set of all cubes, 0 past the end.
     pub(crate) fn all(&self, k: usize) -> u64 {
         word_at(&self.all, k)
     }
 
-    /// A word of the set of the cubes that have an input as 0, or as 1.
+    /// Word `k` of the set of the cubes that have an input as 0, or as 1.
     pub(crate) fn word(&self, input: usize, one: bool, k: usize) -> u64 {
         let set = input.wrapping_mul(2).wrapping_add(one as usize);
         word_at(&self.sets, set.wrapping_mul(self.words).wrapping_add(k))
     }
 
-    /// The cubes that have an input as 0, or as 1.
+    /// The set of the cubes that have an input as 0, or as 1; no words past the last input.
     pub(crate) fn of(&self, input: usize, one: bool) -> &[u64] {
         let set = input.saturating_mul(2).saturating_add(one as usize);
         row_at(&self.sets, set.saturating_mul(self.words), self.words)

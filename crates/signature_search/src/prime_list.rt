@@ -44,8 +44,8 @@ fn other_prime_meets(primes: &Rows, cube: &Cube, place: &[Literals], output: usi
     false
 }
 
-/// Adds the cofactors of the primes with the output that meet the cube and do not contain it: one
-/// of them may hold all of it under this output.
+/// Adds the cofactors of the primes with the output that meet the cube and do not contain it. Stops
+/// with `Nothing` at one that holds all of it under this output.
 pub(crate) fn push_primes(
     avoided: &mut Vec<Literals>,
     primes: &Rows,
@@ -85,7 +85,8 @@ fn rows_of_all_literals(
 }
 
 impl Signature {
-    /// The meet of the primes that contain a cube. `None` if there is none.
+    /// The meet of the primes that contain a cube, without a place, and with rows that let each
+    /// literal be left out. `None` if there is no such prime.
     pub(crate) fn of_primes(
         alloc: Global,
         function: &Function,

@@ -62,7 +62,7 @@ impl Proposer {
         })
     }
 
-    // Whether the ON rows are samples that are few.
+    // Whether the ON rows are samples that are few, and points, and the primes are not known.
     fn takes_all_places(&self, on: &Rows) -> bool {
         self.function.samples
             && self.primes.is_none()
@@ -82,7 +82,7 @@ impl Proposer {
     }
 
     /// Wanted places of these ON rows that the cover leaves out, at most one for each row and each
-    /// of its outputs.
+    /// of its outputs. One that is not found within the limits is missed.
     pub fn places_left_out(&self, on: &Rows, cover: &Rows) -> Result<Vec<Place>, AllocError> {
         let mut search = Search::new(self.alloc, &self.function, self.primes.as_ref())?;
         search.add_signatures_left_out(on, cover)?;

@@ -60,8 +60,8 @@ fn move_row_without(
     few
 }
 
-/// Forces, at inputs where one literal alone occurs, the other one: the cubes with it then do not
-/// hold the place.
+/// Forces, at inputs where one literal alone occurs, the other one, and nothing else: the cubes
+/// with the literal then do not hold the place.
 fn force_pure_literals(occurring: &[Literals], forced: &mut [Literals]) {
     for k in 0..occurring.len().min(forced.len()) {
         let seen = occurring[k];
@@ -71,6 +71,7 @@ fn force_pure_literals(occurring: &[Literals], forced: &mut [Literals]) {
 }
 
 impl Notes {
+    // Nothing noted yet, for cubes of `width` words.
     fn new(alloc: Global, width: usize) -> Result<Notes, AllocError> {
         let occurring: Vec<Literals> = vec![in alloc; Literals::NONE; width]?;
         Ok(Notes {
@@ -80,15 +81,16 @@ impl Notes {
         })
     }
 
-    // Before the cubes of a region are noted.
+    // Forgets all notes, before the cubes of a region are noted.
     fn begin(&mut self) {
         self.has_forced = false;
         self.is_held = false;
         self.occurring.fill(Literals::NONE);
     }
 
-    // Narrows the cube that begins at `from` to the forced literals, and writes it to `to`. Whether
-    // it stays: a cube of one literal forces the opposite one, with which it shares no place.
+    // Writes the cube that begins at `from` to `to`, without its literals at forced inputs. Whether
+    // it stays: without a literal it holds all places, and a cube of one literal forces the
+    // opposite one, with which it shares no place.
     fn keeps(
         &mut self,
         rows: &mut [Literals],
@@ -127,8 +129,8 @@ impl Question {
         })
     }
 
-    /// Whether the cube has a place outside the list, which [`Question::answer`] then is in.
-    /// `false` too if the budget, a number of regions, is spent.
+    /// Whether the cube has a place outside the list: [`Question::answer`] is then a part of the
+    /// cube that meets none of it. `false` too if the budget, a number of regions, is spent.
     pub(crate) fn ask(
         &mut self,
         inside: &[Literals],
@@ -157,7 +159,8 @@ impl Question {
         Ok(is_found)
     }
 
-    // Whether a place is found by splits.
+    // Whether a place is found by splits, which is then the answer. `false` too if the budget is
+    // spent.
     fn search(&mut self, budget: &mut u64) -> Result<bool, AllocError> {
         let rows = self.rows.as_slice();
         self.splits
@@ -191,12 +194,13 @@ impl Question {
         }
     }
 
-    /// The cube that was found last, which is outside the list.
+    /// The cube that was found or guessed last. It is outside the list if `ask` answered `true`.
     pub(crate) fn answer(&self) -> &[Literals] {
         row_at(&self.rows, 0, self.width)
     }
 
-    // Loads the cube, and the cubes of the list that meet it.
+    // Loads the cube, and the cubes of the list that meet it, without its literals, and looks once
+    // for what these force. `Nothing` if one of them contains the cube.
     fn load_rows(&mut self, inside: &[Literals], list: &[Literals]) -> Result<Outside, AllocError> {
         self.rows.clear();
         self.rows.extend_from_slice(inside)?;
@@ -208,7 +212,7 @@ impl Question {
         Ok(Outside::Unknown)
     }
 
-    // Takes what is forced, until nothing is.
+    // Takes what is forced, until nothing is. Answers what is known then.
     fn propagate(&mut self) -> State {
         for _ in 0..=self.width.saturating_mul(64) {
             if self.notes.is_held {

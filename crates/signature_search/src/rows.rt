@@ -124,13 +124,13 @@ impl Rows {
         Ok(places)
     }
 
-    /// The literals of a row.
+    /// The literals of a row, none past the last.
     pub(crate) fn literals_of(&self, row: usize) -> &[Literals] {
         let width = words_for(self.inputs);
         row_at(&self.literals, row.saturating_mul(width), width)
     }
 
-    /// The outputs of a row.
+    /// The outputs of a row, as bits; no words past the last row.
     pub(crate) fn outputs_of(&self, row: usize) -> &[u64] {
         let width = words_for(self.outputs);
         row_at(&self.outputs_by_row, row.saturating_mul(width), width)
@@ -140,6 +140,7 @@ impl Rows {
 /// A place: a point, and an output.
 #[derive(Drop)]
 pub struct Place {
+    // The inputs that are 1.
     ones: Vec<u64>,
     output: usize,
 }

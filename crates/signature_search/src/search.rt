@@ -13,7 +13,7 @@ use std::mem::replace;
 // At most this many regions are looked at for a place of an ON cube that a cover leaves out.
 const MOST_REGIONS_OF_LEFT_OUT: u64 = 1 << 16;
 
-// At most this many signature cubes are looked for at a time.
+// Once there are this many signature cubes, none is looked for of places that a cover leaves out.
 const MOST_SIGNATURES: usize = 20000;
 
 /// A number by which a cube comes after all cubes within it: its outputs less its literals.
@@ -81,6 +81,7 @@ impl<'a> Drop for Search<'a> {
 }
 
 impl<'a> Search<'a> {
+    /// No signature cubes yet; `primes` are all primes, where they are known.
     pub(crate) fn new(
         alloc: Global,
         function: &'a Function,
@@ -93,7 +94,8 @@ impl<'a> Search<'a> {
         })
     }
 
-    /// Adds the signature cubes of the ON cubes as they stand.
+    /// Adds the signature cubes of the ON cubes as they stand that have a place of their own; none
+    /// if own places cannot be looked for.
     pub(crate) fn add_signatures_of_rows(&mut self, on: &Rows) -> Result<(), AllocError> {
         let alloc = self.finder.alloc;
         if !self.finder.function.finds_own_places {
@@ -123,7 +125,7 @@ impl<'a> Search<'a> {
     }
 
     /// Adds a signature cube for each ON cube and output of which the cover, and the signature
-    /// cubes before, leave out a place.
+    /// cubes before, are found to leave out a place; at most `MOST_SIGNATURES`.
     pub(crate) fn add_signatures_left_out(
         &mut self,
         on: &Rows,
@@ -156,7 +158,8 @@ impl<'a> Search<'a> {
         }
     }
 
-    // Whether the cover leaves out a place of an ON cube, which is then the answer of the question.
+    // Whether the cover, the signature cubes so far and DC leave out a place of an ON cube, which
+    // is then the answer of the question. `false` too if the budget is spent.
     fn finds_place_left_out(
         &mut self,
         wide: &[Literals],
@@ -178,7 +181,8 @@ impl<'a> Search<'a> {
         Ok(())
     }
 
-    /// The places of the signature cubes that lie in no other one.
+    /// The places of the signature cubes that lie in no other one. No signature cube is left in the
+    /// search then.
     pub(crate) fn maximal_places(&mut self) -> Result<Vec<Place>, AllocError> {
         let alloc = self.finder.alloc;
         self.signatures

@@ -35,7 +35,8 @@ struct Half {
     one: bool,
 }
 
-/// How many literals of a cube are open, and which.
+/// Puts the open literals of a cube, at inputs that are not taken, into `open`. Answers how many
+/// these are.
 fn note_open(row: &[Literals], taken: &[Literals], open: &mut [Literals]) -> u32 {
     let mut count: u32 = 0;
     for k in 0..open.len() {
@@ -46,7 +47,7 @@ fn note_open(row: &[Literals], taken: &[Literals], open: &mut [Literals]) -> u32
     count
 }
 
-/// A literal of the row: the first input that has one, and whether it is 1.
+/// The first literal of the row, by its input and whether it is 1; `None` if there is none.
 fn first_literal(row: &[Literals]) -> Option<(usize, bool)> {
     for k in 0..row.len() {
         let (inputs, ones) = (row[k].inputs(), row[k].ones);
@@ -84,6 +85,7 @@ pub(crate) struct Splits {
 }
 
 impl Splits {
+    /// Memory for questions about cubes of `width` words; no region is begun yet.
     pub(crate) fn new(alloc: Global, width: usize) -> Result<Splits, AllocError> {
         let occurring: Vec<Literals> = vec![in alloc; Literals::NONE; width]?;
         let forced: Vec<Literals> = vec![in alloc; Literals::NONE; width]?;
@@ -154,8 +156,8 @@ impl Splits {
         }
     }
 
-    /// Whether the region that was begun has a place outside the cubes, which the last region then
-    /// is in. `false` too if the budget, a number of regions, is spent.
+    /// Whether the region that was begun has a place outside the cubes: the last region is then a
+    /// part of it that meets none. `false` too if the budget, a number of regions, is spent.
     pub(crate) fn search(&mut self, budget: &mut u64) -> Result<bool, AllocError> {
         let regions = *budget;
         let mut state = self.decide();
@@ -177,7 +179,8 @@ impl Splits {
         Ok(false)
     }
 
-    // Takes pure literals in the last region, and what is forced then, until there is none.
+    // Takes the opposites of pure literals in the last region, and what is forced then, until there
+    // is none. Answers what is known of the region then.
     fn decide(&mut self) -> State {
         for _ in 0..=self.counts.inputs() {
             if self.is_held {
@@ -269,7 +272,8 @@ impl Splits {
         }
     }
 
-    // Notes what a cube forces.
+    // Notes what a cube forces: the opposite of its open literal, if there is one alone; without
+    // any it holds the region.
     fn note_shorter_cube(&mut self, cube: usize) {
         let begin = self.begin_of_taken();
         let taken = tail(&self.taken, begin);
