@@ -41,6 +41,7 @@ pub(crate) struct Analysis {
 }
 
 impl Analysis {
+    /// No variables, and no clause.
     pub(crate) fn new(alloc: Global) -> Analysis {
         Analysis {
             learned: Vec::new(alloc),
@@ -114,8 +115,9 @@ impl Analysis {
         self.marked.clear();
     }
 
-    /// Learns a clause from one that is false: its literals, of which those at the first two
-    /// indices are to be watched, and its hints. Answers the level to go back to.
+    /// Learns a clause from `conflict`, one that is false, after so many `conflicts`: its literals,
+    /// of which those at the first two indices are to be watched, and its hints. Answers the level
+    /// to go back to, 0 if it has one literal.
     fn analyse(
         &mut self,
         clauses: &mut Clauses,
@@ -191,7 +193,8 @@ impl Analysis {
         false
     }
 
-    // The position of the last literal of the trail before this position that is to be resolved on.
+    // The position of the last literal of the trail before this position that is to be resolved on;
+    // 0 if there is none.
     fn last_resolved_before(&self, trail: &[u32], position: u32) -> u32 {
         for before in (0..position).rev() {
             if self.mark_of(at(trail, before) / 2) == Mark::Resolved {
@@ -239,7 +242,8 @@ impl Analysis {
     }
 
     // Puts a literal of the highest level below the current one at index 1 of the learned clause,
-    // where it is watched, and answers its level: the one to go back to.
+    // where it is watched, and answers its level: the one to go back to, 0 if there is no second
+    // literal.
     fn put_backjump_literal_second(&mut self, assignment: &Assignment) -> u32 {
         let mut highest: u32 = 0;
         for k in 1..saturating_u32(self.learned.len()) {

@@ -12,12 +12,12 @@ pub(crate) enum Value {
     False,
 }
 
-/// How a variable was set.
+/// How a variable was set last. This stays as it is when the variable is unset.
 #[derive(Clone, Copy)]
 pub(crate) struct Setting {
     /// The level at which it was set.
     pub(crate) level: u32,
-    /// The clause that set it, or [`NONE`].
+    /// The clause that set it, or [`NONE`] if a decision did.
     pub(crate) reason: u32,
     /// The index of its literal in the trail.
     pub(crate) position: u32,
@@ -41,26 +41,28 @@ const NO_VARIABLE: Setting = Setting {
     unit: NONE,
 };
 
-/// The literals that are set, and the order in which others are.
+/// The literals that are set, and the order in which the others are decided.
 #[derive(Drop)]
 pub(crate) struct Assignment {
     // By literal.
     values: Vec<Value>,
     // By variable: how it was set last.
     settings: Vec<Setting>,
-    /// By variable: whether it was false when it was set last.
+    /// By variable: whether it was false when it was set last; before that, whether it is to be
+    /// tried as false.
     pub(crate) phases: Vec<bool>,
-    /// The literals in their order.
+    /// The literals that are set, in the order in which they were.
     pub(crate) trail: Vec<u32>,
     // By decision level, from level 1 on: the index in the trail at which it begins.
     level_begins: Vec<u32>,
     /// How many literals of the trail were propagated; the next to propagate has this index.
     pub(crate) propagated: usize,
-    /// The variables that are unset, the most active first.
+    /// The variables that are unset, and some that are set, the most active first.
     pub(crate) order: Order,
 }
 
 impl Assignment {
+    /// No variables.
     pub(crate) fn new(alloc: Global) -> Assignment {
         Assignment {
             values: Vec::new(alloc),
@@ -99,7 +101,7 @@ impl Assignment {
         }
     }
 
-    /// How a variable was set; [`NONE`] is each number of one that is not there.
+    /// How a variable was set last; [`NONE`] is each number of one that is not there.
     pub(crate) fn setting_of(&self, variable: u32) -> Setting {
         let index = variable as usize;
         if index < self.settings.len() {
@@ -109,12 +111,12 @@ impl Assignment {
         }
     }
 
-    /// The level at which a variable was set.
+    /// The level at which a variable was set last; 0 if it never was, [`NONE`] if it is not there.
     pub(crate) fn level_of(&self, variable: u32) -> u32 {
         self.setting_of(variable).level
     }
 
-    /// The clause that set a variable, or [`NONE`].
+    /// The clause that set a variable last, or [`NONE`] if a decision or nothing did.
     pub(crate) fn reason_of(&self, variable: u32) -> u32 {
         self.setting_of(variable).reason
     }
@@ -127,7 +129,7 @@ impl Assignment {
         }
     }
 
-    /// Notes whether a variable was false when it was set last.
+    /// Notes whether a variable is to be tried as false when it is decided next.
     pub(crate) fn put_phase(&mut self, variable: u32, negated: bool) {
         let index = variable as usize;
         if index < self.phases.len() {

@@ -54,6 +54,7 @@ pub(crate) struct Clauses {
 }
 
 impl Clauses {
+    /// No clauses.
     pub(crate) fn new(alloc: Global) -> Clauses {
         Clauses {
             arena: Vec::new(alloc),
@@ -85,7 +86,7 @@ impl Clauses {
         }
     }
 
-    /// The literals of a clause.
+    /// The literals of a clause, none if it is not there.
     pub(crate) fn literals_of(&self, clause: u32) -> &[u32] {
         let record = self.record_of(clause);
         let (begin, end) = (record.begin as usize, record.end as usize);
@@ -96,7 +97,7 @@ impl Clauses {
         }
     }
 
-    /// The literals of the clause at an offset.
+    /// The literals of the clause at an offset, none if no clause can be there.
     pub(crate) fn literals_at(&mut self, offset: u32) -> &mut [u32] {
         let begin = offset as usize;
         if begin < self.arena.len() && self.arena.len() - begin > 1 {
@@ -108,7 +109,7 @@ impl Clauses {
         &mut []
     }
 
-    /// The number of the clause at an offset.
+    /// The number of the clause at an offset, [`NONE`] past the end.
     pub(crate) fn clause_at(&self, offset: u32) -> u32 {
         at(&self.arena, offset)
     }
@@ -118,22 +119,23 @@ impl Clauses {
         self.literals_begin(clause).saturating_sub(2)
     }
 
-    /// The offset at which the literals of a clause begin.
+    /// The offset at which the literals of a clause begin, [`NONE`] if it is not there.
     pub(crate) fn literals_begin(&self, clause: u32) -> u32 {
         self.record_of(clause).begin
     }
 
-    /// The offset at which the literals of a clause end.
+    /// The offset at which the literals of a clause end, [`NONE`] if it is not there.
     pub(crate) fn literals_end(&self, clause: u32) -> u32 {
         self.record_of(clause).end
     }
 
-    /// The literal at an offset.
+    /// The literal at an offset, [`NONE`] past the end.
     pub(crate) fn literal_at(&self, offset: u32) -> u32 {
         at(&self.arena, offset)
     }
 
-    /// Adds a clause that counts as used after this many conflicts, and answers its number.
+    /// Adds a clause under a name, or [`NONE`], that counts as used after this many conflicts, and
+    /// answers its number.
     pub(crate) fn push(
         &mut self,
         literals: &[u32],
@@ -178,7 +180,7 @@ impl Clauses {
         self.watched.len()
     }
 
-    /// The hints of a learned clause.
+    /// The hints of a learned clause, none for a given one.
     pub(crate) fn hints_of(&self, clause: u32) -> &[u32] {
         match clause.checked_sub(self.given) {
             Some(index) => self.hints.list(index),
@@ -215,8 +217,9 @@ impl Clauses {
         }
     }
 
-    /// Drops the half of the watched clauses with the largest distances, and among equal ones those
-    /// that had no part in a conflict for long. Clauses of distance two or less are kept.
+    /// Drops half of the watched clauses of distances over two: those of the largest, and among
+    /// equal ones those that had no part in a conflict for long. Their watches are still to be
+    /// taken out.
     pub(crate) fn drop_half(&mut self, alloc: Global) -> Result<(), AllocError> {
         let mut order: Vec<(u32, u32, u32)> = Vec::with_capacity(alloc, self.watched.len())?;
         for clause in &self.watched {
@@ -232,7 +235,8 @@ impl Clauses {
         Ok(())
     }
 
-    // Drops the second half of the clauses in this order.
+    // Drops the second half of these clauses. Each comes after its distance and a number that is
+    // the larger the longer it had no part in a conflict.
     fn drop_second_half(&mut self, order: &[(u32, u32, u32)]) {
         for k in order.len() / 2..order.len() {
             let (_, _, clause) = order[k];

@@ -18,7 +18,8 @@ pub(crate) enum Decision {
 }
 
 impl Assignment {
-    /// Decides the next literal: an assumption that is unset, else one of its own choice.
+    /// Decides the next literal: an assumption that is unset, else one of its own choice. An
+    /// assumption before it that is true already gets a level without a literal.
     pub(crate) fn decide(&mut self, assumptions: &[u32]) -> Decision {
         for k in self.current_level()..assumptions.len() {
             let literal = assumptions[k];
@@ -41,7 +42,8 @@ impl Assignment {
         Decision::Made
     }
 
-    // The literal to branch on: of the most active unset variable, with the sign that it had last.
+    // Takes variables out of the order up to the most active unset one, and answers its literal
+    // with the sign that it had last; `None` if all are set.
     fn branching_literal(&mut self) -> Option<u32> {
         for _ in 0..=self.variables() {
             let Some(variable) = self.order.pop() else {
@@ -55,7 +57,8 @@ impl Assignment {
         None
     }
 
-    // Whether a variable was false when it was set last.
+    // Whether a variable was false when it was set last, or is to be tried as false; `false` past
+    // the end.
     fn phase_of(&self, variable: u32) -> bool {
         match self.phases.get(variable as usize) {
             Some(phase) => *phase,
@@ -65,8 +68,9 @@ impl Assignment {
 }
 
 impl Analysis {
-    /// Learns from which assumptions it comes that `failed` is true, which another assumption says
-    /// is false: goes back along the trail.
+    /// Puts a clause in `learned`, and what shows it in `hints`: `failed`, which another assumption
+    /// says is false, and the negations of the assumptions from which it comes that `failed` is
+    /// true.
     pub(crate) fn analyse_failed_assumption(
         &mut self,
         clauses: &Clauses,
@@ -85,7 +89,8 @@ impl Analysis {
         self.collect_hints(assignment, NONE);
     }
 
-    // Goes on to where a literal comes from: level 0, a decision, or the literals of its reason.
+    // Goes on to where a literal comes from: nowhere at level 0, the literals of its reason, which
+    // are marked, or a decision, whose negation goes into the learned clause.
     fn trace_literal(
         &mut self,
         clauses: &Clauses,

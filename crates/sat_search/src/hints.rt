@@ -42,8 +42,8 @@ impl Analysis {
         }
     }
 
-    /// Collects the hints of what is left of a clause of these literals, whose other literals are
-    /// false at level 0: the units of their negations, and it.
+    /// Collects the hints of what is left of a clause of these literals: the units of the negations
+    /// of all but `literal`, which are false at level 0, and the clause last.
     pub(crate) fn collect_unit_hints(
         &mut self,
         literals: &[u32],

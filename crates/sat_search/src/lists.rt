@@ -46,7 +46,7 @@ impl Lists {
         self.numbers.len()
     }
 
-    // The index at which a list begins.
+    // The index at which a list begins, or would begin if it is the next; [`NONE`] past that.
     fn begin_of(&self, list: u32) -> u32 {
         match list.checked_sub(1) {
             Some(before) => at(&self.ends, before),
@@ -54,7 +54,7 @@ impl Lists {
         }
     }
 
-    // The index at which a list ends.
+    // The index at which a list ends, [`NONE`] if there is none.
     fn end_of(&self, list: u32) -> u32 {
         at(&self.ends, list)
     }
@@ -70,12 +70,12 @@ impl Lists {
         }
     }
 
-    /// The indices at which a list begins and ends.
+    /// The indices at which a list begins and ends. The end is [`NONE`] if there is no such list.
     pub(crate) fn bounds(&self, list: u32) -> (u32, u32) {
         (self.begin_of(list), self.end_of(list))
     }
 
-    /// The number at an index.
+    /// The number at an index of all lists together, [`NONE`] past the end.
     pub(crate) fn number(&self, index: u32) -> u32 {
         at(&self.numbers, index)
     }

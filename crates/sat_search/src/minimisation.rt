@@ -7,7 +7,8 @@ use crate::clauses::Clauses;
 use crate::numbers::{NONE, at, put, saturating_u32};
 
 impl Analysis {
-    /// Leaves out the literals of the learned clause that follow from others of it.
+    /// Leaves out the literals of the learned clause that follow from others of it. The first one
+    /// stays.
     pub(crate) fn minimise(&mut self, clauses: &Clauses, assignment: &Assignment) {
         let mut kept: u32 = 1;
         for k in 1..saturating_u32(self.learned.len()) {
@@ -45,9 +46,9 @@ impl Analysis {
         false
     }
 
-    // Looks at the literal at an offset in a variable's reason. Whether the variable may still
-    // follow. A literal's reason need not be read if the literal is known to follow, or is kept, or
-    // was set at level 0, which is noted.
+    // Looks at the literal at an offset in a variable's reason, and puts what is still to be read
+    // on the stack. Whether the variable may still follow. A literal's reason need not be read if
+    // the literal is known to follow, or is kept, or was set at level 0, which is noted.
     fn check_reason_literal(
         &mut self,
         clauses: &Clauses,

@@ -48,7 +48,7 @@ fn find_watch(assignment: &Assignment, literals: &mut [u32], failed: u32) -> Fin
     Finding::Last(first)
 }
 
-// Puts a watch at an index of a list.
+// Puts a watch at an index of a list; does nothing past the end.
 fn put_watch(watches: &mut Vec<Watch>, index: usize, watch: Watch) {
     if index < watches.len() {
         watches[index] = watch;
@@ -111,8 +111,8 @@ impl Watches {
 }
 
 impl Search {
-    /// Sets all literals that follow from those set by unit clauses, and answers a clause that is
-    /// false, or [`NONE`].
+    /// Sets the literals that follow from those that are set, each by a clause whose other literals
+    /// are all false, and answers a clause that is false, or [`NONE`].
     pub(crate) fn propagate(&mut self) -> Result<u32, AllocError> {
         for _ in 0..=self.assignment.variables() {
             let Some(found) = self.assignment.trail.get(self.assignment.propagated) else {

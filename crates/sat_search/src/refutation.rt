@@ -31,18 +31,19 @@ impl Refutation {
         self.lists.len() == 0
     }
 
-    /// The literals of a nogood.
+    /// The literals of a nogood, none past the last.
     pub fn nogood(&self, index: usize) -> &[u32] {
         self.lists.list(saturating_u32(index.saturating_mul(2)))
     }
 
-    /// The names of the nogoods that show this one, in their order.
+    /// The names of the nogoods that show this one, in their order; none past the last.
     pub fn hints(&self, index: usize) -> &[u32] {
         self.lists
             .list(saturating_u32(index.saturating_mul(2).saturating_add(1)))
     }
 
-    /// The name of the nogood whose literals are all assumptions.
+    /// The name of the nogood whose literals are all assumptions: the last one here, or, if there
+    /// is none, one that is known already.
     pub fn last(&self) -> u32 {
         self.last
     }
@@ -65,8 +66,9 @@ impl Refutation {
 }
 
 impl Clauses {
-    /// The refutation that ends with this clause: it, and all that show it and have no name yet.
-    /// They get names from this one on.
+    /// The refutation that ends with the clause `goal`: it, and all that show it and have no name
+    /// yet. They get names from `name` on, in the order in which they were learned; if `goal` has
+    /// one, there are none.
     pub(crate) fn refutation_of(
         &mut self,
         alloc: Global,
@@ -90,7 +92,7 @@ impl Clauses {
     }
 
     // The clauses without a name by which a clause is shown, itself too, in the order in which they
-    // were learned.
+    // were learned. Each gets the name `PENDING`.
     fn unnamed_clauses_for(&mut self, alloc: Global, goal: u32) -> Result<Vec<u32>, AllocError> {
         let mut found: Vec<u32> = Vec::new(alloc);
         push_unnamed(&mut self.records, &[goal], &mut found)?;
@@ -108,7 +110,8 @@ impl Clauses {
     }
 }
 
-// Adds those of the clauses that have no name yet.
+// Adds those of the clauses that have no name yet to `found`, each once: it gets the name
+// `PENDING`.
 fn push_unnamed(
     records: &mut Vec<Record>,
     clauses: &[u32],

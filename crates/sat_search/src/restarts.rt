@@ -12,8 +12,8 @@ const RESTART_UNIT: u64 = 100;
 // clauses that are left.
 const FIRST_DROP: (u64, u64) = (100, 2000);
 
-/// How many conflicts there were, and at which numbers of conflicts the next restart and the next
-/// dropping of clauses are due.
+/// How many conflicts and restarts there were, and at which numbers of conflicts the next restart
+/// and the next dropping of clauses are due.
 #[derive(Clone, Copy)]
 pub(crate) struct Pace {
     conflicts: u64,
@@ -23,6 +23,7 @@ pub(crate) struct Pace {
 }
 
 impl Pace {
+    /// No conflict so far.
     pub(crate) fn new() -> Pace {
         Pace {
             conflicts: 0,
@@ -59,8 +60,8 @@ impl Pace {
     }
 }
 
-// The sequence 1 1 2 1 1 2 4 .. (Luby, Sinclair and Zuckerman, Optimal speedup of Las Vegas
-// algorithms, 1993).
+// The member at an index, from 0 on, of the sequence 1 1 2 1 1 2 4 .. (Luby, Sinclair and
+// Zuckerman, Optimal speedup of Las Vegas algorithms, 1993).
 fn luby(index: u64) -> u64 {
     let mut rest = index;
     let mut size: u64 = u64::MAX;

@@ -15,7 +15,8 @@ use std::alloc::{AllocError, Global};
 /// What a search answers.
 #[derive(Drop)]
 pub enum Answer {
-    /// The literals of all variables at a point that no nogood forbids.
+    /// The literals of all variables, in any order, at a point at which all assumptions are true
+    /// and no nogood is.
     Point(Vec<u32>),
     /// The assumptions forbid each point that the nogoods leave.
     Refutation(Refutation),
@@ -96,8 +97,8 @@ impl Search {
         Ok(search)
     }
 
-    /// Adds a nogood under a name, before the first question. Its variables are below the number of
-    /// variables, and no two of them are equal.
+    /// Adds a nogood under a name, which is below `u32::MAX - 1`, before the first question. Its
+    /// variables are below the number of variables, and no two of them are equal.
     pub fn add_nogood(&mut self, literals: &[u32], name: u32) -> Result<(), AllocError> {
         self.assignment.order.count_occurrences(literals);
         self.analysis.put_negated(literals)?;
@@ -193,7 +194,8 @@ impl Search {
         Ok(Answer::Unknown)
     }
 
-    // Walks if that is due, and else decides a literal; answers what ends the question.
+    // Walks if that is due, and decides a literal unless a point is found; answers what ends the
+    // question, `None` if it goes on.
     fn walk_or_decide(
         &mut self,
         assumptions: &[u32],

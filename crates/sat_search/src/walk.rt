@@ -33,6 +33,7 @@ pub(crate) struct Walks {
 }
 
 impl Walks {
+    /// No walk so far.
     pub(crate) fn new() -> Walks {
         Walks {
             next: 0,
@@ -41,7 +42,7 @@ impl Walks {
     }
 }
 
-// The next number of a fixed sequence (Marsaglia, Xorshift RNGs, 2003).
+// The number after `seed` in a fixed sequence, 0 after 0 (Marsaglia, Xorshift RNGs, 2003).
 fn next_random(seed: u64) -> u64 {
     let a = seed ^ (seed << 13);
     let b = a ^ (a >> 7);
@@ -104,7 +105,7 @@ impl Drop for Walk {
     }
 }
 
-// By literal, the clauses that have it.
+// By literal, the given clauses that have it, in their order.
 fn clauses_by_literal(
     alloc: Global,
     clauses: &Clauses,
@@ -168,7 +169,7 @@ impl Walk {
         index < self.variables.len() && self.variables[index].negated == (literal % 2 == 1)
     }
 
-    // What a clause is.
+    // The state of a clause, `NO_STATE` if it is not there.
     fn state_of(&self, clause: u32) -> State {
         let index = clause as usize;
         if index < self.states.len() {
@@ -178,6 +179,7 @@ impl Walk {
         }
     }
 
+    // Notes the state of a clause; does nothing past the end.
     fn put_state(&mut self, clause: u32, state: State) {
         let index = clause as usize;
         if index < self.states.len() {
@@ -194,7 +196,8 @@ impl Walk {
         }
     }
 
-    // Counts the true literals of a clause, before the first flip.
+    // Notes the state of a clause of these literals, before the first flip, and adds it to those
+    // that are false if it is.
     fn count_true(&mut self, literals: &[u32], clause: u32) {
         let mut xor = 0;
         let mut true_count: u32 = 0;
@@ -291,7 +294,7 @@ impl Walk {
         self.make_false(literal ^ 1);
     }
 
-    // How likely the literal is made true; 0 if its variable is fixed.
+    // How likely the literal is made true, in proportion; 0 if its variable is fixed or not there.
     fn flip_weight(&self, literal: u32) -> u64 {
         let index = (literal / 2) as usize;
         if index >= self.variables.len() || self.variables[index].fixed {
@@ -313,7 +316,8 @@ impl Walk {
         Some(self.literal_at_weight(literals, self.seed % total))
     }
 
-    // The first literal at which the sum of the weights is more than `mark`.
+    // The first literal at which the sum of the weights is more than `mark`, [`NONE`] if there is
+    // none.
     fn literal_at_weight(&self, literals: &[u32], mark: u64) -> u32 {
         let mut left = mark;
         for literal in literals {
@@ -339,8 +343,8 @@ impl Walk {
         }
     }
 
-    // Flips variables until no clause is false, or this many clauses were looked at. Whether such a
-    // point is found.
+    // Flips variables until no clause is false, this many clauses were looked at, or a false one
+    // has fixed variables alone. Whether a point is found at which no clause is false.
     fn run(&mut self, clauses: &Clauses, steps: u64) -> bool {
         for _ in 0..steps {
             if self.false_clauses.is_empty() {
@@ -358,7 +362,7 @@ impl Walk {
         false
     }
 
-    // The literals of all variables at the point.
+    // The literals of all variables at the point, in the order of the variables.
     fn literals(&self, alloc: Global) -> Result<Vec<u32>, AllocError> {
         let mut literals = Vec::with_capacity(alloc, self.variables.len())?;
         for k in 0..self.variables.len() {
@@ -406,7 +410,7 @@ impl Search {
     }
 
     /// Walks, if that is due and no literal is decided. The literals of all variables at a point
-    /// that is found.
+    /// that is found; `None` if none is.
     pub(crate) fn walk(&mut self, assumptions: &[u32]) -> Result<Option<Vec<u32>>, AllocError> {
         if self.assignment.current_level() != 0 || !self.is_walk_due() {
             return Ok(None);

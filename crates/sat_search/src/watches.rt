@@ -19,13 +19,14 @@ pub(crate) struct Watches {
 }
 
 impl Watches {
+    /// No literals, and so no watches.
     pub(crate) fn new(alloc: Global) -> Watches {
         Watches {
             by_literal: Vec::new(alloc),
         }
     }
 
-    /// Makes room for the watches of this many variables.
+    /// Makes room for the watches of this many more variables.
     pub(crate) fn make_room(&mut self, alloc: Global, variables: usize) -> Result<(), AllocError> {
         for _ in 0..variables.saturating_mul(2) {
             self.by_literal.push(Vec::new(alloc))?;
@@ -33,7 +34,7 @@ impl Watches {
         Ok(())
     }
 
-    /// Adds a watch of a literal.
+    /// Adds a watch at the end of a literal's; does nothing if there is no such literal.
     pub(crate) fn push(&mut self, literal: u32, watch: Watch) -> Result<(), AllocError> {
         if let Some(list) = self.by_literal.get_mut(literal as usize) {
             list.push(watch)?;
@@ -41,7 +42,7 @@ impl Watches {
         Ok(())
     }
 
-    /// Lets a clause watch its first two literals.
+    /// Lets a clause watch its first two literals; one with fewer watches none.
     pub(crate) fn watch_first_two(
         &mut self,
         clauses: &Clauses,
@@ -77,7 +78,7 @@ impl Watches {
         }
     }
 
-    /// Puts the watches of a literal back.
+    /// Puts the watches of a literal back, in place of those that it has.
     pub(crate) fn put_list(&mut self, literal: u32, watches: Vec<Watch>) {
         if let Some(list) = self.by_literal.get_mut(literal as usize) {
             *list = watches;
