@@ -10,8 +10,8 @@ use std::alloc::AllocError;
 
 impl Cover {
     /// The cubes that have a place of `cube`, in their order, each with `-` at the inputs where
-    /// `cube` has a literal and with the outputs that `cube` lacks. This list holds every place
-    /// exactly if the first holds all of `cube` (Brayton et al. 1984).
+    /// `cube` has a literal and with the outputs that `cube` lacks besides its own. This list holds
+    /// every place exactly if the first holds all of `cube` (Brayton et al. 1984).
     pub fn cofactor(&self, cube: &Cube) -> Result<Cover, AllocError>
         requires { HasSize cube.now self.now.size }
         ensures value { IfOk result

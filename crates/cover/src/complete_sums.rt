@@ -14,7 +14,8 @@ use rows::universal_cube;
 use std::alloc::AllocError;
 use sums::{largest_containing, rows_containing, sum_of_both, sum_of_difference};
 
-/// Whether every place is in the list. It is asked only where cheap looks allow it.
+/// Whether every place is in the list. It is asked only where cheap looks allow it: so `true` is
+/// sure, and `false` is a hint.
 fn holds_everything(list: &Cover) -> Result<bool, AllocError>
     ensures { IfOk result (λ all. all ≡ true
         → holds_all list.now.size (places list.now.cubes) ≡ true) }

@@ -30,7 +30,8 @@ fn is_within(list: &Cover, k: usize, j: usize) -> bool
     cubes[j].contains(&cubes[k])
 }
 
-// Whether the cube at `k` is absorbed by that at `j`.
+// Whether the cube at `k` is absorbed by that at `j`: it lies in it, and `j` is earlier or its cube
+// is not equal.
 fn is_absorbed_by_one(list: &Cover, k: usize, j: usize) -> bool
     requires k { k < length list.now.cubes }
     requires j { j < length list.now.cubes }
@@ -49,7 +50,7 @@ fn is_absorbed_by_some(list: &Cover, k: usize, outer: &[usize]) -> bool
 }
 
 // Marks the indices of `inner` whose cubes are absorbed by cubes of `outer`, by a look at each
-// pair.
+// pair. Other marks stay.
 fn mark_absorbed_by_pairs(list: &Cover, inner: &[usize], outer: &[usize], marks: &mut [bool])
     requires inner { All (λ k. k < length list.now.cubes) inner.now }
     requires outer { All (λ j. j < length list.now.cubes) outer.now }
@@ -119,7 +120,7 @@ fn indices_with_containing_symbol(
 }
 
 // Marks the indices of `inner` whose cubes are absorbed by cubes of `outer`, by splits at the
-// inputs in this order.
+// inputs in this order. Other marks stay.
 #[cycle(mark_absorbed)]
 fn mark_absorbed(
     alloc: Global,
@@ -175,7 +176,7 @@ fn mark_absorbed(
 }
 
 // Marks the indices of `inner` whose cubes have the symbol at the input `at` and are absorbed by
-// cubes of `outer`.
+// cubes of `outer`, by further splits at the inputs in this order. Other marks stay.
 #[cycle(mark_absorbed)]
 fn mark_absorbed_at(
     alloc: Global,
@@ -232,14 +233,15 @@ fn inputs_best_first(alloc: Global, list: &Cover) -> Result<Vec<usize>, AllocErr
     Ok(order)
 }
 
-// How well a split at an input divides `all` cubes, of which `zeros` and `ones` have each literal.
+// How well a split at an input divides `all` cubes, of which `zeros` and `ones` have each literal:
+// the larger, the better; 0 if all have the same symbol there.
 fn split_weight(zeros: u64, ones: u64, all: u64) -> u64 {
     let by_zeros = zeros.min(all.saturating_sub(zeros));
     let by_ones = ones.min(all.saturating_sub(ones));
     by_zeros.saturating_add(by_ones)
 }
 
-// The cubes that are not marked.
+// Copies of the cubes that are not marked, in their order.
 fn unmarked_cubes(alloc: Global, list: &Cover, marks: &[bool]) -> Result<Cover, AllocError>
     requires len { length marks.now ≡ length list.now.cubes }
     requires marks { (k : ℕ) → k < length list.now.cubes → slice_index_or marks.now k false

@@ -74,8 +74,9 @@ fn change_value(point: &mut Cube, i: usize) {
     }
 }
 
-/// Moves a point out of a row that has it, by another value at a literal of the first word that has
-/// some: at the first one, or with a `number` at one that follows.
+/// Moves a point out of a row that has it, by the other value at a literal of the first word that
+/// has some: at the one with this `number`, counted round from 0. Where the row has no literal, the
+/// point stays.
 fn leave_row(row: &Cube, number: u64, point: &mut Cube) {
     for w in 0..row.shape().inputs() / 32 + 1 {
         let inputs = row.literal_inputs(w);
@@ -102,7 +103,7 @@ fn walk_round(list: &Cover, round: u64, point: &mut Cube) -> bool {
     has_moved
 }
 
-/// The point of zeros.
+/// The point of zeros, with all outputs.
 fn point_of_zeros(alloc: Global, shape: Shape) -> Result<Cube, AllocError> {
     let mut point = universal_cube(alloc, shape)?;
     for i in 0..shape.inputs() {
@@ -125,7 +126,7 @@ fn has_points_of_walk(list: &Cover) -> Result<bool, AllocError> {
     Ok(true)
 }
 
-/// Whether the list may hold everything.
+/// Whether the list may hold everything: a hint either way, as `false` may miss a list that does.
 pub(crate) fn may_hold_everything(list: &Cover) -> Result<bool, AllocError> {
     Ok(may_have_enough_points(list) && has_enough_points(list) && has_points_of_walk(list)?)
 }

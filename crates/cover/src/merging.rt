@@ -37,7 +37,7 @@ fn most_steps(list: &Cover) -> usize {
 }
 
 // One cube with the places of both, if they have opposite literals at input `i` and differ nowhere
-// else.
+// else; `None` if not.
 fn merge_at(row: &Cube, other: &Cube, i: usize) -> Result<Option<Cube>, AllocError>
     requires size { SameSize row.now other.now }
     requires input { i < length row.now.symbols }
@@ -56,7 +56,8 @@ fn merge_at(row: &Cube, other: &Cube, i: usize) -> Result<Option<Cube>, AllocErr
     }
 }
 
-// One cube with the places of both, if their symbols are equal.
+// One cube with the places of both, if their symbols are equal: with the outputs of either. `None`
+// if they are not.
 fn join_outputs(row: &Cube, other: &Cube) -> Result<Option<Cube>, AllocError>
     requires { SameSize row.now other.now }
     ensures size { IfOk result (λ found. IfSome found (λ c. SameSize c row.now)) }
@@ -143,7 +144,8 @@ impl HashedRows {
         }
     }
 
-    // One cube with the places of a row and of that at an index, if they become one.
+    // One cube with the places of a row and of that at an index, if they become one; `None` if not,
+    // and past the end.
     fn union_at(
         &self,
         at: usize,
@@ -164,7 +166,8 @@ impl HashedRows {
         }
     }
 
-    // Adds a row, as one with another where the table has one for it that they become one with.
+    // Adds a row at the end; or puts one cube in place of the row that the table has for it, if the
+    // two become one at this input, or, where none is given, by their outputs.
     fn add_or_merge(
         &mut self,
         table: &mut RowTable,
@@ -192,7 +195,8 @@ impl HashedRows {
     }
 }
 
-// Adds rows, from the last one on: at this input, or, where none is given, by their outputs.
+// Adds rows, from the last one on, each merged with one that is there if it can be: at this input,
+// or, where none is given, by their outputs.
 fn add_rows(
     all: &mut HashedRows,
     table: &mut RowTable,
@@ -239,7 +243,8 @@ fn merge_at_inputs(
     Ok(merged)
 }
 
-// The places of the list that a cube has.
+// The meets of the list's rows with a cube without literals, those that have a place, in their
+// order: each keeps the hash of its row.
 fn rows_within(
     alloc: Global,
     list: &Cover,
@@ -261,7 +266,7 @@ fn rows_within(
     Ok(part)
 }
 
-// Rows of one output: the places that the list has there.
+// Rows of output `j` alone, merged input by input: the places that the list has there.
 fn merge_rows_of_output(
     alloc: Global,
     list: &Cover,
@@ -279,7 +284,8 @@ fn merge_rows_of_output(
     merge_at_inputs(alloc, &order, rows)
 }
 
-// The rows of all outputs, put together by their outputs, unless they are no fewer.
+// The merged rows of all outputs, those with equal symbols made one; `None` if they are no fewer
+// than those of the list.
 fn merge_rows_of_outputs(
     alloc: Global,
     list: &Cover,
@@ -303,8 +309,8 @@ fn merge_rows_of_outputs(
     Ok(Some(rows))
 }
 
-/// A list with the same places and no more rows, or `None` where the rows are few, or a sample shows
-/// that merging them does not pay.
+/// A list with the same places and no more rows; `None` where the rows are few or merging takes too
+/// many steps, where a sample shows that it does not pay, or where it leaves no fewer rows.
 ///
 /// Rows of one output that differ in one literal alone become one, input by input, and rows with
 /// equal symbols become one with the outputs of both. It takes time in the number of rows times

@@ -50,7 +50,7 @@ impl Budget {
     }
 }
 
-// The rows that meet the region.
+// Copies of the rows that meet the region, in their order.
 fn rows_meeting_region(alloc: Global, region: &Cube, rows: &[Cube]) -> Result<Vec<Cube>, AllocError>
     requires { All (λ c. SameSize c region.now) rows.now }
     ensures { IfOk result (λ v. (size : Size) → AreCubes size rows.now
@@ -107,7 +107,8 @@ fn split_worth(zeros: u32, ones: u32, rows: usize) -> usize {
     }
 }
 
-// The best input of word `w` to split at, and its worth.
+// The best input of word `w` to split at, and its worth; both are 0 if no row has an open literal
+// there.
 fn best_input_of_word(counts: &[u32; 64], w: usize, rows: usize) -> (usize, usize) {
     let mut best = 0;
     let mut most = 0;
@@ -121,7 +122,7 @@ fn best_input_of_word(counts: &[u32; 64], w: usize, rows: usize) -> (usize, usiz
     (best, most)
 }
 
-// The best input to split the region at, if a row has an open literal.
+// The best input to split the region at; `None` if no row has an open literal.
 fn split_hint_of_region(shape: Shape, region: &Cube, rows: &[Cube]) -> Option<usize> {
     let mut best = None;
     let mut most = 0;
@@ -209,8 +210,8 @@ fn expand_each_at(
     Ok(larger)
 }
 
-// The cubes of both halves of a region, expanded at the input of the split, or `None` if the budget
-// is spent.
+// The cubes of both halves of a region, expanded at the input of the split, in row order and each
+// once, or `None` if the budget is spent.
 fn merge_halves(
     alloc: Global,
     region: &Cube,

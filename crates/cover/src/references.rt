@@ -8,7 +8,7 @@ use cube::Cube;
 use rows::references_to_cubes;
 use std::alloc::AllocError;
 
-// References to the cubes of a cover.
+// References to the cubes of a cover, in their order.
 pub(crate) fn references_to(list: &Cover) -> Result<Vec<&Cube>, AllocError>
     ensures cubes { IfOk result (λ refs. behind refs.items ≡ list.now.cubes) }
     ensures sizes { IfOk result (λ refs. All (λ d. HasSize d.now list.now.size) refs.items) }
@@ -16,7 +16,7 @@ pub(crate) fn references_to(list: &Cover) -> Result<Vec<&Cube>, AllocError>
     references_to_cubes(list.allocator(), list.as_slice())
 }
 
-// References to the cubes of two covers.
+// References to the cubes of two covers, first those of `list`.
 pub(crate) fn references_to_both<'a>(
     list: &'a Cover,
     other: &'a Cover,

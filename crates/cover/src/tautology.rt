@@ -15,7 +15,7 @@ use regions::{part_left_out, part_left_out_of_each};
 use rows::{references_to_cubes, universal_cube};
 use std::alloc::{AllocError, Global};
 
-// Which of the parts are none.
+// Of each of the parts, in their order, whether it is `None`.
 fn are_none(alloc: Global, parts: &[Option<Cube>]) -> Result<Vec<bool>, AllocError>
     ensures { IfOk result (λ held. held.items ≡ map is_none parts.now) }
 {

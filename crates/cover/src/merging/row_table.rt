@@ -67,7 +67,7 @@ impl RowTable {
         })
     }
 
-    /// The table of rows with these hashes.
+    /// The table of rows with these hashes, by their indices. Of equal hashes the first is kept.
     pub(crate) fn of(alloc: Global, hashes: &[u64]) -> Result<RowTable, AllocError> {
         let mut table = RowTable::new(alloc, hashes.len())?;
         for (number, hash) in hashes.iter().enumerate() {
@@ -76,8 +76,8 @@ impl RowTable {
         Ok(table)
     }
 
-    /// The number that was kept under this hash; if there is none, this one is kept, where a slot
-    /// is near.
+    /// The number that was kept under this hash, as a hint; `None` if there is none, and then this
+    /// one is kept, where a slot is near.
     pub(crate) fn find_or_keep(&mut self, hash: u64, number: usize) -> Option<usize> {
         let first = self.first_slot(hash);
         for k in 0..PROBES {
@@ -95,7 +95,7 @@ impl RowTable {
         None
     }
 
-    /// The number that was kept under this hash.
+    /// The number that was kept under this hash, as a hint; `None` if there is none.
     pub(crate) fn find(&self, hash: u64) -> Option<usize> {
         let first = self.first_slot(hash);
         for k in 0..PROBES {
