@@ -60,7 +60,7 @@ pub(crate) fn answer<S: SecondSource, W: Output>(
     }
 }
 
-// Whether the ON-set is everything.
+// Prints whether the ON-set is everything, and answers a no if it is not.
 fn tautology<W: Output>(pla: &Pla, out: &mut W) -> Result<Status, Failure>
     ensures { PutsOutOne (answer_of Command.Tautology OutType.F Choice.First) pla.now
         (trace (W.taken out.old) (W.taken out.new) (W.calls out.old) (W.calls out.new)) result }

@@ -19,7 +19,7 @@ use minimum::Choice;
 use pla::{FileType, OutType, Output, Pla, WriteFault, write_bytes, write_next};
 use std::alloc::AllocError;
 
-// Whether the three sets part the space.
+// Prints whether the three sets part the space, and answers a no if they do not.
 pub(crate) fn check<W: Output>(pla: &Pla, out: &mut W) -> Result<Status, Failure>
     ensures { PutsOutOne (answer_of Command.Check OutType.F Choice.First) pla.now
         (trace (W.taken out.old) (W.taken out.new) (W.calls out.old) (W.calls out.new)) result }
@@ -79,7 +79,7 @@ fn on_meets_dc(pla: &Pla) -> Result<bool, AllocError>
     pla.on().intersects(pla.dc())
 }
 
-// Those for the ON-set and the OFF-set, likewise.
+// Whether the given lists for the ON-set and the OFF-set share a place.
 fn on_meets_off(pla: &Pla) -> Result<bool, AllocError>
     ensures { IfOk result
         (λ some. some ≡ share_place pla.now.size (places pla.now.on) (places pla.now.off)) }
@@ -87,7 +87,7 @@ fn on_meets_off(pla: &Pla) -> Result<bool, AllocError>
     pla.on().intersects(pla.off())
 }
 
-// Those for the DC-set and the OFF-set, likewise.
+// Whether the given lists for the DC-set and the OFF-set share a place.
 fn dc_meets_off(pla: &Pla) -> Result<bool, AllocError>
     ensures { IfOk result
         (λ some. some ≡ share_place pla.now.size (places pla.now.dc) (places pla.now.off)) }
@@ -107,6 +107,7 @@ fn has_gap(pla: &Pla) -> Result<bool, AllocError>
 }
 
 impl Flaws {
+    // Whether there is a flaw.
     fn some(self) -> bool
         ensures { result ≡ has_flaw self }
     {
@@ -114,7 +115,7 @@ impl Flaws {
     }
 }
 
-// A line for each flaw, or the one that says that there is none.
+// Prints a line for each flaw and answers a no, or prints the line that says that there is none.
 fn print_flaws<W: Output>(flaws: Flaws, out: &mut W) -> Result<Status, Failure>
     ensures { PutsOut (checked flaws)
         (trace (W.taken out.old) (W.taken out.new) (W.calls out.old) (W.calls out.new)) result }
@@ -133,6 +134,7 @@ fn print_flaws<W: Output>(flaws: Flaws, out: &mut W) -> Result<Status, Failure>
     }
 }
 
+// Writes a line for each flaw; nothing if there is none.
 fn write_flaws<W: Output>(flaws: Flaws, out: &mut W) -> Result<(), WriteFault>
     ensures bytes { Writes (W.taken out.old) (W.taken out.new) result (flaws_text flaws) }
     ensures count { TellsFailure (W.calls out.old) (W.calls out.new) result }
@@ -147,7 +149,7 @@ fn write_flaws<W: Output>(flaws: Flaws, out: &mut W) -> Result<(), WriteFault>
     write_next(out, done, line_if(flaws.gap, gap))
 }
 
-// The line, if the condition holds.
+// The line, if the condition holds, and else no bytes.
 fn line_if(condition: bool, line: &[u8]) -> &[u8]
     ensures { result.now ≡ line_if_of condition line.now }
 {

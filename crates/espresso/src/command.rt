@@ -33,7 +33,7 @@ pub enum Command {
 }
 
 impl Command {
-    // The command takes two files.
+    // Whether the command takes two files.
     pub(crate) fn takes_two(self) -> bool
         ensures { result ≡ takes_two self }
     {
@@ -43,7 +43,7 @@ impl Command {
         }
     }
 
-    // The command takes this output type and this choice.
+    // Whether the command takes this output type and this choice.
     pub(crate) fn allows(self, out: OutType, choice: Choice) -> bool
         ensures { result ≡ allows self out choice }
     {
@@ -57,7 +57,7 @@ impl Command {
     }
 }
 
-// The command of this name.
+// The command of this name, `None` if there is none.
 pub(crate) fn command_of(name: &str) -> Option<Command>
     ensures { result ≡ command_named name.now }
 {
@@ -76,7 +76,7 @@ pub(crate) fn command_of(name: &str) -> Option<Command>
     }
 }
 
-// The output type of this name.
+// The output type of this name, `None` if there is none.
 pub(crate) fn out_type_of(name: &str) -> Option<OutType>
     ensures { result ≡ type_named name.now }
 {
@@ -89,7 +89,7 @@ pub(crate) fn out_type_of(name: &str) -> Option<OutType>
     }
 }
 
-// The one word that `-e` takes.
+// `true` for `eat`, the one word that `-e` takes; `None` for any other.
 pub(crate) fn eat_of(name: &str) -> Option<bool>
     ensures { result ≡ eat_named name.now }
 {

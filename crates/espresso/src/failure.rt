@@ -27,7 +27,8 @@ pub(crate) enum Failure {
 }
 
 impl Failure {
-    // By the fault of a reading, which reports failed writes and out of memory too.
+    // The failure of a run whose reading of this source ended with this fault. A failed write and
+    // refused memory, which readings report too, are failures of their own, without a source.
     pub(crate) fn by(operand: Operand, fault: ReadFault) -> Failure
         ensures { result ≡ failure_by operand fault fault.kind }
     {
@@ -38,6 +39,7 @@ impl Failure {
         }
     }
 
+    // How a run ends that this stops.
     pub(crate) fn status(self) -> Status
         ensures { result ≡ status_of self }
     {
@@ -79,6 +81,7 @@ impl Operand {
     }
 }
 
+// Says that the source of this name cannot be opened.
 fn say_closed<E: Output>(name: &[u8], err: &mut E) -> Result<(), WriteFault>
     ensures bytes { Writes (E.taken err.old) (E.taken err.new) result (closed_message name.now) }
     ensures count { TellsFailure (E.calls err.old) (E.calls err.new) result }
@@ -88,6 +91,7 @@ fn say_closed<E: Output>(name: &[u8], err: &mut E) -> Result<(), WriteFault>
     write_next(err, done, b"\n")
 }
 
+// Says what fault the source of this name has, and at which line.
 fn say_fault<E: Output>(name: &[u8], fault: ReadFault, err: &mut E) -> Result<(), WriteFault>
     ensures bytes { Writes (E.taken err.old) (E.taken err.new) result
         (fault_message name.now fault) }
@@ -102,7 +106,8 @@ fn say_fault<E: Output>(name: &[u8], fault: ReadFault, err: &mut E) -> Result<()
     write_next(err, done, b"\n")
 }
 
-// The number in decimal, after what was written.
+// Writes the number in decimal after what was written before, unless that has failed: then the
+// failure `done` is answered.
 fn write_number<E: Output>(
     err: &mut E,
     done: Result<(), WriteFault>,

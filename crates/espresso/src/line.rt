@@ -58,6 +58,7 @@ impl Line {
         }
     }
 
+    // The line of these parts; whether they fit together is not asked.
     pub(crate) fn new(
         command: Command,
         out: OutType,
@@ -76,18 +77,21 @@ impl Line {
         }
     }
 
+    // The command.
     pub(crate) fn command(&self) -> Command
         ensures { result ≡ self.now.command }
     {
         self.command
     }
 
+    // The output type.
     pub(crate) fn out(&self) -> OutType
         ensures { result ≡ self.now.out }
     {
         self.out
     }
 
+    // The choice among covers.
     pub(crate) fn choice(&self) -> Choice
         ensures { result ≡ self.now.choice }
     {
@@ -108,7 +112,7 @@ impl Line {
         self.command.takes_two()
     }
 
-    /// The file words, in order.
+    /// The file words, in order. There may be none, which stands for standard input.
     pub fn files(&self) -> &[String]
         ensures { map string_bytes result.now ≡ self.now.files }
     {

@@ -14,7 +14,7 @@ use minimum::Choice;
 use pla::OutType;
 use std::alloc::{AllocError, Global};
 
-// The command before its options.
+// The parser of the words, without the program's name before them, before its options are added.
 fn bare_command<'a>(alloc: Global) -> clap::Command<'a>
     ensures { app_of result ≡ bare_app }
 {
@@ -50,7 +50,7 @@ fn literals_option<'a>(alloc: Global) -> Arg<'a>
         .action(ArgAction::SetTrue)
 }
 
-// Three options with a value each, files, and an option without a value.
+// The parser of the words: three options with a value each, files, and an option without a value.
 pub(crate) fn espresso_command<'a>(alloc: Global) -> Result<clap::Command<'a>, AllocError>
     ensures { IfOk result (λ c. app_of c ≡ espresso_app) }
 {
@@ -78,7 +78,7 @@ pub(crate) fn fault_from(error: &Error) -> LineFault
     }
 }
 
-// The line that the matches say.
+// The line that the matches say; a usage fault if they say none.
 pub(crate) fn line_in(alloc: Global, matches: &ArgMatches<'_>) -> Result<Line, LineFault>
     ensures ok { IfOk result (λ l. request_in (found_of matches.now) ≡ Some l) }
     ensures usage { result ≡ Err LineFault.Usage → request_in (found_of matches.now) ≡ None }
@@ -93,6 +93,7 @@ pub(crate) fn line_in(alloc: Global, matches: &ArgMatches<'_>) -> Result<Line, L
     }
 }
 
+// The command that the words name; `None` if they name none or there is no such command.
 fn given_command(matches: &ArgMatches<'_>) -> Option<Command>
     ensures { result
         ≡ option_and_then command_named (first_value (found_of matches.now) (codes "command")) }
@@ -103,6 +104,7 @@ fn given_command(matches: &ArgMatches<'_>) -> Option<Command>
     }
 }
 
+// The output type that the words name, f if they name none; `None` if there is no such type.
 fn given_type(matches: &ArgMatches<'_>) -> Option<OutType>
     ensures { result
         ≡ option_map_or type_named (first_value (found_of matches.now) (codes "type"))
@@ -114,6 +116,7 @@ fn given_type(matches: &ArgMatches<'_>) -> Option<OutType>
     }
 }
 
+// Whether comments are left out: `false` if no word says so, `None` if the value is not `eat`.
 fn given_eat(matches: &ArgMatches<'_>) -> Option<bool>
     ensures { result
         ≡ option_map_or eat_named (first_value (found_of matches.now) (codes "eat")) (Some false) }
@@ -124,6 +127,7 @@ fn given_eat(matches: &ArgMatches<'_>) -> Option<bool>
     }
 }
 
+// The choice among covers: by literals if `--literals` is there, and else the first.
 fn given_choice(matches: &ArgMatches<'_>) -> Choice
     ensures { result ≡ choice_in (found_of matches.now) }
 {
@@ -133,7 +137,7 @@ fn given_choice(matches: &ArgMatches<'_>) -> Choice
     }
 }
 
-// The line of these values, if they make one.
+// The line of these values; a usage fault if one is missing or they do not fit together.
 fn line_with(
     alloc: Global,
     command: Option<Command>,
@@ -165,8 +169,8 @@ fn line_with(
     }
 }
 
-// A type and a choice that the command takes, and as many files as it takes, with standard input
-// once at most.
+// Whether the command takes this type, this choice and this many files, of which at most one is
+// standard input.
 fn is_fitting(command: Command, out: OutType, choice: Choice, files: &[&str]) -> bool
     ensures { result ≡ fits command out choice (map (λ s. s.now) files.now) }
 {
@@ -178,6 +182,7 @@ fn is_fitting(command: Command, out: OutType, choice: Choice, files: &[&str]) ->
     command.allows(out, choice) && is_count
 }
 
+// The names, copied in their order.
 fn copy_names(alloc: Global, names: &[&str]) -> Result<Vec<String>, AllocError>
     ensures { IfOk result (λ v. map string_bytes v.items ≡ map (λ s. s.now) names.now) }
 {

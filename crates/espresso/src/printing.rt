@@ -16,7 +16,7 @@ use pla::{
 };
 use std::alloc::{AllocError, Global};
 
-// The description with this list in place of its ON list, if memory was enough for it.
+// Prints the description with this list in place of its ON list; out of memory if there is no list.
 pub(crate) fn print_with<W: Output>(
     alloc: Global,
     pla: &Pla,
@@ -35,8 +35,8 @@ pub(crate) fn print_with<W: Output>(
     }
 }
 
-// The description with this list in place of its ON list, and the lists that the type prints beside
-// it.
+// Prints the description with this list in place of its ON list, and the lists that the type prints
+// beside it.
 pub(crate) fn print_lists<W: Output>(
     alloc: Global,
     pla: &Pla,
@@ -58,14 +58,15 @@ pub(crate) fn print_lists<W: Output>(
     }
 }
 
-// The lists that were computed; `None` where the description's own is printed.
+// The DC list and the OFF list to print; `None` where it is the description's own.
 #[derive(Drop)]
 struct Computed {
     dc: Option<Cover>,
     off: Option<Cover>,
 }
 
-// Those that are printed and not the description's own.
+// The DC list and the OFF list, where the rows do not give it: computed if the type prints it, and
+// else empty.
 fn computed_lists(alloc: Global, pla: &Pla, out_type: OutType) -> Result<Computed, AllocError>
     ensures dc { IfOk result
         (λ lists. unwrap_or lists.dc (record { size = pla.now.size; cubes = pla.now.dc })
@@ -85,7 +86,7 @@ fn computed_lists(alloc: Global, pla: &Pla, out_type: OutType) -> Result<Compute
     Ok(Computed { dc, off })
 }
 
-// The description with these lists.
+// Prints the description with those of these lists that the type prints.
 fn print_covers<W: Output>(
     pla: &Pla,
     out_type: OutType,
@@ -106,7 +107,7 @@ fn print_covers<W: Output>(
     }
 }
 
-// The type prints a DC list.
+// Whether the type prints a DC list.
 fn is_dc_printed(out_type: OutType) -> bool
     ensures { result ≡ prints_dc out_type }
 {
@@ -116,7 +117,7 @@ fn is_dc_printed(out_type: OutType) -> bool
     }
 }
 
-// The type prints an OFF list.
+// Whether the type prints an OFF list.
 fn is_off_printed(out_type: OutType) -> bool
     ensures { result ≡ prints_off out_type }
 {
@@ -136,7 +137,7 @@ pub(crate) fn computed_or_given<'a>(computed: &'a Option<Cover>, given: &'a Cove
     }
 }
 
-// The one text or the other, with the status that goes with it, if memory was enough to decide.
+// Prints `yes` if it holds, and else `no` and answers a no; out of memory if that was not decided.
 pub(crate) fn judge<W: Output>(
     holds: Result<bool, AllocError>,
     yes: &[u8],
@@ -154,7 +155,7 @@ pub(crate) fn judge<W: Output>(
     }
 }
 
-// A text, which ends the run so.
+// Prints a text and answers this status, or that the write failed.
 pub(crate) fn print_text<W: Output>(
     text: &[u8],
     status: Status,

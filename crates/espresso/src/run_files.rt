@@ -139,7 +139,7 @@ fn flush_last<W: Output>(out: &mut W, done: Result<Status, Failure>) -> Result<S
     }
 }
 
-// Says what stopped the run, if anything did.
+// Says what stopped the run, if anything did, and answers how it ends.
 fn report<E: Output>(
     done: Result<Status, Failure>,
     first: &[u8],

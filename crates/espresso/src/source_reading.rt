@@ -70,7 +70,8 @@ impl<O: Opener> SecondSource for O {
     }
 }
 
-// The first of these files, opened, or standard input if there is none or it is `-`.
+// The first of these files, opened, or standard input if there is none or it is `-`. A file that
+// cannot be opened is a closed source.
 pub(crate) fn open_source<O: Opener>(
     alloc: Global,
     opener: &mut O,
@@ -108,8 +109,8 @@ fn read_second<R: Input, W: Output>(
     read_source(alloc, line, Operand::Second, source, out)
 }
 
-// Reads the second source of a line whose command takes two. Its description has to be of the size
-// of the first.
+// Reads the second source of a line whose command takes two. If its description is not of the size
+// of the first, the sizes differ, which is a failure.
 pub(crate) fn read_other<S: SecondSource, W: Output>(
     alloc: Global,
     line: &Line,

@@ -124,7 +124,8 @@ fn words_in(alloc: Global, found: io::Result<Args>) -> Result<Vec<String>, LineF
     }
 }
 
-// The name of a source in messages: that of the first of these file words, or `(stdin)`.
+// The name of a source in messages: the first of these file words, or `(stdin)` if there is none or
+// it is `-`.
 pub(crate) fn name_in_messages(files: &[String]) -> &str
     ensures { result.now ≡ first_name (map string_bytes files.now) }
 {
@@ -142,8 +143,8 @@ pub fn source_name(alloc: Global, files: &[String]) -> Result<String, AllocError
     String::from_str(alloc, name_in_messages(files))
 }
 
-/// The file words after the first: of the files of a pair, what [`source_name`] takes for the
-/// second.
+/// The file words after the first, none if there is none: of the files of a pair, what
+/// [`source_name`] takes for the second.
 pub fn after_first(files: &[String]) -> &[String]
     ensures { map string_bytes result.now ≡ drop 1 (map string_bytes files.now) }
 {

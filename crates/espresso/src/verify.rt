@@ -17,7 +17,7 @@ use minimum::Choice;
 use pla::{FileType, OutType, Output, Pla, dc_unless_given};
 use std::alloc::{AllocError, Global};
 
-// Whether the two agree outside their DC-sets.
+// Prints whether the two agree outside their DC-sets, and answers a no if they do not.
 pub(crate) fn verify<W: Output>(
     alloc: Global,
     pla: &Pla,
@@ -33,7 +33,7 @@ pub(crate) fn verify<W: Output>(
     judge(agree(alloc, pla, other), yes, no, out)
 }
 
-// The DC cubes that the two list.
+// The DC cubes that the two list, those of `pla` first; a file of type f or fr lists none.
 fn listed_dc(alloc: Global, pla: &Pla, other: &Pla) -> Result<Cover, AllocError>
     requires { other.now.size ≡ pla.now.size }
     ensures { IfOk result (λ free. free ≡ record {
