@@ -37,7 +37,7 @@ fn scaled_cost(choice: Choice, literals: &[u32], one: u32, each: u32, column: us
     u64::from(one) + u64::from(each) * u64::from(cost(choice, literals, column))
 }
 
-/// The scaled cost of each column.
+/// The scaled cost of each column: `one` for itself, and `each` for each unit of its cost.
 pub(crate) fn scaled_costs(
     alloc: Global,
     choice: Choice,
@@ -87,7 +87,7 @@ pub(crate) fn columns_within_gap(
     Ok(keep)
 }
 
-/// Whether the column's slack is no more than the gap.
+/// Whether the column's slack, 0 if its load is more than its cost, is no more than the gap.
 fn is_within_gap(scaled_costs: &[u64], loads: &[u128], gap: u128, column: usize) -> bool
     ensures { result ≡ nat_le (at scaled_costs.now column - at loads.now column) gap }
 {

@@ -12,7 +12,7 @@ pub enum Choice {
     Literals,
 }
 
-/// The cost of a column under the choice: 0, or its literals.
+/// The cost of a column: 0 under `First`, its number of literals under `Literals`, 0 past the end.
 pub(crate) fn cost(choice: Choice, literals: &[u32], column: usize) -> u32
     ensures { result ≡ counted choice literals.now column }
 {

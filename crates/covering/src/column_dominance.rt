@@ -48,7 +48,7 @@ pub(crate) fn signatures_of(alloc: Global, transpose: &[Vec<usize>]) -> Result<V
     Ok(signatures)
 }
 
-/// Whether the signature of the column has all bits of the other one.
+/// Whether the signature of the column, 0 past the end, has all bits of `signature`.
 pub(crate) fn has_bits(signatures: &[u64], column: usize, signature: u64) -> bool
     ensures { result ≡ has_bits (slice_index_or signatures.now column 0) signature }
 {
@@ -130,7 +130,7 @@ fn any_dominates(
     false
 }
 
-/// The shortest of these rows; `None` for none.
+/// The number of the shortest of the rows `among`, the first of several; `None` for none.
 pub(crate) fn shortest_row(rows: &[Vec<usize>], among: &[usize]) -> Option<usize>
     ensures { MatchOption result (among.now ≡ []) (λ i. has i among.now ≡ true) }
 {
@@ -228,7 +228,8 @@ fn column_dominance(
 }
 
 impl Table {
-    /// Drops each column that another dominates; answers whether there was one.
+    /// Drops each column that another dominates which costs less, or as much and has a smaller
+    /// number; answers whether there was one.
     pub(crate) fn drop_dominated_columns(
         &mut self,
         alloc: Global,

@@ -12,6 +12,7 @@ ghost use Rattle.covering.specs.Search.{is_blank};
 use crate::marks::{all_but_each, with_unmarked};
 use std::alloc::{AllocError, Global};
 
+/// Whether the list, in any order, has the column.
 pub(crate) fn contains(row: &[usize], column: usize) -> bool
     ensures { result ≡ has column row.now }
 {
@@ -23,6 +24,7 @@ pub(crate) fn contains(row: &[usize], column: usize) -> bool
     false
 }
 
+/// Whether the row has a column of the list; neither has to rise.
 pub(crate) fn meets(columns: &[usize], row: &[usize]) -> bool
     ensures { result ≡ meets columns.now row.now }
 {
@@ -34,6 +36,7 @@ pub(crate) fn meets(columns: &[usize], row: &[usize]) -> bool
     false
 }
 
+/// Whether each row has a column of the list, which need not rise.
 pub(crate) fn all_met(columns: &[usize], rows: &[Vec<usize>]) -> bool
     ensures { result ≡ list_all (λ row. meets columns.now row.items) rows.now }
 {
@@ -52,6 +55,7 @@ pub fn copy_of(alloc: Global, xs: &[usize]) -> Result<Vec<usize>, AllocError>
     xs.to_vec(alloc)
 }
 
+/// The rising list with the column at its place; a copy if it has it already.
 pub(crate) fn with_column(
     alloc: Global,
     xs: &[usize],
@@ -70,7 +74,7 @@ pub(crate) fn with_column(
     }
 }
 
-/// A number above all of these, the next one after the highest; `None` if there is none.
+/// The number after the highest of these, 0 for an empty list; `None` if there is none after it.
 fn end_of(numbers: &[usize]) -> Option<usize>
     ensures { IfSome result (λ end. (n : ℕ) → has n numbers.now ≡ true → n < end) }
 {
@@ -84,7 +88,8 @@ fn end_of(numbers: &[usize]) -> Option<usize>
     Some(end)
 }
 
-/// The rising list of both: they are marked, and the marks are read in order.
+/// The rising list of the numbers of both, each once; `choice` need not rise. They are marked, and
+/// the marks are read in order, so that the highest number decides the cost.
 pub(crate) fn union_of(
     alloc: Global,
     taken: &[usize],
@@ -112,7 +117,7 @@ pub(crate) fn rising_contains(row: &[usize], number: usize) -> bool
     row.binary_search(&number).is_ok()
 }
 
-/// Whether the row has a column of the list, which rises.
+/// Whether the row, in any order, has a column of the list, which rises.
 fn rising_meets(columns: &[usize], row: &[usize]) -> bool
     requires { RisesFrom 0 columns.now }
     ensures { result ≡ meets columns.now row.now }
@@ -164,7 +169,7 @@ pub(crate) fn is_rising_within(row: &[usize], other: &[usize]) -> bool
     is_within(row, other)
 }
 
-/// Whether the numbers rise and are below `end`.
+/// Whether each number is above the one before, and all are below `end`.
 pub(crate) fn rises(row: &[usize], end: usize) -> bool
     ensures { result ≡ is_rising end 0 row.now }
 {
@@ -178,7 +183,7 @@ pub(crate) fn rises(row: &[usize], end: usize) -> bool
     true
 }
 
-/// The numbers below the end.
+/// The rising list of all numbers below the end, from 0.
 pub fn numbers(alloc: Global, end: usize) -> Result<Vec<usize>, AllocError>
     ensures { IfOk result (λ v. v.items ≡ range_with_len 0 end) }
 {
@@ -196,7 +201,7 @@ pub(crate) fn entry(lists: &[Vec<usize>], place: usize) -> &[usize]
     }
 }
 
-/// Whether there is no number.
+/// Whether the list is empty.
 pub fn is_blank(row: &[usize]) -> bool
     ensures { result ≡ is_blank row.now }
 {

@@ -14,6 +14,7 @@ use crate::table::Table;
 use itertools::{Combinations, Itertools};
 use std::alloc::{AllocError, Global};
 
+/// The choices of `size` of the live columns, one by one, in list order; none if they are fewer.
 fn live_choices(
     alloc: Global,
     live: &[usize],
@@ -27,7 +28,7 @@ fn live_choices(
     live.iter().copied().combinations(alloc, size)
 }
 
-/// The one that costs less, and the earlier of two that cost the same.
+/// The one of the two that costs less, `best` if they cost the same; `chosen` if there is no best.
 fn better_of(
     choice: Choice,
     literals: &[u32],
@@ -47,7 +48,8 @@ fn better_of(
     }
 }
 
-/// The best choice of so many live columns that has a column of each row.
+/// The cheapest choice of so many live columns that has a column of each row, the first of several;
+/// `None` if no choice has.
 fn best_choice(
     alloc: Global,
     choice: Choice,
@@ -71,7 +73,8 @@ fn best_choice(
 }
 
 impl Table {
-    /// The best choice of so many live columns that has a column of each row.
+    /// The cheapest choice of so many live columns that has a column of each row, the first of
+    /// several; `None` if no choice has.
     fn best_choice(
         &self,
         alloc: Global,

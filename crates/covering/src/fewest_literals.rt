@@ -12,8 +12,8 @@ use std::alloc::{AllocError, Global};
 use warm_start::WarmStart;
 
 impl Table {
-    /// A cover of `columns` columns with fewer literals; `None` if every cover is longer or has as
-    /// many.
+    /// A cover of no more than `columns` columns with fewer than `literals` literals; `None` if
+    /// there is none.
     fn cover_with_fewer_literals(
         &self,
         alloc: Global,

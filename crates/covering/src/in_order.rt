@@ -57,8 +57,9 @@ impl Partial {
         }
     }
 
-    /// Drops a batch of columns if no cover within the budget has one of them; else there is a new
-    /// witness.
+    /// Drops a batch of live columns, from `column` on, if no cover within the budget has one of
+    /// them; else such a cover is the witness. Nothing changes if they are fewer than two or the
+    /// question is given up.
     fn ask_for_many(
         mut self,
         alloc: Global,
@@ -95,7 +96,7 @@ impl Partial {
         }
     }
 
-    /// Takes the first live column if some cover within the budget has it, and else drops it.
+    /// Takes `column`, the first live one, if a cover within the budget has it, and else drops it.
     fn ask_for_one(
         mut self,
         alloc: Global,
@@ -172,7 +173,8 @@ impl Partial {
         }
     }
 
-    /// The reduced table, where it is worth a reduction and a local search finds a cover of it.
+    /// The reduced table and a cover of it that a local search finds; unchanged where it is not
+    /// worth a reduction or no cover within the budget is found.
     fn reduce(
         self,
         alloc: Global,
@@ -197,7 +199,7 @@ impl Partial {
         }
     }
 
-    /// Takes or drops the column, which is the first that may be live.
+    /// Takes or drops the column, if it is live; none before it is. Others may be dropped too.
     fn decide_column(
         self,
         alloc: Global,
@@ -228,7 +230,7 @@ impl Partial {
 }
 
 impl Table {
-    /// The first of the best covers, from one of them.
+    /// The first of the best covers in list order, from `best`, which is one of them.
     pub(crate) fn first_of(
         &self,
         alloc: Global,

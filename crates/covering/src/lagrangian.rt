@@ -26,7 +26,7 @@ pub(crate) struct Loads {
     pub(crate) over: u128,
 }
 
-/// Adds the weight to the load of each column of the row.
+/// Adds the weight to the load of each column of the row, but for columns past the end.
 fn charge(loads: &mut Vec<u128>, row: &[usize], weight: u64)
     requires rises { RisesFrom 0 row.now }
     requires fits { (c : ℕ) → at loads.old.items c + weight < 2 ^ 128 }

@@ -9,8 +9,9 @@ pub fn least_is_unique()
     ensures { LeastIsUnique }
 {}
 
-/// What weights of rows, also overloading ones, say of each list with a column of
-/// each row.
+/// The weight of all rows is at most the scaled costs of a list with a column of each row plus all
+/// overloads, for any weights, also overloading ones. The slack of a column of the list, or the
+/// overload of one outside it, can be added to the weight.
 pub fn weights_bound_covers()
     ensures { LagrangianHolds }
 {}

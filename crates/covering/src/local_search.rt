@@ -29,7 +29,7 @@ fn is_chosen(taken: &[usize], live: &[usize], marks: &[bool], column: usize) -> 
     rising_contains(taken, column) || (is_marked(marks, column) && rising_contains(live, column))
 }
 
-/// The marked numbers of the second list and all of the first, below the end.
+/// The rising list of the taken columns and the marked live ones, below the end.
 fn taken_and_marked(
     alloc: Global,
     taken: &[usize],
@@ -52,7 +52,8 @@ fn taken_and_marked(
 }
 
 impl Table {
-    /// The cover of the taken columns and the marked live ones, if it is one and within the budget.
+    /// The rising list of the taken columns and the marked live ones; `None` if it is no cover or
+    /// not within the budget.
     fn cover_from_marks(
         &self,
         alloc: Global,
@@ -82,7 +83,8 @@ impl Table {
         Ok(Some(cover))
     }
 
-    /// A cover within the budget, if a local search of so many steps finds one.
+    /// A cover within the budget, if a local search of so many steps finds one; `None` does not say
+    /// that there is none. It starts with the live columns of the hint, and ends early at the goal.
     pub(crate) fn find_by_local_search(
         &self,
         alloc: Global,

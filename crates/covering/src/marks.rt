@@ -10,7 +10,8 @@ use crate::columns::copy_of;
 use crate::table::copy_rows;
 use std::alloc::{AllocError, Global};
 
-/// The complement of the marks.
+/// The complement of the marks, for each place below the end: `true` where there is none, also past
+/// the marks.
 pub(crate) fn others(alloc: Global, marks: &[bool], end: usize) -> Result<Vec<bool>, AllocError>
     ensures { IfOk result (λ v. v.items ≡ map (λ c. not (marked marks.now c))
         (range_with_len 0 end)) }
@@ -22,7 +23,7 @@ pub(crate) fn others(alloc: Global, marks: &[bool], end: usize) -> Result<Vec<bo
     Ok(others)
 }
 
-/// Marks all but one.
+/// Marks all places below the end but `column`; all of them if that is past the end.
 pub(crate) fn all_but(alloc: Global, column: usize, end: usize) -> Result<Vec<bool>, AllocError>
     ensures { IfOk result (λ v. v.items ≡ map (λ c. not (c == column)) (range_with_len 0 end)) }
 {
@@ -31,7 +32,7 @@ pub(crate) fn all_but(alloc: Global, column: usize, end: usize) -> Result<Vec<bo
     Ok(others)
 }
 
-/// Marks all but these.
+/// Marks all places below the end but these columns, some of which may be past the end.
 pub(crate) fn all_but_each(
     alloc: Global,
     columns: &[usize],
@@ -46,7 +47,8 @@ pub(crate) fn all_but_each(
     Ok(keep)
 }
 
-/// The rising list of the taken columns and the unmarked ones.
+/// The rising list of the taken columns and the unmarked ones, below `columns`; past the end of
+/// `keep` all are unmarked.
 pub(crate) fn with_unmarked(
     alloc: Global,
     taken: &[usize],
@@ -69,7 +71,7 @@ pub(crate) fn with_unmarked(
     Ok(unmarked)
 }
 
-/// Takes the mark from the place.
+/// Takes the mark from the place, if it has one; nothing past the end.
 pub fn unmark(marks: &mut Vec<bool>, place: usize)
     ensures { Unmarks marks.old.items place marks.new.items }
 {
@@ -78,6 +80,7 @@ pub fn unmark(marks: &mut Vec<bool>, place: usize)
     }
 }
 
+/// Whether each column of the row is marked; `true` for an empty row.
 pub(crate) fn all_kept(row: &[usize], keep: &[bool]) -> bool
     ensures { result ≡ list_all (marked keep.now) row.now }
 {
@@ -89,7 +92,7 @@ pub(crate) fn all_kept(row: &[usize], keep: &[bool]) -> bool
     true
 }
 
-/// The rows whose columns are all marked.
+/// Copies of the rows whose columns are all marked, in order.
 pub(crate) fn untouched_rows(
     alloc: Global,
     rows: &[Vec<usize>],
@@ -111,7 +114,7 @@ pub(crate) fn retain_untouched_rows(rows: &mut Vec<Vec<usize>>, keep: &[bool])
     rows.retain(|row| all_kept(row, keep));
 }
 
-/// Keeps the marked rows.
+/// Keeps the rows whose number is marked, in order.
 pub(crate) fn retain_marked_rows(rows: &mut Vec<Vec<usize>>, stay: &[bool])
     ensures { items_of rows.new.items
         ≡ rows_from (marked stay.now) 0 (items_of rows.old.items) }
@@ -126,7 +129,7 @@ pub(crate) fn retain_marked_rows(rows: &mut Vec<Vec<usize>>, stay: &[bool])
     rows.truncate(kept);
 }
 
-/// Whether the place has a mark.
+/// Whether the place has a mark; `false` past the end.
 pub fn is_marked(marks: &[bool], place: usize) -> bool
     ensures { result ≡ marked marks.now place }
 {
@@ -137,7 +140,7 @@ pub fn is_marked(marks: &[bool], place: usize) -> bool
     }
 }
 
-/// Whether each place has a mark.
+/// Whether each place has a mark; `true` for none.
 pub(crate) fn is_full(marks: &[bool]) -> bool
     ensures { result ≡ list_all (λ mark. mark) marks.now }
 {
@@ -156,6 +159,7 @@ pub fn all_marked(alloc: Global, end: usize) -> Result<Vec<bool>, AllocError>
     vec![in alloc; true; end]
 }
 
+/// The columns of the list that are marked, in order.
 pub(crate) fn marked_columns(
     alloc: Global,
     xs: &[usize],
@@ -175,7 +179,7 @@ pub(crate) fn retain_marked(columns: &mut Vec<usize>, keep: &[bool])
     columns.retain(|column| is_marked(keep, *column));
 }
 
-/// Keeps the marked columns of each row.
+/// Keeps the marked columns of each row, which may leave a row empty.
 pub(crate) fn retain_marked_in_rows(rows: &mut Vec<Vec<usize>>, keep: &[bool])
     ensures { items_of rows.new.items
         ≡ map (filter (marked keep.now)) (items_of rows.old.items) }

@@ -49,7 +49,8 @@ fn are_apart(rows: &[Vec<usize>], marks: &[bool], others: &[bool]) -> bool
 }
 
 impl Table {
-    /// The marked live columns with the rows that have no others; its taken columns are these.
+    /// The table of the marked live columns and the rows that have no others, with these taken
+    /// columns.
     fn part(&self, alloc: Global, taken: Vec<usize>, marks: &[bool]) -> Result<Table, AllocError>
         requires rises { RisesFrom 0 taken.items }
         requires taken { IsWithin taken.items self.now.taken }
@@ -60,8 +61,8 @@ impl Table {
         self.with(alloc, taken, live, rows)
     }
 
-    /// If the rows fall into parts that share no column: two tables of whole parts, each with about
-    /// half of the rows unless one part has more.
+    /// Two tables of whole parts that share no column, each with about half of the rows unless one
+    /// part has more; `one` has the taken columns. `None` if a hint does not show such parts.
     fn parts(&self, alloc: Global) -> Result<Option<Parts>, AllocError>
         ensures { IfOk result (λ o. IfSome o (λ p. AreParts self.now p.one p.other)) }
     {
@@ -82,7 +83,8 @@ impl Table {
         Ok(Some(Parts { one, other }))
     }
 
-    /// The least cover, by a renumbered table, which is cheaper if many columns are not live.
+    /// The least cover, by a renumbered table, which is cheaper if many columns are not live. Adds
+    /// the work to `effort`.
     #[cycle(parts)]
     pub(crate) fn least_renumbered(
         &self,
@@ -101,7 +103,8 @@ impl Table {
         }
     }
 
-    /// The least cover, of each part by itself.
+    /// The least cover, of each part by itself, or of the whole if there are no parts. Adds the
+    /// work to `effort`.
     #[cycle(parts)]
     fn least_by_parts(
         &self,

@@ -73,8 +73,9 @@ impl Questions {
         }
     }
 
-    /// Whether to reduce the undecided columns, so many of which are live: after some tables, or
-    /// once an eighth of the columns is gone.
+    /// Whether to reduce the undecided columns, so many of which are live: some tables after the
+    /// last reduction, once an eighth of the columns that it left is gone, or if there was none
+    /// yet.
     pub(crate) fn is_worth_a_reduction(&self, live: usize) -> bool {
         let tables = self.warm_start.effort().tables.saturating_sub(self.tables);
         tables >= TABLES_TO_REDUCE || is_worth_a_bound(self.live, live)
@@ -86,7 +87,8 @@ impl Questions {
         self.live = live;
     }
 
-    /// Notes that the length is known; `before` is the work before it was looked for.
+    /// Notes that the length is known; `before` is the work before it was looked for. If it was
+    /// hard to find the next batch has one column.
     pub(crate) fn note_length(&mut self, before: Effort) {
         if self.tables_since(before) >= HARD_LENGTH {
             self.hard = true;
@@ -94,7 +96,7 @@ impl Questions {
         }
     }
 
-    /// How many tables were looked at since then.
+    /// How many tables were looked at after the work `before`.
     fn tables_since(&self, before: Effort) -> u64 {
         let tables = self.warm_start.effort().tables;
         tables.saturating_sub(before.tables)
@@ -123,8 +125,8 @@ impl Questions {
         }
     }
 
-    /// A cover within the budget, or none if there is none; branches into no more than
-    /// `most_tables` tables.
+    /// A cover of the table within the budget, or none if there is none; branches into no more than
+    /// `most_tables` tables, and is `Spent` if they do not suffice. Learns for the next question.
     pub(crate) fn ask(
         &mut self,
         alloc: Global,
@@ -156,9 +158,9 @@ impl Questions {
         Ok(witness)
     }
 
-    /// What `ask` answers, if it takes no more than `BATCH_TABLES` tables; else `None`. A cover
-    /// that has one of many columns can be far harder to rule out than a cover that has the first
-    /// of them.
+    /// What `ask` answers, if it takes no more than `BATCH_TABLES` tables; else `None`, and the
+    /// next batch has one column. A cover that has one of many columns can be far harder to rule
+    /// out than a cover that has the first of them.
     fn ask_briefly(
         &mut self,
         alloc: Global,
@@ -199,6 +201,7 @@ impl Questions {
 }
 
 impl Table {
+    /// The table with a further row: a rising list of live columns, at least one.
     fn with_row(&self, alloc: Global, row: Vec<usize>) -> Result<Table, AllocError>
         requires some { row.items ≢ [] }
         requires rises { RisesFrom 0 row.items }

@@ -50,7 +50,9 @@ fn inessential_columns(
 /// one lost a column, and a column to be in all rows of another only where that one lost a row.
 #[derive(Clone, Copy)]
 pub(crate) struct Due {
+    /// Whether the pass that drops rows is due.
     rows: bool,
+    /// Whether the pass that drops columns is due.
     columns: bool,
 }
 
@@ -61,13 +63,13 @@ impl Due {
         columns: true,
     };
 
-    /// Those of a reduced table that lost rows.
+    /// The pass that drops columns: that of a reduced table that lost rows.
     pub(crate) const COLUMNS: Due = Due {
         rows: false,
         columns: true,
     };
 
-    /// Those of a reduced table that lost columns.
+    /// The pass that drops rows: that of a reduced table that lost columns.
     pub(crate) const ROWS: Due = Due {
         rows: true,
         columns: false,
@@ -75,7 +77,8 @@ impl Due {
 }
 
 impl Table {
-    /// Takes each column that is the only one of a row; answers whether there was one.
+    /// Takes each column that is the only one of a row, and drops the rows that have it; answers
+    /// whether there was one.
     fn take_essential_columns(&mut self, alloc: Global) -> Result<bool, AllocError>
         ensures taken { (choice : Choice) → IfOk result (λ is_changed. MatchBool is_changed
             (Shrinks choice self.old self.new)
@@ -92,7 +95,8 @@ impl Table {
         Ok(true)
     }
 
-    /// Drops each row that has all columns of another, if that is due; answers whether there was one.
+    /// Drops each row that has all columns of another, if that is due; answers whether there was
+    /// one. Then it is not due, and the pass that drops columns is if rows were dropped.
     fn drop_rows_if_due(
         &mut self,
         alloc: Global,
@@ -113,8 +117,9 @@ impl Table {
         Ok(is_changed)
     }
 
-    /// Drops each column that another dominates which costs no more, if that is due; answers whether
-    /// there was one.
+    /// Drops each column that another dominates which costs no more, if that is due; answers
+    /// whether there was one. Then it is not due, and the pass that drops rows is if columns were
+    /// dropped.
     fn drop_columns_if_due(
         &mut self,
         alloc: Global,
@@ -181,7 +186,7 @@ impl Table {
         }
     }
 
-    /// The cyclic core: the table after all passes.
+    /// The cyclic core: a copy of the table after all passes.
     pub(crate) fn cyclic_core(&self, alloc: Global, choice: Choice) -> Result<Table, AllocError>
         ensures steps { IfOk result (Steps choice self.now) }
         ensures table { IsTable self.now }

@@ -74,7 +74,7 @@ fn numbers_of_rows(
     Ok(Some(lists))
 }
 
-/// The columns with these numbers.
+/// The live columns at these indices, in the same order; 0 for an index past the end.
 fn columns_of(alloc: Global, live: &[usize], numbers: &[usize]) -> Result<Vec<usize>, AllocError>
     ensures { IfOk result (λ v. v.items ≡ map (pick live.now) numbers.now) }
 {
@@ -85,7 +85,7 @@ fn columns_of(alloc: Global, live: &[usize], numbers: &[usize]) -> Result<Vec<us
     Ok(columns)
 }
 
-/// The literals of the columns.
+/// The number of literals of each live column, in their order.
 fn literals_of(alloc: Global, literals: &[u32], live: &[usize]) -> Result<Vec<u32>, AllocError>
     ensures { IfOk result (λ v. v.items ≡ map (λ c. slice_index_or literals.now c 0) live.now) }
 {
@@ -97,7 +97,8 @@ fn literals_of(alloc: Global, literals: &[u32], live: &[usize]) -> Result<Vec<u3
 }
 
 impl Table {
-    /// The renumbered table, if the table has columns that are not live.
+    /// The table of the rows with each column as its index in the live ones, none of them taken;
+    /// `None` if all columns are live.
     pub(crate) fn renumber(&self, alloc: Global) -> Result<Option<Table>, AllocError>
         ensures { IfOk result (λ o. IfSome o (IsRenumbered self.now)) }
     {
@@ -112,7 +113,7 @@ impl Table {
         Table::new(alloc, rows, literals)
     }
 
-    /// The taken columns and those that have these numbers.
+    /// The rising list of the taken columns and the live ones at these indices.
     pub(crate) fn cover_of_numbers(
         &self,
         alloc: Global,

@@ -14,7 +14,7 @@ use crate::marks::{all_marked, is_full, is_marked, retain_marked_rows, unmark};
 use crate::table::Table;
 use std::alloc::{AllocError, Global};
 
-/// The column of the row that is in the fewest rows.
+/// The column of the row that is in the fewest rows, the first of several; 0 for an empty row.
 fn rarest(transpose: &[Vec<usize>], row: &[usize]) -> usize
     ensures { row.now ≢ [] → has result row.now ≡ true }
 {
@@ -30,7 +30,7 @@ fn rarest(transpose: &[Vec<usize>], row: &[usize]) -> usize
     rarest
 }
 
-/// Whether the row is another than the one at `at` and has all its columns.
+/// Whether the row `number` is another than the row `at` and has all its columns.
 fn is_dominating_row(rows: &[Vec<usize>], at: usize, number: usize) -> bool
     requires { AreRising (items_of rows.now) }
     ensures { result ≡ is_dominating_row (items_of rows.now) at number }

@@ -27,17 +27,17 @@ use warm_start::{WarmStart, is_worth_a_bound};
 /// More tables than any search looks at.
 pub(crate) const UNLIMITED: u64 = u64::MAX;
 
-/// A brief look with the linear relaxation is at no more than so many tables,
+/// A brief look with the linear relaxation is at no more than so many tables.
 const BRIEF_TABLES: u64 = 40;
 
-/// after a local search of this part of the steps that one before a long look takes.
+/// A local search before a brief look takes the steps of one before a long look, divided by this.
 const BRIEF_PART: usize = 8;
 
 /// A local search near the last cover takes three steps a row, and no more than so many: in a large table
 /// what a question changes is near what it asks for.
 const MOST_STEPS_NEAR: usize = 1_000;
 
-/// One in the reduced table takes twelve steps a row, and no more than so many.
+/// A local search in the reduced table takes twelve steps a row, and no more than so many.
 const MOST_STEPS_REDUCED: usize = 5_000;
 
 /// How many steps a local search near the last cover takes in a table of so many rows.
@@ -111,7 +111,8 @@ impl Table {
         total_cost(choice, self.literals(), self.taken_columns()) > budget.cost
     }
 
-    /// The budget less the taken columns: what a cover within it may have beside these.
+    /// The budget less the taken columns: what a cover within it may have beside these; 0 where
+    /// they go past it.
     fn remaining_budget(&self, choice: Choice, budget: Budget) -> Budget
         ensures columns { result.columns ≡ budget.columns - length self.now.taken }
         ensures cost { result.cost ≡ budget.cost
@@ -126,7 +127,8 @@ impl Table {
         }
     }
 
-    /// What is left of the budget, as hints take it.
+    /// What is left of the budget beside the taken columns, as hints take it: a number that is too
+    /// large for them is the largest.
     pub(crate) fn goal(&self, choice: Choice, budget: Budget) -> Goal {
         let rest = self.remaining_budget(choice, budget);
         Goal {
@@ -135,7 +137,7 @@ impl Table {
         }
     }
 
-    /// The live columns and the rows, for hints.
+    /// The rows with the live columns as their indices, and what each of these costs, for hints.
     pub(crate) fn compact(&self, alloc: Global, choice: Choice) -> Result<Compact, AllocError>
         ensures { IsTable self.now }
     {
@@ -223,7 +225,7 @@ impl Table {
     }
 
     /// The table without the columns that no cover within the budget has, as far as row weights
-    /// show.
+    /// show; `None` if they show that there is no such cover.
     fn drop_by_bound(
         self,
         alloc: Global,
@@ -243,8 +245,9 @@ impl Table {
         Ok(self.keep_marked(&keep))
     }
 
-    /// The table as far as a search within the budget has to look at it; `None` if there is no
-    /// cover.
+    /// The table as far as a search within the budget has to look at it, after the passes that are
+    /// due and the bound by row weights; `None` if these show that there is no such cover. The
+    /// lists are memory for the rows of each column.
     fn prune(
         self,
         alloc: Global,
@@ -274,7 +277,7 @@ impl Table {
     }
 
     /// A live column to branch on: one that the linear relaxation tells, or the likeliest one of a
-    /// short row whose columns are in many rows.
+    /// short row whose columns are in many rows; `None` if no column is live.
     fn branching_column(
         &self,
         alloc: Global,
@@ -300,9 +303,10 @@ impl Table {
         Ok(self.live.first().copied())
     }
 
-    /// A cover within the budget, or none if there is none: prunes, first by the passes that are due,
-    /// and branches. It looks at no more than `tables_left` tables, and subtracts those that it looked
-    /// at. What it learns of row weights goes back to the warm start once it is over.
+    /// A cover within the budget, or none if there is none: prunes, first by the passes that are
+    /// due, and branches. It looks at no more than `tables_left` tables, subtracts those that it
+    /// looked at, and is `Spent` if they do not suffice. What it learns of row weights goes back to
+    /// the warm start.
     #[cycle(search)]
     fn search(
         self,
@@ -333,7 +337,8 @@ impl Table {
     }
 
     /// A cover within the budget, or none if there is none: branches on a live column, which is
-    /// first taken, and dropped if no such cover has it.
+    /// first taken, and dropped if no such cover has it. Subtracts the tables that it branches into
+    /// from `tables_left`, and is `Spent` if they do not suffice.
     #[cycle(search)]
     fn branch(
         &self,
@@ -409,7 +414,8 @@ impl Table {
         warm_start.relax(alloc, &compact, live, rows, self.columns())
     }
 
-    /// A cover within the budget, or none if there is none: a search with the linear relaxation.
+    /// A cover within the budget, or none if there is none: a search with the linear relaxation,
+    /// which is `Spent` if `most_tables` tables do not suffice.
     fn search_with_relaxation(
         self,
         alloc: Global,
@@ -433,8 +439,9 @@ impl Table {
         found
     }
 
-    /// A cover within the budget, or none if there is none: a local search of `steps` steps a row looks
-    /// for one, and then a search with the linear relaxation.
+    /// A cover within the budget, or none if there is none: a local search of `steps` steps a row
+    /// looks for one, and then a search with the linear relaxation, of no more than `most_tables`
+    /// tables.
     fn find_or_refute_by_relaxation(
         &self,
         alloc: Global,
@@ -458,8 +465,8 @@ impl Table {
         copy.search_with_relaxation(alloc, choice, budget, warm_start, most_tables, lists)
     }
 
-    /// A cover within the budget, or none if there is none: a brief look, which mostly is enough, and
-    /// then a long one.
+    /// A cover within the budget, or none if there is none: a brief look, which mostly is enough,
+    /// and then a long one, of no more than `most_tables` tables.
     fn find_or_refute_in_two_looks(
         &self,
         alloc: Global,
@@ -495,7 +502,9 @@ impl Table {
         )
     }
 
-    /// A cover within the budget, or none if there is none, where a search did not end soon.
+    /// A cover within the budget, or none if there is none, where a search did not end soon: the
+    /// table is pruned, and then looked at with the linear relaxation, in no more than
+    /// `most_tables` tables.
     fn find_or_refute_with_relaxation(
         self,
         alloc: Global,

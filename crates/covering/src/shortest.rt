@@ -84,7 +84,7 @@ impl Table {
         self.some_cover(alloc, choice, least, 20)
     }
 
-    /// A cover of the least length.
+    /// A cover of the least length; the choice only sets the costs of the first local search.
     pub(crate) fn shortest_cover(
         &self,
         alloc: Global,

@@ -14,6 +14,7 @@ use crate::marks::{all_but, retain_marked, retain_marked_in_rows};
 use crate::table::Table;
 use std::alloc::{AllocError, Global};
 
+/// The list without the column, in the same order.
 fn without_column(alloc: Global, xs: &[usize], column: usize) -> Result<Vec<usize>, AllocError>
     ensures { IfOk result (λ v. v.items ≡ without column xs.now) }
 {
@@ -26,6 +27,7 @@ fn without_column(alloc: Global, xs: &[usize], column: usize) -> Result<Vec<usiz
     Ok(others)
 }
 
+/// Copies of the rows that do not have the column, in order.
 fn rows_lacking(
     alloc: Global,
     rows: &[Vec<usize>],
@@ -43,6 +45,7 @@ fn rows_lacking(
     Ok(kept)
 }
 
+/// Whether a row is empty.
 fn any_blank(rows: &[Vec<usize>]) -> bool
     ensures { result ≡ list_any (λ row. is_blank row.items) rows.now }
 {
@@ -55,6 +58,7 @@ fn any_blank(rows: &[Vec<usize>]) -> bool
 }
 
 impl Table {
+    /// Whether no row is left, so that the taken columns are a cover.
     pub(crate) fn is_solved(&self) -> bool
         ensures solved { IsTrue result ↔ (self.now.rows ≡ []) }
         ensures table { IsTable self.now }
@@ -62,6 +66,7 @@ impl Table {
         self.rows.is_empty()
     }
 
+    /// The table with the live column taken, without the rows that have it.
     pub(crate) fn take(&self, alloc: Global, column: usize) -> Result<Table, AllocError>
         requires { has column self.now.live ≡ true }
         ensures taken { IfOk result (λ t. t ≡ take_column column self.now) }
@@ -73,7 +78,7 @@ impl Table {
         self.with(alloc, taken, live, rows)
     }
 
-    /// The table without a live column, where each row keeps one.
+    /// The table without a live column; `None` if some row has no other.
     pub(crate) fn drop_live(
         &self,
         alloc: Global,
@@ -87,7 +92,7 @@ impl Table {
         Ok(copy.keep_marked(&keep))
     }
 
-    /// The table with no columns but the marked ones, where each row keeps one.
+    /// The table with no live columns but the marked ones; `None` if a row would have none left.
     pub(crate) fn keep_marked(self, keep: &[bool]) -> Option<Table>
         ensures { MatchOption result (list_any is_blank
             (map (filter (marked keep.now)) self.rows) ≡ true)

@@ -8,6 +8,7 @@ use crate::columns::{contains, copy_of, numbers, rises};
 use std::alloc::{AllocError, Global};
 use std::marker::Model;
 
+/// Whether the row has a column, rises and is below `columns`.
 fn is_row(row: &[usize], columns: usize) -> bool
     ensures { result ≡ is_row columns row.now }
 {
@@ -26,6 +27,7 @@ fn are_rows(rows: &[Vec<usize>], columns: usize) -> bool
     true
 }
 
+/// A copy of the rows.
 pub(crate) fn copy_rows(alloc: Global, rows: &[Vec<usize>]) -> Result<Vec<Vec<usize>>, AllocError>
     ensures { IfOk result (λ v. items_of v.items ≡ items_of rows.now) }
 {
@@ -124,7 +126,7 @@ impl Table {
         contains(&self.taken, i)
     }
 
-    /// Whether a cover may still have the column or not.
+    /// Whether the column is live: neither taken nor dropped.
     pub fn is_live(&self, i: usize) -> bool
         requires { i < self.now.columns }
         ensures { result ≡ has i self.now.live }
@@ -132,6 +134,7 @@ impl Table {
         contains(&self.live, i)
     }
 
+    /// The columns that every cover has, rising.
     pub(crate) fn taken_columns(&self) -> &[usize]
         ensures value { result.now ≡ self.now.taken }
         ensures table { IsTable self.now }
@@ -139,6 +142,7 @@ impl Table {
         &self.taken
     }
 
+    /// The columns still open, rising.
     pub(crate) fn live_columns(&self) -> &[usize]
         ensures value { result.now ≡ self.now.live }
         ensures table { IsTable self.now }
@@ -146,6 +150,7 @@ impl Table {
         &self.live
     }
 
+    /// The rows not covered yet, each a rising list of live columns.
     pub(crate) fn row_lists(&self) -> &[Vec<usize>]
         ensures value { items_of result.now ≡ self.now.rows }
         ensures table { IsTable self.now }
@@ -153,6 +158,7 @@ impl Table {
         &self.rows
     }
 
+    /// The number of literals of each column, live or not.
     pub(crate) fn literals(&self) -> &[u32]
         ensures value { result.now ≡ self.now.weights }
         ensures table { IsTable self.now }
@@ -160,7 +166,8 @@ impl Table {
         &self.literals
     }
 
-    /// The table with the number of columns and the literals of this one.
+    /// The table of these taken and live columns and these rows, with the number of columns and the
+    /// literals of this one.
     pub(crate) fn with(
         &self,
         alloc: Global,

@@ -8,7 +8,7 @@ use crate::table::Table;
 use heuristics::row_counts;
 use std::alloc::{AllocError, Global};
 
-/// Adds the number to the list at the place.
+/// Adds the number to the end of the list at the place; nothing past the end.
 fn append(lists: &mut Vec<Vec<usize>>, place: usize, number: usize) -> Result<(), AllocError>
     ensures { IfOk result (λ _. Appends (items_of lists.old.items) place number
         (items_of lists.new.items)) }
@@ -19,7 +19,7 @@ fn append(lists: &mut Vec<Vec<usize>>, place: usize, number: usize) -> Result<()
     Ok(())
 }
 
-/// Adds the row's number to each of its columns.
+/// Adds the row's number to the end of the list of each of its columns.
 fn enter(columns: &mut Vec<Vec<usize>>, row: &[usize], number: usize) -> Result<(), AllocError>
     requires { RisesFrom 0 row.now }
     ensures { IfOk result (λ _. Enters (items_of columns.old.items) row.now number
@@ -50,7 +50,7 @@ fn room_at(numbers: &[i64], place: usize) -> usize {
     usize::try_from(room).unwrap_or(0)
 }
 
-/// An empty list for each column, with room for as many rows as the column is likely to have.
+/// An empty list for each column, with room for its rows, which are counted first.
 fn empty_lists(
     alloc: Global,
     rows: &[Vec<usize>],
@@ -83,7 +83,8 @@ fn empty_lists_from(
     Ok(lists)
 }
 
-/// The rows of each column, in the memory of lists that are not needed any more.
+/// For each column the rising list of its rows' numbers, in the memory of `lists`, whose entries
+/// are not needed any more.
 fn transpose(
     alloc: Global,
     rows: &[Vec<usize>],
@@ -103,7 +104,8 @@ fn transpose(
 }
 
 impl Table {
-    /// The rows of each column, in the memory of lists that are not needed any more.
+    /// For each column, live or not, the rising list of its rows' numbers, in the memory of
+    /// `lists`, whose entries are not needed any more.
     pub(crate) fn transpose(
         &self,
         alloc: Global,
