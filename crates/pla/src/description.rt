@@ -160,7 +160,7 @@ impl Pla {
     }
 }
 
-// The names, borrowed.
+// The names, borrowed; `None` if there are none.
 fn lend(names: &Option<Vec<Vec<u8>>>) -> Option<&[Vec<u8>]>
     ensures { lent_names result ≡ owned_names names.now }
 {

@@ -10,10 +10,12 @@ use crate::header::{is_end, is_refused_keyword};
 use crate::line::{begins_keyword, is, keyword_code_of, keyword_of};
 use crate::writing::{WriteFault, write_bytes, write_next};
 
-/// Whether comments are passed on.
+/// Whether comments are passed on. Lines with an unknown keyword always are.
 #[derive(Clone, Copy, Debug, PartialEq, Eq)]
 pub enum Echo {
+    /// They are passed on.
     Keep,
+    /// They are left out.
     Eat,
 }
 
@@ -47,7 +49,7 @@ fn is_unknown(line: &[u8]) -> bool
     !(keyword.is_empty() || is_known(keyword))
 }
 
-/// Whether the keyword is one of this format or one that it refuses.
+/// Whether the keyword, with its dot, is one of this format or one that it refuses.
 fn is_known(keyword: &[u8]) -> bool
     ensures { result
         ≡ is_one_of (settings ++ endings ++ refused_keywords ++ codes ".p" ∷ []) keyword.now }
@@ -62,8 +64,8 @@ fn is_known(keyword: &[u8]) -> bool
         || is(keyword, b".p")
 }
 
-/// What is passed on of a line, without a line feed. `row_code` is what stands before the comment
-/// if it is a row line.
+/// What is passed on of a line, without a line feed; empty if nothing is. `row_code` is what stands
+/// before the comment if it is a row line.
 fn echo_text<'a>(echo: Echo, line: &'a [u8], row_code: &'a [u8]) -> &'a [u8]
     requires { row_code.now ≡ row_code_on line.now }
     ensures { result.now

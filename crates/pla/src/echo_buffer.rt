@@ -11,7 +11,9 @@ use std::alloc::Global;
 /// if memory is refused.
 #[derive(Drop)]
 pub struct EchoBuffer {
+    /// What is held.
     pub bytes: Vec<u8>,
+    /// What came of the writes and flushes to this buffer.
     pub calls: WriteCalls,
 }
 
@@ -26,7 +28,7 @@ impl EchoBuffer {
         }
     }
 
-    /// Writes what is held to an output, and holds nothing then.
+    /// Writes what is held to an output, and holds nothing then, even if that fails.
     ///
     /// # Errors
     ///

@@ -19,20 +19,28 @@ use std::alloc::{AllocError, Global};
 /// What the lines so far have set; none of them had a fault.
 #[derive(Drop)]
 pub struct Head {
+    /// How many lines were taken, row lines too.
     pub lines: u64,
+    /// The number that `.i` gave.
     pub inputs: Option<usize>,
+    /// The number that `.o` gave.
     pub outputs: Option<usize>,
+    /// The names that `.ilb` gave, in order.
     pub input_names: Option<Vec<Vec<u8>>>,
+    /// The names that `.ob` gave, in order.
     pub output_names: Option<Vec<Vec<u8>>>,
+    /// The type that `.type` gave.
     pub file_type: Option<FileType>,
+    /// Whether a row line had a symbol.
     pub has_symbols: bool,
+    /// Whether a line has ended the description.
     pub ended: bool,
     ghost inputs_fit: { ForSome inputs (λ n. n ≤ 1024) },
     ghost outputs_fit: { ForSome outputs (λ m. (1 ≤ m) × (m ≤ 1024)) },
     ghost lines_fit: { lines ≤ 16777216 },
 }
 
-/// The keyword of a keyword line's words.
+/// The keyword of a keyword line's words, the first of them; empty if there are none.
 fn keyword_in<'a>(words: &[&'a [u8]]) -> &'a [u8]
     ensures { result.now ≡ slice_index_or (texts words.now) 0 [] }
 {
@@ -42,7 +50,7 @@ fn keyword_in<'a>(words: &[&'a [u8]]) -> &'a [u8]
     }
 }
 
-/// The words after the keyword.
+/// The words after the keyword, which is the first.
 fn arguments_in<'a, 'b>(words: &'b [&'a [u8]]) -> &'b [&'a [u8]]
     ensures { texts result.now ≡ drop 1 (texts words.now) }
 {
@@ -59,7 +67,7 @@ fn is_other_count(count: usize, wanted: Option<usize>) -> bool
     }
 }
 
-/// The type that a word names, if it names one.
+/// The type that a word names; `None` unless it is `f`, `fd`, `fr` or `fdr`.
 fn file_type_named(word: &[u8]) -> Option<FileType>
     ensures { result ≡ type_by (word.now ∷ []) }
 {
@@ -76,7 +84,7 @@ fn file_type_named(word: &[u8]) -> Option<FileType>
     }
 }
 
-/// The type that the words name: one word that names one.
+/// The type that the words name; `None` unless they are one word that names one.
 fn file_type_of(words: &[&[u8]]) -> Option<FileType>
     ensures { result ≡ type_by (texts words.now) }
 {
@@ -97,7 +105,7 @@ fn names_of(alloc: Global, words: &[&[u8]]) -> Result<Vec<Vec<u8>>, AllocError>
     Ok(names)
 }
 
-/// Whether the description ends with this keyword.
+/// Whether the keyword ends the description: `.e` or `.end`.
 pub fn is_end(keyword: &[u8]) -> bool
     ensures { result ≡ is_one_of endings keyword.now }
 {
@@ -125,7 +133,8 @@ pub(crate) fn too_long(line: &[u8]) -> bool
     line.len() > LINE_BYTES
 }
 
-/// Whether a row has to end before this keyword.
+/// Whether the keyword stands inside a row, of which `unfinished` symbols are there. The empty one,
+/// `.e` and `.end` do not count.
 #[tactic(auto, unfolding(crate::specs::Fault::is_inside_row))]
 fn inside_row(unfinished: usize, keyword: &[u8]) -> bool
     ensures { (header : Header) → (line : List ℕ) → header.unfinished ≡ unfinished
@@ -194,7 +203,7 @@ impl Head {
         self.file_type.unwrap_or(FileType::Fd)
     }
 
-    /// Whether the next line is past the limit.
+    /// Whether as many lines were taken as may be, so that the next one is past the limit.
     #[tactic(auto, unfolding(crate::specs::Fault::is_past_limit))]
     pub fn past_limit(&self) -> bool
         ensures value { (unfinished : ℕ) → (line : List ℕ)
@@ -204,7 +213,7 @@ impl Head {
         self.lines >= LINES
     }
 
-    /// Whether the setting is given already.
+    /// Whether the keyword is that of a setting that is given already.
     #[tactic(auto, unfolding(crate::specs::Fault::is_repeated))]
     fn is_repeated(&self, keyword: &[u8]) -> bool
         ensures { (unfinished : ℕ) → (line : List ℕ) → keyword.now ≡ keyword_on line
@@ -217,7 +226,7 @@ impl Head {
             || is(keyword, b".type") && self.file_type.is_some()
     }
 
-    /// Whether names come before both numbers.
+    /// Whether the keyword is .ilb or .ob, and .i or .o has not given its number yet.
     #[tactic(auto, unfolding(crate::specs::Fault::is_name_too_early))]
     fn name_too_early(&self, keyword: &[u8]) -> bool
         ensures { (unfinished : ℕ) → (line : List ℕ) → keyword.now ≡ keyword_on line
@@ -227,7 +236,8 @@ impl Head {
             && (self.inputs.is_none() || self.outputs.is_none())
     }
 
-    /// Whether there are more or fewer names than inputs or outputs.
+    /// Whether the keyword is .ilb with more or fewer names than inputs, or .ob than outputs;
+    /// `false` if that number is not given.
     #[tactic(auto, unfolding(crate::specs::Fault::is_wrong_count))]
     fn wrong_count(&self, keyword: &[u8], arguments: &[&[u8]]) -> bool
         ensures { (unfinished : ℕ) → (line : List ℕ) → keyword.now ≡ keyword_on line
@@ -239,7 +249,7 @@ impl Head {
             || is(keyword, b".ob") && is_other_count(count, self.outputs)
     }
 
-    /// Whether a type comes after a row has begun.
+    /// Whether the keyword is .type, and a row line had a symbol before.
     #[tactic(auto, unfolding(crate::specs::Fault::is_type_too_late))]
     fn type_too_late(&self, keyword: &[u8]) -> bool
         ensures { (unfinished : ℕ) → (line : List ℕ) → keyword.now ≡ keyword_on line
@@ -248,7 +258,8 @@ impl Head {
         is(keyword, b".type") && self.has_symbols
     }
 
-    /// The first fault of a keyword line with these words.
+    /// The first fault of a keyword line with these words, before which a row has `unfinished`
+    /// symbols; `None` if it has none.
     #[tactic(auto, unfolding(crate::specs::HeadView::keyword_fault, crate::specs::Fault::is_refused))]
     pub fn keyword_fault(&self, unfinished: usize, words: &[&[u8]]) -> Option<ReadKind>
         ensures { (line : List ℕ) → texts words.now ≡ keyword_words line
@@ -283,7 +294,8 @@ impl Head {
         None
     }
 
-    /// Sets what a keyword line of these words gives; it has no fault.
+    /// Sets what a keyword line of these words gives; it has no fault. An unknown keyword sets
+    /// nothing, and neither does any if memory is refused.
     pub fn set(&mut self, alloc: Global, words: &[&[u8]]) -> Result<(), AllocError>
         ensures ok { OnOk result
             ((unfinished : ℕ) → (line : List ℕ) → texts words.now ≡ keyword_words line

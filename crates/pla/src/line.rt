@@ -7,7 +7,8 @@ ghost use Rattle.pla.specs.Keywords.{texts, number_within};
 use memchr::memchr;
 use std::alloc::{AllocError, Global};
 
-/// Whether the byte is a blank, in any line.
+/// Whether the byte is a blank in any line: a space, tab, vertical tab, form feed or carriage
+/// return.
 pub fn blank(b: u8) -> bool
     ensures { result ≡ is_blank b }
 {
@@ -49,7 +50,7 @@ pub(crate) fn is(word: &[u8], text: &[u8]) -> bool
     word == text
 }
 
-/// Whether a row line's code has a symbol.
+/// Whether a row line's code has a byte that is no blank of a row line.
 pub fn has_symbol(code: &[u8]) -> bool
     ensures { result ≡ list_any (λ b. not (is_row_blank b)) code.now }
 {
@@ -61,8 +62,8 @@ pub fn has_symbol(code: &[u8]) -> bool
     false
 }
 
-/// The decimal number that the words are, if they are one word of digits alone and the number is in
-/// the range; it may have leading zeros.
+/// The decimal number that the words are, if they are one word of digits alone and the number is
+/// from `low` to `high`; it may have leading zeros.
 pub fn number_in(low: usize, high: usize, words: &[&[u8]]) -> Option<usize>
     requires { high < 2 ^ 32 }
     ensures { result ≡ number_within low high (texts words.now) }
@@ -86,14 +87,14 @@ pub fn number_in(low: usize, high: usize, words: &[&[u8]]) -> Option<usize>
     }
 }
 
-/// Where the first `#` stands.
+/// The index of the first `#`; `None` if there is none.
 fn comment_at(line: &[u8]) -> Option<usize>
     ensures { result ≡ position (λ b. b == 35) line.now }
 {
     memchr(b'#', line)
 }
 
-/// The code of a row line: what stands before the first `#`.
+/// The code of a row line: what stands before the first `#`; the whole line if it has none.
 pub fn row_code_of(line: &[u8]) -> &[u8]
     ensures { result.now ≡ row_code line.now }
 {
@@ -103,7 +104,8 @@ pub fn row_code_of(line: &[u8]) -> &[u8]
     }
 }
 
-/// The code of a keyword line: what stands before the first `#` that follows a blank.
+/// The code of a keyword line: what stands before the first `#` that follows a blank; the whole
+/// line if it has none.
 pub fn keyword_code_of(line: &[u8]) -> &[u8]
     ensures { result.now ≡ keyword_code line.now }
 {

@@ -23,8 +23,11 @@ use std::marker::Model;
 
 /// What the lines so far have given: the settings of keyword lines, and the cubes of rows.
 pub struct Parser {
+    /// What keyword lines have set, and how many lines were taken.
     head: Head,
+    /// The rows; `None` until the shape is given.
     rows: Option<Rows>,
+    /// Where memory comes from.
     alloc: Global,
 }
 
@@ -52,7 +55,8 @@ impl Model for Parser {
     ghost invariant = { λ p. IsTied (seen p.head 0) p.rows };
 }
 
-/// Takes a keyword line: sets what it gives, if it has no fault.
+/// Takes a keyword line: sets what it gives, if it has no fault, and begins the rows once the shape
+/// is given.
 fn take_keyword_line(
     head: &mut Head,
     rows: &mut Option<Rows>,
@@ -92,7 +96,7 @@ fn pending_count_of(rows: &Option<Rows>) -> usize
     }
 }
 
-/// Makes room for rows, once the shape is given.
+/// Begins the rows, none of which is read, if the shape is given; rows that are there stay.
 fn open_rows(rows: &mut Option<Rows>, alloc: Global, shape: Option<Shape>)
     ensures { rows.new
         ≡ option_or rows.old (option_map (λ size. rows_of FileType.Fd size []) shape) }
@@ -102,7 +106,8 @@ fn open_rows(rows: &mut Option<Rows>, alloc: Global, shape: Option<Shape>)
     }
 }
 
-/// Takes a row line, of which this is the code: adds its symbols to the rows.
+/// Takes a row line, of which this is the code: adds its symbols to the rows. A symbol before the
+/// shape is a fault.
 fn take_row_line(head: &mut Head, rows: &mut Option<Rows>, code: &[u8]) -> Result<(), LineError>
     ensures lines { head.new.lines ≡ head.old.lines }
     ensures tied { IsTied (seen head.old 0) rows.old → IsTied (seen head.new 0) rows.new }
@@ -177,7 +182,8 @@ impl Parser {
         Ok(())
     }
 
-    /// The description, once all lines are taken.
+    /// The description, once all lines are taken; `ShapeMissing` without `.i` or `.o`,
+    /// `UnfinishedRow` inside a row.
     pub fn finish(self) -> Result<Pla, ReadKind>
         ensures { (lines : List (List ℕ)) → StandsForLines format_limits self lines →
             MatchResult result

@@ -19,7 +19,9 @@ const BUFFER_BYTES: usize = 32768;
 /// nothing more is written.
 #[derive(Drop)]
 pub struct PrintBuffer {
+    /// The pending bytes, at the front.
     bytes: [u8; BUFFER_BYTES],
+    /// How many bytes are pending.
     used: usize,
 }
 
@@ -44,7 +46,8 @@ impl PrintBuffer {
         }
     }
 
-    /// Writes what is pending.
+    /// Writes what is pending, unless a write failed before; nothing is pending then, even if it
+    /// fails.
     ///
     /// # Errors
     ///
@@ -83,7 +86,8 @@ impl PrintBuffer {
         }
     }
 
-    /// Puts bytes after what was put before.
+    /// Puts bytes after what was put before. If there is no room what is pending is written first;
+    /// more than the buffer holds is written at once.
     ///
     /// # Errors
     ///

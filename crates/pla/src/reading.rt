@@ -51,7 +51,8 @@ pub fn read_pla<R: Input, W: Output>(
     finish(scan, Ending::End, &mut echoes, output)
 }
 
-/// Takes the next piece as [`Scan::feed`] does, and writes its echoes at once.
+/// Takes the next piece as [`Scan::feed`] does, and writes its echoes at once, also those before a
+/// fault. `echoes` holds nothing before and after.
 fn feed<W: Output>(
     scan: Scan,
     piece: &[u8],
@@ -80,7 +81,8 @@ fn feed<W: Output>(
     result_after_flush(fed, flushed)
 }
 
-/// Ends as [`Scan::finish`] does, and writes the last echo.
+/// Ends as [`Scan::finish`] does, and writes the last echo. `echoes` holds nothing before and
+/// after.
 fn finish<W: Output>(
     scan: Scan,
     ending: Ending,
@@ -101,7 +103,7 @@ fn finish<W: Output>(
 }
 
 /// The answer of a step whose echoes were put in the buffer, `done`, once the buffer was flushed: a
-/// failed flush comes first.
+/// failed flush comes first, as `WriteFailed` at line 0.
 fn result_after_flush<T: Drop>(
     done: Result<T, ReadFault>,
     flushed: Result<(), WriteFault>,

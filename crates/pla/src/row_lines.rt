@@ -83,8 +83,8 @@ fn is_symbol(n: usize, place: usize, b: u8) -> bool
     }
 }
 
-/// The marks that all of the bytes have. It has no branch, so that each byte costs a look at a
-/// table.
+/// The marks that all of the bytes have, every mark if there are none. It has no branch, so that
+/// each byte costs a look at a table.
 fn shared_marks(bytes: &[u8]) -> u8
     ensures { (mask : ℕ) → bit_and result mask ≢ 0 → list_all (has_mark MARKS mask) bytes.now ≡ true }
 {
@@ -108,7 +108,8 @@ fn are_symbols(n: usize, place: usize, bytes: &[u8]) -> bool
     }
 }
 
-/// Where the part of a row ends that has this index: at the end of the inputs, or of the row.
+/// Where the part of a row ends that has this index: at the end of the inputs, or of the row; one
+/// after the index if that is past the row.
 fn run_end(shape: Shape, place: usize) -> usize
     requires { place < 2 ^ 63 }
     ensures some { place < result }
@@ -126,6 +127,7 @@ fn run_end(shape: Shape, place: usize) -> usize
 /// the whole rows.
 pub struct Rows {
     shape: Shape,
+    /// The symbols since the last whole row, without blanks.
     pending: Vec<u8>,
     on: Cover,
     dc: Cover,
@@ -230,7 +232,7 @@ fn push_row(
 }
 
 impl Rows {
-    /// No symbol yet.
+    /// No symbol and no row of this shape yet.
     pub fn new(alloc: Global, shape: Shape) -> Rows
         ensures { (file_type : FileType) → result ≡ rows_of file_type shape [] }
     {
@@ -278,7 +280,7 @@ impl Rows {
     }
 
     /// The length of the run that the code begins with: symbols up to the end of the inputs or of
-    /// the row.
+    /// the row; 0 if it begins with no symbol.
     fn run_length(&self, code: &[u8]) -> usize
         ensures fits { result ≤ length code.now }
         ensures run { IsRun self.now (take result code.now) }
@@ -312,7 +314,7 @@ impl Rows {
     }
 
     /// Takes the whole row that the code begins with, if it does, straight from the code, and
-    /// answers what follows it.
+    /// answers what follows it; else takes nothing and answers all of the code.
     fn take_whole_row<'a>(
         &mut self,
         file_type: FileType,
@@ -339,7 +341,9 @@ impl Rows {
         Ok(&code[n + 1 + m..])
     }
 
-    /// Takes the symbols of a row line's code.
+    /// Takes the symbols of a row line's code: adds the cubes of each row that they make whole, and
+    /// keeps the last ones pending. The first byte that is no symbol of its place and no blank is a
+    /// `BadSymbol`; what stands before it is taken.
     pub fn take(&mut self, file_type: FileType, code: &[u8]) -> Result<(), LineError>
         ensures size { self.new.size ≡ self.old.size }
         ensures ok { OnOk result (read_code file_type self.old code.now ≡ Some self.new) }
@@ -374,7 +378,8 @@ impl Rows {
         self.pending.len()
     }
 
-    /// The description of these rows under a header.
+    /// The description of these rows with the names and the type of a header; fd if it has no type.
+    /// Pending symbols are left out.
     pub fn into_pla(self, head: Head) -> Pla
         ensures { result ≡ record {
           size = self.size;

@@ -29,12 +29,14 @@ use std::marker::Model;
 /// Where a line ends, and where the code of it ends as that of a row line.
 #[derive(Clone, Copy)]
 struct LineEnd {
+    /// The index of the line feed.
     line: usize,
+    /// The index of the first `#` before the line feed, or else that of the line feed.
     code: usize,
 }
 
-/// The end of the line that begins the bytes, if one ends there. Without a comment one search finds
-/// both ends.
+/// The end of the first line of the bytes; `None` if there is no line feed. Without a comment one
+/// search finds both ends.
 fn line_end(bytes: &[u8]) -> Option<LineEnd>
     ensures { MatchOption result (NoFeed bytes.now)
         (λ end. (end.line < length bytes.now) × NoFeed (take end.line bytes.now)
@@ -55,7 +57,7 @@ fn line_end(bytes: &[u8]) -> Option<LineEnd>
 }
 
 /// The kind of fault that a line has by its number and size alone: it comes after `lines` lines,
-/// and has `size` bytes so far.
+/// and has `size` bytes so far. `None` if it has no such fault, or no byte.
 fn size_fault(lines: u64, size: usize) -> Option<ReadKind>
     ensures { (rest : List ℕ) → size ≡ length rest
         → result ≡ kind_of_rest format_limits lines rest }
@@ -172,7 +174,8 @@ impl Scan {
         self.parser.is_ended()
     }
 
-    /// Keeps bytes of a line that no line feed has ended yet, after the rest that was kept.
+    /// Keeps bytes of a line that no line feed has ended yet, after the rest that was kept. A line
+    /// that is too long or one too many is a fault, and they are not kept.
     fn keep_rest(&mut self, bytes: &[u8]) -> Result<(), ReadFault>
         ensures kept { OnOk result
             (self.new ≡ record self.old { rest = self.old.rest ++ bytes.now }) }
@@ -294,7 +297,8 @@ impl Scan {
         take_line(&mut self.parser, self.echo, &self.rest, output)
     }
 
-    /// The description that the lines give.
+    /// The description that the lines give, or its fault at the last line: that the shape is
+    /// missing or a row is unfinished.
     fn describe(self) -> Result<Pla, ReadFault>
         ensures { (lines : List (List ℕ)) → StandsForLines format_limits self.parsed lines →
             Describes result (end_fault format_limits lines) (description_of format_limits lines) }

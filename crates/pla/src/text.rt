@@ -73,7 +73,7 @@ pub fn write_covers<W: Output>(
     buffer.flush_to(out, done)
 }
 
-// Writes the line of a keyword with a number.
+// Writes the line of a keyword, whose text ends with a space, with a number.
 fn write_number<W: Output>(
     buffer: &mut PrintBuffer,
     out: &mut W,
@@ -120,7 +120,7 @@ fn row_count(out_type: OutType, on: &Cover, dc: &Cover, off: &Cover) -> u128
     }
 }
 
-// Writes the keyword and each name after a space, if there are names.
+// Writes the line of the keyword with each name after a space; nothing if there are no names.
 fn write_names<W: Output>(
     buffer: &mut PrintBuffer,
     out: &mut W,
@@ -161,7 +161,7 @@ fn write_each_name<W: Output>(
     done
 }
 
-// Writes the rows of each list that the type prints.
+// Writes the rows of each list that the type prints: ON, then DC, then OFF.
 fn write_sections<W: Output>(
     buffer: &mut PrintBuffer,
     out: &mut W,
