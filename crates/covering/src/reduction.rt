@@ -141,8 +141,9 @@ impl Table {
         Ok(is_changed)
     }
 
-    /// Makes one pass that changes the table, in a search for some cover within a budget; answers
-    /// whether there was one. The lists are memory for the rows of each column.
+    /// Takes the essential columns or else makes the first due pass that changes the table, in a
+    /// search for some cover within a budget; answers whether it changed. `due` is what is due
+    /// then. The lists are memory for the rows of each column.
     fn reduce_weakly_once(
         &mut self,
         alloc: Global,

@@ -10,12 +10,10 @@ use crate::header::{is_end, is_refused_keyword};
 use crate::line::{begins_keyword, is, keyword_code_of, keyword_of};
 use crate::writing::{WriteFault, write_bytes, write_next};
 
-/// Whether comments are passed on. Lines with an unknown keyword always are.
+/// Whether comments are passed on (`Keep`) or left out (`Eat`).
 #[derive(Clone, Copy, Debug, PartialEq, Eq)]
 pub enum Echo {
-    /// They are passed on.
     Keep,
-    /// They are left out.
     Eat,
 }
 

@@ -46,9 +46,7 @@ pub enum ReadKind {
 /// a failed write and for out of memory.
 #[derive(Clone, Copy, Debug, PartialEq, Eq)]
 pub struct ReadFault {
-    /// The number of the line, from 1, or 0.
     pub line: u64,
-    /// What is wrong.
     pub kind: ReadKind,
 }
 

@@ -8,9 +8,7 @@ use std::io::{Read, Write};
 /// A reader of std as an [`Input`]. A read that std reports as failed or interrupted is [`Broken`].
 #[derive(Drop)]
 pub struct Reading<R> {
-    /// The reader of std.
     inner: R,
-    /// What came of the reads.
     calls: ReadCalls,
 }
 
@@ -54,9 +52,7 @@ impl<R: Read> Input for Reading<R> {
 /// [`Broken`], and so is one that takes nothing of bytes that are there.
 #[derive(Drop)]
 pub struct Writing<W> {
-    /// The writer of std.
     inner: W,
-    /// What came of the writes and flushes.
     calls: WriteCalls,
 }
 

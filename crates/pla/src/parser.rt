@@ -27,7 +27,6 @@ pub struct Parser {
     head: Head,
     /// The rows; `None` until the shape is given.
     rows: Option<Rows>,
-    /// Where memory comes from.
     alloc: Global,
 }
 
