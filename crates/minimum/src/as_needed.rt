@@ -90,8 +90,8 @@ fn literals_in(alloc: Global, cube: &Cube) -> Result<Vec<Symbol>, AllocError>
     Ok(symbols)
 }
 
-/// A point of the cube, under its first output, where few other outputs can be added: the cube is
-/// narrowed to rows outside that add outputs to it.
+/// A point of the cube, under its first output; `None` if it has no output. It is taken where few
+/// other outputs can be added: the cube is narrowed to rows outside that add outputs to it.
 fn point_in(alloc: Global, outside: &Cover, cube: &Cube) -> Result<Option<Cube>, AllocError>
     requires { HasSize cube.now outside.now.size }
     ensures cube { IfOk result (λ o. IfSome o (IsCube (size_of cube.now))) }
@@ -112,9 +112,10 @@ fn point_in(alloc: Global, outside: &Cover, cube: &Cube) -> Result<Option<Cube>,
 // At most this many times the columns of a point are made.
 const MOST_TIMES: usize = 2_000;
 
-/// Primes that dominate all that contain the point with this number: columns that avoid the places
-/// known to be outside, made anew until all are implicants. `None` where they take more looks than
-/// are left; then none is left.
+/// Primes, in row order, that dominate all that contain the point with this number: columns that
+/// avoid `outside`, made anew until all are implicants; what they show to be outside is added
+/// there. `None` where they take more looks than are left, or are made too often; then no look is
+/// left.
 fn primes_of_point(
     alloc: Global,
     all: &Cover,
@@ -149,7 +150,8 @@ fn primes_of_point(
     Ok(None)
 }
 
-/// Adds a point of the part, if it is wanted, lies in no essential prime, and its columns are found.
+/// Adds a point of the part, with its columns, if it is wanted, lies in no essential prime, and its
+/// columns are found. Looks are spent, and cubes outside are added, even if it is not.
 fn add_point_in(
     alloc: Global,
     sets: &Sets,
@@ -186,7 +188,8 @@ fn add_point_in(
     Ok(())
 }
 
-/// Adds a point of each of these parts that has such a point. Whether there is one.
+/// Adds a point of each of these parts, with its columns, where one is wanted, lies in no essential
+/// prime, and its columns are found. `true` if some point was added.
 fn add_points(
     alloc: Global,
     sets: &Sets,
@@ -209,7 +212,8 @@ fn add_points(
     Ok(known.found.points.len() > count)
 }
 
-/// What the list and the DC cubes leave out of the ON cubes.
+/// What the list and the DC cubes leave out: a part of each ON cube that they do not hold. Empty if
+/// the list holds all wanted places.
 fn wanted_left_out(alloc: Global, sets: &Sets, list: &Cover) -> Result<Vec<Cube>, AllocError>
     requires { list.now.size ≡ sets.now.size }
     ensures held { IfOk result (λ parts. parts.items ≡ []
@@ -222,7 +226,7 @@ fn wanted_left_out(alloc: Global, sets: &Sets, list: &Cover) -> Result<Vec<Cube>
     parts_left_out(alloc, &held, sets.on().as_slice())
 }
 
-/// The cubes of both lists.
+/// The cubes of the one list and then those of the other.
 fn joined(one: &Cover, other: &Cover) -> Result<Cover, AllocError>
     requires { other.now.size ≡ one.now.size }
     ensures { IfOk result (λ both. both ≡ record {
@@ -248,8 +252,8 @@ fn most_looks(shape: Shape) -> usize
     MOST_WORDS / (shape.inputs() / 32 + 1)
 }
 
-/// The least cover by the essential primes and primes of points, in rounds, or none where that is too
-/// much.
+/// The least cover by primes, in row order: the essential primes with the least cover of points,
+/// which are picked in rounds where these leave some out. `None` where that is too much.
 fn exact_beside(
     alloc: Global,
     sets: &Sets,

@@ -12,14 +12,14 @@ use cover::Cover;
 use cube::{Cube, Shape, Symbol};
 use std::alloc::{AllocError, Global};
 
-/// Whether the symbols are one.
+/// Whether the two symbols are equal.
 pub(crate) fn is_same(one: Symbol, other: Symbol) -> bool
     ensures { IsTrue result ↔ one ≡ other }
 {
     one == other
 }
 
-/// The other literal.
+/// The other literal; of a dash, the dash.
 pub(crate) fn opposite(symbol: Symbol) -> Symbol
     ensures { result ≡ opposite_of symbol }
 {
@@ -73,7 +73,7 @@ pub(crate) fn one_output(alloc: Global, shape: Shape, j: usize) -> Result<Cube, 
     }
 }
 
-/// Adds a copy of the cube.
+/// Adds a copy of the cube at the end of the list.
 pub(crate) fn add_copy(list: &mut Cover, cube: &Cube) -> Result<(), AllocError>
     requires { HasSize cube.now list.old.size }
     ensures size { OnOk result (list.new.size ≡ list.old.size) }
@@ -85,7 +85,8 @@ pub(crate) fn add_copy(list: &mut Cover, cube: &Cube) -> Result<(), AllocError>
     }
 }
 
-/// The cubes with these numbers.
+/// Copies of the list's cubes with these numbers, in the order of the numbers; a number past the
+/// end adds none.
 pub(crate) fn cubes_at(alloc: Global, list: &Cover, numbers: &[usize]) -> Result<Cover, AllocError>
     ensures { IfOk result (λ l. l ≡ record {
       size = list.now.size;

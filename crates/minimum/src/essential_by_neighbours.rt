@@ -70,7 +70,8 @@ fn is_essential(
     Ok(!held)
 }
 
-/// Adds the essential prime that has a place of its own in the ON cube, if there is one.
+/// Adds the prime that the ON cube grows to, and whether it is essential, unless one in `found`
+/// contains the cube. An essential prime with a place of its own in the cube is then in `found`.
 fn add_essential(
     alloc: Global,
     sets: &Sets,

@@ -36,6 +36,7 @@ fn is_rival(prime: &Cube, cube: &Cube) -> bool
     intersects_cube(prime, cube) && !cube.row_cmp(prime).is_eq()
 }
 
+/// Copies of the cubes that have a place of the prime, in their order.
 fn intersecting_cubes(alloc: Global, cubes: &[Cube], prime: &Cube) -> Result<Vec<Cube>, AllocError>
     requires { All (λ d. SameSize d prime.now) cubes.now }
     ensures { IfOk result (λ v. v.items ≡ filter (intersects_cube prime.now) cubes.now) }
@@ -49,6 +50,7 @@ fn intersecting_cubes(alloc: Global, cubes: &[Cube], prime: &Cube) -> Result<Vec
     Ok(kept)
 }
 
+/// Copies of the cubes other than the prime that have a place of it, in their order.
 fn rivals(alloc: Global, cubes: &[Cube], prime: &Cube) -> Result<Vec<Cube>, AllocError>
     requires { All (λ d. SameSize d prime.now) cubes.now }
     ensures { IfOk result (λ v. v.items ≡ filter (is_rival prime.now) cubes.now) }

@@ -30,7 +30,8 @@ use covering::{Choice, Table, least_cover};
 use pla::{Pla, Sets};
 use std::alloc::{AllocError, Global};
 
-/// Some cubes with the places outside the ON-set and the DC-set, if they are of use and few.
+/// Cubes with the places outside the ON-set and the DC-set, and no others; `None` if they are
+/// thought of no use, or take more than their budget.
 fn off_of(sets: &Sets) -> Result<Option<Cover>, AllocError>
     ensures size { IfOk result (λ o. IfSome o (λ off. off.size ≡ sets.now.size)) }
     ensures places { IfOk result (λ o. IfSome o (λ off. (p : Place) → IsPlace sets.now.size p
@@ -43,8 +44,9 @@ fn off_of(sets: &Sets) -> Result<Option<Cover>, AllocError>
     outside(&all, budget_outside(&all))
 }
 
-/// The least cover by the primes of points outside cubes with the places in neither set; none where
-/// these are of no use or too many, or points have too many primes.
+/// The least cover by primes, by picked points whose columns are grown outside cubes with the
+/// places in neither set; `None` where these cubes are of no use or too many, or points have too
+/// many primes.
 fn exact_outside(alloc: Global, sets: &Sets, choice: Choice) -> Result<Option<Cover>, AllocError>
     ghost lists: { SetLists }
     requires { sets.now ≡ lists }
@@ -74,8 +76,8 @@ fn exact_by_table(
     cubes_at(alloc, primes, &least)
 }
 
-/// The least cover by the primes of points, which are picked by a list of all primes; none where that
-/// is too much.
+/// The least cover by primes, by points that are picked by the list of all primes, which `source`
+/// is; `None` where that is too much.
 fn exact_among(
     alloc: Global,
     sets: &Sets,
@@ -129,8 +131,8 @@ pub fn exact(alloc: Global, sets: &Sets, choice: Choice) -> Result<Cover, AllocE
     exact_by_primes(alloc, sets, choice)
 }
 
-/// The least cover under fr, by points outside these places, which OFF alone holds, or by points that
-/// are picked by all primes; none where both are too much.
+/// The least cover by primes under fr, by points with columns outside `off`, the places that OFF
+/// alone holds, or else by points that are picked by all primes; `None` where both are too much.
 pub(crate) fn exact_of_samples(
     alloc: Global,
     pla: &Pla,

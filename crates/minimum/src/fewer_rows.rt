@@ -36,8 +36,9 @@ fn merged_or_copy(merged: Option<Cover>, list: &Cover) -> Result<Cover, AllocErr
 // At most so many rows are looked at to see whether a list is one of points.
 const MOST_SAMPLED: usize = 16;
 
-// Whether rows are points, or nearly so, by some of them: they have literals at three quarters of the
-// inputs. Rows of few literals are left as they are, as the search for points begins with them.
+// Whether rows are points, or nearly so, by some of them: they have literals at three quarters of
+// the inputs or more; `true` of an empty list. Rows of few literals are left as they are, as the
+// search for points begins with them.
 fn are_nearly_points(list: &Cover) -> bool {
     let inputs = list.shape().inputs();
     let step = list.len() / MOST_SAMPLED + 1;

@@ -31,7 +31,7 @@ pub(crate) fn contains_region(cubes: &[Cube], region: &Cube, number: usize) -> b
     cubes[number].contains(region)
 }
 
-/// Those of the cubes that have a place of the region.
+/// Those of these numbers whose cubes have a place of the region, in their order.
 pub(crate) fn numbers_intersecting(
     alloc: Global,
     cubes: &[Cube],
@@ -51,7 +51,7 @@ pub(crate) fn numbers_intersecting(
     Ok(kept)
 }
 
-/// Those of the cubes that hold the region.
+/// Those of these numbers whose cubes hold the region, in their order.
 pub(crate) fn numbers_containing(
     alloc: Global,
     cubes: &[Cube],
@@ -80,7 +80,7 @@ fn has_output(list: &Cover, j: usize, number: usize) -> bool
     list.as_slice()[number].output(j)
 }
 
-/// Those of the cubes that have the output.
+/// Those of these numbers whose cubes have the output, in their order.
 fn numbers_with_output(
     alloc: Global,
     list: &Cover,
@@ -113,7 +113,7 @@ pub(crate) fn numbers_by_output(alloc: Global, list: &Cover) -> Result<Vec<Vec<u
     Ok(lists)
 }
 
-/// Whether one of the cubes holds the region.
+/// Whether one of the cubes with these numbers holds the region.
 pub(crate) fn any_contains(cubes: &[Cube], region: &Cube, numbers: &[usize]) -> bool
     requires size { All (λ d. SameSize d region.now) cubes.now }
     requires below { All (λ i. i < length cubes.now) numbers.now }
@@ -127,7 +127,7 @@ pub(crate) fn any_contains(cubes: &[Cube], region: &Cube, numbers: &[usize]) -> 
     false
 }
 
-/// An input at which the region has a dash and the cube a literal.
+/// The first input at which the region has a dash and the cube a literal; `None` if there is none.
 pub(crate) fn literal_inside(cube: &Cube, region: &Cube) -> Option<usize>
     requires { SameSize cube.now region.now }
     ensures { MatchOption result (HasNoneInside cube.now region.now) (IsFree region.now) }
@@ -146,7 +146,8 @@ pub(crate) fn literal_inside(cube: &Cube, region: &Cube) -> Option<usize>
     None
 }
 
-/// An input at which the region has a dash and one of these cubes a literal.
+/// An input at which the region has a dash and a cube with one of these numbers a literal: the
+/// first such input of the first such cube. `None` if there is none.
 pub(crate) fn first_inside(cubes: &[Cube], region: &Cube, numbers: &[usize]) -> Option<usize>
     requires size { All (λ d. SameSize d region.now) cubes.now }
     requires below { All (λ i. i < length cubes.now) numbers.now }

@@ -157,8 +157,8 @@ fn add_places_within(
 // a cover of the others may hold them already.
 const MOST_LOOKS: [usize; 2] = [200_000_000, 4_000_000_000];
 
-/// Adds some of the proposed places, those whose columns are found soon, where they are wanted.
-/// Whether there is one.
+/// Adds some of the proposed places, with their columns: those that are wanted and whose columns
+/// are found soon. `true` if one was added.
 pub(crate) fn add_places(
     alloc: Global,
     on: &Cover,

@@ -48,7 +48,8 @@ pub(crate) fn weights(alloc: Global, list: &Cover) -> Result<Vec<u32>, AllocErro
     Ok(weights)
 }
 
-/// The rows of all wanted places.
+/// Rows for all wanted places, output by output: each has the rising numbers of the primes that
+/// hold its places. Places of which an earlier row asks more have none of their own.
 fn rows_of(alloc: Global, lists: &Lists, shape: Shape) -> Result<Vec<Vec<usize>>, AllocError>
     requires primes { AreCubes shape lists.now.primes.now }
     requires on { AreCubes shape lists.now.on.now }

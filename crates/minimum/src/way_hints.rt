@@ -35,8 +35,9 @@ pub(crate) fn uses_points(shape: Shape) -> bool {
     shape.inputs() > 12
 }
 
-/// Whether to make the places outside. Of one output the primes are mostly few, and where
-/// many functions are joined in it the places outside take too many cubes to begin with.
+/// Whether to make the places outside: where points are picked, and there are several outputs. Of
+/// one output the primes are mostly few, and where many functions are joined in it the places
+/// outside take too many cubes to begin with.
 pub(crate) fn uses_outside(sets: &Sets) -> bool {
     let shape = sets.on().shape();
     uses_points(shape) && shape.outputs() > 1
@@ -89,8 +90,8 @@ fn has_many_primes(sets: &Sets) -> Result<bool, AllocError> {
     Ok(false)
 }
 
-/// Whether to make places outside as they are needed: where `outside` gave none, or what it gave was
-/// too much, and primes are thought many.
+/// Whether to make places outside as they are needed: where points are picked, `outside` gave none,
+/// or what it gave was too much, and primes are thought many.
 pub(crate) fn uses_places_as_needed(sets: &Sets) -> Result<bool, AllocError> {
     if !uses_points(sets.on().shape()) {
         return Ok(false);
@@ -116,7 +117,8 @@ pub(crate) fn budget_of_off(pla: &Pla) -> Budget {
 
 /// Whether to find essential primes without a list of all primes. With up to 12 inputs that list is
 /// short, and is made unless rows are few; with one output it is short unless primes are thought
-/// many. Growing looks at all rows for each prime that it grows.
+/// many. It is made too where rows are very many, as growing looks at all rows for each prime that
+/// it grows.
 pub(crate) fn uses_growth(sets: &Sets) -> Result<bool, AllocError> {
     let (inputs, rows) = (sets.on().shape().inputs(), sets.on().len());
     if inputs <= 12 {

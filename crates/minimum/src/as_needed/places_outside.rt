@@ -39,7 +39,8 @@ pub(crate) fn parts_left_out(
     Ok(parts)
 }
 
-/// Adds a cube with the part's places and with others that the list does not have.
+/// Adds to `outside` a cube that contains the part, of which the list has no place: it is grown as
+/// long as the list has none of it.
 fn add_grown(alloc: Global, all: &Cover, part: &Cube, outside: &mut Cover) -> Result<(), AllocError>
     requires part { IsCube all.now.size part.now }
     requires apart { IsDisjoint (holds part.now) (places all.now.cubes) }
@@ -50,7 +51,8 @@ fn add_grown(alloc: Global, all: &Cover, part: &Cube, outside: &mut Cover) -> Re
     add_copy(outside, &cube)
 }
 
-/// Adds such a cube for each of the parts that has no place that is known to be outside.
+/// Adds to `outside` a cube grown from each of the parts, of which the list has no place, unless a
+/// cube there meets the part.
 pub(crate) fn add_refusals(
     alloc: Global,
     all: &Cover,
@@ -70,8 +72,8 @@ pub(crate) fn add_refusals(
     Ok(())
 }
 
-/// Takes the cube's literal at an input away, if the list holds what is left; else a place of that
-/// is known to be outside.
+/// Takes the cube's literal at an input away, if the list holds what is left. Else the cube stays,
+/// and `outside` has a place of what would be left: a cube is added if none there had one.
 fn without_literal(
     alloc: Global,
     all: &Cover,

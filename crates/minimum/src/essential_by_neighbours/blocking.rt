@@ -15,7 +15,8 @@ use cover::Cover;
 use cube::{Cube, Symbol};
 use std::alloc::{AllocError, Global};
 
-/// The blocking list of the step at a literal.
+/// The blocking list of the step at a literal of the prime: the rows without this literal that meet
+/// the prime freed of it, each freed at that input.
 fn blocking_input(alloc: Global, off: &Cover, prime: &Cube, i: usize) -> Result<Cover, AllocError>
     requires prime { IsCube off.now.size prime.now }
     requires input { i < off.now.size.inputs }
@@ -34,7 +35,8 @@ fn blocking_input(alloc: Global, off: &Cover, prime: &Cube, i: usize) -> Result<
     Ok(Cover::from_cubes(shape, list))
 }
 
-/// The blocking list of the step to an output that the prime lacks.
+/// The blocking list of the step to an output that the prime lacks: of the rows with that output
+/// the output consensus with the prime, if there is one.
 fn blocking_output(alloc: Global, off: &Cover, prime: &Cube, j: usize) -> Result<Cover, AllocError>
     requires prime { IsCube off.now.size prime.now }
     requires output { j < off.now.size.outputs }

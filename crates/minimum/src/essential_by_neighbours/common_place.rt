@@ -21,7 +21,8 @@ use cover::Cover;
 use cube::{Cube, Symbol};
 use std::alloc::{AllocError, Global};
 
-/// The number of the first list, from a number on, in no row of which the region lies.
+/// The number of the first list, from a number on, in no row of which the region lies; how many
+/// lists there are if there is none.
 fn next_list(lists: &[Cover], from: usize, region: &Cube) -> usize
     requires sizes { All (λ l. HasSize region.now l.size) lists.now }
     requires from { from ≤ length lists.now }
@@ -36,7 +37,8 @@ fn next_list(lists: &[Cover], from: usize, region: &Cube) -> usize
     lists.len()
 }
 
-/// Whether what the region has of the row lies in one of the nogoods.
+/// Whether what the region has of the row lies in one of the nogoods; `true` if it has nothing of
+/// it.
 fn part_lies_in_one_of(region: &Cube, row: &Cube, nogoods: &[Cube]) -> Result<bool, AllocError>
     requires row { SameSize region.now row.now }
     requires nogoods { All (λ d. SameSize d region.now) nogoods.now }

@@ -20,9 +20,9 @@ fn count_conflicts_at_one(rows: &[Cube], cube: &Cube) -> usize {
     count
 }
 
-/// Whether some rows, spread over the list, conflict at one input with more rows than twice their
-/// literals, or with about as many as these where they have two each, as in chains. It costs a look
-/// at all rows for each of them.
+/// Whether some rows, spread over the list, have together more pairs that conflict at one input
+/// than twice their literals, or than nine tenths of these where they have two each at most, as in
+/// chains. `false` for no rows. It costs a look at all rows for each of them.
 pub(crate) fn have_many_consensus_pairs(rows: &[Cube]) -> bool {
     let step = rows.len() / MOST_COMPARED + 1;
     let mut pairs: usize = 0;

@@ -23,7 +23,8 @@ const MANY: u64 = 10;
 // Cubes are counted in so many parts.
 const PARTS: u64 = 1_000;
 
-// How many of the rows have a consensus with the cube, and the last of them that was looked at.
+// A pair: about how many of the rows have a consensus with the cube, and the last of them that was
+// looked at, `None` if there is none.
 fn rows_at_distance_one<'a>(rows: &'a [Cube], cube: &Cube) -> (u64, Option<&'a Cube>) {
     let stride = 1 + rows.len() / MOST_LOOKED_AT;
     let (mut count, mut last) = (0_u64, None);
@@ -36,7 +37,8 @@ fn rows_at_distance_one<'a>(rows: &'a [Cube], cube: &Cube) -> (u64, Option<&'a C
     (count, last)
 }
 
-// The literals of the consensus of a cube and a row that conflict at one input.
+// The literals of the consensus of a cube and a row that conflict at one input, with the outputs of
+// the cube.
 fn consensus(cube: &Cube, row: &Cube) -> Result<Cube, AllocError> {
     let mut both = cube.try_clone()?;
     for i in 0..row.shape().inputs() {
@@ -53,7 +55,8 @@ fn consensus(cube: &Cube, row: &Cube) -> Result<Cube, AllocError> {
     Ok(both)
 }
 
-// To how many cubes a walk from the row is thought to lead, in parts.
+// To how many cubes a walk from the row is thought to lead, the row among them, in parts: `PARTS`
+// for each.
 fn cubes_reached(rows: &[Cube], row: &Cube) -> Result<u64, AllocError> {
     let mut cube = row.try_clone()?;
     let (mut at_step, mut reached) = (PARTS, PARTS);

@@ -44,7 +44,8 @@ pub(crate) fn is_implicant(side: Side, rows: &Cover, cube: &Cube) -> Result<bool
 pub(crate) struct Growth {
     /// The cube.
     pub(crate) cube: Cube,
-    /// Rows that hold the same places beside the cube as all rows do, or `None` for these.
+    /// Rows that hold the same places in the cube and a step out of it as all rows do; `None`
+    /// stands for all rows.
     pub(crate) near: Option<Cover>,
 }
 
@@ -123,7 +124,8 @@ fn with_output(
     Ok(())
 }
 
-/// The cube without the literals that it can do without, one after the other.
+/// The cube without the literals that it can do without, taken away one after the other from the
+/// first input on, and the rows near it.
 fn grow_at_inputs(
     alloc: Global,
     side: Side,

@@ -11,7 +11,7 @@ use cover::Cover;
 use cube::Cube;
 use std::alloc::{AllocError, Global};
 
-/// Whether the row conflicts with the cube at two inputs.
+/// Whether the row conflicts with the cube at two inputs or more.
 fn is_far(cube: &Cube, row: &Cube) -> bool
     ensures { result ≡ true → IsFar cube.now row.now }
 {
@@ -54,7 +54,7 @@ fn rows_not_far(alloc: Global, rows: &Cover, cube: &Cube) -> Result<Cover, Alloc
     Ok(Cover::from_cubes(rows.shape(), near))
 }
 
-/// The rows near the cube, or `None` for all rows.
+/// A copy of the rows near the cube; `None` stands for all rows, where most are near.
 pub(crate) fn rows_near(
     alloc: Global,
     rows: &Cover,
@@ -69,7 +69,7 @@ pub(crate) fn rows_near(
     Ok(Some(rows_not_far(alloc, rows, cube)?))
 }
 
-/// The rows that are to be asked.
+/// The rows that are to be asked: those near, or all rows where `near` is `None`.
 pub(crate) fn rows_to_ask<'a>(rows: &'a Cover, near: &'a Option<Cover>) -> &'a Cover
     ensures { result.now ≡ near_or rows.now near.now }
 {

@@ -7,19 +7,20 @@
 use cube::Cube;
 use std::alloc::{AllocError, Global};
 
-// Marks the input.
+// Marks the input, unless it is past the end.
 fn mark(needed: &mut Vec<bool>, input: usize) {
     if input < needed.len() {
         needed[input] = true;
     }
 }
 
-// Whether the input is marked.
+// Whether the input is marked; `false` past the end.
 fn is_marked(needed: &[bool], input: usize) -> bool {
     input < needed.len() && needed[input]
 }
 
-// An input that parts the region from the row: one that is marked, or else the first.
+// An input at which the region and the row have opposite literals: one that is marked, or else the
+// first; `None` if there is none.
 fn parting_input(needed: &[bool], region: &Cube, row: &Cube) -> Option<usize> {
     let first = region.next_opposite(row, 0);
     let mut input = first;
@@ -54,7 +55,8 @@ pub(crate) fn keep_literals(needed: &mut Vec<bool>, nogood: &Cube, row: &Cube) {
     }
 }
 
-/// The inputs that part the region from the rows, as marks.
+/// A mark for each input of the region: for each row that conflicts with it, one input at which
+/// they do is marked.
 pub(crate) fn conflicts_with(
     alloc: Global,
     region: &Cube,

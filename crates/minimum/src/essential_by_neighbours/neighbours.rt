@@ -16,8 +16,8 @@ use cover::Cover;
 use cube::{Cube, Symbol};
 use std::alloc::{AllocError, Global};
 
-/// The row put back by the steps at inputs: freed of a literal that is opposite to the prime's, or
-/// as it is where it has `-` at a literal of the prime.
+/// The row put back by the steps at inputs: freed of the first literal that is opposite to the
+/// prime's, or as it is where it has `-` at a literal of the prime; else `None`.
 fn neighbour_by_inputs(prime: &Cube, row: &Cube) -> Result<Option<Cube>, AllocError>
     requires { SameSize row.now prime.now }
     ensures size { IfOk result (λ found. IfSome found (λ c. SameSize c row.now)) }
@@ -35,7 +35,8 @@ fn neighbour_by_inputs(prime: &Cube, row: &Cube) -> Result<Option<Cube>, AllocEr
     Ok(None)
 }
 
-/// The row put back by the steps to outputs that the prime lacks.
+/// The row put back by the steps to outputs that the prime lacks; `None` if it has no such output,
+/// or conflicts with the prime at an input.
 fn neighbour_by_outputs(prime: &Cube, row: &Cube) -> Result<Option<Cube>, AllocError>
     requires { SameSize row.now prime.now }
     ensures size { IfOk result (λ found. IfSome found (λ c. SameSize c row.now)) }
@@ -70,7 +71,8 @@ pub(crate) fn add_meeting(
     Ok(())
 }
 
-/// Adds the row put back by all steps.
+/// Adds the row put back by the steps at inputs, and then by those to outputs, each if there is one
+/// that meets the prime.
 fn add_neighbours(near: &mut Vec<Cube>, prime: &Cube, row: &Cube) -> Result<(), AllocError>
     requires { SameSize row.now prime.now }
     ensures { OnOk result (AddsNeighbours prime.now row.now near.old.items near.new.items) }

@@ -12,7 +12,8 @@ use crate::essential_by_neighbours::narrower_part::narrower_part;
 use cube::Cube;
 use std::alloc::AllocError;
 
-/// Narrows the part so that the row has no place of it; whether the hint showed how.
+/// Narrows the part so that the row has no place of it. `false`, and the part as it was, if the
+/// hint did not show how.
 fn leave_out(part: &mut Cube, row: &Cube) -> Result<bool, AllocError>
     requires { SameSize row.now part.old }
     ensures size { OnOk result (SameSize part.new part.old) }
@@ -32,7 +33,8 @@ fn leave_out(part: &mut Cube, row: &Cube) -> Result<bool, AllocError>
     Ok(true)
 }
 
-/// Whether the rows are seen to leave out a place of the region. It costs a look at each row.
+/// Whether the rows are seen to leave out a place of the region; where they are not, they may leave
+/// out one all the same. It costs a look at each row.
 pub(crate) fn are_seen_to_leave_out(rows: &[Cube], region: &Cube) -> Result<bool, AllocError>
     requires { All (λ d. SameSize d region.now) rows.now }
     ensures { IfOk result

@@ -39,7 +39,8 @@ pub(crate) fn part_of(side: Side, cube: &Cube) -> Result<Cube, AllocError>
     }
 }
 
-/// A part of the region with the outputs that are reached there, by a look at each row.
+/// A part of the region with the outputs that are reached there: it is narrowed to each row in turn
+/// that adds an output, and gets the outputs of that row.
 pub(crate) fn outputs_at(rows: &Cover, region: Cube) -> Result<Cube, AllocError>
     requires { HasSize region rows.now.size }
     ensures { IfOk result (AreReached region rows.now.cubes) }

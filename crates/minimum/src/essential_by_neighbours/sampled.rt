@@ -43,7 +43,8 @@ fn has_own_place(alloc: Global, on: &Cover, off: &Cover, prime: &Cube) -> Result
     Ok(false)
 }
 
-/// Adds the essential prime that has a place of its own in the ON cube, if there is one.
+/// Adds the prime that the ON cube grows to, and whether it is essential, unless one in `found`
+/// contains the cube. An essential prime with a place of its own in the cube is then in `found`.
 fn add_essential(
     alloc: Global,
     on: &Cover,

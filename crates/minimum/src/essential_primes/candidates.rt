@@ -47,8 +47,8 @@ fn unmark_candidate(non_candidates: &mut Vec<bool>, primes: &[Cube], cube: &Cube
     }
 }
 
-/// Marks the primes of which each cube of the ON-set that they hold lies in another prime too; none
-/// if that is not less work than to ask each prime.
+/// A mark for each prime: it is set where each cube of the ON-set that the prime holds lies in
+/// another prime too. An empty list if that is not less work than to ask each prime.
 pub(crate) fn non_candidates(
     alloc: Global,
     primes: &[Cube],

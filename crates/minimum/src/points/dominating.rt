@@ -48,12 +48,13 @@ pub(crate) struct Columns {
     pub(crate) left: usize,
     /// Rows that refuse steps of growth.
     pub(crate) rows: RefusingRows,
-    /// For each point a row that refused to join it last.
+    /// For each point the row that refused to join it last, 0 at first: a hint.
     pub(crate) refusing: Vec<usize>,
 }
 
 impl Columns {
-    /// No column of this point.
+    /// No column of this point yet, and so many looks are left; `points` is how many points there
+    /// are.
     pub(crate) fn new(
         alloc: Global,
         off: &Cover,
@@ -73,7 +74,8 @@ impl Columns {
         })
     }
 
-    /// Takes some looks and one from those that are left. Whether there were as many.
+    /// Takes so many looks and one more from those that are left; `false`, and none is left, if
+    /// there were not as many.
     pub(crate) fn spend(&mut self, looks: usize) -> bool
         ensures primes { self.new.primes ≡ self.old.primes }
         ensures refusing { self.new.refusing ≡ self.old.refusing }
@@ -90,7 +92,8 @@ impl Columns {
     }
 }
 
-/// Adds the best cube that contains the cube, if the cube meets none of the list.
+/// Adds the best cube that contains the cube, and answers it; `None`, and none is added, if the
+/// cube meets one of the list, or the search for the best took too long.
 fn add_best(
     alloc: Global,
     off: &Cover,

@@ -64,7 +64,7 @@ pub(crate) fn proposer_of(
     }
 }
 
-/// Places to begin with.
+/// Wanted places of the ON cubes to begin with.
 pub(crate) fn first_places(
     alloc: Global,
     proposer: &Proposer,
@@ -73,7 +73,7 @@ pub(crate) fn first_places(
     proposer.first_places(&rows_of(alloc, on)?)
 }
 
-/// Places of these ON cubes that the cover leaves out.
+/// Wanted places of these ON cubes that the cover leaves out, at most one for each cube and output.
 pub(crate) fn places_left_out(
     alloc: Global,
     proposer: &Proposer,

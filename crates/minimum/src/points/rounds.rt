@@ -38,7 +38,8 @@ fn numbers_of_cover(table: &Table, choice: Choice, is_least: bool) -> Result<Vec
     short_cover(table)
 }
 
-/// A cover of the table of the points: the least, or only a short one, which is found sooner.
+/// A cover of the table of the points by these columns, in row order: the least, or only a short
+/// one, which is found sooner.
 pub(crate) fn cover_of_points(
     alloc: Global,
     points: &[Cube],
@@ -97,8 +98,9 @@ fn asks_for_least(left: &Cover, points: &[Cube]) -> bool {
     left.len() <= FEW_LEFT_OUT || points.len() <= MOST_POINTS_FOR_LEAST
 }
 
-/// The least cover by the primes of points from these points on: where a cover of their table leaves
-/// out a place, points are added for what it leaves out.
+/// The least cover by the primes of points from these points on: where a cover of their table
+/// leaves out a place, points are added to `found` for what it leaves out. `None` where none can be
+/// added, or the rounds are too many.
 fn exact_in_rounds(
     alloc: Global,
     on: &Cover,

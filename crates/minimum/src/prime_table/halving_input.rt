@@ -3,13 +3,14 @@
 
 use cube::{Cube, Symbol};
 
-/// A region with so few ON cubes is not halved.
+/// A region with at most so many ON cubes is not halved.
 const FEW: usize = 16;
 
 /// At most this many of the ON cubes are looked at.
 const SAMPLE: usize = 64;
 
-/// How many of the looked-at cubes have no literal at the input.
+/// How many of the looked-at cubes have no literal at the input: those with these numbers, or at
+/// most 64 of them, spread over the list.
 fn dashes_at(cubes: &[Cube], numbers: &[usize], i: usize) -> usize {
     let step = numbers.len() / SAMPLE + 1;
     let mut dashes = 0usize;
@@ -23,8 +24,9 @@ fn dashes_at(cubes: &[Cube], numbers: &[usize], i: usize) -> usize {
     dashes
 }
 
-/// The first input that is free in the region and at which at most one in eight of the cubes has no
-/// literal.
+/// The first input that is free in the region and at which few of the looked-at cubes have no
+/// literal: at most eight, or an eighth of all where they are fewer than 64. `None` if there is no
+/// such input, or for at most 16 cubes.
 pub(crate) fn halving_input(cubes: &[Cube], numbers: &[usize], region: &Cube) -> Option<usize> {
     if numbers.len() <= FEW {
         return None;

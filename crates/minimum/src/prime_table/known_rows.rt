@@ -19,9 +19,9 @@ const NONE: usize = usize::MAX;
 pub(crate) struct KnownRows {
     /// The rows.
     pub(crate) rows: Vec<Vec<usize>>,
-    /// For each column the last row that begins with it.
+    /// For each column the number of the last row that begins with it, or `NONE`.
     latest: Vec<usize>,
-    /// For each row the one before it that begins with the same column.
+    /// For each row the number of the one before it that begins with the same column, or `NONE`.
     earlier: Vec<usize>,
 }
 
@@ -36,7 +36,7 @@ impl Drop for KnownRows {
     }
 }
 
-/// The row at this index, or none past the end.
+/// The number at this index, `NONE` past the end.
 fn row_at(list: &[usize], at: usize) -> usize {
     if at < list.len() { list[at] } else { NONE }
 }
@@ -66,7 +66,7 @@ impl KnownRows {
         Ok(())
     }
 
-    /// Whether a row that begins with the column has none but these.
+    /// Whether a row that begins with the column has none but these columns, which rise.
     fn any_from(&self, column: usize, columns: &[usize]) -> bool
         requires { RisesFrom 0 columns.now }
         ensures { result ≡ true

@@ -49,7 +49,7 @@ impl Drop for Candidates {
     }
 }
 
-/// Whether there is one number.
+/// Whether there is exactly one number.
 fn is_alone(numbers: &[usize]) -> bool
     ensures { result ≡ (length numbers.now == 1) }
 {
@@ -57,7 +57,7 @@ fn is_alone(numbers: &[usize]) -> bool
 }
 
 impl<'a> Lists<'a> {
-    /// Those that have a place of the region.
+    /// Of these candidates those whose cubes have a place of the region.
     fn candidates(
         &self,
         alloc: Global,
@@ -76,7 +76,8 @@ impl<'a> Lists<'a> {
         })
     }
 
-    /// Primes that hold each wanted place of the region.
+    /// The rising numbers of primes that hold each wanted place of the region: the one candidate,
+    /// or those that contain the region.
     fn common_primes(
         &self,
         alloc: Global,
@@ -96,7 +97,8 @@ impl<'a> Lists<'a> {
         numbers_containing(alloc, self.primes, region, &candidates.primes)
     }
 
-    /// Whether no place of the region is wanted, or a row asks for more than its places do.
+    /// Whether it is seen that no place of the region is wanted, or that a known row asks for more
+    /// than its places do.
     fn needs_no_row(
         &self,
         alloc: Global,
@@ -164,8 +166,8 @@ impl<'a> Lists<'a> {
         self.add_rows(alloc, &candidates, &high, known)
     }
 
-    /// Adds them ON cube by ON cube: so primes that are of no use to a cube's places do not
-    /// multiply its splits.
+    /// Adds the rows of the region's wanted places ON cube by ON cube: so primes that are of no use
+    /// to a cube's places do not multiply its splits.
     fn add_rows_by_cubes(
         &self,
         alloc: Global,
@@ -197,8 +199,9 @@ impl<'a> Lists<'a> {
         None
     }
 
-    /// Adds them half by half while a region has many ON cubes: so a prime and an ON cube that lie
-    /// in different halves never come together.
+    /// Adds the rows of the region's wanted places half by half while a region has many ON cubes,
+    /// and then ON cube by ON cube: so a prime and an ON cube that lie in different halves never
+    /// come together.
     pub(crate) fn add_rows_by_halves(
         &self,
         alloc: Global,

@@ -19,8 +19,8 @@ use covering::Choice;
 use cube::{Cube, Symbol};
 use std::alloc::{AllocError, Global};
 
-/// Frees the cube of its literal at an input, unless a row is named that refuses it. Whether no
-/// literal there can be taken away.
+/// Frees the cube of its literal at an input, unless a row is named that refuses it. `false`, and
+/// the cube as it was, if the row that is named does not: the hint is wrong.
 fn settle_input(
     off: &Cover,
     cube: &mut Cube,
@@ -48,8 +48,8 @@ fn settle_input(
     Ok(!row.disjoint(&rest))
 }
 
-/// Gives the cube an output, unless a row is named that refuses it. Whether it can have no other
-/// there.
+/// Gives the cube an output, unless a row is named that refuses it. `false`, and the cube as it
+/// was, if the row that is named does not: the hint is wrong.
 fn settle_output(
     alloc: Global,
     off: &Cover,
@@ -82,7 +82,8 @@ fn settle_output(
     Ok(true)
 }
 
-/// The cube freed of literals from the first input on, unless a hint is wrong.
+/// The cube freed, from the first input on, of each literal for which no refusing row is named;
+/// `None` if a row that is named does not refuse it.
 fn first_at_inputs(
     off: &Cover,
     cube: &Cube,
@@ -108,7 +109,8 @@ fn first_at_inputs(
     Ok(Some(grown))
 }
 
-/// The cube with each output that it can have, unless a hint is wrong.
+/// The cube with each output for which no refusing row is named; `None` if a row that is named does
+/// not refuse it.
 fn with_outputs(
     alloc: Global,
     off: &Cover,

@@ -5,7 +5,8 @@ use cube::Cube;
 // The lower bit of each pair: a set of 32 inputs has these alone.
 const EVEN: u64 = 0x5555_5555_5555_5555;
 
-/// The inputs from `32 w` on at which the two have opposite literals, as a set of 32.
+/// The inputs from `32 w` on at which the two have opposite literals, as a set of 32: two bits for
+/// each, of which the lower tells.
 pub(crate) fn conflicts(cube: &Cube, row: &Cube, w: usize) -> u64 {
     let (mine, theirs) = (cube.literal_bits(w), row.literal_bits(w));
     (((mine >> 1) & theirs) | (mine & (theirs >> 1))) & EVEN

@@ -62,7 +62,7 @@ fn is_late(wide: &Cube, best: &Cube) -> bool
     false
 }
 
-/// The step at this place, and the place of the next one.
+/// The step at this index, which then moves on by one; `None` past the end.
 fn next_step(steps: &[Step], at: &mut usize) -> Option<Step> {
     if *at >= steps.len() {
         return None;
@@ -72,8 +72,9 @@ fn next_step(steps: &[Step], at: &mut usize) -> Option<Step> {
     Some(step)
 }
 
-/// Whether the steps from a place on show that no implicant between the narrow cube and the wide
-/// one is better than the best.
+/// Whether the steps from an index on, which moves past them, show that no implicant between the
+/// narrow cube and the wide one is better than the best. `false` says nothing; it comes too where
+/// splits are more than `depth` deep.
 fn is_best_between(
     off: &Cover,
     narrow: &Cube,

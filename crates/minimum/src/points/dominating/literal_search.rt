@@ -81,7 +81,8 @@ fn is_within(one: &[u64], other: &[u64]) -> bool {
     true
 }
 
-// Whether the first input that is in one of the sets alone is in the first one, if there is one.
+// Whether the first input that is in one of the sets alone is in the first one; `true` if they are
+// equal.
 fn has_first_apart(one: &[u64], other: &[u64]) -> bool {
     for w in 0..one.len() {
         let apart = one[w] ^ word(other, w);
@@ -92,7 +93,7 @@ fn has_first_apart(one: &[u64], other: &[u64]) -> bool {
     true
 }
 
-// The set of what a list has at these indices, or nothing past its end.
+// The set with this number in a list of sets of so many words, or nothing past its end.
 fn set_at(list: &[u64], at: usize, words: usize) -> &[u64] {
     let start = at.saturating_mul(words);
     let end = start.saturating_add(words);
@@ -115,12 +116,13 @@ fn put_input(set: &mut Vec<u64>, i: usize, is_in: bool) {
     }
 }
 
-/// Whether the input is in the set.
+/// Whether the input is in the set; `false` past the end.
 pub(crate) fn has_input(set: &[u64], i: usize) -> bool {
     (word(set, i / 32) >> (2 * (i % 32))) & 1 != 0
 }
 
-// The sets of the rows, each with its size and the number of its row, the smallest first.
+// For each row that shares an output with the cube the size of its set, which is how many inputs
+// they conflict at, and the number of the row; the smallest size first.
 fn sizes_of(
     alloc: Global,
     rows: &[Cube],
@@ -143,7 +145,7 @@ fn sizes_of(
 }
 
 impl LiteralSearch {
-    // Whether a set contains one that is there.
+    // Whether a set contains one of those that were added.
     fn is_implied(&self, set: &[u64]) -> bool {
         for k in 0..self.rows.len() {
             if is_within(set_at(&self.sets, k, self.words), set) {
@@ -169,7 +171,8 @@ impl LiteralSearch {
         Ok(())
     }
 
-    // The set that no kept literal is in, and of which the fewest are open, with their number.
+    // A pair: the number of the set that no kept literal is in and of which the fewest are open,
+    // and how many these are; `None` if each set has a kept literal.
     fn narrowest(&self) -> Option<(usize, usize)> {
         let mut found = None;
         let mut least = usize::MAX;
@@ -199,7 +202,8 @@ impl LiteralSearch {
         count
     }
 
-    // The open literal of a set that most sets have.
+    // The open literal of the set with this number that most sets without a kept one have, the last
+    // of several; `None` if none is open.
     fn most_used(&self, k: usize) -> Option<usize> {
         let mut found = None;
         let mut most = 0;
@@ -231,7 +235,8 @@ impl LiteralSearch {
         count > self.fewest || count == self.fewest && has_first_apart(&self.kept, &self.best)
     }
 
-    // Writes down that each literal of a set is one too many.
+    // Writes down that each open literal of a set is one too many, and that without them all meet
+    // its row.
     fn put_too_many(&mut self, k: usize) -> Result<(), AllocError> {
         for i in 0..self.words.saturating_mul(32) {
             if has_input(set_at(&self.sets, k, self.words), i) && has_input(&self.open, i) {
@@ -249,7 +254,8 @@ impl LiteralSearch {
         Ok(())
     }
 
-    // Writes down that no other literal is needed: what is kept is best, or late.
+    // Takes what is kept for the best, if it is better, and writes down that nothing is better than
+    // the best then.
     fn put_kept(&mut self) -> Result<(), AllocError> {
         if !self.are_too_many(0) {
             self.take();

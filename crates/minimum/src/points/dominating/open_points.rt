@@ -33,7 +33,7 @@ pub(crate) fn holds_one_of(points: &[Cube], numbers: &[usize], cube: &Cube) -> b
     false
 }
 
-/// Whether the cube meets the row with this number.
+/// Whether the cube meets the row with this number; `false` past the end.
 pub(crate) fn meets_row(off: &Cover, r: usize, cube: &Cube) -> bool
     requires { IsCube off.now.size cube.now }
     ensures { result ≡ true → IsImplicant off.now cube.now → ⊥ }
@@ -44,7 +44,7 @@ pub(crate) fn meets_row(off: &Cover, r: usize, cube: &Cube) -> bool
     !row.disjoint(cube)
 }
 
-/// A row that meets the cube, if the matrix names one.
+/// The number of a row that meets the cube, if the matrix names one; else `None`.
 fn row_that_meets(off: &Cover, matrix: &BlockingMatrix, cube: &Cube) -> Option<usize>
     requires { IsCube off.now.size cube.now }
     ensures { IfSome result (λ _. IsImplicant off.now cube.now → ⊥) }
@@ -56,8 +56,9 @@ fn row_that_meets(off: &Cover, matrix: &BlockingMatrix, cube: &Cube) -> Option<u
     None
 }
 
-/// Whether the cube can not be joined with a point: the join meets the list. The row that the last
-/// such join with the point met is looked at first, and then one that the matrix names.
+/// Whether it is seen that the cube can not be joined with a point, as the join meets the list. The
+/// row that the last such join with the point met is looked at first, and then one that the matrix
+/// names, which is noted in `refusing`.
 fn is_refused(
     off: &Cover,
     cube: &Cube,
@@ -83,8 +84,9 @@ fn is_refused(
     Ok(false)
 }
 
-/// The points that are left of the candidates: those that the cube contains are, and those that it
-/// can not be joined with, are not.
+/// The excluded points, then the candidates that may join the cube, then those that the best cube
+/// holds. Left out are candidates that the cube contains, and those that it is seen not to be
+/// joined with.
 ///
 /// It costs a look at each candidate, and mostly one at the matrix.
 pub(crate) fn sort_points(

@@ -21,7 +21,7 @@ use cover::Cover;
 use cube::{Cube, Shape, Symbol};
 use std::alloc::{AllocError, Global};
 
-/// At each input of the cube the other literal.
+/// At each input of the cube the other literal, and a dash where it has none.
 fn opposite_symbols(alloc: Global, cube: &Cube) -> Result<Vec<Symbol>, AllocError>
     ensures { IfOk result (λ v. v.items ≡ map opposite_of cube.now.symbols) }
 {
@@ -65,7 +65,7 @@ fn cubes_against(alloc: Global, point: &Cube) -> Result<Vec<Cube>, AllocError>
     Ok(cubes)
 }
 
-/// The first output of the cube.
+/// The first output of the cube, 0 if it has none.
 fn first_output(cube: &Cube) -> usize {
     for w in 0..cube.shape().outputs() / 64 + 1 {
         let bits = cube.output_bits(w);
@@ -95,7 +95,8 @@ fn widened(row: &Cube, against: &[Cube]) -> Result<Cube, AllocError>
     row.try_clone()
 }
 
-/// The rows of the list, each without such literals.
+/// The rows of the list, each without the literals that do not keep it apart from the cubes that
+/// contain the point.
 fn widened_rows(alloc: Global, off: &Cover, point: &Cube) -> Result<Cover, AllocError>
     requires { IsCube off.now.size point.now }
     ensures size { IfOk result (λ list. list.size ≡ off.now.size) }

@@ -1,6 +1,6 @@
 //! Words of bits, for hints.
 
-/// The word at this index, or none of its bits past the end.
+/// The word at this index, 0 past the end.
 #[inline(always)]
 pub(crate) fn word(list: &[u64], at: usize) -> u64 {
     if at < list.len() { list[at] } else { 0 }
