@@ -27,7 +27,8 @@ static PAIRS: [u8; 256] = [
     3, 3, 3, 3, 3, 3, 3, 3, 3, 3, 3, 3, 3, 3, 3, 3, 3, 3, 3, 3, 3, 3, 3, 3, 3, 3, 3, 3, 3, 3, 3, 3,
 ];
 
-// The two bits of the symbol that a byte asks for: whether it agrees with 0, and with 1.
+// The two bits of the symbol that a byte asks for: the lower is set if it agrees with 0, the higher
+// if it agrees with 1. A byte other than `0` and `1` asks for `-`.
 fn pair_of(b: u8) -> u64
     ensures fits { result < 4 }
     ensures low { bit_at result 0 ≡ bit_of (agrees (byte_symbol b) false) }
@@ -36,7 +37,7 @@ fn pair_of(b: u8) -> u64
     PAIRS[b as usize] as u64
 }
 
-// The word with two bits shifted in.
+// The word moved up by two bits, with the pair below; its highest two bits are lost.
 fn with_pair(word: u64, pair: u64) -> u64
     requires { pair < 4 }
     ensures low { bit_at result 0 ≡ bit_at pair 0 }
@@ -46,7 +47,7 @@ fn with_pair(word: u64, pair: u64) -> u64
     (word << 2) | pair
 }
 
-// The word with a bit shifted in.
+// The word moved up by one bit, with the given one below; its highest bit is lost.
 fn with_next(word: u64, bit: bool) -> u64
     ensures first { bit_at result 0 ≡ bit_of bit }
     ensures others { (k : ℕ) → k < 63 → bit_at result (k + 1) ≡ bit_at word k }
@@ -54,7 +55,7 @@ fn with_next(word: u64, bit: bool) -> u64
     (word << 1) | bit as u64
 }
 
-/// Word `w` of the inputs, whose bytes these are.
+/// Word `w` of the inputs, whose bytes these are: two bits a byte, and `-` past the last.
 pub(crate) fn input_word_of(bytes: &[u8], w: usize) -> u64
     requires { w < 2 ^ 32 }
     ensures { IsInputWord (map byte_symbol bytes.now) w result }
@@ -67,7 +68,8 @@ pub(crate) fn input_word_of(bytes: &[u8], w: usize) -> u64
     word
 }
 
-/// Word `w` of the outputs, whose bytes these are: those whose mark has a bit of the mask.
+/// Word `w` of the outputs, whose bytes these are: a bit a byte, set if the mark of the byte has a
+/// bit of the mask, and clear past the last.
 pub(crate) fn output_word_of(bytes: &[u8], w: usize, marks: &[u8; 256], mask: u8) -> u64
     requires { w < 2 ^ 32 }
     ensures { IsOutputWord (map (has_mark marks.now mask) bytes.now) w result }
@@ -80,7 +82,8 @@ pub(crate) fn output_word_of(bytes: &[u8], w: usize, marks: &[u8; 256], mask: u8
     word
 }
 
-/// The words of the cube of a row's bytes.
+/// The words of the cube of a row's bytes: those of the inputs, and then those of the outputs.
+/// Whether there is an output is not asked.
 pub(crate) fn words_of(
     alloc: Global,
     shape: Shape,

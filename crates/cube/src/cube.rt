@@ -184,7 +184,8 @@ impl Cube {
         }
     }
 
-    // Puts `-`, `0` and `1` for the symbols of whole groups of four, and answers for how many.
+    // Puts `-`, `0` and `1` at the front of a row for the symbols of whole groups of four, and
+    // answers for how many symbols.
     fn put_groups(&self, row: &mut [u8]) -> usize
         requires { length self.now.symbols ≤ length row.old }
         ensures within { result ≤ length self.now.symbols }
@@ -214,8 +215,8 @@ impl Cube {
         }
     }
 
-    /// The outputs from `64 w` on, as bits: output `64 w + k` is bit `k`. So lists can count and
-    /// compare their outputs word by word.
+    /// The outputs from `64 w` on, as bits: output `64 w + k` is bit `k`, which is clear past the
+    /// last output. So lists can count and compare their outputs word by word.
     pub fn output_bits(&self, w: usize) -> u64
         ensures { (k : ℕ) → k < 64 → bit_at result k
             ≡ (if slice_index_or self.now.outputs (64 * w + k) false then 1 else 0) }
@@ -281,7 +282,7 @@ impl Cube {
         }))
     }
 
-    // The meet of two cubes of two words.
+    // The meet of two cubes of two words; `None` if the two are disjoint.
     fn meet_in_two_words(&self, other: &Cube) -> Option<Cube>
         requires size { SameSize self.now other.now }
         requires inputs { input_words_of (length self.now.symbols) ≡ 1 }
@@ -543,7 +544,8 @@ impl Cube {
         Ok(())
     }
 
-    // The piece at input `i`, if the other has a literal there and this cube none.
+    // The piece at input `i`: this cube with the literal there that is opposite to the other's;
+    // `None` unless the other has a literal there and this cube none.
     fn piece(&self, other: &Cube, i: usize) -> Result<Option<Cube>, AllocError>
         requires size { SameSize self.now other.now }
         requires in_range { i < length self.now.symbols }
@@ -566,7 +568,7 @@ impl Cube {
         !covers_word_by_word(other.output_part(), self.output_part())
     }
 
-    /// This cube without the outputs of the other.
+    /// This cube without the outputs of the other, which has to lack an output of this one.
     pub fn without_outputs(&self, other: &Cube) -> Result<Cube, AllocError>
         requires size { SameSize self.now other.now }
         requires some { IsTrue (list_any (λ b. b) (minus self.now.outputs other.now.outputs)) }
@@ -595,7 +597,7 @@ impl Cube {
         })
     }
 
-    // All words.
+    // All words: those of the inputs, and then those of the outputs.
     fn words(&self) -> &[u64]
         ensures packs { Packs self.now result.now }
         ensures some_output { (j : ℕ) × (slice_index_or self.now.outputs j false ≡ true) }

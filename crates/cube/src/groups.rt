@@ -4,7 +4,8 @@ ghost use Rattle.std.specs.Int.{bit_at};
 ghost use Rattle.cube.specs.Bytes.{symbol_byte};
 ghost use Rattle.cube.specs.Packing.{symbol_of};
 
-/// The byte of the symbol that these two bits say.
+/// The byte, one of the three, of the symbol that two bits say: `dash` if they are equal, `zero` if
+/// `low` alone is 1, and else `one`.
 pub(crate) fn byte_by_bits(low: u64, high: u64, dash: u8, zero: u8, one: u8) -> u8
     ensures { result ≡ symbol_byte dash zero one (symbol_of low high) }
 {
@@ -50,7 +51,8 @@ static GROUPS: [[u8; 4]; 256] = [
     *b"----", *b"0---", *b"1---", *b"----",
 ];
 
-/// The bytes `-`, `0` and `1` of the four symbols that eight bits of a word say.
+/// The bytes `-`, `0` and `1` of the four symbols that eight bits of a word say, the lowest pair
+/// first.
 pub(crate) fn group_by_bits(bits: u64) -> &'static [u8; 4]
     requires { bits < 256 }
     ensures { (k : ℕ) → k < 4 → slice_index result.now k

@@ -147,7 +147,7 @@ fn bits_of_many_are_shared(a: &[u64], b: &[u64]) -> bool
     share_bit_word_by_word(my_rest, their_rest)
 }
 
-/// The bits that are in both.
+/// The bits that are in both, word by word.
 pub(crate) fn common_words(
     alloc: Global,
     a: &[u64],

@@ -43,7 +43,7 @@ fn beyond_marks(mine: &[u64], theirs: &[u64], w: usize) -> u64
 }
 
 impl Cube {
-    /// Whether input `i` has a literal.
+    /// Whether input `i` has a literal; not so past the last input.
     pub fn has_literal(&self, i: usize) -> bool
         ensures { result ≡ has_literal_of self.now i }
     {
@@ -76,7 +76,8 @@ impl Cube {
     }
 
     /// The literals at the 32 inputs from `32 w` on, as bits: `0` at input `32 w + k` is bit
-    /// `2 k + 1`, and `1` bit `2 k`. So lists can count their literals word by word.
+    /// `2 k + 1`, and `1` bit `2 k`; both are clear for `-` and past the last input. So lists can
+    /// count their literals word by word.
     #[inline(always)]
     pub fn literal_bits(&self, w: usize) -> u64
         ensures zeros { (k : ℕ) → k < 32 → bit_at result (2 * k + 1)
@@ -110,8 +111,8 @@ impl Cube {
         even_bits(self.literal_bits(w))
     }
 
-    /// The first input from `from` on at which the two cubes have opposite literals, if there is
-    /// one. Where there is none, they have a point in common.
+    /// The first input from `from` on at which the two cubes have opposite literals, or `None` if
+    /// there is none. Where there is none from 0 on, they have a point in common.
     pub fn next_opposite(&self, other: &Cube, from: usize) -> Option<usize>
         ensures found { IfSome result (λ i. IsNextInput (is_opposite self.now other.now) from i) }
         ensures within { IfSome result (λ i. i < length self.now.symbols) }
@@ -142,7 +143,7 @@ impl Cube {
     }
 
     /// The first input from `from` on at which this cube has a literal that the other does not
-    /// have, if there is one.
+    /// have, as that has `-` there or the opposite literal; `None` if there is none.
     pub fn next_beyond(&self, other: &Cube, from: usize) -> Option<usize>
         ensures found { IfSome result (λ i. IsNextInput (is_beyond self.now other.now) from i) }
         ensures within { IfSome result (λ i. i < length self.now.symbols) }
@@ -159,7 +160,8 @@ impl Cube {
         None
     }
 
-    /// How many literals this cube has that the other does not have.
+    /// How many literals this cube has that the other does not have: at inputs where the other has
+    /// `-` or the opposite literal.
     pub fn literals_beyond(&self, other: &Cube) -> u32
         ensures { result ≡ count_inputs (is_beyond self.now other.now) (length self.now.symbols) }
     {

@@ -29,7 +29,7 @@ pub(crate) fn output_words(shape: Shape) -> usize
     (shape.outputs() + 63) / 64
 }
 
-/// Whether one word holds the inputs, and one the outputs.
+/// Whether one word holds the inputs, and one the outputs. Not so if there are no inputs.
 pub(crate) fn is_in_two_words(shape: Shape) -> bool
     ensures inputs { result ≡ true → input_words_of shape.inputs ≡ 1 }
     ensures outputs { result ≡ true → output_words_of shape.outputs ≡ 1 }

@@ -62,7 +62,8 @@ pub(crate) fn put_common_word_by_word(a: &[u64], b: &[u64], from: usize, words: 
     }
 }
 
-/// What `op` makes of the words of both lists, number by number.
+/// What `op` makes of the words of both lists, number by number; it is given the number, the word
+/// of `a` and that of `b`.
 pub(crate) fn zip_words<F: Fn(usize, u64, u64) -> u64>(
     alloc: Global,
     a: &[u64],
@@ -157,7 +158,7 @@ pub(crate) fn freed_word(a: u64, b: u64) -> u64
     a | !(dashes | (dashes << 1))
 }
 
-/// Word `w` of a set that has all of `len` bits.
+/// Word `w` of a set that has the first `len` bits and no other.
 pub(crate) fn full_word(len: usize, w: usize) -> u64
     ensures within { (k : ℕ) → k < 64 → 64 * w + k < len → bit_at result k ≡ 1 }
     ensures past { (k : ℕ) → k < 64 → len ≤ 64 * w + k → bit_at result k ≡ 0 }
@@ -171,7 +172,8 @@ pub(crate) fn full_word(len: usize, w: usize) -> u64
     }
 }
 
-/// Word `w` of a set of `len` bits: the bits of `a`, and those that are not in `b`.
+/// Word `w` of a set: the bits of `a`, and those of the first `len` bits of the set that are not in
+/// `b`.
 pub(crate) fn or_not_word(len: usize, w: usize, a: u64, b: u64) -> u64
     ensures within { (k : ℕ) → k < 64 → 64 * w + k < len → bit_at result k
         ≡ max (bit_at a k) (1 - bit_at b k) }
@@ -205,7 +207,7 @@ pub(crate) fn count_clear(words: &[u64]) -> usize
 }
 
 /// The number of the first word in which they differ, and whether `a` has the lowest bit that
-/// differs there.
+/// differs there; `None` if they are equal.
 #[inline(always)]
 pub(crate) fn first_difference(a: &[u64], b: &[u64]) -> Option<(usize, bool)>
     requires { length a.now ≡ length b.now }
@@ -222,7 +224,7 @@ pub(crate) fn first_difference(a: &[u64], b: &[u64]) -> Option<(usize, bool)>
     None
 }
 
-/// The bits of a word from `bit` on that are clear, as bits that are set.
+/// The bits of a word from `bit` on that are clear, as bits that are set; those below are clear.
 pub(crate) fn clear_from(word: u64, bit: usize) -> u64
     requires { bit < 64 }
     ensures from_on { (k : ℕ) → bit ≤ k → k < 64 → bit_at result k ≡ 1 - bit_at word k }
@@ -231,7 +233,8 @@ pub(crate) fn clear_from(word: u64, bit: usize) -> u64
     !word & (u64::MAX << bit)
 }
 
-/// The number of the first clear bit from `from` on, each word's lowest bit first.
+/// The number of the first clear bit from `from` on, each word's lowest bit first; `None` if there
+/// is none in the words.
 pub(crate) fn first_clear(words: &[u64], from: usize) -> Option<usize>
     requires { length words.now < 2 ^ 32 }
     ensures found { IfSome result (λ at. IsFirstClear words.now from at) }
@@ -264,7 +267,7 @@ pub(crate) fn empty_pairs(word: u64) -> u64
     even_bits(!(word | (word >> 1)))
 }
 
-/// The pairs from `pair` on.
+/// The word with the pairs before number `pair` cleared.
 pub(crate) fn from_pair(word: u64, pair: usize) -> u64
     requires { pair < 32 }
     ensures from_on { (k : ℕ) → 2 * pair ≤ k → k < 64 → bit_at result k ≡ bit_at word k }
@@ -273,7 +276,7 @@ pub(crate) fn from_pair(word: u64, pair: usize) -> u64
     word & (u64::MAX << (2 * pair))
 }
 
-// The word with groups of bits exchanged with those beside them, which the mask has.
+// The word with each group of `width` bits that the mask has exchanged with the one above it.
 fn exchange(word: u64, width: u32, mask: u64) -> u64
     requires width { width < 64 }
     requires mask { IsExchangeMask width mask }
@@ -282,7 +285,7 @@ fn exchange(word: u64, width: u32, mask: u64) -> u64
     ((word >> width) & mask) | ((word & mask) << width)
 }
 
-/// The word turned around.
+/// The word with its bits in the opposite order, the lowest one highest.
 pub(crate) fn reversal(word: u64) -> u64
     ensures { (k : ℕ) → k < 64 → bit_at result k ≡ bit_at word (63 - k) }
 {
