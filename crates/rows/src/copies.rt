@@ -6,7 +6,7 @@ ghost use Rattle.rows.specs.Places.{places, behind};
 use cube::Cube;
 use std::alloc::{AllocError, Global};
 
-/// Whether the row has no place in common with the others.
+/// Whether the row has no place in common with any of the others.
 pub fn is_disjoint_from_all(row: &Cube, others: &[&Cube]) -> bool
     requires { All (λ d. SameSize row.now d.now) others.now }
     ensures { IsTrue result ↔ IsDisjoint (holds row.now) (places (behind others.now)) }
@@ -62,7 +62,7 @@ pub fn any_meets(cubes: &[Cube], row: &Cube) -> bool
     false
 }
 
-/// References to the cubes of a list.
+/// References to the cubes of a list, in their order.
 pub fn references_to_cubes(alloc: Global, cubes: &[Cube]) -> Result<Vec<&Cube>, AllocError>
     ensures { IfOk result (λ refs. behind refs.items ≡ cubes.now) }
 {

@@ -9,8 +9,8 @@ pub fn word_hash(word: u64) -> u64 {
     product ^ (product >> 32)
 }
 
-/// The hash of a row, from a seed. With one seed equal rows have equal hashes, and other rows
-/// hardly ever do.
+/// The hash of a row of this shape, from a seed. With one seed equal rows have equal hashes, and
+/// other rows hardly ever do.
 #[inline(always)]
 pub fn row_hash(shape: Shape, row: &Cube, seed: u64) -> u64 {
     let mut hash = seed;

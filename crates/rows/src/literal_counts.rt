@@ -11,12 +11,13 @@ use std::alloc::{AllocError, Global};
 // than the split.
 const SAMPLE: usize = 64;
 
-/// How many of so many rows a sample has.
+/// How many of so many rows [`LiteralCounts::of_sample`] counts: all if these are fewer than
+/// `SAMPLE`, and otherwise at least half of `SAMPLE` and at most `SAMPLE`.
 pub fn sample_size(rows: usize) -> usize {
     rows.saturating_add(rows / SAMPLE) / (rows / SAMPLE + 1)
 }
 
-//// By input how many rows have `0`, and how many have `1`.
+/// By input how many rows have `0`, and how many have `1`.
 pub struct LiteralCounts {
     /// How many rows have `0` at each input.
     pub zeros: Vec<u32>,
@@ -32,7 +33,7 @@ impl Drop for LiteralCounts {
 }
 
 impl LiteralCounts {
-    /// Counts the literals of the rows.
+    /// Counts the literals of the rows, each of which has so many inputs.
     pub fn of(alloc: Global, rows: &[&Cube], inputs: usize) -> Result<LiteralCounts, AllocError>
         requires { All (λ d. length d.now.symbols ≡ inputs) rows.now }
         ensures { IfOk result
@@ -45,7 +46,8 @@ impl LiteralCounts {
         Ok(counts)
     }
 
-    /// Counts the literals of at most `SAMPLE` rows, evenly from the list.
+    /// Counts the literals of at most `SAMPLE` rows, evenly from the list; [`sample_size`] says of
+    /// how many.
     pub fn of_sample(
         alloc: Global,
         shape: Shape,
@@ -65,7 +67,7 @@ impl LiteralCounts {
         Ok(counts)
     }
 
-    // The counts of no row.
+    // The counts of no row: 0 at each input.
     fn new(alloc: Global, inputs: usize) -> Result<LiteralCounts, AllocError>
         ensures { IfOk result (λ t. CountsLiterals inputs t.zeros.items t.ones.items []) }
     {
@@ -75,7 +77,7 @@ impl LiteralCounts {
         })
     }
 
-    // Counts the literals of one more row.
+    // Adds the literals of one more row to the counts.
     fn add(&mut self, row: &Cube)
         requires zeros { length self.old.zeros.items ≡ length row.now.symbols }
         requires ones { length self.old.ones.items ≡ length row.now.symbols }

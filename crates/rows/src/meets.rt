@@ -9,7 +9,7 @@ ghost use Rattle.rows.specs.Sizes.{ShareOneSize};
 use cube::Cube;
 use std::alloc::{AllocError, Global};
 
-/// Adds the meets of a row with each of the others.
+/// Adds the meets of a row with the others, in their order; one that is disjoint from it adds none.
 pub fn push_meets(row: &Cube, others: &[Cube], all: &mut Vec<Cube>) -> Result<(), AllocError>
     requires { All (λ c. SameSize row.now c) others.now }
     ensures { OnOk result ((size : Size) → IsCube size row.now → AreCubes size others.now
@@ -24,7 +24,8 @@ pub fn push_meets(row: &Cube, others: &[Cube], all: &mut Vec<Cube>) -> Result<()
     Ok(())
 }
 
-/// The meets of a row of each list, pair by pair.
+/// The meets of a row of each list, pair by pair, those of the first row first. A disjoint pair
+/// gives none, and equal meets are repeated.
 pub fn meets_by_pairs(
     alloc: Global,
     rows: &[Cube],

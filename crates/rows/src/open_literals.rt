@@ -5,8 +5,8 @@
 
 use cube::{Cube, Shape, Symbol};
 
-/// The open literals of a row at the 32 inputs of word `w`, as bits like those of
-/// `Cube::literal_bits`.
+/// The open literals of a row that meets the region, at the 32 inputs of word `w`, as bits like
+/// those of `Cube::literal_bits`; none past the last word.
 pub fn open_bits(row: &Cube, region: &Cube, w: usize) -> u64 {
     row.literal_bits(w) & !region.literal_bits(w)
 }
@@ -31,7 +31,8 @@ pub fn count_open_literals(shape: Shape, row: &Cube, region: &Cube, enough: u32)
     count.saturating_add(lacks_output(shape, row, region) as u32)
 }
 
-/// The first open literal of a row, with its input.
+/// The input of the first open literal of a row that meets the region, and the literal; 0 and `0`
+/// if the row has none.
 pub fn first_open_literal(row: &Cube, region: &Cube) -> (usize, Symbol) {
     match row.next_beyond(region, 0) {
         Some(i) => (i, row.symbol(i)),
@@ -39,8 +40,8 @@ pub fn first_open_literal(row: &Cube, region: &Cube) -> (usize, Symbol) {
     }
 }
 
-/// Adds `times` to the counts of the bits that are set. As in a cube's words, there are two for
-/// each input: that of `1` and that of `0`.
+/// Adds `times` to the counts of the bits that are set. There are two for each of 32 inputs, as in
+/// `Cube::literal_bits`: first that of `1`, and then that of `0`.
 pub fn count_bits(bits: u64, times: u32, counts: &mut [u32; 64]) {
     let mut left = bits;
     for _ in 0..64 {
