@@ -28,7 +28,7 @@ impl Drop for Compact {
     }
 }
 
-/// The new number of each live column.
+/// The new number of each live column, at its old one; 0 at a column that is not live.
 fn new_numbers(alloc: Global, live: &[usize], columns: usize) -> Result<Vec<u32>, AllocError> {
     let mut numbers: Vec<u32> = vec![in alloc; 0; columns]?;
     for (i, column) in live.iter().enumerate() {
@@ -39,7 +39,8 @@ fn new_numbers(alloc: Global, live: &[usize], columns: usize) -> Result<Vec<u32>
     Ok(numbers)
 }
 
-/// Adds the row, renumbered.
+/// Adds the row, with its columns renumbered. They are to be live; those past the end of `numbers`
+/// are left out.
 fn push_renumbered(
     renumbered: &mut Lists,
     row: &[usize],
@@ -53,7 +54,7 @@ fn push_renumbered(
     renumbered.end()
 }
 
-/// How many entries the rows have.
+/// How many entries the rows have together.
 fn size_of(rows: &[Vec<usize>]) -> usize {
     let mut size: usize = 0;
     for row in rows {
@@ -62,7 +63,7 @@ fn size_of(rows: &[Vec<usize>]) -> usize {
     size
 }
 
-/// The rows, with their live columns renumbered.
+/// The rows, with their columns renumbered, which are to be live: another one becomes 0.
 fn renumber_rows(
     alloc: Global,
     rows: &[Vec<usize>],
@@ -78,8 +79,9 @@ fn renumber_rows(
 }
 
 impl Compact {
-    /// The table of these rows and live columns, which are below `columns`; `costs` has what each
-    /// live column costs, in the same order. One pass over the rows.
+    /// The table of these rows and live columns, which are below `columns`; the rows are to have
+    /// live columns alone. `costs` has what each live column costs, in the same order. One pass
+    /// over the rows.
     pub fn of(
         alloc: Global,
         rows: &[Vec<usize>],

@@ -3,10 +3,11 @@
 
 use std::alloc::{AllocError, Global};
 
-/// The seed of the sequence.
+/// The first seed of the pseudo-random sequence.
 pub const SEED: u64 = 0x9E3779B97F4A7C15;
 
-/// The next number of the sequence (Marsaglia, Xorshift RNGs, 2003).
+/// The next number of the pseudo-random sequence, which is the next seed too (Marsaglia, Xorshift
+/// RNGs, 2003); 0 for the seed 0.
 pub fn next_random(seed: u64) -> u64 {
     let a = seed ^ (seed << 13);
     let b = a ^ (a >> 7);
@@ -34,14 +35,14 @@ pub fn put(numbers: &mut Vec<i64>, index: usize, number: i64) {
     }
 }
 
-/// Adds `amount` to the number at the index; does nothing past the end.
+/// Adds `amount` to the number at the index, which may wrap; does nothing past the end.
 pub fn add_at(numbers: &mut Vec<i64>, index: usize, amount: i64) {
     if index < numbers.len() {
         numbers[index] = numbers[index].wrapping_add(amount);
     }
 }
 
-/// Adds `amount` to the number of each of the row's columns.
+/// Adds `amount` to the number of each of the row's columns; does nothing for those past the end.
 pub fn add_to_each(numbers: &mut [i64], row: &[u32], amount: i64) {
     for column in row {
         let column = *column as usize;
@@ -51,13 +52,13 @@ pub fn add_to_each(numbers: &mut [i64], row: &[u32], amount: i64) {
     }
 }
 
-/// Overwrites entries with others, as far as there are as many.
+/// Overwrites entries with the others, from the first on, until either list ends.
 pub fn overwrite<T: Copy>(entries: &mut [T], others: &[T]) {
     let length = entries.len().min(others.len());
     entries[..length].copy_from_slice(&others[..length]);
 }
 
-/// The sum of the numbers.
+/// The sum of the numbers, which wraps.
 pub fn total(numbers: &[i64]) -> i64 {
     let mut sum: i64 = 0;
     for number in numbers {
@@ -82,14 +83,15 @@ pub fn set(numbers: &mut Vec<usize>, index: usize, number: usize) {
     }
 }
 
-/// Adds `amount` to the number at the index, which is 0 past the end; answers the sum.
+/// Adds `amount` to the number at the index, and answers the sum, which wraps; past the end it
+/// changes nothing, and answers `amount`.
 pub fn add_to(numbers: &mut Vec<usize>, index: usize, amount: usize) -> usize {
     let sum = number(numbers, index).wrapping_add(amount);
     set(numbers, index, sum);
     sum
 }
 
-/// Whether the index is marked.
+/// Whether the index is marked; not so past the end.
 pub fn flag(flags: &[bool], index: usize) -> bool {
     index < flags.len() && flags[index]
 }
@@ -101,7 +103,7 @@ pub fn mark(flags: &mut Vec<bool>, index: usize, to: bool) {
     }
 }
 
-/// `end` marks, of which those at the indices are set.
+/// `end` marks, of which those at the indices are set; indices past the end set none.
 pub fn marked(alloc: Global, indices: &[usize], end: usize) -> Result<Vec<bool>, AllocError> {
     let mut marks = vec![in alloc; false; end]?;
     for index in indices {
@@ -110,8 +112,8 @@ pub fn marked(alloc: Global, indices: &[usize], end: usize) -> Result<Vec<bool>,
     Ok(marks)
 }
 
-/// Marks the live columns at these indices of their list; the marks are one for each of `end`
-/// columns.
+/// Marks for `end` columns: those of the live columns at these indices of `live` are set. An index
+/// past the end of `live` sets none.
 pub fn marks_of(
     alloc: Global,
     live: &[usize],
