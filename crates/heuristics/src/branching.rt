@@ -4,7 +4,7 @@
 use number_lists::{at, mark};
 use std::alloc::{AllocError, Global};
 
-/// Adds one at each column of the row.
+/// Adds one to the number of each of the row's columns; does nothing for those past the end.
 fn count_columns(numbers: &mut [i64], row: &[usize]) {
     for column in row {
         if *column < numbers.len() {
@@ -35,7 +35,8 @@ fn sum_of_counts(row: &[usize], counts: &[i64]) -> i64 {
     sum
 }
 
-/// The likeliest column of the row; among equals, the one in more rows.
+/// The likeliest column of the row; among equals, the one in more rows, and then the first; 0 for
+/// an empty row.
 fn likeliest_of(row: &[usize], likely: &[i64], counts: &[i64]) -> usize {
     let mut best = 0;
     let mut highest = (i64::MIN, i64::MIN);
@@ -49,8 +50,8 @@ fn likeliest_of(row: &[usize], likely: &[i64], counts: &[i64]) -> usize {
     best
 }
 
-/// What a row of so many columns weighs, from a thousand for one column: less by the power 2.5 of its
-/// length.
+/// What a row of so many columns weighs, from a thousand for one column: less by the power 2.5 of
+/// its length.
 const WEIGHTS: [i64; 11] = [0, 1000, 177, 64, 31, 18, 11, 8, 6, 4, 3];
 
 /// How much to prefer the row: its weight times the row counts of its columns. In a short row each
@@ -92,9 +93,9 @@ fn has(columns: &[usize], column: usize) -> bool {
     false
 }
 
-/// Marks the next columns to ask for: the first `size` live ones from `column` on, up to the first
-/// that the witness has. The marks are one for each of `end` columns. Each mark costs a pass over
-/// the witness.
+/// Marks the next columns to ask for: the first `size` live ones from `column` on, but only those
+/// before the first that the witness has. The marks are one for each of `end` columns. Each mark
+/// costs a pass over the witness.
 pub fn batch(
     alloc: Global,
     live: &[usize],

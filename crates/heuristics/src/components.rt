@@ -35,7 +35,7 @@ fn join_columns(leaders: &mut Vec<usize>, row: &[usize]) {
     }
 }
 
-/// How many rows each component has, at the column that stands for it.
+/// How many rows each component has, at the column that stands for it, and 0 at other columns.
 fn sizes(
     alloc: Global,
     rows: &[Vec<usize>],
@@ -52,8 +52,8 @@ fn sizes(
     Ok(sizes)
 }
 
-/// The column before which components have half of the rows, at the columns that stand for them;
-/// `None` if one component has all rows.
+/// The column before which components have half of the rows, rounded down, or more, at the columns
+/// that stand for them; `None` if one component has all rows, or there are columns but no rows.
 fn half_way(sizes: &[usize], rows: usize) -> Option<usize> {
     let mut end: usize = 0;
     let mut passed: usize = 0;
@@ -85,7 +85,9 @@ fn columns_before(
     Ok(side)
 }
 
-/// Marks the columns of some components that have half of the rows, or `None` if one has all.
+/// Marks for all columns: those of some components that have about half of the rows or more are
+/// set, at worst of all that have rows; `None` if one has all rows, or there are columns but no
+/// rows.
 fn side_of(
     alloc: Global,
     rows: &[Vec<usize>],
@@ -98,8 +100,9 @@ fn side_of(
     }
 }
 
-/// Marks the columns of one side, or `None` if all rows are connected; columns are below `columns`.
-/// About three passes over the rows.
+/// Marks for `columns` columns: those of one side are set, which share no row with the others and
+/// have about half of the rows or more, at worst all; `None` if all rows are connected, or there
+/// are columns but no rows. About three passes over the rows.
 pub fn side_hint(
     alloc: Global,
     rows: &[Vec<usize>],

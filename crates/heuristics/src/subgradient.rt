@@ -18,7 +18,7 @@ use std::alloc::{AllocError, Global};
 /// The highest likelihood of a column.
 const LIKELIEST: i64 = 1048576;
 
-/// The most steps for a bound.
+/// The most steps for a bound before a restart, after which as many may follow.
 pub const STEPS: u32 = 600;
 
 /// The most for a bound that continues from another and only drops columns.
@@ -106,7 +106,7 @@ pub struct Ascent {
     partial: Vec<i64>,
     /// Which columns are overloaded.
     marks: Marks,
-    /// The step with the best value.
+    /// The weights of the step with the best value, since the restart if there was one.
     pub top: Point,
     /// The polished weights with the best value.
     pub best: Point,
@@ -152,7 +152,8 @@ pub struct Course {
 }
 
 impl Course {
-    /// The course of the first steps.
+    /// The course of at most `steps` steps, which are given up if `reach` times the last gain would
+    /// not reach the goal. They may be restarted once if they are no fewer than `STEPS`.
     pub fn new(steps: u32, reach: i64) -> Course {
         Course {
             last: steps,
@@ -163,14 +164,15 @@ impl Course {
         }
     }
 
-    /// Restarts after a step.
+    /// Notes a restart after this step: `steps` more may follow, and no other restart.
     fn restart(&mut self, step: u32) {
         self.again = true;
         self.last = step.wrapping_add(self.steps);
         self.before = i64::MIN;
     }
 
-    /// Whether the last steps gained too little to reach the goal; tested every `SPAN` steps.
+    /// Whether the last steps gained too little to reach the goal; tested every `SPAN` steps, when
+    /// the best value is noted for the next test. At other steps, and at step 0, it is `false`.
     fn gives_up(&mut self, step: u32, value: i64) -> bool {
         if step == 0 || step % SPAN != 0 {
             return false;
@@ -190,8 +192,8 @@ fn overload(slacks: &[i64]) -> i64 {
     overload
 }
 
-/// How much less the row must weigh so that one more of its columns is not overloaded; nothing if
-/// at most one is.
+/// How much less the row must weigh so that one more of its columns is not overloaded, at most its
+/// `weight`; 0 if at most one is.
 fn weight_decrease(row: &[u32], weight: i64, slacks: &[i64]) -> i64 {
     let mut number: u32 = 0;
     let mut least = weight;
@@ -205,7 +207,7 @@ fn weight_decrease(row: &[u32], weight: i64, slacks: &[i64]) -> i64 {
     if number > 1 { least } else { 0 }
 }
 
-/// The least slack of the row's columns; 0 if one has none.
+/// The least slack of the row's columns; 0 if one has none or is overloaded, or the row is empty.
 fn least_slack(row: &[u32], slacks: &[i64]) -> i64 {
     let mut least = i64::MAX;
     for column in row {
@@ -217,7 +219,8 @@ fn least_slack(row: &[u32], slacks: &[i64]) -> i64 {
     if row.is_empty() { 0 } else { least }
 }
 
-/// The multiplier of each unit of a column's cost, by which columns cost `UNIT` on average.
+/// The multiplier of each unit of a column's cost, by which columns cost `UNIT` on average; at
+/// least 1, and at most what 32 bits hold.
 fn cost_multiplier(table: &Compact) -> i64 {
     let number = i64::try_from(table.costs.len()).unwrap_or(i64::MAX);
     UNIT.wrapping_mul(number)
@@ -226,8 +229,8 @@ fn cost_multiplier(table: &Compact) -> i64 {
         .min(4294967295)
 }
 
-/// Lowers the weights of rows with several overloaded columns, the least weight first; `order` is
-/// room for these rows.
+/// Lowers the weights of rows with several overloaded columns, the least weight first, and adjusts
+/// the slacks; `order` is room for these rows.
 fn lower(
     table: &Compact,
     slopes: &[i64],
@@ -253,8 +256,8 @@ fn lower(
     Ok(())
 }
 
-/// Raises the weights of rows by the slack of their columns, the row first that weighed most before
-/// rows were lowered; `order` is room for these rows.
+/// Raises the weights of rows by the least slack of their columns, the row first that weighed most
+/// before rows were lowered, and adjusts the slacks; `order` is room for these rows.
 fn raise(
     table: &Compact,
     before: &[i64],
@@ -299,7 +302,8 @@ fn slacks_of(
     Ok(slacks)
 }
 
-/// Raises the likelihood of overloaded columns, and lowers the others'.
+/// Moves the likelihood of overloaded columns half the way to `LIKELIEST`, and the others' half the
+/// way to 0; all the way if `fresh`.
 fn note_likely(likely: &mut [i64], overloaded: &[bool], fresh: bool) {
     for column in 0..overloaded.len().min(likely.len()) {
         let now = if overloaded[column] { LIKELIEST } else { 0 };
@@ -372,7 +376,8 @@ impl Marks {
         overload
     }
 
-    /// Counts the changes of marks for each row of the columns, which are the first in `changed`.
+    /// Counts the changes of marks in `number`, and in the slopes of the rows of the columns, which
+    /// are the first `changes` in `changed`.
     fn count_changes(&mut self, column_rows: &Lists, changes: usize) {
         for index in 0..changes {
             let column = number(&self.changed, index);
@@ -402,14 +407,14 @@ fn turn(direction: &mut [i64], slopes: &[i64], weights: &[i64]) -> i64 {
     square
 }
 
-/// The number after a step of this length in its direction; at least 0.
+/// The number after a step of `pace` times `direction` over 256; at least 0.
 fn number_after_step(number: i64, direction: i64, pace: i64) -> i64 {
     number
         .wrapping_add(pace.wrapping_mul(direction) >> 8)
         .max(0)
 }
 
-/// Moves each weight in its direction.
+/// Moves each weight by a step of `pace` times its direction over 256, but not below 0.
 fn move_each(weights: &mut [i64], direction: &[i64], pace: i64) {
     for row in 0..weights.len().min(direction.len()) {
         weights[row] = number_after_step(weights[row], direction[row], pace);
@@ -433,8 +438,9 @@ fn clear(numbers: &mut [i64]) {
 }
 
 impl Ascent {
-    /// The start of the steps, from these weights, with steps of this length. `column` is the
-    /// multiplier of a column where columns have different costs.
+    /// The start of the steps, from these weights, one for each row, with steps of this length.
+    /// `column` is the multiplier of a column where columns have different costs; where they cost
+    /// the same it is `UNIT`.
     pub fn new(
         alloc: Global,
         table: &Compact,
@@ -483,7 +489,8 @@ impl Ascent {
         }
     }
 
-    /// The Lagrangian bound less the goal: positive if no cover reaches the goal.
+    /// The Lagrangian bound of these weights less the goal; columns are overloaded by `overload`
+    /// together. If it is positive, no cover reaches the goal.
     fn value(&self, weights: &[i64], overload: i64, goal: Goal) -> i64 {
         total(weights)
             .wrapping_sub(overload)
@@ -502,7 +509,8 @@ impl Ascent {
         }
     }
 
-    /// A step in the direction of the subgradient plus three quarters of the last direction.
+    /// A step in the direction of the subgradient plus three quarters of the last direction. Its
+    /// length is `far` over the square of that direction; there is no step if the square is 0.
     fn step(&mut self, goal: Goal, far: i64) {
         let mut square = turn(&mut self.direction, &self.marks.slopes, &self.weights);
         if self.cost > 0 {
@@ -520,7 +528,8 @@ impl Ascent {
         self.column = number_after_step(self.column, self.column_direction, pace);
     }
 
-    /// Notes the value of the present weights.
+    /// Notes the value of the present weights, and keeps them in `top` if it is the best so far.
+    /// The step counts as idle if it gains a thousandth of `UNIT` at most.
     fn note(&mut self, value: i64) {
         if value > self.top.value.saturating_add(UNIT / 1000) {
             self.idle = 0;
@@ -557,21 +566,21 @@ impl Ascent {
         step >= course.last || self.is_slow() || course.gives_up(step, self.top.value)
     }
 
-    /// Returns to the best weights.
+    /// Returns to the weights and the multiplier of a column in `top`.
     fn return_to_top(&mut self) {
         self.column = self.top.column;
         overwrite(&mut self.weights, &self.top.weights);
     }
 
-    /// Returns to the best weights, with shorter steps.
+    /// Returns to the weights in `top`, with steps of three fifths of the length.
     fn slow_down(&mut self) {
         self.idle = 0;
         self.pace = self.pace.wrapping_mul(3) / 5;
         self.return_to_top();
     }
 
-    /// Notes the present weights, and goes on from them to the next; answers whether the steps are
-    /// over.
+    /// Notes the present weights, and goes on from them to the next; `step` is their number, from 0
+    /// on. Answers whether the steps are over.
     pub fn go_on(
         &mut self,
         alloc: Global,
@@ -593,7 +602,8 @@ impl Ascent {
         }
     }
 
-    /// Makes a step, and polishes every `SPAN` steps; answers whether the goal is reached.
+    /// Polishes every `SPAN` steps, and answers whether this shows that no cover reaches the goal;
+    /// otherwise makes a step. `value` is that of the present weights.
     fn polish_and_step(
         &mut self,
         alloc: Global,
@@ -619,8 +629,9 @@ impl Ascent {
         Ok(false)
     }
 
-    /// Polishes the present weights, whose sums and overloaded columns are known: lowers them where
-    /// columns are overloaded, and then raises them by what is left of the slacks.
+    /// Polishes a copy of the present weights, whose sums and overloaded columns are known: lowers
+    /// them where columns are overloaded, and then raises them by what is left of the slacks. Keeps
+    /// it in `best` if its bound is the best so far.
     fn polish(&mut self, alloc: Global, table: &Compact, goal: Goal) -> Result<(), AllocError> {
         let mut slacks = slacks_of(alloc, &table.column_rows, &self.scaled_costs, &self.partial)?;
         let mut weights = self.weights.to_vec(alloc)?;
@@ -637,8 +648,8 @@ impl Ascent {
         Ok(())
     }
 
-    /// Polishes the best weights. If they end just short of the goal, the steps are restarted once.
-    /// Answers whether the steps are over.
+    /// Polishes the weights in `top`. If the best polished ones end just short of the goal, the
+    /// steps are restarted, once. Answers whether the steps are over.
     fn end_or_restart(
         &mut self,
         alloc: Global,
@@ -658,7 +669,8 @@ impl Ascent {
         Ok(false)
     }
 
-    /// Moves from the best weights a quarter of the way to their mean, for a restart.
+    /// Moves the present weights, which are the best, a quarter of the way to their mean, and
+    /// forgets the direction and the value in `top`, for a restart.
     fn restart_near_best(&mut self) {
         draw_to_mean(&mut self.weights);
         clear(&mut self.direction);
@@ -668,12 +680,13 @@ impl Ascent {
         self.top.value = i64::MIN;
     }
 
-    /// How likely each column is in a cover, as far as the steps tell.
+    /// How likely each column is in a cover, as far as the steps tell; a larger number is likelier.
     pub fn likely(&self) -> &[i64] {
         &self.marks.likely
     }
 
-    /// The best multipliers, as the caller checks them.
+    /// The best polished multipliers, as the caller checks them; without weights before the first
+    /// step.
     pub fn multipliers(&self, alloc: Global) -> Result<Multipliers, AllocError> {
         let mut weights = Vec::with_capacity(alloc, self.best.weights.len())?;
         for weight in &self.best.weights {

@@ -23,7 +23,7 @@ struct LocalSearch {
     holders: Vec<usize>,
     /// The rows without a chosen column.
     open: Vec<usize>,
-    /// The index of each of these rows in `open`.
+    /// The index of each of these rows in `open`; for other rows it means nothing.
     places: Vec<usize>,
     /// What it would gain to add each column that is not chosen.
     scores: Vec<i64>,
@@ -110,7 +110,8 @@ impl LocalSearch {
         Ok(())
     }
 
-    /// Raises the scores of the row's other columns, and lets these be added.
+    /// Adds `more`, which may be negative, to the scores of the row's columns other than `column`,
+    /// and lets these be added.
     fn raise_others(&mut self, row: &[u32], column: usize, more: i64) {
         for other in row {
             let other = *other as usize;
@@ -121,7 +122,8 @@ impl LocalSearch {
         }
     }
 
-    /// Adds to what it would gain to drop the only chosen column of the row.
+    /// Adds `more`, which may be negative, to what it would gain to drop the only chosen column of
+    /// the row.
     fn raise_holder(&mut self, row: usize, more: i64) {
         let slot = number(&self.slots, number(&self.holders, row));
         add_at(&mut self.losses, slot, more);
@@ -139,8 +141,8 @@ impl LocalSearch {
         }
     }
 
-    /// Enters the column into the list of chosen ones, with its loss, and adds its cost; `now` is the step.
-    /// What becomes of its rows is left to the caller.
+    /// Enters the column into the list of chosen ones, with its loss, and adds its cost; `now` is
+    /// the step. What becomes of its rows is left to the caller.
     fn choose(&mut self, table: &Compact, column: usize, now: usize) -> Result<(), AllocError> {
         set(&mut self.stamps, column, now);
         mark(&mut self.inside, column, true);
@@ -152,7 +154,8 @@ impl LocalSearch {
         Ok(())
     }
 
-    /// Takes the column from the list of chosen ones.
+    /// Takes the column from the list of chosen ones, with its cost, and makes a score of its loss;
+    /// `now` is the step. What becomes of its rows is left to the caller.
     fn discard(&mut self, table: &Compact, column: usize, now: usize) {
         set(&mut self.stamps, column, now);
         mark(&mut self.inside, column, false);
@@ -170,7 +173,7 @@ impl LocalSearch {
         self.cost = self.cost.wrapping_sub(at(&table.costs, column));
     }
 
-    /// Adds the column to the list.
+    /// Adds the column to the list, and counts it in each of its rows; `now` is the step.
     fn add(&mut self, table: &Compact, column: usize, now: usize) -> Result<(), AllocError> {
         self.choose(table, column, now)?;
         for row in table.column_rows.list(column) {
@@ -192,7 +195,8 @@ impl LocalSearch {
         add_to(&mut self.holders, row, column);
     }
 
-    /// Drops the column from the list.
+    /// Drops the column from the list and from the counts of its rows; `now` is the step. It may be
+    /// added again only after another column has covered or uncovered one of its rows.
     fn remove(&mut self, table: &Compact, column: usize, now: usize) -> Result<(), AllocError> {
         self.discard(table, column, now);
         mark(&mut self.fresh, column, false);
@@ -233,7 +237,8 @@ impl LocalSearch {
         a > b || (a == b && number(&self.stamps, first) < number(&self.stamps, second))
     }
 
-    /// The chosen column that is best to drop, other than the last one.
+    /// The chosen column other than `last` that is best to drop: that of the least loss, and among
+    /// equals by `is_better_to_drop`; `usize::MAX` if there is none.
     fn column_to_drop(&self, table: &Compact, last: usize) -> usize {
         let mut best = usize::MAX;
         let mut top = i64::MIN;
@@ -249,7 +254,8 @@ impl LocalSearch {
         best
     }
 
-    /// The column of the row that is best to add.
+    /// The column of the row that is best to add, of those that may be added: that of the highest
+    /// score, and among equals by `is_better_to_add`; `usize::MAX` if there is none.
     fn column_to_add(&self, table: &Compact, row: &[u32]) -> usize {
         let mut best = usize::MAX;
         let mut top = i64::MIN;
@@ -267,7 +273,8 @@ impl LocalSearch {
         best
     }
 
-    /// The column of all that is best to add.
+    /// The column that is best to add of all that are not chosen, fresh or not; `usize::MAX` if
+    /// there is none.
     fn best_to_add(&self, table: &Compact) -> usize {
         let mut best = usize::MAX;
         let mut top = i64::MIN;
@@ -283,7 +290,7 @@ impl LocalSearch {
         best
     }
 
-    /// Raises the weights of the uncovered rows.
+    /// Raises the weight of each uncovered row by one, and so the scores of its columns.
     fn raise_uncovered_weights(&mut self, table: &Compact) {
         for i in 0..self.open.len() {
             let row = number(&self.open, i);
@@ -297,12 +304,14 @@ impl LocalSearch {
         i64::try_from(self.chosen.len()).unwrap_or(i64::MAX)
     }
 
-    /// Whether the list reaches the goal.
+    /// Whether the list has no more columns than the goal, and costs no more. Whether it covers all
+    /// rows is not asked.
     fn reaches(&self, goal: Goal) -> bool {
         self.size() <= goal.columns && self.cost <= goal.cost
     }
 
-    /// Adds those of the marked columns that uncovered rows have.
+    /// Adds, one after the other, those of the live columns that the hint marks and that some
+    /// uncovered row has. The hint may be poor.
     fn begin_with(
         &mut self,
         table: &Compact,
@@ -318,7 +327,7 @@ impl LocalSearch {
         Ok(())
     }
 
-    /// Adds columns until each row is covered.
+    /// Adds the best column to add, again and again, until each row is covered.
     fn cover_greedily(&mut self, table: &Compact) -> Result<(), AllocError> {
         for _ in 0..table.rows.len() {
             if self.open.is_empty() {
@@ -331,7 +340,9 @@ impl LocalSearch {
         Ok(())
     }
 
-    /// Drops a column if the list is as long as the goal, and adds one; answers which it added.
+    /// Drops a column other than `last` if the list is as long as the goal or longer, adds one of
+    /// an uncovered row that `seed` picks, and raises the weights of the rows that stay uncovered.
+    /// Answers which column it added, or `last` if none.
     fn swap(
         &mut self,
         table: &Compact,
@@ -439,8 +450,8 @@ fn first_scores(alloc: Global, table: &Compact) -> Result<Vec<i64>, AllocError> 
     Ok(scores)
 }
 
-/// How many steps a row a long local search takes: up to a thousand, fewer where a step costs more
-/// since rows and columns are long.
+/// How many steps for each row a long local search takes: from 12 to 1000, fewer where a step costs
+/// more since rows and columns are long.
 pub fn steps_of_long_search(rows: &[Vec<usize>], columns: usize) -> usize {
     let mut entries: usize = 0;
     for row in rows {
@@ -450,9 +461,10 @@ pub fn steps_of_long_search(rows: &[Vec<usize>], columns: usize) -> usize {
     (100_000_000 / step.max(1)).clamp(12, 1000)
 }
 
-/// The best list of columns that a search of `steps` steps finds, as indices of `live`; it stops
-/// once a list reaches the goal. It starts with the live columns of the hint; columns are below
-/// `columns`. A step reads some rows of two columns.
+/// The best list of columns that a search of `steps` steps finds, as indices of `live`: a cover of
+/// the fewest columns, of these one that costs least, within the goal or not; it stops once a list
+/// reaches the goal. It starts with the live columns of `hint`, which may be poor; columns are
+/// below `columns`. A step reads some rows of two columns.
 pub fn local_search(
     alloc: Global,
     table: &Compact,
