@@ -69,7 +69,8 @@ fn half_way(sizes: &[usize], rows: usize) -> Option<usize> {
     Some(end)
 }
 
-/// Marks the columns of the components that have rows and are before `end`.
+/// Marks for all columns: those of the components that have rows are set, where the column that
+/// stands for the component is before `end`.
 fn columns_before(
     alloc: Global,
     leaders: &mut Vec<usize>,

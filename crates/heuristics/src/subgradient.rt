@@ -579,8 +579,8 @@ impl Ascent {
         self.return_to_top();
     }
 
-    /// Notes the present weights, and goes on from them to the next; `step` is their number, from 0
-    /// on. Answers whether the steps are over.
+    /// Notes the present weights, and goes on from them to the next; `step` is the number of the
+    /// step, from 0 on. Answers whether the steps are over.
     pub fn go_on(
         &mut self,
         alloc: Global,
@@ -602,7 +602,7 @@ impl Ascent {
         }
     }
 
-    /// Polishes every `SPAN` steps, and answers whether this shows that no cover reaches the goal;
+    /// Polishes every `SPAN` steps, and answers `true` if this shows that no cover reaches the goal;
     /// otherwise makes a step. `value` is that of the present weights.
     fn polish_and_step(
         &mut self,

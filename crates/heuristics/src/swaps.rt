@@ -182,7 +182,8 @@ impl LocalSearch {
         Ok(())
     }
 
-    /// Counts the column, which is added, among the chosen ones of its row.
+    /// Counts the column, which is added, among the chosen ones of its row; adjusts the uncovered
+    /// rows, and the scores or the loss of the row's other columns.
     fn hold(&mut self, table: &Compact, row: usize, column: usize) {
         let held = add_to(&mut self.held, row, 1);
         let weight = at(&self.weights, row);
@@ -206,7 +207,8 @@ impl LocalSearch {
         Ok(())
     }
 
-    /// Counts the column, which is dropped, no longer among the chosen ones of its row.
+    /// Takes the column, which is dropped, from the chosen ones of its row; adjusts the uncovered
+    /// rows, and the scores or the loss of the row's other columns.
     fn release(&mut self, table: &Compact, row: usize, column: usize) -> Result<(), AllocError> {
         let held = add_to(&mut self.held, row, 0usize.wrapping_sub(1));
         add_to(&mut self.holders, row, 0usize.wrapping_sub(column));
