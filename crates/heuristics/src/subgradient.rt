@@ -602,8 +602,8 @@ impl Ascent {
         }
     }
 
-    /// Polishes every `SPAN` steps, and answers `true` if this shows that no cover reaches the goal;
-    /// otherwise makes a step. `value` is that of the present weights.
+    /// Polishes every `SPAN` steps, and answers `true` if this shows that no cover reaches the
+    /// goal; otherwise makes a step. `value` is that of the present weights.
     fn polish_and_step(
         &mut self,
         alloc: Global,
