@@ -52,8 +52,9 @@ fn sizes(
     Ok(sizes)
 }
 
-/// The column before which components have half of the rows, rounded down, or more, at the columns
-/// that stand for them; `None` if one component has all rows, or there are columns but no rows.
+/// The column before which components have half of the rows, rounded down, or more, but not all, at
+/// the columns that stand for them; fewer where the last one alone is larger. `None` if one
+/// component has all rows, or there are columns but no rows.
 fn half_way(sizes: &[usize], rows: usize) -> Option<usize> {
     let mut end: usize = 0;
     let mut passed: usize = 0;
@@ -61,8 +62,9 @@ fn half_way(sizes: &[usize], rows: usize) -> Option<usize> {
         if *size == rows {
             return None;
         }
-        if *size > 0 && passed < rows / 2 {
-            passed = passed.saturating_add(*size);
+        let with = passed.saturating_add(*size);
+        if *size > 0 && passed < rows / 2 && with < rows {
+            passed = with;
             end = column.wrapping_add(1);
         }
     }
@@ -86,9 +88,8 @@ fn columns_before(
     Ok(side)
 }
 
-/// Marks for all columns: those of some components that have about half of the rows or more are
-/// set, at worst of all that have rows; `None` if one has all rows, or there are columns but no
-/// rows.
+/// Marks for all columns: those of some components that have about half of the rows, but not all,
+/// are set; `None` if one has all rows, or there are columns but no rows.
 fn side_of(
     alloc: Global,
     rows: &[Vec<usize>],
@@ -102,8 +103,8 @@ fn side_of(
 }
 
 /// Marks for `columns` columns: those of one side are set, which share no row with the others and
-/// have about half of the rows or more, at worst all; `None` if all rows are connected, or there
-/// are columns but no rows. About three passes over the rows.
+/// have about half of the rows, but not all; `None` if all rows are connected, or there are columns
+/// but no rows. About three passes over the rows.
 pub fn side_hint(
     alloc: Global,
     rows: &[Vec<usize>],

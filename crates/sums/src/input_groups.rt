@@ -120,7 +120,7 @@ fn input_leaders(alloc: Global, shape: Shape, rows: &[Cube]) -> Result<Vec<usize
 }
 
 // The components of the one group, each marked at the input that stands for it: the first ones,
-// until they have half of the rows.
+// until they have half of the rows, but not all that have rows.
 fn first_half_of_groups(
     alloc: Global,
     sizes: &[usize],
@@ -129,9 +129,10 @@ fn first_half_of_groups(
     let mut groups = Vec::with_capacity(alloc, sizes.len())?;
     let mut taken = 0usize;
     for size in sizes {
-        let is_taken = *size > 0 && taken < rows / 2;
+        let with = taken.saturating_add(*size);
+        let is_taken = *size > 0 && taken < rows / 2 && with < rows;
         if is_taken {
-            taken = taken.saturating_add(*size);
+            taken = with;
         }
         groups.push(is_taken)?;
     }
