@@ -89,10 +89,11 @@ SHORT_LISTS = [
 ]
 FEW_PROPOSALS = [
     ("signature_search/proposer", "FEW_PLACES: usize = 2_000", "FEW_PLACES: usize = 8"),
-    ("signature_search/search", "REGION_BUDGET: u64 = 1 << 16", "REGION_BUDGET: u64 = 2"),
+    ("signature_search/search", "MOST_REGIONS_OF_LEFT_OUT: u64 = 1 << 16", "MOST_REGIONS_OF_LEFT_OUT: u64 = 2"),
     ("signature_search/search", "MOST_SIGNATURES: usize = 20000", "MOST_SIGNATURES: usize = 3"),
-    ("signature_search/function", "COMPLEMENT_BUDGET: usize = 1 << 18", "COMPLEMENT_BUDGET: usize = 2"),
-    ("signature_search/finder", "REGION_BUDGET: u64 = 300", "REGION_BUDGET: u64 = 2"),
+    ("signature_search/function", "MOST_WORDS_OF_COMPLEMENT: usize = 1 << 18", "MOST_WORDS_OF_COMPLEMENT: usize = 2"),
+    ("signature_search/finder", "MOST_REGIONS_OF_OWN: u64 = 300", "MOST_REGIONS_OF_OWN: u64 = 2"),
+    ("signature_search/finder", "MOST_REGIONS_OF_OWN.max(64u64.saturating_mul(self.function.width as u64))", "MOST_REGIONS_OF_OWN"),
 ]
 
 BUILDS = {
