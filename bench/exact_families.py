@@ -64,7 +64,7 @@ def for_classics():
 # Random functions.
 
 SHARES = (                         # outputs, shares of ones and of don't-cares, inputs, and what stops larger ones
-    (1, 0.1, 0.0, range(8, 23, 2), TABLE), (1, 0.4, 0.2, range(7, 14), PROOF), (2, 0.3, 0.3, range(6, 13), PROOF),
+    (1, 0.1, 0.0, range(8, 23, 2), PROOF), (1, 0.4, 0.2, range(7, 14), PROOF), (2, 0.3, 0.3, range(6, 13), PROOF),
     (6, 0.25, 0.0, range(6, 14), PROOF), (10, 0.15, 0.7, range(4, 10), PROOF), (10, 0.5, 0.0, range(5, 11), PROOF),
     (20, 0.2, 0.6, range(4, 9), PROOF), (35, 0.05, 0.9, range(4, 11), PROOF), (40, 0.5, 0.0, range(5, 12), PROOF))
 

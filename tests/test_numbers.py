@@ -131,7 +131,7 @@ COVERED = {
     "docs/TRUSTED.md": (),
     "docs/FORMAT.md": (),
     "docs/ARCHITECTURE.md": (),
-    "README.md": ("10 to 20 minutes on four processors", "30 to 50 minutes on two processors", "Python 3.9", "x86-64", "`rattle-kit-13f`"),
+    "README.md": ("10 to 20 minutes on four processors", "25 to 50 minutes on two processors", "Python 3.9", "x86-64", "`rattle-kit-13f`"),
 }
 
 
