@@ -17,6 +17,7 @@ import as_rust  # noqa: E402
 
 WAYS, NEEDED = "minimum/way_hints", "minimum/as_needed"
 POINTS, SOURCE, ROUNDS = "minimum/points", "minimum/points/source", "minimum/points/rounds"
+ROUND_HINTS = "minimum/points/round_hints"
 COLUMNS = "minimum/points/dominating"
 NEAR, MERGING = "minimum/essential_by_neighbours/near_rows", "cover/merging"
 
@@ -44,11 +45,12 @@ ALWAYS_AS_NEEDED = [(WAYS, AS_NEEDED, "Ok(uses_points(sets.on().shape()))")]
 NEVER_AS_NEEDED = [(WAYS, AS_NEEDED, "Ok(false)")]
 POINTS_OF_PRIMES = [(WAYS, "sets.on().shape().inputs() > 20", "sets.on().shape().inputs() > 0")]
 NO_POINTS_OF_PRIMES = [(WAYS, "sets.on().shape().inputs() > 20", "sets.on().shape().inputs() > 2000")]
-SHORT_COVERS = [(ROUNDS, "FEW_LEFT_OUT: usize = 20", "FEW_LEFT_OUT: usize = 0"),
-                (ROUNDS, "MOST_POINTS_FOR_LEAST: usize = 1_200", "MOST_POINTS_FOR_LEAST: usize = 2")]
-FEW_ROUNDS = [(ROUNDS, "MOST_ROUNDS: usize = 200", "MOST_ROUNDS: usize = 2")]
+SHORT_COVERS = [(ROUND_HINTS, "FEW_LEFT_OUT: usize = 20", "FEW_LEFT_OUT: usize = 0"),
+                (ROUND_HINTS, "MOST_POINTS_FOR_LEAST: usize = 1_200", "MOST_POINTS_FOR_LEAST: usize = 2")]
+FEW_ROUNDS = [(ROUNDS, "MOST_ROUNDS: usize = 500", "MOST_ROUNDS: usize = 2")]
 NO_FEW_PRIMES = [(SOURCE, "FEW_PRIMES: usize = 40", "FEW_PRIMES: usize = 0")]
-FEW_LOOKS = [(POINTS, "[200_000_000, 4_000_000_000]", "[15, 60]")]
+FEW_LOOKS = [(POINTS, "[200_000, 1_600_000, 200_000_000, 4_000_000_000]", "[15, 30, 45, 60]"),
+             (POINTS, "= [200_000_000, 4_000_000_000]", "= [15, 60]")]
 FEW_PRIMES_OF_A_POINT = [(SOURCE, "MOST_PRIMES: usize = 30_000", "MOST_PRIMES: usize = 3")]
 FEW_NEEDED_ROUNDS = [(NEEDED, "MOST_ROUNDS: usize = 2_000", "MOST_ROUNDS: usize = 3"),
                      (NEEDED, "MOST_TIMES: usize = 2_000", "MOST_TIMES: usize = 2")]

@@ -17,14 +17,11 @@ use crate::choice::{Choice, total_cost};
 use crate::columns::{contains, copy_of};
 use crate::marks::{all_but, others};
 use crate::questions::Questions;
-use crate::search::UNLIMITED;
+use crate::search::{UNLIMITED, steps_in_reduced};
 use crate::table::Table;
 use heuristics::batch;
 use std::alloc::{AllocError, Global};
 use warm_start::is_worth_a_bound;
-
-/// How many steps a row a local search takes that looks for a cover of a reduced table.
-const WITNESS_STEPS: usize = 12;
 
 /// A partial solution: the table of what is undecided, and a cover of it within the budget.
 struct Partial {
@@ -190,12 +187,17 @@ impl Partial {
             return Ok(self);
         }
         let table = self.table.cyclic_core(alloc, choice)?;
-        questions.note_reduction(table.live_columns().len());
         let goal = table.goal(choice, budget);
-        let steps = WITNESS_STEPS.saturating_mul(table.row_lists().len());
+        let steps = steps_in_reduced(table.row_lists().len());
         match table.find_by_local_search(alloc, choice, budget, goal, &self.witness, steps)? {
-            Some(witness) => Ok(Partial { table, witness }),
-            None => Ok(self),
+            Some(witness) => {
+                questions.note_reduction(table.live_columns().len());
+                Ok(Partial { table, witness })
+            }
+            None => {
+                questions.note_reduction(self.table.live_columns().len());
+                Ok(self)
+            }
         }
     }
 

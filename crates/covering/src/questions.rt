@@ -73,12 +73,12 @@ impl Questions {
         }
     }
 
-    /// Whether to reduce the undecided columns, so many of which are live: some tables after the
-    /// last reduction, once an eighth of the columns that it left is gone, or if there was none
-    /// yet.
+    /// Whether to reduce the undecided columns, so many of which are live: if there was no reduction
+    /// yet, and once some of the columns that the last one left are gone, if tables were looked at
+    /// since then or these are an eighth.
     pub(crate) fn is_worth_a_reduction(&self, live: usize) -> bool {
         let tables = self.warm_start.effort().tables.saturating_sub(self.tables);
-        tables >= TABLES_TO_REDUCE || is_worth_a_bound(self.live, live)
+        live < self.live && (tables >= TABLES_TO_REDUCE || is_worth_a_bound(self.live, live))
     }
 
     /// Notes a reduction, which left so many live columns.

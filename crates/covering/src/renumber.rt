@@ -37,7 +37,7 @@ fn number_of(live: &[usize], column: usize) -> Option<usize>
     }
 }
 
-/// The row with each column as its index in `live`; `None` if one is not live.
+/// The row with each column as its index in `live`, whose columns rise; `None` if one is not live.
 fn numbers_of(
     alloc: Global,
     live: &[usize],
@@ -55,7 +55,7 @@ fn numbers_of(
     Ok(Some(numbers))
 }
 
-/// The rows with each column as its index in `live`; `None` if one is not live.
+/// The rows with each column as its index in `live`, whose columns rise; `None` if one is not live.
 fn numbers_of_rows(
     alloc: Global,
     live: &[usize],

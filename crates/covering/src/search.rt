@@ -46,7 +46,7 @@ fn steps_near(rows: usize) -> usize {
 }
 
 /// How many steps a local search takes in a reduced table of so many rows.
-fn steps_in_reduced(rows: usize) -> usize {
+pub(crate) fn steps_in_reduced(rows: usize) -> usize {
     rows.saturating_mul(12).min(MOST_STEPS_REDUCED)
 }
 

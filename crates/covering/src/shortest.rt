@@ -21,12 +21,14 @@ impl Table {
         union_of(alloc, self.taken_columns(), self.live_columns())
     }
 
-    /// The best cover of a local search of `steps` steps a row, which ends early at a cover of
-    /// no more than `columns` columns and cost 0. All columns if it finds none.
+    /// The best cover of a local search of `steps` steps a row, which starts with the live columns
+    /// of `near` and ends early at a cover of no more than `columns` columns and cost 0. All
+    /// columns if it finds none.
     fn some_cover(
         &self,
         alloc: Global,
         choice: Choice,
+        near: &[usize],
         columns: usize,
         steps: usize,
     ) -> Result<Vec<usize>, AllocError>
@@ -42,7 +44,7 @@ impl Table {
             cost: 0,
         };
         let steps = steps.saturating_mul(self.row_lists().len());
-        match self.find_by_local_search(alloc, choice, budget, goal, &[], steps)? {
+        match self.find_by_local_search(alloc, choice, budget, goal, near, steps)? {
             None => self.all_columns(alloc),
             Some(cover) => Ok(cover),
         }
@@ -70,18 +72,20 @@ impl Table {
         }
     }
 
-    /// A cover that is likely short: a bound on the length says when a local search is at its end.
+    /// A cover that is likely short: a bound on the length says when a local search, from the live
+    /// columns of `near` on, is at its end.
     pub(crate) fn short_cover(
         &self,
         alloc: Global,
         choice: Choice,
+        near: &[usize],
         warm_start: &mut WarmStart,
     ) -> Result<Vec<usize>, AllocError>
         ensures { IfOk result (λ v. IsCover self.now v.items) }
     {
-        let greedy = self.some_cover(alloc, Choice::First, 0, 1)?;
+        let greedy = self.some_cover(alloc, Choice::First, &[], 0, 1)?;
         let least = self.length_bound_hint(alloc, greedy.len(), warm_start)?;
-        self.some_cover(alloc, choice, least, 20)
+        self.some_cover(alloc, choice, near, least, 20)
     }
 
     /// A cover of the least length; the choice only sets the costs of the first local search.
@@ -93,7 +97,7 @@ impl Table {
     ) -> Result<Vec<usize>, AllocError>
         ensures { IfOk result (λ v. IsBest Choice.First self.now v.items) }
     {
-        let mut cover = self.short_cover(alloc, choice, warm_start)?;
+        let mut cover = self.short_cover(alloc, choice, &[], warm_start)?;
         warm_start.set_hint(alloc, &cover)?;
         while let Some(columns) = cover.len().checked_sub(1) {
             let budget = Budget { columns, cost: 0 };

@@ -282,7 +282,7 @@ impl Cube {
         }))
     }
 
-    // The meet of two cubes of two words; `None` if the two are disjoint.
+    // The meet of two cubes of one word of inputs and one of outputs; `None` if they are disjoint.
     fn meet_in_two_words(&self, other: &Cube) -> Option<Cube>
         requires size { SameSize self.now other.now }
         requires inputs { input_words_of (length self.now.symbols) ≡ 1 }

@@ -72,7 +72,8 @@ pub fn run<R: Input, W: Output, E: Output>(
     run_on(alloc, line, first, second, out, err)
 }
 
-// Runs the line on a first source and whatever gives the second.
+// Runs the line on a first source and whatever gives the second, which is asked only by commands of two
+// descriptions: prints the answer, and a failure as a message, and answers the status.
 pub(crate) fn run_on<R: Input, S: SecondSource, W: Output, E: Output>(
     alloc: Global,
     line: &Line,

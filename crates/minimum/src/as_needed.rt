@@ -41,7 +41,7 @@ use crate::points::rounds::cover_of_points;
 use crate::points::{is_wanted, point_with};
 use crate::prime_implicants::on_and_dc;
 use cover::{Cover, in_row_order};
-use covering::Choice;
+use covering::{Choice, Effort};
 use cube::{Cube, Shape, Symbol};
 use pla::Sets;
 use std::alloc::{AllocError, Global};
@@ -273,14 +273,17 @@ fn exact_beside(
     let looks = most_looks(shape);
     let mut known = Known::new(alloc, shape, looks);
     let mut is_least = true;
+    let mut last = Cover::new(alloc, shape);
+    let mut effort = Effort::none();
     for _ in 0..MOST_ROUNDS {
         let (points, columns) = (&known.found.points, &known.found.columns);
-        let chosen = cover_of_points(alloc, points, columns, choice, is_least)?;
+        let chosen = cover_of_points(alloc, points, columns, choice, is_least, &last, &mut effort)?;
         let cover = joined(essential, &chosen)?;
         let parts = wanted_left_out(alloc, sets, &cover)?;
         if parts.is_empty() && is_least {
             return Ok(Some(in_row_order(&cover)?));
         }
+        last = chosen;
         is_least = parts.is_empty();
         if is_least {
             continue;

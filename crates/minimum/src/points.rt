@@ -22,6 +22,7 @@ ghost use Rattle.minimum.specs.Points.{IsSource, IsOnePoint, function_by, holder
 pub(crate) mod dominating;
 pub(crate) mod picked_points;
 pub(crate) mod proposals;
+pub(crate) mod round_hints;
 pub(crate) mod rounds;
 pub(crate) mod source;
 
@@ -154,8 +155,11 @@ fn add_places_within(
 
 // At most this many looks, at points and at cubes outside, are taken for the columns of a place.
 // Places that would take more are put off while others are added, and then may take the next number:
-// a cover of the others may hold them already.
-const MOST_LOOKS: [usize; 2] = [200_000_000, 4_000_000_000];
+// a cover of the others may hold them already, and what takes few looks adds few columns.
+const MOST_LOOKS: [usize; 4] = [200_000, 1_600_000, 200_000_000, 4_000_000_000];
+
+// The same where no place is added yet: the more of the first ones are, the fewer rounds follow.
+const MOST_LOOKS_AT_FIRST: [usize; 2] = [200_000_000, 4_000_000_000];
 
 /// Adds some of the proposed places, with their columns: those that are wanted and whose columns
 /// are found soon. `true` if one was added.
@@ -174,7 +178,12 @@ pub(crate) fn add_places(
     ensures { OnOk result (IsFound choice (function_by (lists_of on.now dc.now) source.now) found.new) }
 {
     let count = found.points.len();
-    for most in &MOST_LOOKS {
+    let looks = if count == 0 {
+        MOST_LOOKS_AT_FIRST.as_slice()
+    } else {
+        MOST_LOOKS.as_slice()
+    };
+    for most in looks {
         add_places_within(alloc, on, dc, source, places, choice, *most, found)?;
         if found.points.len() > count {
             return Ok(true);

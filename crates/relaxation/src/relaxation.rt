@@ -12,7 +12,7 @@ use std::alloc::{AllocError, Global};
 use std::num::{nearest_i64_to_f64, saturating_f64_to_u64};
 
 /// The most rows.
-const MOST_ROWS: usize = 800;
+const MOST_ROWS: usize = 2_500;
 
 /// The most columns.
 const MOST_COLUMNS: usize = 20_000;

@@ -90,7 +90,8 @@ impl Search {
         Ok(())
     }
 
-    // Drops half of the learned clauses, and takes out their watches.
+    // Drops half of the learned clauses whose distance is over two, takes out their watches, and
+    // schedules the next drop.
     fn drop_clauses(&mut self) -> Result<(), AllocError> {
         self.clauses.drop_half(self.alloc)?;
         self.watches.remove_dropped(&self.clauses);

@@ -115,7 +115,8 @@ impl BlockingMatrix {
         Ok(true)
     }
 
-    // Adds the minimal rows of each output; those that the cube has have none.
+    // Adds the minimal rows of each output, in their order; those that the cube has have none. Those of
+    // the cube alone are added before, and stand in all of them.
     fn add_rows_of_outputs(
         &mut self,
         found: &mut BlockingRows,

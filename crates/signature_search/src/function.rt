@@ -84,7 +84,8 @@ pub(crate) fn list_at(lists: &[Vec<Literals>], index: usize) -> &[Literals] {
 }
 
 impl Function {
-    /// The function of these rows. With `samples` DC is all that neither ON nor OFF holds.
+    /// The function of these rows. With `samples` DC is all that neither ON nor OFF holds, and the DC
+    /// rows are empty; lists that take more than their budget are missing then.
     pub(crate) fn new(
         alloc: Global,
         on: &Rows,

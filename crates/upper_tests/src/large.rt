@@ -198,7 +198,7 @@ fn fan(alloc: Global, columns: usize) -> Result<Option<Table>, AllocError> {
 
 /// Whether each search answers the first column of the table, and a reduction takes it.
 fn is_met_by_the_first(table: Table) -> Result<bool, AllocError> {
-    let is_short = short_cover(&table)?.as_slice() == [0].as_slice();
+    let is_short = short_cover(&table, &[])?.as_slice() == [0].as_slice();
     let is_least = search_answers(&table, Choice::First, &[0])?
         && plain_is(&table, Choice::First, &[0])?;
     let is_fewest = least_is(&table, Choice::Literals, &[0])?;

@@ -250,7 +250,7 @@ fn has_least(table: &Table, columns: &[usize]) -> Result<bool, AllocError> {
     Ok(
         least_is(table, Choice::First, columns)?
             && least_is(table, Choice::Literals, columns)?
-            && short_cover(table)?.len() >= columns.len(),
+            && short_cover(table, &[])?.len() >= columns.len(),
     )
 }
 
@@ -300,8 +300,8 @@ fn drawn(alloc: Global, seed: u64) -> Result<Option<Table>, AllocError> {
     Table::new(alloc, rows, weights)
 }
 
-/// Whether the search answers these columns, also where its work is counted, and a short cover has no
-/// fewer.
+/// Whether the search answers these columns, also where its work is counted, and a short cover near them
+/// has no fewer.
 pub(crate) fn search_answers(
     table: &Table,
     choice: Choice,
@@ -312,7 +312,7 @@ pub(crate) fn search_answers(
     Ok(
         counted.as_slice() == columns
             && least_is(table, choice, columns)?
-            && short_cover(table)?.len() >= columns.len(),
+            && short_cover(table, columns)?.len() >= columns.len(),
     )
 }
 

@@ -163,8 +163,8 @@ impl WarmStart {
         self.effort.questions = self.effort.questions.saturating_add(1);
     }
 
-    /// How likely each column is thought to be in a cover: a larger number is likelier. Empty
-    /// before the first bound.
+    /// How likely each column is thought to be in a cover, by the last bound by subgradient steps: a
+    /// larger number is likelier. Empty before the first.
     pub fn likely(&self) -> &[i64] {
         &self.likely
     }
@@ -370,8 +370,8 @@ impl WarmStart {
         }
     }
 
-    /// Makes the steps, until they reach the goal or gain nothing, and keeps how likely each live
-    /// column is; columns are below `columns`.
+    /// Makes the steps, until they show that no cover reaches the goal, gain too little, or are spent,
+    /// and keeps how likely each live column is; columns are below `columns`.
     fn climb(
         &mut self,
         alloc: Global,

@@ -1,7 +1,8 @@
 //! The least cover by primes of picked points.
 //!
 //! Points are picked in rounds: a cover of the table so far is made, and points are added for what it
-//! leaves out of the ON cubes. Where points are very many, and much is left out, a short cover serves.
+//! leaves out of the ON cubes. Where points are very many, and much is left out, or the least cover is
+//! hard to find, a short cover near the last one serves.
 //! The last table was seen to have one to seven times as many rows as the cover has primes, and one to
 //! three columns a row. A round costs what the cover does, and a look at the ON cubes that are left
 //! out.
@@ -20,32 +21,46 @@ ghost use Rattle.minimum.specs.Primes.{care_on, exact_of};
 use crate::cubes::{add_copy, cubes_at};
 use crate::points::picked_points::PickedPoints;
 use crate::points::proposals::{first_places, places_left_out, proposer_of};
+use crate::points::round_hints::{asks_for_least, numbers_among};
 use crate::points::source::Source;
 use crate::points::{add_places, point_table};
 use cover::{Cover, in_row_order};
-use covering::{Choice, Table, least_cover, short_cover};
+use covering::{Choice, Effort, Table, least_cover_with_effort, short_cover};
 use cube::Cube;
 use signature_search::Proposer;
 use std::alloc::{AllocError, Global};
 
-/// The numbers of a cover of the table: the least, or only a short one.
-fn numbers_of_cover(table: &Table, choice: Choice, is_least: bool) -> Result<Vec<usize>, AllocError>
+/// The numbers of a cover of the table, of the columns in row order: the least, with what was done to
+/// find it, or only a short one near the last.
+fn numbers_of_cover(
+    alloc: Global,
+    table: &Table,
+    columns: &Cover,
+    choice: Choice,
+    is_least: bool,
+    last: &Cover,
+    effort: &mut Effort,
+) -> Result<Vec<usize>, AllocError>
     ensures { IfOk result (λ v. is_least ≡ true → IsLeast choice table.now v.items) }
 {
     if is_least {
-        return least_cover(table, choice);
+        *effort = Effort::none();
+        return least_cover_with_effort(table, choice, effort);
     }
-    short_cover(table)
+    let near = numbers_among(alloc, columns, last)?;
+    short_cover(table, &near)
 }
 
-/// A cover of the table of the points by these columns, in row order: the least, or only a short
-/// one, which is found sooner.
+/// A cover of the table of the points by these columns, in row order: the least, with what was done to
+/// find it, or only a short one near the last, which is found sooner.
 pub(crate) fn cover_of_points(
     alloc: Global,
     points: &[Cube],
     columns: &Cover,
     choice: Choice,
     is_least: bool,
+    last: &Cover,
+    effort: &mut Effort,
 ) -> Result<Cover, AllocError>
     ghost sets: { SetLists }
     requires on { AreCubes sets.size sets.on }
@@ -59,7 +74,7 @@ pub(crate) fn cover_of_points(
 {
     let columns = in_row_order(columns)?;
     let table = point_table(alloc, points, &columns)?;
-    let numbers = numbers_of_cover(&table, choice, is_least)?;
+    let numbers = numbers_of_cover(alloc, &table, &columns, choice, is_least, last, effort)?;
     cubes_at(alloc, &columns, &numbers)
 }
 
@@ -84,19 +99,7 @@ fn left_out(alloc: Global, on: &Cover, dc: &Cover, list: &Cover) -> Result<Cover
 }
 
 // At most this many rounds are made.
-const MOST_ROUNDS: usize = 200;
-
-// Where at most this many ON cubes are left out, the least cover is asked for: it may be the last.
-const FEW_LEFT_OUT: usize = 20;
-
-// Up to this many points it is asked for too. It leaves out less than a short one, so that rounds and
-// points are fewer.
-const MOST_POINTS_FOR_LEAST: usize = 1_200;
-
-/// Whether to ask for the least cover of so many points, where the last one left out so much.
-fn asks_for_least(left: &Cover, points: &[Cube]) -> bool {
-    left.len() <= FEW_LEFT_OUT || points.len() <= MOST_POINTS_FOR_LEAST
-}
+const MOST_ROUNDS: usize = 500;
 
 /// The least cover by the primes of points from these points on: where a cover of their table
 /// leaves out a place, points are added to `found` for what it leaves out. `None` where none can be
@@ -121,17 +124,21 @@ fn exact_in_rounds(
         { size = on.now.size; cubes = exact_of choice sets })) }
 {
     let mut is_least = true;
+    let mut last = Cover::new(alloc, on.shape());
+    let mut effort = Effort::none();
     for _ in 0..MOST_ROUNDS {
-        let list = cover_of_points(alloc, &found.points, &found.columns, choice, is_least)?;
+        let (points, columns) = (&found.points, &found.columns);
+        let list = cover_of_points(alloc, points, columns, choice, is_least, &last, &mut effort)?;
         let left = left_out(alloc, on, dc, &list)?;
         if left.is_empty() && is_least {
             return Ok(Some(list));
         }
-        is_least = asks_for_least(&left, &found.points);
+        is_least = asks_for_least(&left, &found.points, effort.tables);
+        let places = places_left_out(alloc, proposer, &left, &list)?;
+        last = list;
         if left.is_empty() {
             continue;
         }
-        let places = places_left_out(alloc, proposer, &left, &list)?;
         if !add_places(alloc, on, dc, source, &places, choice, found)? {
             return Ok(None);
         }

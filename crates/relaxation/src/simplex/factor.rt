@@ -81,8 +81,8 @@ impl Simplex {
         )
     }
 
-    /// The position of the largest entry of the column of the tableau whose variable is not marked;
-    /// `NONE` if no entry is large enough.
+    /// The position of the entry farthest from 0 in the column of the tableau, of the kept positions
+    /// whose variable is not marked; `NONE` if no entry is large enough.
     fn largest_entry(&self, basic: &[bool]) -> usize {
         let mut best = NONE;
         let mut largest = LEAST_PIVOT_TO_FACTOR;
