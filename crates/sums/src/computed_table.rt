@@ -18,11 +18,14 @@ use std::mem;
 const FIRST_SLOTS: usize = 1024;
 
 // There are never more slots than this.
-const SLOTS: usize = 16384;
+const SLOTS: usize = 1 << 17;
 
-// The entries together have at most this many rows. If one more would make them too many, all are
-// forgotten.
-const ROWS: usize = 1 << 18;
+// The entries of the slots take at most about this many words. If one more would take too many, the
+// slots become the older ones, and those that were older are forgotten.
+const WORDS: usize = 1 << 24;
+
+// What a row takes beside the words of its cube.
+const WORDS_OF_ROW: usize = 8;
 
 // At most this many rows of a list go into its hash.
 const HASHED_ROWS: usize = 16;
@@ -40,12 +43,14 @@ struct Entry {
 }
 
 impl Entry {
-    // How many rows the two lists and the sum have together.
-    fn rows(&self) -> usize {
-        self.minuend
+    // About how many words the two lists and the sum take together.
+    fn words(&self) -> usize {
+        let rows = self
+            .minuend
             .len()
             .saturating_add(self.subtrahend.len())
-            .saturating_add(self.sum.len())
+            .saturating_add(self.sum.len());
+        rows.saturating_mul(words_of_row(self.shape))
     }
 
     // Whether the sum is that of these lists.
@@ -69,8 +74,10 @@ pub(crate) struct ComputedTable {
     slots: Vec<Option<Entry>>,
     // How many sums were put since the slots were made, overwritten ones too.
     kept: usize,
-    // How many rows all entries have.
-    rows: usize,
+    // About how many words the entries in the slots take.
+    words: usize,
+    // The slots that were there when they had too many words.
+    older: Vec<Option<Entry>>,
     // The inputs in the order in which ties are broken.
     order: Vec<usize>,
 }
@@ -82,7 +89,8 @@ impl ComputedTable {
         ComputedTable {
             slots: Vec::new(alloc),
             kept: 0,
-            rows: 0,
+            words: 0,
+            older: Vec::new(alloc),
             order,
         }
     }
@@ -93,9 +101,10 @@ impl ComputedTable {
     }
 
     /// A copy of the complete sum of the places of the first list that are not in the second, if it
-    /// is kept. `hash` is that of the lists, by `hash_of_lists`.
+    /// is kept. `hash` is that of the lists, by `hash_of_lists`. A sum in the older slots is moved out
+    /// of them, for which others may be forgotten.
     pub(crate) fn find(
-        &self,
+        &mut self,
         alloc: Global,
         shape: Shape,
         hash: u64,
@@ -106,7 +115,8 @@ impl ComputedTable {
             rows.items ≡ complete_sum_of shape
             (difference_of (places minuend.now) (places subtrahend.now)))) }
     {
-        let Some(Some(known)) = self.slots.get(self.slot_of(hash)) else {
+        self.renew(alloc, hash)?;
+        let Some(Some(known)) = self.slots.get(slot_of(&self.slots, hash)) else {
             return Ok(None);
         };
         if !known.is_of(shape, hash, minuend, subtrahend) {
@@ -115,8 +125,28 @@ impl ComputedTable {
         Ok(Some(clone_cubes(alloc, &known.sum)?))
     }
 
+    // Moves the sum with this hash in the older slots, if there is one, to the slots.
+    fn renew(&mut self, alloc: Global, hash: u64) -> Result<(), AllocError> {
+        let Some(known) = self.take_older(hash) else {
+            return Ok(());
+        };
+        self.make_room(alloc, known.words())?;
+        self.put(known);
+        Ok(())
+    }
+
+    // Takes the sum with this hash out of the older slots, if there is one.
+    fn take_older(&mut self, hash: u64) -> Option<Entry> {
+        let at = slot_of(&self.older, hash);
+        let slot = self.older.get_mut(at)?;
+        match slot {
+            Some(known) if known.hash == hash => mem::replace(slot, None),
+            _ => None,
+        }
+    }
+
     /// Keeps a copy of a sum with its lists, in place of what is in the slot of their hash, unless
-    /// they have more than `ROWS` rows together. Other sums may be forgotten for it.
+    /// they take more than `WORDS` words together. Other sums may be forgotten for it.
     pub(crate) fn keep(
         &mut self,
         alloc: Global,
@@ -130,7 +160,7 @@ impl ComputedTable {
             ≡ complete_sum_of shape
             (difference_of (places minuend.items) (places subtrahend.items)) }
     {
-        if sum.len() > ROWS {
+        if sum.len().saturating_mul(words_of_row(shape)) > WORDS {
             return Ok(());
         }
         let sum = clone_cubes(alloc, sum)?;
@@ -141,18 +171,21 @@ impl ComputedTable {
             subtrahend,
             sum,
         };
-        self.make_room(alloc, known.rows())?;
+        if known.words() > WORDS {
+            return Ok(());
+        }
+        self.make_room(alloc, known.words())?;
         self.put(known);
         Ok(())
     }
 
-    // Forgets all sums if `rows` more rows would be too many, and doubles the slots if half of them
-    // may be taken.
-    fn make_room(&mut self, alloc: Global, rows: usize) -> Result<(), AllocError> {
-        if self.rows.saturating_add(rows) > ROWS {
-            self.slots.clear();
+    // Makes the slots the older ones if so many more words would be too many, and doubles the slots
+    // if half of them may be taken.
+    fn make_room(&mut self, alloc: Global, words: usize) -> Result<(), AllocError> {
+        if self.words.saturating_add(words) > WORDS {
+            self.older = mem::replace(&mut self.slots, Vec::new(alloc));
             self.kept = 0;
-            self.rows = 0;
+            self.words = 0;
         }
         if self.kept >= self.slots.len() / 2 && self.slots.len() < SLOTS {
             self.double_slots(alloc)?;
@@ -169,7 +202,7 @@ impl ComputedTable {
         }
         let old = mem::replace(&mut self.slots, slots);
         self.kept = 0;
-        self.rows = 0;
+        self.words = 0;
         for slot in old {
             if let Some(known) = slot {
                 self.put(known);
@@ -178,29 +211,32 @@ impl ComputedTable {
         Ok(())
     }
 
-    // Puts a sum into its slot, in place of the one there. It is dropped if there are no slots, or
-    // if it has too many rows.
+    // Puts a sum into its slot, in place of the one there. It is dropped if there are no slots.
     fn put(&mut self, known: Entry) {
-        let rows = known.rows();
-        if rows > ROWS {
-            return;
-        }
-        let at = self.slot_of(known.hash);
+        let words = known.words();
+        let at = slot_of(&self.slots, known.hash);
         if let Some(slot) = self.slots.get_mut(at) {
             let old = match mem::replace(slot, Some(known)) {
-                Some(old) => old.rows(),
+                Some(old) => old.words(),
                 None => 0,
             };
             self.kept = self.kept.saturating_add(1);
-            self.rows = self.rows.saturating_sub(old).saturating_add(rows);
+            self.words = self.words.saturating_sub(old).saturating_add(words);
         }
     }
+}
 
-    // The index of the slot that a hash picks; 0, past the end, if there are no slots. Their number
-    // is a power of two.
-    fn slot_of(&self, hash: u64) -> usize {
-        hash as usize & self.slots.len().saturating_sub(1)
-    }
+// About how many words a row of the shape takes.
+fn words_of_row(shape: Shape) -> usize {
+    (shape.inputs() / 32)
+        .saturating_add(shape.outputs() / 64)
+        .saturating_add(WORDS_OF_ROW)
+}
+
+// The index of the slot that a hash picks; 0, past the end, if there are no slots. Their number is a
+// power of two.
+fn slot_of(slots: &[Option<Entry>], hash: u64) -> usize {
+    hash as usize & slots.len().saturating_sub(1)
 }
 
 /// The hash of two lists.
