@@ -30,12 +30,12 @@ GROWTH = [(WAYS, "inputs <= 12 {", "inputs < 1 {"), (WAYS, "if sets.on().shape()
 NO_GROWTH = [(WAYS, "inputs <= 12 {", "inputs < 2000 {"), (WAYS, "return Ok(rows < 100);", "return Ok(false);")]
 NO_CUBES_OUTSIDE = [
     (WAYS, "MOST_OF_AN_OUTPUT: usize = 250", "MOST_OF_AN_OUTPUT: usize = 0"),
-    (WAYS, "MOST_ROWS_OF_AN_OUTPUT: usize = 1_000_000", "MOST_ROWS_OF_AN_OUTPUT: usize = 0"),
+    (WAYS, "MOST_ROWS_OF_AN_OUTPUT: usize = 8_000_000", "MOST_ROWS_OF_AN_OUTPUT: usize = 0"),
 ]
 FEW_CUBES_OUTSIDE = [
     (WAYS, "MOST_OF_AN_OUTPUT: usize = 250", "MOST_OF_AN_OUTPUT: usize = 6"),
     (WAYS, "MOST_OUTSIDE: usize = 40000", "MOST_OUTSIDE: usize = 12"),
-    (WAYS, "MOST_ROWS_OF_AN_OUTPUT: usize = 1_000_000", "MOST_ROWS_OF_AN_OUTPUT: usize = 100"),
+    (WAYS, "MOST_ROWS_OF_AN_OUTPUT: usize = 8_000_000", "MOST_ROWS_OF_AN_OUTPUT: usize = 100"),
 ]
 AS_NEEDED = """if !uses_points(sets.on().shape()) {
         return Ok(false);

@@ -16,9 +16,9 @@ const MOST_OF_AN_OUTPUT: usize = 250;
 const MOST_OUTSIDE: usize = 40000;
 
 // At most this many rows are looked at for each output, besides each row of the lists once for each
-// of these cubes. To give up takes some tenths of a second an output; functions with few such cubes
-// were seen to take a tenth of these rows.
-const MOST_ROWS_OF_AN_OUTPUT: usize = 1_000_000;
+// of these cubes. Chains of requests with a thousand inputs take most of them, other functions with
+// few such cubes less than a hundredth; where the cubes are many, these are too many first.
+const MOST_ROWS_OF_AN_OUTPUT: usize = 8_000_000;
 
 /// The budget for cubes with the places that this list does not hold.
 pub(crate) fn budget_outside(all: &Cover) -> Budget {
