@@ -74,10 +74,22 @@ class Room(ProgramTest):
         self.within(100, on_input("a million rows", "-Decho", pla(20, 1, *rows), printed(20, 1, *rows)))
 
     def test_sums_that_were_found_are_forgotten(self):
-        """Where all were kept, these would take 62 megabytes, and else they take 44."""
-        text = pla(14, 4, *(f"{point} {point.count('1'):04b}" for point in points(14)[1:]))
-        self.within(53, on_input("primes of a count", "-Dprimes", text, printed(
-            14, 4, *(f"{cube} {marked(4, held)}" for cube, held in by_count(14, 4, 1)))))
+        """Where all were kept, these would take 930 megabytes, and else they take 370."""
+        text = pla(224, 9, *first_requests(224, 8))
+        self.within(600, on_input("primes of first requests", "-Dprimes", text, printed(224, 9, *sorted(primes_of_first_requests(224, 8)))))
+
+
+def first_requests(inputs, bits):
+    """The number of the first input that is one, and whether there is one."""
+    return [f"{'0' * k}1{'-' * (inputs - k - 1)} {k:0{bits}b}1" for k in range(inputs)]
+
+
+def primes_of_first_requests(inputs, bits):
+    """Each has some bits of a number: its input is one, and those before it are zero whose numbers lack one of these bits."""
+    for k in range(inputs):
+        for held in (held for held in range(k + 1) if held & k == held):
+            before = "".join("-" if i & held == held else "0" for i in range(k))
+            yield f"{before}1{'-' * (inputs - k - 1)} {held:0{bits}b}1"
 
 
 def selector(width):

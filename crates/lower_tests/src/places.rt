@@ -86,6 +86,8 @@ fn subtract_is(alloc: Global, list: &Cover, other: &Cover, rest: &Cover) -> Resu
     }
 }
 
+// Whether the cubes of the list that contain the first region are just these rows, in their order;
+// `false` if there is no region.
 fn containing_is(list: &Cover, regions: &Cover, rows: Rows) -> Result<bool, AllocError>
     requires { regions.now.size ≡ list.now.size }
 {

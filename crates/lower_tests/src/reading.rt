@@ -313,6 +313,7 @@ const UNFINISHED: [&[u8]; 2] = [b".i 1\n.o 1\n1 ", b"1 # a"];
 
 const DONE: [&[u8]; 1] = [b".i 1\n.o 1\n.e\n"];
 
+// Texts in one piece and in two: how many rows each list gets, the echoes, and whether `.e` was read.
 #[test]
 fn pieces_are_scanned(rt: HostRuntime) -> Result<(), Fail> {
     assert!(rt; is_scanned(rt.alloc(), &UNFINISHED, false, [1, 0, 0], b"# a\n")?);

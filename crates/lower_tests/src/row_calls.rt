@@ -354,7 +354,8 @@ fn meets_of_pairs(alloc: Global, list: &Cover, others: &Cover) -> Result<Vec<Cub
     meets_by_pairs(alloc, mine, theirs)
 }
 
-// The meets of the first row with the others.
+// The meets of the list's first row with those of `others`, in their order; an error if the list is
+// empty.
 fn meets_of_first(alloc: Global, list: &Cover, others: &Cover) -> Result<Vec<Cube>, AllocError>
     requires { others.now.size ≡ list.now.size }
 {

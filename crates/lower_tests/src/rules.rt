@@ -114,7 +114,8 @@ fn one_of(numbers: [usize; 3], k: usize) -> usize {
     }
 }
 
-// The place of a row among all steps, from the last one on.
+// Which step the row of this number is: rows begin with the last step, and the row that would have
+// the number `left_out` is skipped.
 fn step_of(left_out: usize, number: usize) -> usize {
     let row = if number < left_out {
         number

@@ -106,7 +106,8 @@ const MOST_OF_OFF: usize = 200_000;
 // a wide OFF row over many ON rows takes far more, and then a DC list is made sooner.
 const MOST_ROWS_OF_OFF: usize = 4_000_000;
 
-/// The budget for taking the ON list from the OFF list.
+/// The budget for taking the places of the ON list out of the OFF list: cubes for each OFF row, and
+/// rows in all.
 pub(crate) fn budget_of_off(pla: &Pla) -> Budget {
     let pairs = pla.off().len().saturating_mul(pla.on().len());
     Budget {

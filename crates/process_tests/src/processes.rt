@@ -192,6 +192,7 @@ impl Opener for Watched<'_> {
 
     ghost input = { λ _ _ _. ⊤ };
 
+    /// Puts the mark of the name on the slate too, also where there is no such file.
     fn open(&mut self, name: &str) -> Option<Given> {
         let mark = match name {
             "a" => 4,

@@ -1,7 +1,7 @@
 //! Sets of bits as words, and the input parts of cubes as words of literals.
 ghost use Rattle.std.specs.Prelude.{◌<◌};
 
-use std::alloc::AllocError;
+use std::alloc::{AllocError, Global};
 
 /// The literals of a cube at 64 inputs: a bit for each that has `0`, and a bit for each with `1`.
 #[derive(Clone, Copy)]
@@ -295,6 +295,26 @@ pub(crate) fn has_bits(words: &[u64]) -> bool {
         }
     }
     false
+}
+
+/// Adds the bits of word `k` to the list of numbers.
+fn push_members_of_word(numbers: &mut Vec<usize>, k: usize, word: u64) -> Result<(), AllocError> {
+    let mut rest = word;
+    for _ in 0..word.count_ones() {
+        let bit = rest.trailing_zeros() as usize;
+        numbers.push(k.wrapping_mul(64).wrapping_add(bit))?;
+        rest &= rest.wrapping_sub(1);
+    }
+    Ok(())
+}
+
+/// The bits that are set, as numbers that rise.
+pub(crate) fn members(alloc: Global, words: &[u64]) -> Result<Vec<usize>, AllocError> {
+    let mut numbers = Vec::new(alloc);
+    for k in 0..words.len() {
+        push_members_of_word(&mut numbers, k, words[k])?;
+    }
+    Ok(numbers)
 }
 
 /// Takes the bits of another set away from the one that begins at the word at an index.

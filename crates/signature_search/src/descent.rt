@@ -90,8 +90,9 @@ impl Finder<'_> {
         Ok(Some(signature))
     }
 
-    // The signature cube of the question's answer or, if no place of its own is found, of a point
-    // of it; `None` if that is in OFF.
+    // The signature cube of the question's answer, if a place of its own is found; else that of a
+    // point of the answer, which is its place then, or `None` if the point is in OFF. The question
+    // may be asked anew for it.
     fn first_signature(&mut self, output: usize) -> Result<Option<Signature>, AllocError> {
         let words = self.function.output_words;
         let mut cube = Cube::of_output(self.alloc, self.question.answer(), output, words)?;

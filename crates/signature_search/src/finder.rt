@@ -19,9 +19,9 @@ use crate::cube::Cube;
 use crate::exchanges::Exchanges;
 use crate::function::{Function, list_at};
 use crate::lists::{Outside, push_cofactors};
-use crate::prime_list::push_primes;
+use crate::prime_list::PrimeList;
 use crate::question::Question;
-use crate::rows::{Place, Rows};
+use crate::rows::Place;
 use std::alloc::{AllocError, Global};
 use std::collections::BTreeSet;
 
@@ -82,7 +82,7 @@ pub(crate) struct Finder<'a> {
     pub(crate) question: Question,
     matrix: BlockingMatrix,
     // All primes, where they are known.
-    pub(crate) primes: Option<&'a Rows>,
+    pub(crate) primes: Option<&'a PrimeList>,
     // The cubes that a place must avoid, without the literals at inputs of the signature cube.
     pub(crate) avoided: Vec<Literals>,
     // The hashes of signature cubes that have no place of their own.
@@ -96,7 +96,7 @@ impl<'a> Finder<'a> {
     pub(crate) fn new(
         alloc: Global,
         function: &'a Function,
-        primes: Option<&'a Rows>,
+        primes: Option<&'a PrimeList>,
     ) -> Result<Finder<'a>, AllocError> {
         let question = Question::new(alloc, function.width)?;
         Ok(Finder {
@@ -229,7 +229,7 @@ impl<'a> Finder<'a> {
     fn avoid_all(&mut self, signature: &Signature, output: usize) -> Result<Outside, AllocError> {
         let cube = &signature.cube;
         let outside = match self.primes {
-            Some(primes) => push_primes(&mut self.avoided, primes, cube, output)?,
+            Some(primes) => primes.push_others(self.alloc, &mut self.avoided, cube, output)?,
             None => self.avoid_exchanged(signature.rows.without_output(), output)?,
         };
         if let Outside::Nothing = outside {

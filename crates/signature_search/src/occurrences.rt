@@ -67,6 +67,11 @@ impl Occurrences {
         }
     }
 
+    /// The set of all cubes.
+    pub(crate) fn whole(&self) -> &[u64] {
+        &self.all
+    }
+
     /// Word `k` of the set of all cubes, 0 past the end.
     pub(crate) fn all(&self, k: usize) -> u64 {
         word_at(&self.all, k)

@@ -1,6 +1,7 @@
 //! What proposes places of a function.
 
 use crate::function::Function;
+use crate::prime_list::PrimeList;
 use crate::rows::{Place, Rows};
 use crate::search::Search;
 use std::alloc::{AllocError, Global};
@@ -14,7 +15,7 @@ pub struct Proposer {
     alloc: Global,
     function: Function,
     // All primes, where they are known.
-    primes: Option<Rows>,
+    primes: Option<PrimeList>,
 }
 
 impl Drop for Proposer {
@@ -58,7 +59,7 @@ impl Proposer {
         Ok(Proposer {
             alloc,
             function,
-            primes: Some(primes),
+            primes: Some(PrimeList::new(alloc, primes)?),
         })
     }
 

@@ -88,9 +88,9 @@ impl Notes {
         self.occurring.fill(Literals::NONE);
     }
 
-    // Writes the cube that begins at `from` to `to`, without its literals at forced inputs. Whether
-    // it stays: without a literal it holds all places, and a cube of one literal forces the
-    // opposite one, with which it shares no place.
+    // Writes the cube that begins at `from` to `to`, without its literals at forced inputs, and notes
+    // the others. Whether it stays: without a literal it holds all places, which is noted; a cube of
+    // one literal forces the opposite one, with which it shares no place.
     fn keeps(
         &mut self,
         rows: &mut [Literals],

@@ -124,6 +124,11 @@ impl Rows {
         Ok(places)
     }
 
+    /// The literals of all rows, one row after the other.
+    pub(crate) fn literals(&self) -> &[Literals] {
+        &self.literals
+    }
+
     /// The literals of a row, none past the last.
     pub(crate) fn literals_of(&self, row: usize) -> &[Literals] {
         let width = words_for(self.inputs);

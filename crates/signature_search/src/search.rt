@@ -6,8 +6,10 @@ use crate::blocking_rows::BlockingRows;
 use crate::cube::Cube;
 use crate::finder::{Finder, Signature};
 use crate::function::{Function, list_at};
+use crate::prime_list::PrimeList;
 use crate::rows::{Place, Rows};
 use std::alloc::{AllocError, Global};
+use std::collections::BTreeSet;
 use std::mem::replace;
 
 // At most this many regions are looked at for a place of an ON cube that a cover leaves out.
@@ -67,7 +69,7 @@ pub(crate) struct Search<'a> {
     finder: Finder<'a>,
     signatures: Vec<Signature>,
     // The hashes of the signature cubes of ON cubes.
-    tried: Vec<u64>,
+    tried: BTreeSet<u64>,
 }
 
 impl<'a> Drop for Search<'a> {
@@ -85,12 +87,12 @@ impl<'a> Search<'a> {
     pub(crate) fn new(
         alloc: Global,
         function: &'a Function,
-        primes: Option<&'a Rows>,
+        primes: Option<&'a PrimeList>,
     ) -> Result<Search<'a>, AllocError> {
         Ok(Search {
             finder: Finder::new(alloc, function, primes)?,
             signatures: Vec::new(alloc),
-            tried: Vec::new(alloc),
+            tried: BTreeSet::new(alloc),
         })
     }
 
@@ -117,7 +119,7 @@ impl<'a> Search<'a> {
         if self.tried.contains(&hash) {
             return Ok(());
         }
-        self.tried.push(hash)?;
+        self.tried.insert(hash)?;
         if !self.finder.finds_own_place(&mut signature)? {
             return Ok(());
         }

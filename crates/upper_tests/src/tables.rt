@@ -156,6 +156,7 @@ fn tables_are_reduced(rt: HostRuntime) -> Result<(), Fail> {
 /// Rows that do not rise, or are empty, or name a column that there is not.
 const NO_ROWS: [&[u8]; 3] = [b"10", b"", b"02"];
 
+/// No table is made of them.
 #[test]
 fn a_row_that_does_not_rise_is_refused(rt: HostRuntime) -> Result<(), Fail> {
     for rows in NO_ROWS {

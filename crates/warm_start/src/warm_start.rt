@@ -272,8 +272,8 @@ impl WarmStart {
         }
     }
 
-    /// The basis of the relaxation, from which a search branches on the column, first taking it; no
-    /// basis if there is no relaxation.
+    /// The basis of the relaxation, for `go_back`; no basis if there is no relaxation. The column, which
+    /// a search branches on and first takes, is noted for what that gains; the basis stays as it is.
     pub fn branch(&mut self, alloc: Global, column: usize) -> Result<BranchBasis, AllocError> {
         match &mut self.relaxation {
             None => Ok(BranchBasis::none(alloc)),

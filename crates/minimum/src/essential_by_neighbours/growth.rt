@@ -84,8 +84,8 @@ fn without_literal(
     Ok(())
 }
 
-/// Gives the cube an output, if it then is an implicant. Where it is not, the outputs that are
-/// reached mostly show it.
+/// Gives the cube an output, if it then is an implicant. `reached` has the outputs that rows reach
+/// in a part of the cube: most others are refused by it, without a look at the rows.
 fn with_output(
     alloc: Global,
     side: Side,

@@ -54,7 +54,8 @@ fn rows_not_far(alloc: Global, rows: &Cover, cube: &Cube) -> Result<Cover, Alloc
     Ok(Cover::from_cubes(rows.shape(), near))
 }
 
-/// A copy of the rows near the cube; `None` stands for all rows, where most are near.
+/// A copy of the rows near the cube, with opposite literals at one input or none, whatever their
+/// outputs; `None` stands for all rows, where most of a sample of them are near.
 pub(crate) fn rows_near(
     alloc: Global,
     rows: &Cover,

@@ -71,8 +71,8 @@ pub(crate) fn add_meeting(
     Ok(())
 }
 
-/// Adds the row put back by the steps at inputs, and then by those to outputs, each if there is one
-/// that meets the prime.
+/// Adds up to two cubes. In the prime the first holds the places from which a step at an input leads
+/// into the row, the second those from which a step to an output does that the prime lacks.
 fn add_neighbours(near: &mut Vec<Cube>, prime: &Cube, row: &Cube) -> Result<(), AllocError>
     requires { SameSize row.now prime.now }
     ensures { OnOk result (AddsNeighbours prime.now row.now near.old.items near.new.items) }

@@ -257,7 +257,8 @@ impl Basis {
         }
     }
 
-    /// Sets the norm of a position, of which `square` is the part at slots.
+    /// Sets the norm of a position: `square`, the part at slots, and 1 more if its variable is a
+    /// surplus, else `LEAST_NORM` more.
     fn set_norm(&mut self, position: usize, square: f64) {
         let own = if self.surplus_row(position).is_some() {
             1.0
