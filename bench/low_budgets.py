@@ -46,7 +46,8 @@ NEVER_AS_NEEDED = [(WAYS, AS_NEEDED, "Ok(false)")]
 POINTS_OF_PRIMES = [(WAYS, "sets.on().shape().inputs() > 20", "sets.on().shape().inputs() > 0")]
 NO_POINTS_OF_PRIMES = [(WAYS, "sets.on().shape().inputs() > 20", "sets.on().shape().inputs() > 2000")]
 SHORT_COVERS = [(ROUND_HINTS, "FEW_LEFT_OUT: usize = 20", "FEW_LEFT_OUT: usize = 0"),
-                (ROUND_HINTS, "MOST_POINTS_FOR_LEAST: usize = 1_200", "MOST_POINTS_FOR_LEAST: usize = 2")]
+                (ROUND_HINTS, "MOST_POINTS_FOR_LEAST: usize = 1_200", "MOST_POINTS_FOR_LEAST: usize = 2"),
+                (ROUND_HINTS, "MOST_TABLES_FOR_LEAST: u64 = 60", "MOST_TABLES_FOR_LEAST: u64 = 0")]
 FEW_ROUNDS = [(ROUNDS, "MOST_ROUNDS: usize = 500", "MOST_ROUNDS: usize = 2")]
 NO_FEW_PRIMES = [(SOURCE, "FEW_PRIMES: usize = 40", "FEW_PRIMES: usize = 0")]
 FEW_LOOKS = [(POINTS, "[200_000, 1_600_000, 200_000_000, 4_000_000_000]", "[15, 30, 45, 60]"),
@@ -83,6 +84,9 @@ SHORT_LISTS = [
     ("sums/absorb", "MANY: usize = 32", "MANY: usize = 2"),
     ("sums/dependent_outputs", "FEW: usize = 64", "FEW: usize = 2"),
     ("sums/containing", "MANY: u32 = 6", "MANY: u32 = 3"),
+    ("sums/computed_table", "WORDS: usize = 1 << 24", "WORDS: usize = 1 << 9"),
+    ("sums/computed_table", "FIRST_SLOTS: usize = 1024", "FIRST_SLOTS: usize = 4"),
+    ("sums/computed_table", "const SLOTS: usize = 1 << 17", "const SLOTS: usize = 16"),
     ("minimum/prime_table/halving_input", "FEW: usize = 16", "FEW: usize = 1"),
     ("covering/least_covers", "FEW: usize = 8", "FEW: usize = 1"),
     ("covering/questions", "BATCH_TABLES: u64 = 600", "BATCH_TABLES: u64 = 2"),
