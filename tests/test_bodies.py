@@ -1,17 +1,37 @@
-"""The wrong bodies fit the files that they change: each text that one replaces stands there once."""
+"""Texts that stand for others fit the files of the crates: those of wrong bodies, of wrong searches and of low budgets stand there once."""
 import glob
 import os
+import sys
 import unittest
 from runpy import run_path
 
 TOP = os.path.dirname(os.path.dirname(os.path.abspath(__file__)))
+sys.path.append(os.path.join(TOP, "bench"))
 
 
-class Bodies(unittest.TestCase):
-    def test_that_they_fit(self):
+def count_in(crate, file, text):
+    """How often the text stands in a file of the crate."""
+    with open(os.path.join(TOP, "crates", crate, file), encoding="utf-8") as opened:
+        return opened.read().count(text)
+
+
+class Fit(unittest.TestCase):
+    def test_wrong_bodies(self):
         by_crate = run_path(os.path.join(TOP, "mutants/run"))["edits_of"]([])
-        edits = [edit for found in by_crate.values() for edit in found]
+        edits = [(crate, edit) for crate, found in by_crate.items() for edit in found]
         self.assertEqual(len(edits), len(glob.glob(os.path.join(TOP, "mutants/*/*.edit"))))
-        unfit = [edit.name for edit in edits if edit.changed({}, os.path.join(TOP, "crates", edit.name.partition("/")[0])) is None]
+        unfit = [edit.name for crate, edit in edits if not edit.triples or edit.changed({}, os.path.join(TOP, "crates", crate)) is None]
         self.assertEqual(unfit, [])
-        self.assertEqual([edit.name for edit in edits if not edit.triples], [])
+
+    def test_wrong_searches(self):
+        for path in glob.glob(os.path.join(TOP, "tests/wrong_searches/*.edit")):
+            with open(path, encoding="utf-8") as opened:
+                words = dict(line.rstrip("\n").split(": ", 1) for line in opened if ": " in line)
+            crate = words.get("crate", "sat_search").strip()
+            self.assertEqual(count_in(crate, words["file"].strip(), words["old"]), 1, path)
+
+    def test_low_budgets(self):
+        for changes in run_path(os.path.join(TOP, "bench/low_budgets.py"))["BUILDS"].values():
+            for place, old, _ in changes:
+                crate, _, file = place.partition("/")
+                self.assertEqual(count_in(crate, f"src/{file}.rt", old), 1, (place, old))
