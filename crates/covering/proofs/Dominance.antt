@@ -7,7 +7,7 @@ use Rattle.covering.specs.declared.column_dominance.Preference.{Preference}
 use Rattle.covering.specs.declared.column_dominance.Preference.TheVariants.{Earlier, NoDearer}
 use Rattle.covering.specs.Table.{has, RisesFrom, IsWithin}
 use Rattle.covering.specs.Search.{marked}
-use Rattle.covering.specs.Reduce.{row_at, IsTranspose, Unmarks, UnmarksDominatingRows, RowDominanceSoFar, LeavesNoDominatingRow, is_dominating_row, holds_all, prefers, is_preferred, dominates, ColumnDominanceSoFar, LeavesNoDominatedColumn}
+use Rattle.covering.specs.Reduce.{row_at, IsTranspose, Unmarks, UnmarksDominatingRows, RowDominanceSoFar, LeavesNoDominatingRow, is_dominating_row, holds_all, prefers, is_preferred, dominates, AreDominatedByKept, ColumnDominanceSoFar, LeavesNoDominatedColumn}
 use Rattle.std.specs.Prelude.{Result, Ok, Err, is_ok, MatchResult}
 use Rattle.std.specs.List.Sorted.{IsBinarySearchResult}
 use Rattle.std.specs.Ordering.{nat_cmp}
@@ -215,6 +215,50 @@ pub candidates : (preferred : ℕ → ℕ → Bool) (live : List ℕ) (rows tran
 candidates preferred live rows transpose keep a i x within below h = any_among (dominates preferred transpose keep a) (row_at rows i) live (within i)
     (λ n k o. sym (x.same n i (below n k)) ∙ (dominates_parts preferred transpose keep a n o).stands i h)
 
+-- where a column that a kept one dominates leaves, that one dominates what it dominated
+module _ (preferred : ℕ → ℕ → Bool) (trans : (c b a : ℕ) → preferred c b ≡ true → preferred b a ≡ true → preferred c a ≡ true) (live : List ℕ) (transpose : List (List ℕ)) (keep new : List Bool) (a b : ℕ) (h : AreDominatedByKept preferred live transpose keep) (lb : has b live ≡ true) (d : dominates preferred transpose keep a b ≡ true) (u : Unmarks keep a new) where
+  over : Dominates preferred transpose keep a b
+  over = dominates_parts preferred transpose keep a b d
+
+  as_before : (n : ℕ) → n ≢ a → marked new n ≡ marked keep n
+  as_before n k = u.at n ∙ cond-false (eqb n a) _ _ (ne_eqb n a k)
+
+  still : (n c : ℕ) → Dominates preferred transpose keep n c → c ≢ a → dominates preferred transpose new n c ≡ true
+  still n c o k = dominates_from preferred transpose new n c (record { apart = o.apart; kept = as_before c k ∙ o.kept; first = o.first; stands = o.stands })
+
+  pub still_dominated : AreDominatedByKept preferred live transpose new
+  still_dominated n k m = elim (cases_eq n a) [
+    | inl e ↦ (b, lb, subst (λ q. dominates preferred transpose new q b ≡ true) (sym e) (still a b over over.apart))
+    | inr e ↦ (
+        let w = h n k (sym (as_before n e) ∙ m) in
+        let o = dominates_parts preferred transpose keep n w.0 w.2 in
+        elim (cases_eq w.0 a) [
+          | inl f ↦ (
+            b,
+            lb,
+            dominates_from preferred transpose new n b (record {
+              apart = λ g. both_ways _ (sym (as_before n e) ∙ m) (ap (marked keep) (sym g) ∙ over.kept);
+              kept = as_before b over.apart ∙ over.kept;
+              first = trans b a n over.first (subst (λ q. preferred q n ≡ true) f o.first);
+              stands = λ i g. over.stands i (subst (λ q. has i (row_at transpose q) ≡ true) f (o.stands i g));
+            }),
+          )
+          | inr f ↦ (w.0, w.1, still n w.0 o f)
+        ])
+  ]
+
+  pub falls_by_one : (n : ℕ) → marked new n ≡ true → marked keep n ≡ true
+  falls_by_one n m = elim (cases_eq n a) [ inl e ↦ absurd (true≢false (sym m ∙ u.at n ∙ cond-true (eqb n a) _ _ (eq-eqb n a e))) | inr e ↦ sym (as_before n e) ∙ m ]
+
+-- where all marked columns are live, so is the one that dominates it
+pub one_leaves : (preferred : ℕ → ℕ → Bool) (trans : (c b a : ℕ) → preferred c b ≡ true → preferred b a ≡ true → preferred c a ≡ true) (live : List ℕ) (transpose : List (List ℕ)) (keep new : List Bool) (a : ℕ) (among : List ℕ)
+    → (AreDominatedByKept preferred live transpose keep × ((b : ℕ) → marked keep b ≡ true → has b live ≡ true)) → list_any (dominates preferred transpose keep a) among ≡ true → Unmarks keep a new
+    → AreDominatedByKept preferred live transpose new × ((b : ℕ) → marked new b ≡ true → has b live ≡ true)
+one_leaves preferred trans live transpose keep new a among h some u =
+    let b = any_at (dominates preferred transpose keep a) among some in
+    let lb = h.1 b.0 (dominates_parts preferred transpose keep a b.0 b.2).kept in
+    (still_dominated preferred trans live transpose keep new a b.0 h.0 lb b.2 u, λ n m. h.1 n (falls_by_one preferred trans live transpose keep new a b.0 h.0 lb b.2 u n m))
+
 module _ (preferred : ℕ → ℕ → Bool) (trans : (c b a : ℕ) → preferred c b ≡ true → preferred b a ≡ true → preferred c a ≡ true) (live : List ℕ) (transpose : List (List ℕ)) (i : ℕ) (keep : List Bool) (l : i < length live) (h : ColumnDominanceSoFar preferred live transpose (take i live) keep) where
   abbrev pub a : ℕ
   a = slice_index_or live i 0
@@ -236,25 +280,7 @@ module _ (preferred : ℕ → ℕ → Bool) (trans : (c b a : ℕ) → preferred
 
   pub keep_hit : (new : List Bool) → list_any (dominates preferred transpose keep a) live ≡ true → Unmarks keep a new → ColumnDominanceSoFar preferred live transpose (take (i + 1) live) new
   keep_hit new some u = record {
-    witnessed = λ n k m. elim (cases_eq n a) [
-      | inl e ↦ (first.0, first.1, subst (λ q. dominates preferred transpose new q first.0 ≡ true) (sym e) (dominates_from preferred transpose new a first.0 (dominates_new a first.0 dominates_first dominates_first.apart)))
-      | inr e ↦ (
-          let w = h.witnessed n k (sym (other n e) ∙ m) in
-          let o = dominates_parts preferred transpose keep n w.0 w.2 in
-          elim (cases_eq w.0 a) [
-            | inl f ↦ (
-              first.0,
-              first.1,
-              dominates_from preferred transpose new n first.0 (record {
-                apart = λ g. both_ways _ (sym (other n e) ∙ m) (ap (marked keep) (sym g) ∙ dominates_first.kept);
-                kept = other first.0 dominates_first.apart ∙ dominates_first.kept;
-                first = trans first.0 a n dominates_first.first (subst (λ q. preferred q n ≡ true) f o.first);
-                stands = λ d g. dominates_first.stands d (subst (λ q. has d (row_at transpose q) ≡ true) f (o.stands d g));
-              }),
-            )
-            | inr f ↦ (w.0, w.1, dominates_from preferred transpose new n w.0 (dominates_new n w.0 o f))
-          ])
-    ];
+    witnessed = still_dominated preferred trans live transpose keep new a first.0 h.witnessed first.1 first.2 u;
     free = λ n k m b p. elim (asked_more n k) [
       | inl e ↦ elim (cases_Bool (dominates preferred transpose new n b)) [
         | inl f ↦ absurd (both_ways _ (h.free n e (falls n m) b p) (dominates_from preferred transpose keep n b (let o = dominates_parts preferred transpose new n b f in record { apart = o.apart; kept = falls b o.kept; first = o.first; stands = o.stands })))
@@ -267,17 +293,8 @@ module _ (preferred : ℕ → ℕ → Bool) (trans : (c b a : ℕ) → preferred
       first : (b : ℕ) × (has b live ≡ true) × (dominates preferred transpose keep a b ≡ true)
       first = any_at (dominates preferred transpose keep a) live some
 
-      dominates_first : Dominates preferred transpose keep a first.0
-      dominates_first = dominates_parts preferred transpose keep a first.0 first.2
-
-      other : (n : ℕ) → n ≢ a → marked new n ≡ marked keep n
-      other n d = u.at n ∙ cond-false (eqb n a) _ _ (ne_eqb n a d)
-
-      dominates_new : (n b : ℕ) → Dominates preferred transpose keep n b → b ≢ a → Dominates preferred transpose new n b
-      dominates_new n b o d = record { apart = o.apart; kept = other b d ∙ o.kept; first = o.first; stands = o.stands }
-
       falls : (n : ℕ) → marked new n ≡ true → marked keep n ≡ true
-      falls n m = elim (cases_eq n a) [ inl e ↦ absurd (true≢false (sym m ∙ u.at n ∙ cond-true (eqb n a) _ _ (eq-eqb n a e))) | inr e ↦ sym (other n e) ∙ m ]
+      falls = falls_by_one preferred trans live transpose keep new a first.0 h.witnessed first.1 first.2 u
 
 pub keep_start : (preferred : ℕ → ℕ → Bool) (live : List ℕ) (transpose : List (List ℕ)) (keep : List Bool) → ((a : ℕ) → has a live ≡ true → marked keep a ≡ true) → ColumnDominanceSoFar preferred live transpose [] keep
 keep_start preferred live transpose keep all = record { witnessed = λ a h m. absurd (both_ways _ m (all a h)); free = λ a h. absurd (true≢false (sym h)) }

@@ -9,7 +9,7 @@ use Rattle.covering.specs.Cover.{meets, counted}
 use Rattle.covering.specs.Steps.{without, take_column, drop_column, with_rows, HasRow, StandsWith, IsPreferred, Step, row_leaves, only_column, column_leaves, Steps, done, more, IsReduced}
 use Rattle.covering.specs.Choices.{union_of}
 use Rattle.covering.specs.Search.{IsWeaklyReduced, marked, keep_columns, IsPruned}
-use Rattle.covering.specs.Reduce.{row_at, IsTranspose, MarksInessentialColumns, is_essential_column, rows_from, LeavesNoDominatingRow, HasNoDominatingRow, LeavesNoDominatedColumn, prefers, HasNoEssentialColumn, HasNoDominatedColumn, Shrinks, take_unmarked}
+use Rattle.covering.specs.Reduce.{row_at, IsTranspose, MarksInessentialColumns, is_essential_column, rows_from, LeavesNoDominatingRow, HasNoDominatingRow, AreDominatedByKept, LeavesNoDominatedColumn, prefers, HasNoEssentialColumn, HasNoDominatedColumn, Shrinks, take_unmarked}
 use Rattle.covering.proofs.Sets.{has_here, has_later, has_cases, lacks_below, filter_parts, filter_keeps, filter_rises, filter_length}
 use Rattle.covering.proofs.Subsets.{same_list, union_rises, union_left, union_right, union_only}
 use Rattle.covering.proofs.Keeps.{row_live, steps_keep, preferred_apart}
@@ -160,7 +160,7 @@ rows_within_all : (keep : List Bool) (live : List ℕ) (rows : List (List ℕ)) 
 rows_within_all keep live [] h = tt
 rows_within_all keep live (row ∷ rows) h = (filter_at (marked keep) (apart_of (filter (λ m. not (marked keep m)) live)) row (λ n k. refused keep live n (h.0.2 n k)), rows_within_all keep live rows h.1)
 
-module _ (choice : Choice) (t : Table) (transpose : List (List ℕ)) (keep : List Bool) (wt : IsTable t) (x : IsTranspose t.columns t.rows transpose) (h : LeavesNoDominatedColumn (prefers (counted choice t.weights)) t.live transpose keep) where
+module _ (choice : Choice) (t : Table) (transpose : List (List ℕ)) (keep : List Bool) (wt : IsTable t) (x : IsTranspose t.columns t.rows transpose) (h : AreDominatedByKept (prefers (counted choice t.weights)) t.live transpose keep) where
   abbrev gone : List ℕ
   gone = filter (λ m. not (marked keep m)) t.live
 
@@ -177,7 +177,7 @@ module _ (choice : Choice) (t : Table) (transpose : List (List ℕ)) (keep : Lis
       each : (c : ℕ) → has c gone ≡ true → (has c t.live ≡ true) × ((b : ℕ) × (has b t.live ≡ true) × (has b gone ≡ false) × IsPreferred (counted choice t.weights) b c × StandsWith t c b)
       each c k =
           let p = filter_parts (λ m. not (marked keep m)) c t.live k in
-          let y = h.witnessed c p.0 (not_false (marked keep c) p.1) in
+          let y = h c p.0 (not_false (marked keep c) p.1) in
           let o = dominates_parts (prefers (counted choice t.weights)) transpose keep c y.0 y.2 in
           let stays : has y.0 gone ≡ false = elim (cases_Bool (has y.0 gone)) [ inl e ↦ absurd (true≢false (sym (filter_parts (λ m. not (marked keep m)) y.0 t.live e).1 ∙ ap not o.kept)) | inr e ↦ e ] in
           (p.0, (y.0, y.1, stays, preferred_from (counted choice t.weights) y.0 c o.first, stands_from t.columns t.rows transpose c y.0 x (wt.within c p.0) (wt.within y.0 y.1) o.stands))
@@ -192,6 +192,7 @@ module _ (choice : Choice) (t : Table) (transpose : List (List ℕ)) (keep : Lis
       fewer : (a b : ℕ) → a ≢ b → a ≤ b → length (map (filter (marked keep)) t.rows) ≡ length t.rows → a + length (map (filter (marked keep)) t.rows) < b + length t.rows
       fewer a b d l e = elim (cases_lt a b) [ inl m ↦ omega arith | inr m ↦ absurd (d (omega arith)) ]
 
+module _ (choice : Choice) (t : Table) (transpose : List (List ℕ)) (keep : List Bool) (wt : IsTable t) (x : IsTranspose t.columns t.rows transpose) (h : LeavesNoDominatedColumn (prefers (counted choice t.weights)) t.live transpose keep) where
   pub none_dominated : length (filter (marked keep) t.live) ≡ length t.live → HasNoDominatedColumn choice t
   none_dominated e a b la lb p s = both_ways _ (h.complete (λ n k. filter_full (marked keep) t.live n e k) a b la lb) (dominates_from (prefers (counted choice t.weights)) transpose keep a b (record {
     apart = preferred_apart (counted choice t.weights) b a p;
@@ -486,10 +487,10 @@ reduced_from choice t one dominating under _ (only_column _ c h) = one c h
 reduced_from choice t one dominating under _ (column_leaves _ a b p la lb d) = under a b la lb p d
 
 -- after a pass over the columns of a table that the passes before have left as it was
-pub reduced_once_from : (choice : Choice) (t same u : Table) (is_changed : Bool) → same ≡ t → HasNoEssentialColumn t → HasNoDominatingRow t.rows
-    → MatchBool is_changed (Shrinks choice same u) ((u ≡ same) × HasNoDominatedColumn choice same) → MatchBool is_changed (Shrinks choice t u) ((u ≡ t) × IsReduced choice t)
-reduced_once_from choice t same u true e one dominating h = subst (λ s. Shrinks choice s u) e h
-reduced_once_from choice t same u false e one dominating h = (h.0 ∙ e, reduced_from choice t one dominating (subst (HasNoDominatedColumn choice) e h.1))
+pub reduced_once_from : (choice : Choice) (t same u : Table) (is_complete is_changed : Bool) → same ≡ t → HasNoEssentialColumn t → HasNoDominatingRow t.rows
+    → MatchBool is_changed (Shrinks choice same u) ((u ≡ same) × (is_complete ≡ true → HasNoDominatedColumn choice same)) → MatchBool is_changed (Shrinks choice t u) ((u ≡ t) × (is_complete ≡ true → IsReduced choice t))
+reduced_once_from choice t same u is_complete true e one dominating h = subst (λ s. Shrinks choice s u) e h
+reduced_once_from choice t same u is_complete false e one dominating h = (h.0 ∙ e, λ k. reduced_from choice t one dominating (subst (HasNoDominatedColumn choice) e (h.1 k)))
 
 pub steps_join : (choice : Choice) (t u v : Table) → Steps choice t u → Steps choice u v → Steps choice t v
 steps_join choice t u _ s (done _) = s

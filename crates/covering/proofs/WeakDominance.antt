@@ -8,7 +8,7 @@ use Rattle.covering.specs.Table.{Table, has, RisesFrom, IsWithin, IsTable}
 use Rattle.covering.specs.Cover.{IsCover, counted, sum_over}
 use Rattle.covering.specs.Steps.{without, put, StandsWith, Steps}
 use Rattle.covering.specs.declared.column_dominance.Preference.TheVariants.{NoDearer}
-use Rattle.covering.specs.Reduce.{Shrinks, row_at, IsTranspose, LeavesNoDominatedColumn, is_preferred}
+use Rattle.covering.specs.Reduce.{Shrinks, row_at, IsTranspose, AreDominatedByKept, is_preferred}
 use Rattle.covering.specs.Search.{Leads, IsServed, IsWeaklyReduced, IsWeakStep, keep_columns, marked, is_blank}
 use Rattle.covering.proofs.Sets.{has_here, has_cases, filter_keeps, without_only, without_keeps, without_lacks, without_rises, without_length, put_has, put_keeps, put_only, put_rises, put_length, sum_put, sum_without, filter_length}
 use Rattle.covering.proofs.Covers.{drop_back}
@@ -45,7 +45,7 @@ exchange_any count t a b x w apart le la lb d h k = elim (cases_Bool (has b x)) 
 ]
 
 -- a cover of which the columns of a list that have no mark are exchanged for those that dominate them
-module _ (choice : Choice) (t : Table) (transpose : List (List ℕ)) (keep : List Bool) (wt : IsTable t) (x : IsTranspose t.columns t.rows transpose) (h : LeavesNoDominatedColumn (is_preferred NoDearer (counted choice t.weights)) t.live transpose keep) where
+module _ (choice : Choice) (t : Table) (transpose : List (List ℕ)) (keep : List Bool) (wt : IsTable t) (x : IsTranspose t.columns t.rows transpose) (h : AreDominatedByKept (is_preferred NoDearer (counted choice t.weights)) t.live transpose keep) where
   abbrev count : ℕ → ℕ
   count = counted choice t.weights
 
@@ -67,7 +67,7 @@ module _ (choice : Choice) (t : Table) (transpose : List (List ℕ)) (keep : Lis
           | inl la ↦ elim (cases_Bool (has a y.0)) [
             | inr out ↦ (y.0, skipped a columns s y.0 (λ f _. absurd (both_ways _ out f)) y.1)
             | inl e ↦ (
-                let w = h.witnessed a la m in
+                let w = h a la m in
                 let o = dominates_parts (is_preferred NoDearer count) transpose keep a w.0 w.2 in
                 let less : count w.0 ≤ count a = leb-true (count w.0) (count a) o.first in
                 let z = exchange_any count t a w.0 y.0 wt o.apart less la w.1 (stands_from t.columns t.rows transpose a w.0 x (wt.within a la) (wt.within w.0 w.1) o.stands) y.1.0 e in
@@ -94,7 +94,7 @@ module _ (choice : Choice) (t : Table) (transpose : List (List ℕ)) (keep : Lis
   served s g = let y = exchanged_all t.live s g in (y.0, y.1.0, (λ c f l. y.1.1 c f l l), y.1.2, y.1.3)
 
 -- each row keeps a column where each column that leaves stands under one that stays
-module _ (preferred : ℕ → ℕ → Bool) (t : Table) (transpose : List (List ℕ)) (keep : List Bool) (wt : IsTable t) (x : IsTranspose t.columns t.rows transpose) (h : LeavesNoDominatedColumn preferred t.live transpose keep) where
+module _ (preferred : ℕ → ℕ → Bool) (t : Table) (transpose : List (List ℕ)) (keep : List Bool) (wt : IsTable t) (x : IsTranspose t.columns t.rows transpose) (h : AreDominatedByKept preferred t.live transpose keep) where
   filled_by : (n : ℕ) (row : List ℕ) → has n row ≡ true → marked keep n ≡ true → is_blank (filter (marked keep) row) ≡ false
   filled_by n row e m = elim (cases_Bool (is_blank (filter (marked keep) row))) [
     | inl f ↦ absurd (blank_lacks (filter (marked keep) row) n f (filter_keeps (marked keep) n row e m))
@@ -109,7 +109,7 @@ module _ (preferred : ℕ → ℕ → Bool) (t : Table) (transpose : List (List 
       elim (cases_Bool (marked keep a)) [
         | inl m ↦ filled_by a (a ∷ row) here m
         | inr m ↦
-            let b = h.witnessed a live m in
+            let b = h a live m in
             let o = dominates_parts preferred transpose keep a b.0 b.2 in
             let stands = stands_from t.columns t.rows transpose a b.0 x (wt.within a live) (wt.within b.0 b.1) o.stands in
             let there = at_all (λ r. has a r ≡ true → has b.0 r ≡ true) t.rows i l stands in

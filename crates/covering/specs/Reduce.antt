@@ -135,19 +135,23 @@ pub record RowDominanceSoFar (rows : List (List ℕ)) (n : ℕ) (stay : List Boo
       → IsWithin (row_at rows j) (row_at rows i) → marked stay i ≡ false
   pub as_long : length stay ≡ length rows
 
+-- each live column that leaves is dominated by one that is kept
+abbrev pub AreDominatedByKept : (ℕ → ℕ → Bool) → List ℕ → List (List ℕ) → List Bool → Type 0
+AreDominatedByKept preferred live transpose keep = (a : ℕ) → has a live ≡ true
+    → marked keep a ≡ false → (b : ℕ) × (has b live ≡ true)
+    × (dominates preferred transpose keep a b ≡ true)
+
 -- columns may leave as marked, and if none does, none can
 pub record LeavesNoDominatedColumn (preferred : ℕ → ℕ → Bool) (live : List ℕ) (transpose : List (List ℕ))
     (keep : List Bool) : Type 0 where
-  pub witnessed : (a : ℕ) → has a live ≡ true → marked keep a ≡ false → (b : ℕ)
-      × (has b live ≡ true) × (dominates preferred transpose keep a b ≡ true)
+  pub witnessed : AreDominatedByKept preferred live transpose keep
   pub complete : ((a : ℕ) → has a live ≡ true → marked keep a ≡ true) → (a b : ℕ)
       → has a live ≡ true → has b live ≡ true → dominates preferred transpose keep a b ≡ false
 
 -- such marks after the columns of a list have been asked
 pub record ColumnDominanceSoFar (preferred : ℕ → ℕ → Bool) (live : List ℕ) (transpose : List (List ℕ))
     (asked : List ℕ) (keep : List Bool) : Type 0 where
-  pub witnessed : (a : ℕ) → has a live ≡ true → marked keep a ≡ false → (b : ℕ)
-      × (has b live ≡ true) × (dominates preferred transpose keep a b ≡ true)
+  pub witnessed : AreDominatedByKept preferred live transpose keep
   pub free : (a : ℕ) → has a asked ≡ true → marked keep a ≡ true → (b : ℕ) → has b live ≡ true
       → dominates preferred transpose keep a b ≡ false
 

@@ -5,17 +5,23 @@
 //! so candidates are looked for in a shortest one. Most of these are ruled out by one word: the
 //! signature of a column has the bits of its rows, and a column that is in all rows of another has
 //! all bits of that one's.
+//!
+//! Where columns are many beside the rows and most of them are dropped, each is compared with those
+//! that were kept before it; then it is not promised that none is left.
 
 ghost use Rattle.std.specs.Prelude.{◌≡◌, ◌<◌, ◌==◌, ◌&&◌, ◌||◌, ℕ, [], IfOk, MatchBool, MatchOption, length, map, slice_index_or, true};
 ghost use Rattle.std.specs.List.{list_any};
 ghost use Rattle.covering.specs.Table.{IsWithin, RisesFrom, items_of, has};
 ghost use Rattle.covering.specs.Cover.{counted};
 ghost use Rattle.covering.specs.Search.{IsWeakStep};
-ghost use Rattle.covering.specs.Reduce.{row_at, IsTranspose, LeavesNoDominatedColumn, bit_of, signature_of, has_bits, is_preferred, dominates, HasNoDominatedColumn, Shrinks};
+ghost use Rattle.covering.specs.Reduce.{row_at, IsTranspose, LeavesNoDominatedColumn, bit_of, signature_of, has_bits, is_preferred, dominates, AreDominatedByKept, HasNoDominatedColumn, Shrinks};
 
 use crate::choice::{Choice, cost};
 use crate::columns::{entry, is_rising_within};
-use crate::marks::{all_kept, all_marked, is_marked, retain_marked, retain_marked_in_rows, unmark};
+use crate::kept_columns::{KeptColumns, are_many, by_falling_rows};
+use crate::marks::{
+    all_kept, all_marked, is_marked, marks_of, retain_marked, retain_marked_in_rows, unmark,
+};
 use crate::table::Table;
 use std::alloc::{AllocError, Global};
 
@@ -187,11 +193,81 @@ fn is_dominated(
     }
 }
 
+/// Marks live columns so that each one without a mark is dominated by a marked one: asks them by
+/// falling numbers of rows, and compares each with marked ones asked before it.
+#[inline(always)]
+fn dominance_by_kept(
+    alloc: Global,
+    preference: Preference,
+    choice: Choice,
+    literals: &[u32],
+    live: &[usize],
+    rows: &[Vec<usize>],
+    transpose: &[Vec<usize>],
+    signatures: &[u64],
+) -> Result<Vec<bool>, AllocError>
+    requires rises { (c : ℕ) → RisesFrom 0 (row_at (items_of transpose.now) c) }
+    requires signatures { signatures.now ≡ map signature_of (items_of transpose.now) }
+    requires below { (c : ℕ) → has c live.now ≡ true → c < length transpose.now }
+    ensures { IfOk result (λ v. AreDominatedByKept
+        (is_preferred preference (counted choice literals.now)) live.now (items_of transpose.now)
+        v.items) }
+{
+    let order = by_falling_rows(alloc, choice, literals, live, transpose)?;
+    let mut kept = KeptColumns::new(alloc, rows.len())?;
+    let mut keep = marks_of(alloc, live, transpose.len())?;
+    for column in &order {
+        let among = kept.candidates(entry(transpose, *column));
+        if any_dominates(
+            preference, choice, literals, transpose, &keep, signatures, *column, among,
+        ) {
+            unmark(&mut keep, *column);
+        } else {
+            kept.add(choice, literals, *column, entry(transpose, *column))?;
+        }
+    }
+    Ok(keep)
+}
+
 /// Marks columns so that each unmarked live column is dominated by a marked one; all are marked
 /// only if none is dominated.
 #[inline(always)]
+fn complete_dominance(
+    alloc: Global,
+    preference: Preference,
+    choice: Choice,
+    literals: &[u32],
+    live: &[usize],
+    rows: &[Vec<usize>],
+    transpose: &[Vec<usize>],
+    signatures: &[u64],
+) -> Result<Vec<bool>, AllocError>
+    requires transpose { IsTranspose (length transpose.now) (items_of rows.now)
+        (items_of transpose.now) }
+    requires signatures { signatures.now ≡ map signature_of (items_of transpose.now) }
+    requires within { (i : ℕ) → IsWithin (row_at (items_of rows.now) i) live.now }
+    requires below { (c : ℕ) → has c live.now ≡ true → c < length transpose.now }
+    ensures { IfOk result (λ v. LeavesNoDominatedColumn
+        (is_preferred preference (counted choice literals.now)) live.now (items_of transpose.now)
+        v.items) }
+{
+    let mut keep = all_marked(alloc, transpose.len())?;
+    for column in live {
+        if is_dominated(
+            preference, choice, literals, live, rows, transpose, &keep, signatures, *column,
+        ) {
+            unmark(&mut keep, *column);
+        }
+    }
+    Ok(keep)
+}
+
+/// Marks columns so that each unmarked live column is dominated by a marked one; with
+/// `is_complete` all are marked only if none is dominated.
+#[inline(always)]
 fn column_dominance(
     alloc: Global,
+    is_complete: bool,
     preference: Preference,
     choice: Choice,
     literals: &[u32],
@@ -203,46 +279,57 @@ fn column_dominance(
         (items_of transpose.now) }
     requires within { (i : ℕ) → IsWithin (row_at (items_of rows.now) i) live.now }
     requires below { (c : ℕ) → has c live.now ≡ true → c < length transpose.now }
-    ensures { IfOk result (λ v. LeavesNoDominatedColumn
+    ensures dominated { IfOk result (λ v. AreDominatedByKept
+        (is_preferred preference (counted choice literals.now)) live.now (items_of transpose.now)
+        v.items) }
+    ensures complete { is_complete ≡ true → IfOk result (λ v. LeavesNoDominatedColumn
         (is_preferred preference (counted choice literals.now)) live.now (items_of transpose.now)
         v.items) }
 {
     let signatures = signatures_of(alloc, transpose)?;
-    let mut keep = all_marked(alloc, transpose.len())?;
-    for column in live {
-        if is_dominated(
+    if !is_complete && are_many(live, rows) {
+        dominance_by_kept(
+            alloc,
             preference,
             choice,
             literals,
             live,
             rows,
             transpose,
-            &keep,
             &signatures,
-            *column,
-        ) {
-            unmark(&mut keep, *column);
-        }
+        )
+    } else {
+        complete_dominance(
+            alloc,
+            preference,
+            choice,
+            literals,
+            live,
+            rows,
+            transpose,
+            &signatures,
+        )
     }
-    Ok(keep)
 }
 
 impl Table {
-    /// Drops each column that another dominates which costs less, or as much and has a smaller
-    /// number; answers whether there was one.
+    /// Drops columns that others dominate which cost less, or as much and have a smaller number;
+    /// answers whether there was one. With `is_complete` it finds one if there is one.
     pub(crate) fn drop_dominated_columns(
         &mut self,
         alloc: Global,
         choice: Choice,
         transpose: &[Vec<usize>],
+        is_complete: bool,
     ) -> Result<bool, AllocError>
         requires transpose { IsTranspose self.old.columns self.old.rows (items_of transpose.now) }
         requires long { length transpose.now ≡ self.old.columns }
         ensures { IfOk result (λ is_changed. MatchBool is_changed (Shrinks choice self.old self.new)
-            ((self.new ≡ self.old) × HasNoDominatedColumn choice self.old)) }
+            ((self.new ≡ self.old) × (is_complete ≡ true → HasNoDominatedColumn choice self.old))) }
     {
         let keep = column_dominance(
             alloc,
+            is_complete,
             Preference::Earlier,
             choice,
             &self.literals,
@@ -258,8 +345,8 @@ impl Table {
         Ok(true)
     }
 
-    /// Drops each column that another dominates which costs no more, in a search for some cover
-    /// within a budget; answers whether there was one.
+    /// Drops columns that others dominate which cost no more, in a search for some cover within a
+    /// budget; answers whether there was one.
     pub(crate) fn drop_weakly_dominated_columns(
         &mut self,
         alloc: Global,
@@ -273,6 +360,7 @@ impl Table {
     {
         let keep = column_dominance(
             alloc,
+            false,
             Preference::NoDearer,
             choice,
             &self.literals,

@@ -42,6 +42,7 @@ mod columns;
 mod exhaustive;
 mod fewest_literals;
 mod in_order;
+mod kept_columns;
 mod lagrangian;
 mod laws;
 mod least_covers;

@@ -1,6 +1,6 @@
 //! Marks of columns and of rows, and lists of those that have one.
 
-ghost use Rattle.std.specs.Prelude.{◌≡◌, ◌<◌, ◌||◌, ℕ, IfOk, filter, map, not, ◌==◌, true, false, ◌*◌, ◌-◌, Vec, replicate};
+ghost use Rattle.std.specs.Prelude.{◌≡◌, ◌<◌, ◌&&◌, ◌||◌, nat_lt, ℕ, IfOk, filter, map, not, ◌==◌, true, false, ◌*◌, ◌-◌, Vec, replicate};
 ghost use Rattle.std.specs.List.{list_all, range_with_len};
 ghost use Rattle.covering.specs.Table.{items_of, has};
 ghost use Rattle.covering.specs.Search.{marked};
@@ -69,6 +69,18 @@ pub(crate) fn with_unmarked(
         }
     }
     Ok(unmarked)
+}
+
+/// Marks the columns of the list that are below the end.
+pub(crate) fn marks_of(
+    alloc: Global,
+    columns: &[usize],
+    end: usize,
+) -> Result<Vec<bool>, AllocError>
+    ensures { IfOk result (λ v. (n : ℕ) → marked v.items n ≡ (nat_lt n end && has n columns.now)) }
+{
+    let others_marked = all_but_each(alloc, columns, end)?;
+    others(alloc, &others_marked, end)
 }
 
 /// Takes the mark from the place, if it has one; nothing past the end.

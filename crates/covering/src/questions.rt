@@ -21,7 +21,7 @@ use warm_start::{Effort, WarmStart, is_worth_a_bound};
 /// A question about a batch of columns is given up after this many tables.
 const BATCH_TABLES: u64 = 600;
 
-/// The undecided columns are reduced again after this many tables.
+/// The undecided columns are reduced again once so many tables were looked at, if some are gone.
 const TABLES_TO_REDUCE: u64 = 8;
 
 /// How many columns the first batch has, where the length was not hard to find.
@@ -73,9 +73,9 @@ impl Questions {
         }
     }
 
-    /// Whether to reduce the undecided columns, so many of which are live: if there was no reduction
-    /// yet, and once some of the columns that the last one left are gone, if tables were looked at
-    /// since then or these are an eighth.
+    /// Whether to reduce the undecided columns, so many of which are live. There is a first reduction
+    /// in any case; after the last one some of the columns that it left have to be gone, and either an
+    /// eighth of them is or some tables were looked at.
     pub(crate) fn is_worth_a_reduction(&self, live: usize) -> bool {
         let tables = self.warm_start.effort().tables.saturating_sub(self.tables);
         live < self.live && (tables >= TABLES_TO_REDUCE || is_worth_a_bound(self.live, live))

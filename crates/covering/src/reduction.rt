@@ -7,7 +7,7 @@
 //! that is kept, so they could be dropped one by one. If a pass marks nothing, no step of its kind
 //! applies.
 
-ghost use Rattle.std.specs.Prelude.{◌≡◌, ◌<◌, ◌==◌, ◌||◌, IfOk, MatchBool, length, not, filter};
+ghost use Rattle.std.specs.Prelude.{◌≡◌, ◌<◌, ◌==◌, ◌||◌, IfOk, MatchBool, length, not, filter, true};
 ghost use Rattle.std.specs.List.{range_with_len};
 ghost use Rattle.covering.specs.Table.{IsTable, items_of, has};
 ghost use Rattle.covering.specs.Steps.{Steps, IsReduced, SameLeast};
@@ -192,13 +192,19 @@ impl Table {
         ensures steps { IfOk result (Steps choice self.now) }
         ensures table { IsTable self.now }
     {
-        reduce(self.copy(alloc)?, choice)
+        reduce_by(self.copy(alloc)?, choice, false)
     }
 
-    /// Makes one pass that changes the table; answers whether there was one.
-    fn reduce_once(&mut self, alloc: Global, choice: Choice) -> Result<bool, AllocError>
+    /// Makes one pass that changes the table; answers whether there was one. With `is_complete`
+    /// there is one if a step applies.
+    fn reduce_once(
+        &mut self,
+        alloc: Global,
+        choice: Choice,
+        is_complete: bool,
+    ) -> Result<bool, AllocError>
         ensures { IfOk result (λ is_changed. MatchBool is_changed (Shrinks choice self.old self.new)
-            ((self.new ≡ self.old) × IsReduced choice self.old)) }
+            ((self.new ≡ self.old) × (is_complete ≡ true → IsReduced choice self.old))) }
     {
         if self.take_essential_columns(alloc)? {
             return Ok(true);
@@ -207,7 +213,22 @@ impl Table {
         if self.drop_dominating_rows(alloc, &transpose)? {
             return Ok(true);
         }
-        self.drop_dominated_columns(alloc, choice, &transpose)
+        self.drop_dominated_columns(alloc, choice, &transpose, is_complete)
+    }
+}
+
+/// The table after passes until none changes it; with `is_complete` no step applies to it.
+fn reduce_by(table: Table, choice: Choice, is_complete: bool) -> Result<Table, AllocError>
+    ensures steps { IfOk result (Steps choice table) }
+    ensures reduced { is_complete ≡ true → IfOk result (IsReduced choice) }
+    ensures least { IfOk result (SameLeast choice table) }
+{
+    let alloc = *table.rows.allocator();
+    let mut table = table;
+    loop {
+        if !table.reduce_once(alloc, choice, is_complete)? {
+            return Ok(table);
+        }
     }
 }
 
@@ -222,11 +243,5 @@ pub fn reduce(table: Table, choice: Choice) -> Result<Table, AllocError>
     ensures reduced { IfOk result (IsReduced choice) }
     ensures least { IfOk result (SameLeast choice table) }
 {
-    let alloc = *table.rows.allocator();
-    let mut table = table;
-    loop {
-        if !table.reduce_once(alloc, choice)? {
-            return Ok(table);
-        }
-    }
+    reduce_by(table, choice, true)
 }

@@ -17,7 +17,8 @@ const MOST_OUTSIDE: usize = 40000;
 
 // At most this many rows are looked at for each output, besides each row of the lists once for each
 // of these cubes. Chains of requests with a thousand inputs take most of them, other functions with
-// few such cubes less than a hundredth; where the cubes are many, these are too many first.
+// few such cubes less than a hundredth; where the cubes are many, these are too many first. To give
+// up after so many takes up to some seconds an output.
 const MOST_ROWS_OF_AN_OUTPUT: usize = 8_000_000;
 
 /// The budget for cubes with the places that this list does not hold.

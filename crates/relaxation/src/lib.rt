@@ -19,8 +19,9 @@
 //! so no cover has fewer than two columns, where a row alone shows that there is one.
 //!
 //! With m rows a step of the simplex method takes up to m * m sums, a table up to 5,000 steps, and the
-//! relaxation memory for two square matrices of m rows; m is at most 2,500. Sums of floating-point numbers
-//! are not exact: weights are checked in whole numbers by the caller.
+//! relaxation memory for two square matrices of m rows; m is at most 2,500. Every 400 steps an inverse is
+//! made anew, by up to m * m * m sums. Sums of floating-point numbers are not exact: weights are checked
+//! in whole numbers by the caller.
 #![tactic(auto)]
 
 mod floats;

@@ -77,7 +77,7 @@ impl Analysis {
         true
     }
 
-    // Marks the variables on the stack as such that do not follow.
+    // Empties the stack: of its variables those without a mark are marked as such that do not follow.
     fn mark_stack_needed(&mut self) {
         for _ in 0..self.stack.len() {
             if let Some((variable, _)) = self.stack.pop() {

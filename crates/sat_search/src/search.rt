@@ -97,7 +97,7 @@ impl Search {
         Ok(search)
     }
 
-    /// Adds a nogood under a name, which is below `u32::MAX - 1`, before the first question. Its
+    /// Adds a nogood under a name, which is below `u32::MAX - 1`, before `begin` is called. Its
     /// variables are below the number of variables, and no two of them are equal.
     pub fn add_nogood(&mut self, literals: &[u32], name: u32) -> Result<(), AllocError> {
         self.assignment.order.count_occurrences(literals);

@@ -2,8 +2,8 @@
 //!
 //! The signature cube of a cube is the meet of the primes that contain it, and a place of it is its
 //! own if it lies in no other prime. This is used where the primes are few and the OFF cubes many.
-//! Which primes contain a cube, or meet it, sets of primes tell: one of those that have a literal,
-//! and one of those that have an output.
+//! Which primes contain a cube, or meet it, is read off sets of primes: for each literal the set of
+//! those that have it, and for each output likewise.
 
 use crate::bits::{
     Literals, drop_bits_at, has_bit, has_bits, literal_at, meet_bits, members, narrow_at, put_bit,
@@ -38,7 +38,7 @@ impl Drop for PrimeList {
 }
 
 impl PrimeList {
-    /// These primes. Their sets take as much memory as their literals.
+    /// These primes. The sets take as much memory again as the primes do.
     pub(crate) fn new(alloc: Global, rows: Rows) -> Result<PrimeList, AllocError> {
         let mut literals = Occurrences::new(alloc);
         literals.take(rows.literals(), words_for(rows.inputs()))?;
@@ -101,7 +101,7 @@ impl PrimeList {
     }
 
     // The primes that contain the cube.
-    fn containing(&self, alloc: Global, cube: &Cube) -> Result<Vec<u64>, AllocError> {
+    fn primes_containing(&self, alloc: Global, cube: &Cube) -> Result<Vec<u64>, AllocError> {
         let mut set = self.literals.whole().to_vec(alloc)?;
         self.drop_without(&mut set, &cube.outputs);
         self.drop_apart(&mut set, &cube.literals);
@@ -109,7 +109,7 @@ impl PrimeList {
         Ok(set)
     }
 
-    // The primes with the output that meet the place or cube, and do not contain the other cube.
+    // The primes with the output that meet the literals `met`, and do not contain the cube.
     fn others(
         &self,
         alloc: Global,
@@ -120,7 +120,7 @@ impl PrimeList {
         let mut set = self.with_output(output).to_vec(alloc)?;
         self.drop_apart(&mut set, met);
         if has_bits(&set) {
-            drop_bits_at(&mut set, 0, &self.containing(alloc, cube)?);
+            drop_bits_at(&mut set, 0, &self.primes_containing(alloc, cube)?);
         }
         Ok(set)
     }
@@ -132,7 +132,7 @@ impl PrimeList {
         function: &Function,
         cube: &Cube,
     ) -> Result<Option<Cube>, AllocError> {
-        let containing = members(alloc, &self.containing(alloc, cube)?)?;
+        let containing = members(alloc, &self.primes_containing(alloc, cube)?)?;
         if containing.is_empty() {
             return Ok(None);
         }

@@ -93,7 +93,7 @@ fn rise_with_literals_at_same_inputs(shape: Shape, rows: &[Cube]) -> bool {
     true
 }
 
-// Whether some row lies in an earlier one. The rows are in row order.
+// Whether some row lies in an earlier one. The rows are in row order, each once.
 fn has_absorbed_by_earlier(rows: &[Cube]) -> bool
     requires { HaveOneSize rows.now }
 {

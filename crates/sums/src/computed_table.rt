@@ -4,6 +4,10 @@
 //! are often equal. So the two lists of a step are kept with their sum, in a slot that their hash
 //! picks, the newer in place of the older. Packages for decision diagrams keep such a computed
 //! table (Brace, Rudell and Bryant, Efficient Implementation of a BDD Package, 1990).
+//!
+//! There are two generations. If the sums take too many words they are put aside, and those that
+//! were aside are forgotten; one that is asked for again comes back. So sums in use stay, and both
+//! generations together take at most about a quarter of a gigabyte.
 ghost use Rattle.std.specs.Prelude.{◌≡◌, IsTrue, IfOk, IfSome};
 ghost use Rattle.cube.specs.Cube.{difference as difference_of};
 ghost use Rattle.cube.specs.Sum.{complete_sum as complete_sum_of};
@@ -146,7 +150,7 @@ impl ComputedTable {
     }
 
     /// Keeps a copy of a sum with its lists, in place of what is in the slot of their hash, unless
-    /// they take more than `WORDS` words together. Other sums may be forgotten for it.
+    /// they take more than a quarter of the words: they would drive out the others.
     pub(crate) fn keep(
         &mut self,
         alloc: Global,
@@ -160,7 +164,7 @@ impl ComputedTable {
             ≡ complete_sum_of shape
             (difference_of (places minuend.items) (places subtrahend.items)) }
     {
-        if sum.len().saturating_mul(words_of_row(shape)) > WORDS {
+        if sum.len().saturating_mul(words_of_row(shape)) > WORDS / 4 {
             return Ok(());
         }
         let sum = clone_cubes(alloc, sum)?;
@@ -171,7 +175,7 @@ impl ComputedTable {
             subtrahend,
             sum,
         };
-        if known.words() > WORDS {
+        if known.words() > WORDS / 4 {
             return Ok(());
         }
         self.make_room(alloc, known.words())?;

@@ -85,7 +85,7 @@ fn without_literal(
 }
 
 /// Gives the cube an output, if it then is an implicant. `reached` has the outputs that rows reach
-/// in a part of the cube: most others are refused by it, without a look at the rows.
+/// in a part of the cube, by which most outputs are refused without a look at the rows.
 fn with_output(
     alloc: Global,
     side: Side,

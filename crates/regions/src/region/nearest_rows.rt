@@ -196,7 +196,7 @@ impl<'a> Drop for Columns<'a> {
 }
 
 impl RowBits {
-    /// The bits of these rows.
+    /// The bits of these rows: bit k of each set is that of `rows[k]`.
     pub(crate) fn of(alloc: Global, shape: Shape, rows: &[&Cube]) -> Result<RowBits, AllocError> {
         let words = rows.len() / 64 + 1;
         let outputs = shape.inputs().saturating_mul(2);

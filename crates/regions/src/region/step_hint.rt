@@ -54,12 +54,25 @@ fn heaviest_literal_of_word(w: usize, counts: &[u32; 64]) -> ((usize, Symbol), u
     (best, most)
 }
 
+// Whether one of the rows has an open literal at an input of word `w`.
+fn have_open(rows: &[&Cube], region: &Cube, w: usize) -> bool {
+    for row in rows {
+        if open_bits(row, region, w) != 0 {
+            return true;
+        }
+    }
+    false
+}
+
 // The input at which most of the nearest rows have an open literal, and the literal to ask first. A
-// sample of all rows tells between inputs that are even; it is input 0 if no literal is open.
+// sample of all rows tells between inputs that are even; it is input 0 if the nearest have none.
 fn split_literal(shape: Shape, near: &[&Cube], rows: &[&Cube], region: &Cube) -> (usize, Symbol) {
     let mut best = (0usize, Symbol::Zero);
     let mut most = 0u64;
     for w in 0..shape.inputs() / 32 + 1 {
+        if !have_open(near, region, w) {
+            continue;
+        }
         let mut counts = [0u32; 64];
         count_open_of_nearest(near, region, w, &mut counts);
         count_open_of_sample(rows, region, w, &mut counts);
@@ -81,8 +94,9 @@ pub(crate) enum Hint {
     Split(usize, Symbol),
 }
 
-// A row without open literals, or a split at the open literal of a unit, whichever comes first;
-// `None` if there is neither. The half that the unit holds is asked for first.
+// A row without open literals, or a split at the open literal of a unit with all outputs of the
+// region, whichever comes first; `None` if there is neither. The half that the unit holds is asked
+// for first.
 fn closed_row_or_unit(shape: Shape, near: &[&Cube], region: &Cube) -> Option<Hint> {
     for (k, row) in near.iter().enumerate() {
         let inputs = row.literals_beyond(region);

@@ -1,10 +1,10 @@
-use Rattle.std.proofs.Common.{◌≡◌, ◌∙◌, map, refl, sym, ap, subst}
+use Rattle.std.proofs.Common.{◌≡◌, true, ◌∙◌, map, refl, sym, ap, subst}
 use Rattle.std.specs.Prelude.{filter}
 use Rattle.std.specs.List.{list_all}
 use Rattle.covering.specs.Table.{Table, IsTable, items_of, table_of}
 use Rattle.covering.specs.Cover.{counted}
 use Rattle.covering.specs.Search.{marked, keep_columns}
-use Rattle.covering.specs.Reduce.{LeavesNoDominatedColumn, IsTranspose, HasNoDominatedColumn, Shrinks, prefers}
+use Rattle.covering.specs.Reduce.{AreDominatedByKept, LeavesNoDominatedColumn, IsTranspose, HasNoDominatedColumn, Shrinks, prefers}
 use Rattle.covering.proofs.Made.{table_same}
 use Rattle.covering.proofs.Reduced.{filter_length_all, filter_not_full, none_dominated, column_dominance_shrinks}
 use Rattle.covering.proofs.WeakDominance.{undominated_table}
@@ -15,10 +15,15 @@ use Rattle.covering.proofs.table.Table.drop_dominated_columns.Goals.{In_ok-keep}
 abbrev own : (c : In_ok-keep) → Table
 own c = let t = c.self.inside in table_of t.columns t.taken.items t.live.items (items_of t.rows.items) t.literals.items
 
-marks : (c : In_ok-keep) → LeavesNoDominatedColumn (prefers (counted c.args.choice (own c).weights)) (own c).live (items_of c.args.transpose.now) c.in_ok-keep.keep.items
+marks : (c : In_ok-keep) → AreDominatedByKept (prefers (counted c.args.choice (own c).weights)) (own c).live (items_of c.args.transpose.now) c.in_ok-keep.keep.items
 marks c =
+    subst (λ ls. AreDominatedByKept (prefers (counted c.args.choice (own c).weights)) ls (items_of c.args.transpose.now) c.in_ok-keep.keep.items) c.deref-2.ensures.value
+    (subst (λ ws. AreDominatedByKept (prefers (counted c.args.choice ws)) c.deref-2.result.now (items_of c.args.transpose.now) c.in_ok-keep.keep.items) c.deref.ensures.value c.in_ok-keep.ensures.dominated)
+
+all_marks : (c : In_ok-keep) → c.args.is_complete ≡ true → LeavesNoDominatedColumn (prefers (counted c.args.choice (own c).weights)) (own c).live (items_of c.args.transpose.now) c.in_ok-keep.keep.items
+all_marks c h =
     subst (λ ls. LeavesNoDominatedColumn (prefers (counted c.args.choice (own c).weights)) ls (items_of c.args.transpose.now) c.in_ok-keep.keep.items) c.deref-2.ensures.value
-    (subst (λ ws. LeavesNoDominatedColumn (prefers (counted c.args.choice ws)) c.deref-2.result.now (items_of c.args.transpose.now) c.in_ok-keep.keep.items) c.deref.ensures.value c.in_ok-keep.ensures)
+    (subst (λ ws. LeavesNoDominatedColumn (prefers (counted c.args.choice ws)) c.deref-2.result.now (items_of c.args.transpose.now) c.in_ok-keep.keep.items) c.deref.ensures.value (c.in_ok-keep.ensures.complete h))
 
 rows : (c : In_ok-keep) → IsTranspose (own c).columns (own c).rows (items_of c.args.transpose.now)
 rows c = subst (λ (t : Table). IsTranspose t.columns t.rows (items_of c.args.transpose.now)) (sym c.self.view_is) c.requires.transpose
@@ -28,7 +33,7 @@ returns-then-all_kept c =
     let p = (goal.at.returns-then-all_kept c).In_ok-keep in
     let keep = c.in_ok-keep.keep.items in
     let all : list_all (marked keep) (own p).live ≡ _ = sym (c.all_kept.ensures ∙ ap (λ ks. list_all (marked ks) c.deref-4.result.now) c.deref-5.ensures.value ∙ ap (list_all (marked keep)) c.deref-4.ensures.value) ∙ c.if-all_kept.true in
-    (refl, subst (HasNoDominatedColumn c.args.choice) c.self.view_is (none_dominated c.args.choice (own p) (items_of c.args.transpose.now) keep c.self.invariant (rows p) (marks p) (filter_length_all (marked keep) (own p).live all)))
+    (refl, λ h. subst (HasNoDominatedColumn c.args.choice) c.self.view_is (none_dominated c.args.choice (own p) (items_of c.args.transpose.now) keep c.self.invariant (rows p) (all_marks p h) (filter_length_all (marked keep) (own p).live all)))
 
 pub invariant_of-self : goal.invariant_of-self
 invariant_of-self c =

@@ -6,7 +6,7 @@ use Rattle.covering.specs.declared.column_dominance.Preference.TheVariants.{NoDe
 use Rattle.covering.specs.Table.{Table, IsTable, items_of, table_of}
 use Rattle.covering.specs.Cover.{counted}
 use Rattle.covering.specs.Search.{marked, keep_columns, IsServed, IsWeakStep}
-use Rattle.covering.specs.Reduce.{LeavesNoDominatedColumn, IsTranspose, is_preferred}
+use Rattle.covering.specs.Reduce.{AreDominatedByKept, IsTranspose, is_preferred}
 use Rattle.covering.proofs.Made.{table_same}
 use Rattle.covering.proofs.Sets.{filter_length}
 use Rattle.covering.proofs.Reduced.{filter_not_full}
@@ -18,10 +18,10 @@ use Rattle.covering.proofs.table.Table.drop_weakly_dominated_columns.Goals.{In_o
 abbrev own : (c : In_ok-keep) → Table
 own c = let t = c.self.inside in table_of t.columns t.taken.items t.live.items (items_of t.rows.items) t.literals.items
 
-marks : (c : In_ok-keep) → LeavesNoDominatedColumn (is_preferred NoDearer (counted c.args.choice (own c).weights)) (own c).live (items_of c.args.transpose.now) c.in_ok-keep.keep.items
+marks : (c : In_ok-keep) → AreDominatedByKept (is_preferred NoDearer (counted c.args.choice (own c).weights)) (own c).live (items_of c.args.transpose.now) c.in_ok-keep.keep.items
 marks c =
-    subst (λ ls. LeavesNoDominatedColumn (is_preferred NoDearer (counted c.args.choice (own c).weights)) ls (items_of c.args.transpose.now) c.in_ok-keep.keep.items) c.deref-2.ensures.value
-    (subst (λ ws. LeavesNoDominatedColumn (is_preferred NoDearer (counted c.args.choice ws)) c.deref-2.result.now (items_of c.args.transpose.now) c.in_ok-keep.keep.items) c.deref.ensures.value c.in_ok-keep.ensures)
+    subst (λ ls. AreDominatedByKept (is_preferred NoDearer (counted c.args.choice (own c).weights)) ls (items_of c.args.transpose.now) c.in_ok-keep.keep.items) c.deref-2.ensures.value
+    (subst (λ ws. AreDominatedByKept (is_preferred NoDearer (counted c.args.choice ws)) c.deref-2.result.now (items_of c.args.transpose.now) c.in_ok-keep.keep.items) c.deref.ensures.value c.in_ok-keep.ensures.dominated)
 
 rows : (c : In_ok-keep) → IsTranspose (own c).columns (own c).rows (items_of c.args.transpose.now)
 rows c = subst (λ (t : Table). IsTranspose t.columns t.rows (items_of c.args.transpose.now)) (sym c.self.view_is) c.requires.transpose

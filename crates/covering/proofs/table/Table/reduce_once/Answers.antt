@@ -29,4 +29,4 @@ returns c =
     let none = rw c.if-branch.false at c.in_ok-take_essential_columns.ensures.taken c.args.choice in
     let same = rw c.if-branch-2.false at c.in_ok-drop_dominating_rows.ensures c.args.choice in
     let rows = subst (λ (t : Table). HasNoDominatingRow t.rows) none.0 same.1 in
-    IfOk-weaker c.drop_dominated_columns.result _ _ (λ b h. reduced_once_from c.args.choice c.args.self.now c.drop_dominating_rows.new.self c.drop_dominated_columns.new.self b (same.0 ∙ none.0) none.1 rows h) c.drop_dominated_columns.ensures
+    IfOk-weaker c.drop_dominated_columns.result _ _ (λ b h. reduced_once_from c.args.choice c.args.self.now c.drop_dominating_rows.new.self c.drop_dominated_columns.new.self c.args.is_complete b (same.0 ∙ none.0) none.1 rows h) c.drop_dominated_columns.ensures

@@ -1,6 +1,6 @@
 use Rattle.std.proofs.Common.{◌+◌, length}
 use Rattle.covering.specs.Steps.{Steps}
-use Rattle.covering.proofs.reduction.reduce.Given as goal
+use Rattle.covering.proofs.reduction.reduce_by.Given as goal
 
 abbrev pub invariant-loop-table : goal.invariant-loop-table
 invariant-loop-table l = Steps l.choice l.fn.table l.table

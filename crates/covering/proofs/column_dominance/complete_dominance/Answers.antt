@@ -7,8 +7,8 @@ use Rattle.covering.specs.Search.{marked}
 use Rattle.covering.specs.Reduce.{ColumnDominanceSoFar, dominates, is_preferred}
 use Rattle.covering.proofs.Branches.{all_marked_at}
 use Rattle.covering.proofs.Dominance.{preferred_on, keep_start, keep_hit, keep_miss, keep_done}
-use Rattle.covering.proofs.column_dominance.column_dominance.Goals as goal
-use Rattle.covering.proofs.column_dominance.column_dominance.Goals.{then-is_dominated, else-is_dominated}
+use Rattle.covering.proofs.column_dominance.complete_dominance.Goals as goal
+use Rattle.covering.proofs.column_dominance.complete_dominance.Goals.{then-is_dominated, else-is_dominated}
 
 pub loop-column-init : goal.loop-column-init
 loop-column-init c = keep_start (is_preferred c.args.preference (counted c.args.choice c.args.literals.now)) c.args.live.now (items_of c.args.transpose.now) c.in_ok-keep.keep.items

@@ -3,7 +3,7 @@ use Rattle.covering.specs.Table.{IsTable}
 use Rattle.covering.specs.Steps.{SameLeast, done}
 use Rattle.covering.proofs.Keeps.{steps_keep}
 use Rattle.covering.proofs.Reduced.{steps_join}
-use Rattle.covering.proofs.reduction.reduce.Goals as goal
+use Rattle.covering.proofs.reduction.reduce_by.Goals as goal
 
 pub loop-table-init : goal.loop-table-init
 loop-table-init c = done c.args.table
