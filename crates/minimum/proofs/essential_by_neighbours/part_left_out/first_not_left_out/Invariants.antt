@@ -1,7 +1,7 @@
 use Rattle.std.proofs.Common.{take}
 use Rattle.cube.specs.Cube.{SameSize, IsSubset, IsDisjoint, holds}
 use Rattle.cover.specs.Places.{places}
-use Rattle.minimum.proofs.essential_by_neighbours.part_left_out.are_seen_to_leave_out.Given as goal
+use Rattle.minimum.proofs.essential_by_neighbours.part_left_out.first_not_left_out.Given as goal
 
 abbrev pub invariant-loop-row : goal.invariant-loop-row
 invariant-loop-row l = record {
