@@ -68,7 +68,7 @@ pub(crate) fn has_bits(signatures: &[u64], column: usize, signature: u64) -> boo
 
 /// Which columns may replace another one.
 #[derive(Clone, Copy)]
-enum Preference {
+pub(crate) enum Preference {
     /// Those that cost less, or as much and have a smaller number.
     Earlier,
     /// Those that cost no more.
@@ -213,7 +213,7 @@ fn dominance_by_kept(
         (is_preferred preference (counted choice literals.now)) live.now (items_of transpose.now)
         v.items) }
 {
-    let order = by_falling_rows(alloc, choice, literals, live, transpose)?;
+    let order = by_falling_rows(alloc, preference, choice, literals, live, transpose)?;
     let mut kept = KeptColumns::new(alloc, rows.len())?;
     let mut keep = marks_of(alloc, live, transpose.len())?;
     for column in &order {
