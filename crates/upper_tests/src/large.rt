@@ -217,10 +217,10 @@ fn a_table_of_many_rows_is_solved(rt: HostRuntime) -> Result<(), Fail> {
 /// A ring of six columns from number `ring` on, each row two of these, and so many more columns for
 /// each row, which are in that row alone: from number 6 on if the ring comes first, else from 0 on.
 fn ring_beside(alloc: Global, ring: usize, more: usize) -> Result<Option<Table>, AllocError> {
-    let first = if ring == 0 { 6 } else { 0 };
+    let first: usize = if ring == 0 { 6 } else { 0 };
     let mut rows: Vec<Vec<usize>> = Vec::new(alloc);
     for (k, pair) in RING_ROWS.iter().enumerate() {
-        let mut row = Vec::new(alloc);
+        let mut row: Vec<usize> = Vec::new(alloc);
         for column in pair {
             row.push(ring.wrapping_add(*column))?;
         }
@@ -237,14 +237,17 @@ fn ring_beside(alloc: Global, ring: usize, more: usize) -> Result<Option<Table>,
 
 const RING_ROWS: [[usize; 2]; 6] = [[0, 3], [0, 4], [1, 2], [1, 5], [2, 3], [4, 5]];
 
+/// Where the ring begins, and the least cover.
+const RINGS_BESIDE: [(usize, [usize; 3]); 2] = [(0, [0, 2, 5]), (6000, [6000, 6002, 6005])];
+
 #[test]
 fn tables_of_many_columns_are_solved(rt: HostRuntime) -> Result<(), Fail> {
-    for (ring, least) in [(0, [0, 2, 5]), (6000, [6000, 6002, 6005])] {
-        let made = ring_beside(rt.alloc(), ring, 1000)?.ok_or("rows")?;
+    for (ring, least) in &RINGS_BESIDE {
+        let made = ring_beside(rt.alloc(), *ring, 1000)?.ok_or("rows")?;
         assert!(rt; made.columns() == 6006 && made.row_count() == 6);
         assert!(rt; short_cover(&made, &[])?.len() == 3);
-        assert!(rt; search_answers(&made, Choice::First, &least)?);
-        assert!(rt; least_is(&made, Choice::Literals, &least)?);
+        assert!(rt; search_answers(&made, Choice::First, least.as_slice())?);
+        assert!(rt; least_is(&made, Choice::Literals, least.as_slice())?);
     }
     Ok(())
 }
