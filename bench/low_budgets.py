@@ -84,7 +84,7 @@ SHORT_LISTS = [
     ("sums/absorb", "MANY: usize = 32", "MANY: usize = 2"),
     ("sums/dependent_outputs", "FEW: usize = 64", "FEW: usize = 2"),
     ("sums/containing", "MANY: u32 = 6", "MANY: u32 = 3"),
-    ("sums/computed_table", "WORDS: usize = 1 << 24", "WORDS: usize = 1 << 9"),
+    ("sums/computed_table", "WORDS: usize = 1 << 24", "WORDS: usize = 1 << 11"),
     ("sums/computed_table", "FIRST_SLOTS: usize = 1024", "FIRST_SLOTS: usize = 4"),
     ("sums/computed_table", "const SLOTS: usize = 1 << 17", "const SLOTS: usize = 16"),
     ("minimum/prime_table/halving_input", "FEW: usize = 16", "FEW: usize = 1"),
