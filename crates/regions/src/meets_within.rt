@@ -17,27 +17,6 @@ use std::alloc::{AllocError, Global};
 // Lists of at most this many rows are not halved.
 const FEW: usize = 16;
 
-// Whether the others hold each meet of a row with a cube of the mask.
-fn are_meets_held(
-    alloc: Global,
-    shape: Shape,
-    rows: &[Cube],
-    mask: &[Cube],
-    others: &[&Cube],
-) -> Result<bool, AllocError>
-    requires rows { AreCubes shape rows.now }
-    requires mask { AreCubes shape mask.now }
-    requires others { All (λ d. HasSize d.now shape) others.now }
-    ensures { IfOk result
-        (λ held. IsTrue held ↔ IsSubset (intersection (places rows.now) (places mask.now))
-        (places (behind others.now))) }
-{
-    let meets = meets_by_pairs(alloc, rows, mask)?;
-    let met = references_to_cubes(alloc, &meets)?;
-    let depth = shape.inputs();
-    are_related(alloc, shape, Relation::Contained, depth, &met, others)
-}
-
 /// Whether the others hold each meet of a row with a cube of the mask; `true` if there is none.
 /// Many rows are asked for half by half.
 pub fn are_meets_held_by_halves(
@@ -55,7 +34,10 @@ pub fn are_meets_held_by_halves(
         (places (behind others.now))) }
 {
     if rows.len() <= FEW {
-        return are_meets_held(alloc, shape, rows, mask, others);
+        let meets = meets_by_pairs(alloc, rows, mask)?;
+        let met = references_to_cubes(alloc, &meets)?;
+        let depth = shape.inputs();
+        return are_related(alloc, shape, Relation::Contained, depth, &met, others);
     }
     if are_disjoint(alloc, shape, rows, mask)? {
         return Ok(true);

@@ -45,25 +45,6 @@ fn are_disjoint_by_pairs(rows: &[&Cube], others: &[&Cube]) -> bool
     true
 }
 
-// Whether the places of the rows have the relation to those of the others, row by row.
-fn are_related_without_splits(
-    alloc: Global,
-    shape: Shape,
-    relation: Relation,
-    rows: &[&Cube],
-    others: &[&Cube],
-) -> Result<bool, AllocError>
-    requires rows { All (λ d. HasSize d.now shape) rows.now }
-    requires others { All (λ d. HasSize d.now shape) others.now }
-    ensures { IfOk result
-        (λ held. IsTrue held ↔ AreRelated relation (behind rows.now) (behind others.now)) }
-{
-    match relation {
-        Relation::Contained => are_held_one_by_one(alloc, shape, rows, others),
-        Relation::Disjoint => Ok(are_disjoint_by_pairs(rows, others)),
-    }
-}
-
 // How many pairs of a row of each list have opposite literals at input `i`.
 fn count_opposite_pairs(rows: &LiteralCounts, others: &LiteralCounts, i: usize) -> u64
     requires { All (λ n. i < n)
@@ -122,18 +103,24 @@ fn most_opposite_input(
 }
 
 // The input to split at: that at which most pairs of a row of each list have opposite literals, by
-// a sample of the rows, if a split there pays.
+// a sample of the rows. `None` if no split there pays, a list has few rows, or `depth`, the number
+// of inputs that may be split at, is 0.
 fn split_input_of_pairs(
     alloc: Global,
     shape: Shape,
     relation: Relation,
+    depth: usize,
     rows: &[&Cube],
     others: &[&Cube],
 ) -> Result<Option<usize>, AllocError>
     requires rows { All (λ d. HasSize d.now shape) rows.now }
     requires others { All (λ d. HasSize d.now shape) others.now }
-    ensures { IfOk result (λ found. IfSome found (λ i. i < shape.inputs)) }
+    ensures input { IfOk result (λ found. IfSome found (λ i. i < shape.inputs)) }
+    ensures depth { IfOk result (λ found. IfSome found (λ _. 1 ≤ depth)) }
 {
+    if depth == 0 || rows.len() <= SMALL || others.len() <= SMALL {
+        return Ok(None);
+    }
     let mine = LiteralCounts::of_sample(alloc, shape, rows)?;
     let theirs = LiteralCounts::of_sample(alloc, shape, others)?;
     let least = least_opposite_pairs(relation, rows.len(), others.len());
@@ -156,11 +143,11 @@ pub fn are_related(
     ensures { IfOk result
         (λ held. IsTrue held ↔ AreRelated relation (behind rows.now) (behind others.now)) }
 {
-    if depth == 0 || rows.len() <= SMALL || others.len() <= SMALL {
-        return are_related_without_splits(alloc, shape, relation, rows, others);
-    }
-    let Some(i) = split_input_of_pairs(alloc, shape, relation, rows, others)? else {
-        return are_related_without_splits(alloc, shape, relation, rows, others);
+    let Some(i) = split_input_of_pairs(alloc, shape, relation, depth, rows, others)? else {
+        return match relation {
+            Relation::Contained => are_held_one_by_one(alloc, shape, rows, others),
+            Relation::Disjoint => Ok(are_disjoint_by_pairs(rows, others)),
+        };
     };
     let rest = depth - 1;
     if !are_related_at(

@@ -491,61 +491,13 @@ pub(crate) fn holds_by_splits(
     }
 }
 
-// What splits show of the region that look at no more rows than `learned` lets them, with those
-// that one more question adds; `Nothing` if these are spent. The rows looked at are taken from
-// them.
-fn shown_by_limited_splits(
-    alloc: Global,
-    rows: &[&Cube],
-    near: &[&Cube],
-    bound: u32,
-    region: &Cube,
-    learned: &mut Learned,
-) -> Result<Shown, AllocError>
-    requires { AreRowsWithNear region.now rows.now near.now }
-    ensures known { learned.new.known ≡ learned.old.known }
-    ensures shown { IfOk result (Shows region.now rows.now) }
-{
-    learned.raise_rows_left(rows);
-    let mut splits = Splits::limited_to(alloc, learned.rows_left);
-    let shown = splits.show(rows, near, bound, region);
-    learned.rows_left = splits.rows_left;
-    shown
-}
-
-// What splits show of the region, or once they have spent the rows that `learned` lets them look
-// at, a search, and last splits without limit. They show something.
-fn shown_by_splits_or_search(
-    alloc: Global,
-    rows: &[&Cube],
-    near: &[&Cube],
-    bound: u32,
-    region: &Cube,
-    learned: &mut Learned,
-) -> Result<Shown, AllocError>
-    requires rows { AreRowsWithNear region.now rows.now near.now }
-    requires known { AreLearned region.now rows.now learned.old.known.items }
-    ensures known { OnOk result (AreLearned region.now rows.now learned.new.known.items) }
-    ensures shown { IfOk result (Shows region.now rows.now) }
-    ensures some { IfOk result (λ shown. shown ≢ Shown.Nothing) }
-{
-    match shown_by_limited_splits(alloc, rows, near, bound, region, learned)? {
-        Shown::Nothing => (),
-        shown => return Ok(shown),
-    }
-    match shown_by_search(alloc, rows, learned, region)? {
-        Shown::Nothing => Splits::without_limit(alloc).show(rows, near, bound, region),
-        shown => Ok(shown),
-    }
-}
-
 /// A part of the region of which the rows hold no place, or `None` if they hold the region. The
 /// rows `near` are looked at alone while one of them has at most `bound` open literals.
 ///
-/// Most questions are answered by splits. Once the splits of all questions about the rows have
-/// spent the rows that `learned` lets them look at, a search is asked, and what it learns of the
-/// rows is kept. If it finds no answer within its limits, or one that fails the check, splits begin
-/// again without limit.
+/// Most questions are answered by splits. How many rows these may still look at is kept in
+/// `learned`: each question about the rows adds some, and takes those that its splits look at. Once
+/// that is spent, a search is asked, and what it learns of the rows is kept. If it finds no answer
+/// within its limits, or one that fails the check, splits begin again without limit.
 pub(crate) fn part_left_out_by_splits_or_search(
     alloc: Global,
     rows: &[&Cube],
@@ -559,7 +511,21 @@ pub(crate) fn part_left_out_by_splits_or_search(
     ensures known { OnOk result (AreLearned region.now rows.now learned.new.known.items) }
     ensures part { IfOk result (LeavesOut (size_of region.now) (behind rows.now) region.now) }
 {
-    match shown_by_splits_or_search(alloc, rows, near, bound, region, learned)? {
+    learned.raise_rows_left(rows);
+    let mut splits = Splits::limited_to(alloc, learned.rows_left);
+    let shown = splits.show(rows, near, bound, region);
+    learned.rows_left = splits.rows_left;
+    match shown? {
+        Shown::Held => return Ok(None),
+        Shown::LeftOut(part) => return Ok(Some(part)),
+        Shown::Nothing => (),
+    }
+    match shown_by_search(alloc, rows, learned, region)? {
+        Shown::Held => return Ok(None),
+        Shown::LeftOut(part) => return Ok(Some(part)),
+        Shown::Nothing => (),
+    }
+    match Splits::without_limit(alloc).show(rows, near, bound, region)? {
         Shown::Held => Ok(None),
         Shown::LeftOut(part) => Ok(Some(part)),
         Shown::Nothing => unreachable!(),

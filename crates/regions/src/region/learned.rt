@@ -393,24 +393,6 @@ fn shown_by_answer(
     }
 }
 
-// What a search shows of the region, whose only output is this one.
-fn shown_by_search_at(
-    alloc: Global,
-    rows: &[&Cube],
-    learned: &mut Learned,
-    output: usize,
-    region: &Cube,
-) -> Result<Shown, AllocError>
-    requires sizes { All (λ d. SameSize d.now region.now) rows.now }
-    requires known { AreLearned region.now rows.now learned.old.known.items }
-    ensures known { OnOk result (AreLearned region.now rows.now learned.new.known.items) }
-    ensures shown { IfOk result (Shows region.now rows.now) }
-{
-    learned.prepare_search(alloc, rows, output, region.shape())?;
-    let answer = learned.ask_search(alloc, output, region)?;
-    shown_by_answer(alloc, rows, &mut learned.known, output, region, &answer)
-}
-
 // The places of a region with this output, as a cube, if the region has the output.
 fn part_at_output(alloc: Global, region: &Cube, output: usize) -> Result<Option<Cube>, AllocError>
     requires { output < length region.now.outputs }
@@ -431,7 +413,8 @@ fn part_at_output(alloc: Global, region: &Cube, output: usize) -> Result<Option<
 }
 
 /// What searches show of the region, output by output: `Held` if the part at each is shown to be
-/// held, else what is shown at the first output where it is not.
+/// held, else what is shown at the first output where it is not. The searches that were built, and
+/// the implicants that their answers needed, are kept in `learned`.
 pub(crate) fn shown_by_search(
     alloc: Global,
     rows: &[&Cube],
@@ -447,7 +430,9 @@ pub(crate) fn shown_by_search(
         let Some(part) = part_at_output(alloc, region, output)? else {
             continue;
         };
-        match shown_by_search_at(alloc, rows, learned, output, &part)? {
+        learned.prepare_search(alloc, rows, output, part.shape())?;
+        let answer = learned.ask_search(alloc, output, &part)?;
+        match shown_by_answer(alloc, rows, &mut learned.known, output, &part, &answer)? {
             Shown::Held => (),
             Shown::LeftOut(point) => return Ok(Shown::LeftOut(point)),
             Shown::Nothing => return Ok(Shown::Nothing),

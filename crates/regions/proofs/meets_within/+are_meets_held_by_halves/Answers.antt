@@ -1,11 +1,25 @@
-use Rattle.std.proofs.Common.{◌<◌, length, ap, arith}
+use Rattle.std.proofs.Common.{◌≡◌, ◌∙◌, ◌<◌, length, ap, arith}
 use Rattle.std.proofs.lemmas.Result.{IfOk-weaker}
 use Rattle.std.proofs.lemmas.List.{length-take, length-drop}
 use Rattle.std.proofs.lemmas.List.Elements.{All-same, All-take, All-drop}
-use Rattle.cube.specs.Cube.{Cube, IsCube}
+use Rattle.cube.specs.Cube.{Cube, IsCube, intersection}
 use Rattle.rows.specs.Places.{places, behind}
-use Rattle.regions.proofs.MeetsWithin.{IsSubset-apart, IsSubset-front, IsSubset-back}
+use Rattle.rows.proofs.Lists.{HasSize-references_to}
+use Rattle.regions.proofs.MeetsWithin.{IsSubset-meets, IsSubset-apart, IsSubset-front, IsSubset-back}
 use Rattle.regions.proofs.meets_within.+are_meets_held_by_halves.Goals as goal
+
+pub are_related-requires-clause-rows : goal.are_related-requires-clause-rows
+are_related-requires-clause-rows t c =
+    HasSize-references_to c.args.shape c.in_ok-meets.meets.items (c.in_ok-meets.ensures c.args.shape c.requires.rows c.requires.mask).are_cubes c.deref-then-rows-le-FEW.result.now
+    (ap behind c.deref-then-rows-le-FEW.ensures.value ∙ c.in_ok-met.ensures ∙ c.deref.ensures.value)
+
+pub returns-then-rows-le-FEW : goal.returns-then-rows-le-FEW
+returns-then-rows-le-FEW t c =
+    let met : behind c.deref-then-rows-le-FEW.result.now ≡ c.in_ok-meets.meets.items = ap behind c.deref-then-rows-le-FEW.ensures.value ∙ c.in_ok-met.ensures ∙ c.deref.ensures.value in
+    IfOk-weaker c.are_related.result _ _
+    (λ held h. IsSubset-meets (places (behind c.deref-then-rows-le-FEW.result.now)) (intersection (places c.args.rows.now) (places c.args.mask.now)) (places (behind c.args.others.now))
+    (λ p. ap (λ l. places l p) met ∙ (c.in_ok-meets.ensures c.args.shape c.requires.rows c.requires.mask).places p) held h)
+    c.are_related.ensures
 
 pub returns-then-branch : goal.returns-then-branch
 returns-then-branch t c =
