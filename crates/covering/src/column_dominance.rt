@@ -107,7 +107,7 @@ fn is_dominated_by(
         && is_rising_within(entry(transpose, a), entry(transpose, b))
 }
 
-/// Whether one of the columns `among` dominates `a`.
+/// Whether one of the columns `among` that are still kept dominates `a`.
 // Inlined with its callers, so that the preference is known where columns are compared.
 #[inline(always)]
 fn any_dominates(
@@ -152,8 +152,8 @@ pub(crate) fn shortest_row(rows: &[Vec<usize>], among: &[usize]) -> Option<usize
     Some(shortest)
 }
 
-/// Whether a live column dominates `a`. Such a column is in each row of `a`, so that only the
-/// columns of a shortest one are tried.
+/// Whether a live column that is still kept dominates `a`. Such a column is in each row of `a`, so
+/// that only the columns of a shortest one are tried, and all live ones if `a` is in none.
 #[inline(always)]
 fn is_dominated(
     preference: Preference,

@@ -392,7 +392,7 @@ impl Table {
     }
 
     /// How many tables a search looks at before it is begun anew with the linear relaxation: all it
-    /// needs if columns have different costs.
+    /// needs if columns have different costs, or if the table is too large for the relaxation.
     fn quick_tables(&self, choice: Choice, warm_start: &WarmStart) -> u64 {
         match choice {
             Choice::First => {

@@ -41,11 +41,11 @@ pub fn refuse<E: Output>(fault: &LineFault, err: &mut E) -> Status
 ///
 /// The first source is read to its end or its first fault, then the second if there is one, and
 /// their comments and unknown keyword lines go out after each piece; then the sizes of two files
-/// are compared, the command's text is printed, and the output is flushed, once and last. The first
-/// failure ends the run: one line on `err` reports it, whose own failures are ignored, and no later
-/// step is taken. After a write that failed nothing more is written, and after a read that failed
-/// nothing more is read. Beyond the line that ends a description or has a fault, at most a piece is
-/// read.
+/// are compared, and the command's text is printed. The first failure ends these steps. In any case
+/// the output is then flushed, once and last, which is a failure only if nothing failed before. One
+/// line on `err` reports the first failure; its own failures are ignored. After a write that failed
+/// nothing more is written, and after a read that failed nothing more is read. Beyond the line that
+/// ends a description or has a fault, at most a piece is read.
 ///
 /// A second source is there if the command takes two files. The sources have the names of the
 /// line's files, `(stdin)` for none or `-`, and keep them.

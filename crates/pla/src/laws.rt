@@ -17,19 +17,19 @@ pub fn wider_limits()
 /// and describes that shape, names and three lists, each with its cubes in their order. It does so
 /// whatever bytes follow it, and whether their reading ends or fails. The names are such as a file
 /// can give: of the right number, none empty, none with a blank or a line feed, none that begins
-/// with `#`, and in lines that are not too long. The text has at most as many lines as are looked
-/// at ([`cube::limits::LINES`]).
+/// with `#`, and in lines that are not too long. The text is to have at most as many lines as are
+/// looked at ([`cube::limits::LINES`]).
 pub fn read_back()
     ensures { TextsAreReadBack }
 {}
 
-/// The text that echo prints of a file with all three sets, without the comments and unknown lines
-/// that it passes on before, is read again as what it was printed of. A file without a fault
-/// describes something that [`read_back`] speaks of: a shape within the limits, names such as a
-/// file can give, and lists of cubes of the shape, those that are computed too. So the text with
-/// type fdr has no fault, and describes the file's shape and names and the three lists as they were
-/// printed. The text has at most as many lines as are looked at: a file may give more rows than
-/// that in fewer lines.
+/// The text of type fdr that echo prints of a file of any type without a fault is read again as what
+/// it was printed of, if it has at most as many lines as are looked at: a file may give more rows
+/// than that in fewer lines. The comments and unknown lines that echo passes on before the text are
+/// no part of it. A file without a fault describes something that [`read_back`] speaks of: a shape
+/// within the limits, names such as a file can give, and lists of cubes of the shape, those that are
+/// computed too. So the text has no fault, and describes the file's shape and names and the three
+/// lists as they were printed, whatever bytes follow it.
 pub fn echo_read_back()
     ensures readable { FaultlessAreReadable }
     ensures again { EchoesAreReadBack }

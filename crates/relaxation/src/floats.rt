@@ -67,7 +67,8 @@ pub(crate) fn scale(numbers: &mut [f64], factor: f64) -> f64 {
     squares
 }
 
-/// The inner product of the numbers that are left after the last eight.
+/// The inner product, as far as both lists go, one number at a time: for what is left after the
+/// last eight.
 fn short_product(a: &[f64], b: &[f64]) -> f64 {
     let mut sum = 0.0;
     for index in 0..a.len().min(b.len()) {
@@ -88,8 +89,8 @@ pub(crate) fn inner_product(a: &[f64], b: &[f64]) -> f64 {
     sums.reduce_sum() + short_product(my_rest, their_rest)
 }
 
-/// Subtracts `factor` times the other numbers, those that are left after the last eight; answers
-/// the sum of the squares of what is left of the numbers.
+/// Subtracts `factor` times the other numbers, as far as both lists go, one at a time: for what is
+/// left after the last eight; answers the sum of the squares of what is left of the numbers.
 fn short_eliminate(numbers: &mut [f64], others: &[f64], factor: f64) -> f64 {
     let mut squares = 0.0;
     for index in 0..numbers.len().min(others.len()) {

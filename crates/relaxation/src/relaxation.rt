@@ -371,7 +371,8 @@ impl Relaxation {
         self.gains.note(column, branching.value, taken, gain);
     }
 
-    /// The present basis, from which the search branches on the column, first taking it.
+    /// The present basis, from which the search branches on the column, first taking it: the gain that
+    /// is noted next is that of this branch.
     pub fn branch(&mut self, alloc: Global, column: usize) -> Result<BranchBasis, AllocError> {
         let index = number(&self.indices, column);
         let branching = Branching {
@@ -387,7 +388,8 @@ impl Relaxation {
         })
     }
 
-    /// Returns to a basis, from which the search goes on without the column.
+    /// Returns to the basis from which a search branched; the gain that is noted next is that of the
+    /// branch without the column. No column is fixed here: `multipliers` does that by its table.
     pub fn go_back(&mut self, alloc: Global, to: &BranchBasis) -> Result<(), AllocError> {
         self.simplex.go_to(alloc, &to.basic, &to.active)?;
         self.branched = Some((to.branching, false));

@@ -239,7 +239,8 @@ impl Basis {
         Ok(())
     }
 
-    /// Subtracts multiples of the pivot row from the others, as far as they are kept up.
+    /// Subtracts the pivot row, times the entry of `entering`, from each other row of the inverse that
+    /// is kept up, and sets the norms of these rows anew.
     fn eliminate_others(
         &mut self,
         position: usize,

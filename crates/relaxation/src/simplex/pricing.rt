@@ -180,8 +180,9 @@ impl Simplex {
         Ok(largest_pivot(&self.candidates, least_step(&self.candidates)))
     }
 
-    /// Fills in weights that show that no values are within the bounds: far along the row of the
-    /// inverse, past the cutoff.
+    /// Fills in the ray, where no variable may enter for the one at the position, whose value breaks
+    /// this bound on the side `sign`: the weights of the basis, moved along that row of the inverse
+    /// until their objective is past the cutoff.
     pub(super) fn fill_ray(&mut self, position: usize, sign: f64, bound: f64, cutoff: f64) {
         let excess = (float(&self.basis.values, position) - bound).abs();
         let missing = (cutoff + PAST_CUTOFF - self.basis.objective).max(0.0);
