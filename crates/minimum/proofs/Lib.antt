@@ -28,3 +28,4 @@ pub mod Near
 pub mod Reached
 pub mod AsNeeded
 pub mod LeftOut
+pub mod RowsByOutput

@@ -126,12 +126,11 @@ module _ (c : Cube) (rows near : Cubes) (are : AreNear c rows near) where
     some = λ p in_c h alone. so.some p in_c h (alone_to_near Inside p in_c alone);
   }
 
--- whether a part beside the cube lies on that side of the rows that are asked is whether it lies on that side of all
-pub answer_for_all : (c : Cube) (rows near asked : Cubes) → AreNear c rows near → asked ≡ near → (side : Side) (part : Cube) → ((p : Place) → holds part p ≡ true → IsBeside c p) → (b : Bool)
-    → IsTrue b ↔ IsSubset (holds part) (on_side side asked.cubes) → IsTrue b ↔ IsSubset (holds part) (on_side side rows.cubes)
-answer_for_all c rows near asked are is side part beside b answer =
-    let here = subst (AreNear c rows) (sym is) are in
-    (λ yes. near_to_all c rows asked here side part beside (answer.0 yes), λ sub. answer.1 (all_to_near c rows asked here side part beside sub))
+-- whether a part beside the cube lies on that side of the rows near is whether it lies on that side of all
+pub answer_for_all : (c : Cube) (rows near : Cubes) → AreNear c rows near → (side : Side) (part : Cube) → ((p : Place) → holds part p ≡ true → IsBeside c p) → (b : Bool)
+    → IsTrue b ↔ IsSubset (holds part) (on_side side near.cubes) → IsTrue b ↔ IsSubset (holds part) (on_side side rows.cubes)
+answer_for_all c rows near are side part beside b answer =
+    (λ yes. near_to_all c rows near are side part beside (answer.0 yes), λ sub. answer.1 (all_to_near c rows near are side part beside sub))
 
 -- without a list of their own the near rows are all rows
 pub near_none : (c : Cube) (rows : Cubes) (near : Option Cubes) → is_some near ≡ false → AreNear c rows (near_or rows near)

@@ -8,3 +8,4 @@ pub mod Dominating
 pub mod AsNeeded
 pub mod Neighbours
 pub mod Blocking
+pub mod RowsByOutput

@@ -35,6 +35,7 @@ use crate::as_needed::places_outside::{add_refusals, add_refusals_of_growth, par
 use crate::cubes::are_apart;
 use crate::essential_by_neighbours::find_essential;
 use crate::essential_by_neighbours::reached_outputs::outputs_at;
+use crate::essential_by_neighbours::rows_by_output::RowsByOutput;
 use crate::points::dominating::columns_of_point;
 use crate::points::picked_points::{PickedPoints, push_cube};
 use crate::points::rounds::cover_of_points;
@@ -118,7 +119,7 @@ const MOST_TIMES: usize = 2_000;
 /// left.
 fn primes_of_point(
     alloc: Global,
-    all: &Cover,
+    all: &RowsByOutput,
     points: &[Cube],
     number: usize,
     choice: Choice,
@@ -140,7 +141,7 @@ fn primes_of_point(
         let of_a_column = outside.len().saturating_add(points.len());
         *looks = looks.saturating_sub(columns.len().saturating_mul(of_a_column));
         let row = in_row_order(&columns)?;
-        let refused = parts_left_out(alloc, all, row.as_slice())?;
+        let refused = parts_left_out(alloc, all.list(), row.as_slice())?;
         if refused.is_empty() {
             return Ok(Some(row));
         }
@@ -155,7 +156,7 @@ fn primes_of_point(
 fn add_point_in(
     alloc: Global,
     sets: &Sets,
-    all: &Cover,
+    all: &RowsByOutput,
     essential: &Cover,
     part: &Cube,
     choice: Choice,
@@ -193,7 +194,7 @@ fn add_point_in(
 fn add_points(
     alloc: Global,
     sets: &Sets,
-    all: &Cover,
+    all: &RowsByOutput,
     essential: &Cover,
     parts: &[Cube],
     choice: Choice,
@@ -227,7 +228,7 @@ fn wanted_left_out(alloc: Global, sets: &Sets, list: &Cover) -> Result<Vec<Cube>
 }
 
 /// The cubes of the one list and then those of the other.
-fn joined(one: &Cover, other: &Cover) -> Result<Cover, AllocError>
+fn cubes_of_both(one: &Cover, other: &Cover) -> Result<Cover, AllocError>
     requires { other.now.size ≡ one.now.size }
     ensures { IfOk result (λ both. both ≡ record {
       size = one.now.size;
@@ -257,7 +258,7 @@ fn most_looks(shape: Shape) -> usize
 fn exact_beside(
     alloc: Global,
     sets: &Sets,
-    all: &Cover,
+    all: &RowsByOutput,
     essential: &Cover,
     choice: Choice,
 ) -> Result<Option<Cover>, AllocError>
@@ -278,7 +279,7 @@ fn exact_beside(
     for _ in 0..MOST_ROUNDS {
         let (points, columns) = (&known.found.points, &known.found.columns);
         let chosen = cover_of_points(alloc, points, columns, choice, is_least, &last, &mut effort)?;
-        let cover = joined(essential, &chosen)?;
+        let cover = cubes_of_both(essential, &chosen)?;
         let parts = wanted_left_out(alloc, sets, &cover)?;
         if parts.is_empty() && is_least {
             return Ok(Some(in_row_order(&cover)?));
@@ -307,7 +308,8 @@ pub(crate) fn exact_as_needed(
     ensures { IfOk result (λ o. IfSome o (λ list. list ≡ record
         { size = sets.now.size; cubes = exact_of choice sets.now })) }
 {
-    let all = on_and_dc(sets)?;
+    let list = on_and_dc(sets)?;
+    let all = RowsByOutput::new(alloc, &list)?;
     let essential = find_essential(alloc, sets)?;
     exact_beside(alloc, sets, &all, &essential, choice)
 }

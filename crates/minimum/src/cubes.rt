@@ -1,15 +1,14 @@
-//! Small questions about cubes and symbols, and small steps: a cube of one output, a copy.
+//! Small questions about cubes and symbols, and copies.
 
-ghost use Rattle.std.specs.Prelude.{◌≡◌, ◌<◌, ◌↔◌, ◌++◌, ◌∷◌, [], IsTrue, true, false, IfOk, OnOk, All, replicate, slice_set};
+ghost use Rattle.std.specs.Prelude.{◌≡◌, ◌↔◌, ◌++◌, ◌∷◌, [], IsTrue, true, IfOk, OnOk, All};
 ghost use Rattle.cube.specs.Cube.{HasSize, SameSize, IsDisjoint, holds, size_of};
-ghost use Rattle.cube.specs.Sharp.{opposite as opposite_of};
 ghost use Rattle.cover.specs.Cubes.{AreCubes};
 ghost use Rattle.cover.specs.Places.{places};
 ghost use Rattle.minimum.specs.Neighbours.{LiesInOneOf};
 ghost use Rattle.minimum.specs.Primes.{chosen};
 
 use cover::Cover;
-use cube::{Cube, Shape, Symbol};
+use cube::{Cube, Symbol};
 use std::alloc::{AllocError, Global};
 
 /// Whether the two symbols are equal.
@@ -17,17 +16,6 @@ pub(crate) fn is_same(one: Symbol, other: Symbol) -> bool
     ensures { IsTrue result ↔ one ≡ other }
 {
     one == other
-}
-
-/// The other literal; of a dash, the dash.
-pub(crate) fn opposite(symbol: Symbol) -> Symbol
-    ensures { result ≡ opposite_of symbol }
-{
-    match symbol {
-        Symbol::Dash => Symbol::Dash,
-        Symbol::Zero => Symbol::One,
-        Symbol::One => Symbol::Zero,
-    }
 }
 
 /// Whether no cube has a place of the region.
@@ -54,23 +42,6 @@ pub(crate) fn lies_in_one_of(region: &Cube, cubes: &[Cube]) -> bool
         }
     }
     false
-}
-
-/// The cube of all places with this output.
-pub(crate) fn one_output(alloc: Global, shape: Shape, j: usize) -> Result<Cube, AllocError>
-    requires { j < shape.outputs }
-    ensures { IfOk result (λ c. c ≡ record {
-      symbols = replicate shape.inputs Symbol.Dash;
-      outputs = slice_set (replicate shape.outputs false) j true;
-    }) }
-{
-    let symbols = vec![in alloc; Symbol::Dash; shape.inputs()]?;
-    let mut outputs = vec![in alloc; false; shape.outputs()]?;
-    outputs[j] = true;
-    match Cube::from_symbols(alloc, shape, &symbols, &outputs)? {
-        Some(cube) => Ok(cube),
-        None => unreachable!(),
-    }
 }
 
 /// Adds a copy of the cube at the end of the list.

@@ -34,6 +34,7 @@ mod needed_literals;
 pub(crate) mod neighbours;
 mod part_left_out;
 pub(crate) mod reached_outputs;
+pub(crate) mod rows_by_output;
 mod sampled;
 
 use crate::essential_by_neighbours::grown_primes::GrownPrimes;
@@ -41,33 +42,29 @@ use crate::essential_by_neighbours::growth::{Growth, Side, grow};
 use crate::essential_by_neighbours::holding::hold_cube;
 use crate::essential_by_neighbours::near_rows::rows_to_ask;
 use crate::essential_by_neighbours::neighbours::neighbours;
+use crate::essential_by_neighbours::rows_by_output::RowsByOutput;
 pub use crate::essential_by_neighbours::sampled::find_essential_outside;
 use crate::prime_implicants::on_and_dc;
 use cover::{Cover, in_row_order};
 use cube::Cube;
 use pla::Sets;
+use rows::references_to_cubes;
 use std::alloc::{AllocError, Global};
 
 /// Whether the neighbours of the prime and the DC-set leave out a place of it: such a place is
 /// wanted, as the prime lies in the ON-set with the DC-set.
-fn is_essential(
-    alloc: Global,
-    sets: &Sets,
-    rows: &Cover,
-    near: &Cover,
-    prime: &Cube,
-) -> Result<bool, AllocError>
-    requires rows { rows.now ≡ record { size = sets.now.size; cubes = sets.now.on ++ sets.now.dc } }
-    requires near { AreNear prime.now rows.now near.now }
-    requires prime { IsMaximal sets.now.size (places rows.now.cubes) prime.now }
+fn is_essential(alloc: Global, sets: &Sets, near: &Cover, prime: &Cube) -> Result<bool, AllocError>
+    requires near { AreNear prime.now
+        (record { size = sets.now.size; cubes = sets.now.on ++ sets.now.dc }) near.now }
+    requires prime { IsMaximal sets.now.size (places (sets.now.on ++ sets.now.dc)) prime.now }
     ensures { IfOk result (λ b. b ≡ has_own sets.now.size (care_on sets.now)
-        (complete_sum sets.now.size (places rows.now.cubes)) prime.now) }
+        (complete_sum sets.now.size (places (sets.now.on ++ sets.now.dc))) prime.now) }
 {
     let mut rest = sets.dc().try_clone()?.into_cubes();
     let mut beside = neighbours(alloc, near, prime)?;
     rest.append(&mut beside)?;
-    let held = hold_cube(&Cover::from_cubes(rows.shape(), rest), prime)?;
-    Ok(!held)
+    let asked = references_to_cubes(alloc, &rest)?;
+    Ok(!hold_cube(alloc, &asked, prime)?)
 }
 
 /// Adds the prime that the ON cube grows to, and whether it is essential, unless one in `found`
@@ -75,7 +72,7 @@ fn is_essential(
 fn add_essential(
     alloc: Global,
     sets: &Sets,
-    rows: &Cover,
+    rows: &RowsByOutput,
     cube: &Cube,
     found: &mut GrownPrimes,
 ) -> Result<(), AllocError>
@@ -90,7 +87,7 @@ fn add_essential(
         return Ok(());
     }
     let Growth { cube: prime, near } = grow(alloc, Side::Inside, rows, cube)?;
-    let is_essential = is_essential(alloc, sets, rows, rows_to_ask(rows, &near), &prime)?;
+    let is_essential = is_essential(alloc, sets, rows_to_ask(&*rows, &near), &prime)?;
     found.add(prime, is_essential)
 }
 
@@ -103,10 +100,11 @@ pub fn find_essential(alloc: Global, sets: &Sets) -> Result<Cover, AllocError>
     ensures { IfOk result (λ list. list ≡ record
         { size = sets.now.size; cubes = essential_of sets.now (primes_of sets.now) }) }
 {
-    let rows = on_and_dc(sets)?;
+    let list = on_and_dc(sets)?;
+    let rows = RowsByOutput::new(alloc, &list)?;
     let mut found = GrownPrimes::new(alloc);
     for cube in sets.on().as_slice() {
         add_essential(alloc, sets, &rows, cube, &mut found)?;
     }
-    in_row_order(&Cover::from_cubes(rows.shape(), found.essential))
+    in_row_order(&Cover::from_cubes(list.shape(), found.essential))
 }

@@ -18,13 +18,13 @@ mod halving_input;
 mod known_rows;
 mod split_rows;
 
-use crate::cubes::one_output;
 use crate::prime_table::known_rows::KnownRows;
 use crate::prime_table::split_rows::{Candidates, Lists};
 use cover::Cover;
 use covering::{Table, numbers};
 use cube::{Cube, Shape};
 use pla::Sets;
+use rows::cube_of_output;
 use std::alloc::{AllocError, Global};
 use std::mem::replace;
 
@@ -66,7 +66,7 @@ fn rows_of(alloc: Global, lists: &Lists, shape: Shape) -> Result<Vec<Vec<usize>>
     };
     let mut known = KnownRows::new(alloc, lists.primes.len())?;
     for j in 0..shape.outputs() {
-        let region = one_output(alloc, shape, j)?;
+        let region = cube_of_output(alloc, shape, j)?;
         lists.add_rows_by_halves(alloc, &candidates, &region, &mut known)?;
     }
     Ok(replace(&mut known.rows, Vec::new(alloc)))

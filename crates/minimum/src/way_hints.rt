@@ -47,8 +47,9 @@ pub(crate) fn uses_outside(sets: &Sets) -> bool {
 // With more rows of the ON list than this, picking points by all primes takes minutes.
 const MOST_ROWS_FOR_POINTS: usize = 50_000;
 
-/// Whether to pick points where all primes are listed: with fewer inputs, or with very many rows, the
-/// rows from regions are made sooner, as points are picked by a look at all primes for each ON cube.
+/// Whether to pick points by the list of all primes: with more than 20 inputs, unless ON rows are very
+/// many. Else the rows of the table are made from regions, which then takes less time than a look at
+/// all primes for each ON cube.
 pub(crate) fn uses_points_of_primes(sets: &Sets) -> bool {
     sets.on().shape().inputs() > 20 && sets.on().len() <= MOST_ROWS_FOR_POINTS
 }

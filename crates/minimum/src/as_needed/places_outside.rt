@@ -11,6 +11,7 @@ ghost use Rattle.minimum.specs.AsNeeded.{AreOutside};
 
 use crate::cubes::{add_copy, are_apart};
 use crate::essential_by_neighbours::growth::{Growth, Side, grow};
+use crate::essential_by_neighbours::rows_by_output::RowsByOutput;
 use cover::Cover;
 use cube::{Cube, Symbol};
 use std::alloc::{AllocError, Global};
@@ -41,7 +42,12 @@ pub(crate) fn parts_left_out(
 
 /// Adds to `outside` a cube that contains the part, of which the list has no place: it is grown as
 /// long as the list has none of it.
-fn add_grown(alloc: Global, all: &Cover, part: &Cube, outside: &mut Cover) -> Result<(), AllocError>
+fn add_grown(
+    alloc: Global,
+    all: &RowsByOutput,
+    part: &Cube,
+    outside: &mut Cover,
+) -> Result<(), AllocError>
     requires part { IsCube all.now.size part.now }
     requires apart { IsDisjoint (holds part.now) (places all.now.cubes) }
     requires outside { AreOutside all.now outside.old }
@@ -55,7 +61,7 @@ fn add_grown(alloc: Global, all: &Cover, part: &Cube, outside: &mut Cover) -> Re
 /// cube there meets the part.
 pub(crate) fn add_refusals(
     alloc: Global,
-    all: &Cover,
+    all: &RowsByOutput,
     parts: &[Cube],
     outside: &mut Cover,
 ) -> Result<(), AllocError>
@@ -76,7 +82,7 @@ pub(crate) fn add_refusals(
 /// and `outside` has a place of what would be left: a cube is added if none there had one.
 fn without_literal(
     alloc: Global,
-    all: &Cover,
+    all: &RowsByOutput,
     i: usize,
     cube: &mut Cube,
     outside: &mut Cover,
@@ -91,7 +97,7 @@ fn without_literal(
     if !are_apart(outside.as_slice(), &wide) {
         return Ok(());
     }
-    match all.part_left_out(&wide)? {
+    match all.list().part_left_out(&wide)? {
         Some(part) => add_grown(alloc, all, &part, outside),
         None => {
             *cube = wide;
@@ -104,7 +110,7 @@ fn without_literal(
 /// point, and most of these cubes would be asked for in their turn.
 pub(crate) fn add_refusals_of_growth(
     alloc: Global,
-    all: &Cover,
+    all: &RowsByOutput,
     point: &Cube,
     outside: &mut Cover,
 ) -> Result<(), AllocError>

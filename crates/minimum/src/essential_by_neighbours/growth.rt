@@ -3,19 +3,22 @@
 //! The cube is freed of a literal, or gets an output, as long as it stays an implicant. A larger
 //! cube asks for more, so that a step that was refused stays refused, and each is tried once. Only
 //! what the step adds is asked for, and only of the rows near the cube: where it lost a literal,
-//! these are looked for again. Most outputs are refused by what the rows reach in a part of the
-//! cube.
+//! these are looked for again. Where most rows are near, those are asked that have an output of
+//! what the step adds. Most outputs are refused by what the rows reach in a part of the cube.
 
-ghost use Rattle.std.specs.Prelude.{◌≡◌, ◌<◌, ◌↔◌, IsTrue, IfOk, OnOk};
-ghost use Rattle.cube.specs.Cube.{HasSize, IsCube, IsSubset, holds};
+ghost use Rattle.std.specs.Prelude.{◌≡◌, ◌<◌, ◌↔◌, IsTrue, IfOk, OnOk, All};
+ghost use Rattle.cube.specs.Cube.{HasSize, SameSize, IsCube, IsSubset, holds};
+ghost use Rattle.rows.specs.Places.{behind};
+ghost use Rattle.minimum.specs.RowsByOutput.{HoldSame};
 ghost use Rattle.minimum.specs.Neighbours.{on_side, Grows, IsGrown, IsSettledInput, IsSettledOutput, IsFreedAt, AreFirst, AreNear, AreReached, near_or};
 
-use crate::cubes::{are_apart, one_output, opposite};
 use crate::essential_by_neighbours::holding::hold_cube;
 use crate::essential_by_neighbours::near_rows::{rows_near, rows_to_ask};
 use crate::essential_by_neighbours::reached_outputs::{is_refused, outputs_at, part_of};
+use crate::essential_by_neighbours::rows_by_output::RowsByOutput;
 use cover::Cover;
 use cube::{Cube, Symbol};
+use rows::{cube_of_output, is_disjoint_from_all, opposite, references_to_cubes};
 use std::alloc::{AllocError, Global};
 
 /// Where implicants lie: inside a list of cubes, or outside it.
@@ -27,15 +30,45 @@ pub(crate) enum Side {
     Outside,
 }
 
-/// Whether the cube lies on that side of the list.
-pub(crate) fn is_implicant(side: Side, rows: &Cover, cube: &Cube) -> Result<bool, AllocError>
-    requires { HasSize cube.now rows.now.size }
-    ensures { IfOk result
-        (λ b. IsTrue b ↔ IsSubset (holds cube.now) (on_side side rows.now.cubes)) }
+/// Rows that hold the same places of the cube as the rows near do, or as all rows where `near` is
+/// `None`: then those that have one of its outputs, where these are few.
+fn rows_asked<'a>(
+    alloc: Global,
+    rows: &'a RowsByOutput,
+    near: &'a Option<Cover>,
+    cube: &Cube,
+) -> Result<Vec<&'a Cube>, AllocError>
+    requires size { HasSize cube.now rows.now.size }
+    requires near { (near_or rows.now near.now).size ≡ rows.now.size }
+    ensures sizes { IfOk result (λ asked. All (λ d. SameSize d.now cube.now) asked.items) }
+    ensures same { IfOk result
+        (λ asked. HoldSame cube.now (behind asked.items) (near_or rows.now near.now).cubes) }
 {
+    if near.is_none() {
+        if let Some(reaching) = rows.rows_reaching(alloc, cube)? {
+            return Ok(reaching);
+        }
+    }
+    references_to_cubes(alloc, rows_to_ask(rows, near).as_slice())
+}
+
+/// Whether the cube lies on that side of the rows near, or of all rows where `near` is `None`.
+fn is_implicant(
+    alloc: Global,
+    side: Side,
+    rows: &RowsByOutput,
+    near: &Option<Cover>,
+    cube: &Cube,
+) -> Result<bool, AllocError>
+    requires size { HasSize cube.now rows.now.size }
+    requires near { (near_or rows.now near.now).size ≡ rows.now.size }
+    ensures { IfOk result (λ b. IsTrue b
+        ↔ IsSubset (holds cube.now) (on_side side (near_or rows.now near.now).cubes)) }
+{
+    let asked = rows_asked(alloc, rows, near, cube)?;
     match side {
-        Side::Inside => hold_cube(rows, cube),
-        Side::Outside => Ok(are_apart(rows.as_slice(), cube)),
+        Side::Inside => hold_cube(alloc, &asked, cube),
+        Side::Outside => Ok(is_disjoint_from_all(cube, &asked)),
     }
 }
 
@@ -53,7 +86,7 @@ pub(crate) struct Growth {
 fn without_literal(
     alloc: Global,
     side: Side,
-    rows: &Cover,
+    rows: &RowsByOutput,
     growth: &mut Growth,
     i: usize,
 ) -> Result<(), AllocError>
@@ -73,7 +106,7 @@ fn without_literal(
         return Ok(());
     }
     let rest = growth.cube.with_symbol(i, opposite(literal))?;
-    if !is_implicant(side, rows_to_ask(rows, &growth.near), &rest)? {
+    if !is_implicant(alloc, side, rows, &growth.near, &rest)? {
         return Ok(());
     }
     growth.cube.set_symbol(i, Symbol::Dash);
@@ -89,7 +122,7 @@ fn without_literal(
 fn with_output(
     alloc: Global,
     side: Side,
-    rows: &Cover,
+    rows: &RowsByOutput,
     reached: &Cube,
     growth: &mut Growth,
     j: usize,
@@ -112,12 +145,12 @@ fn with_output(
     if is_refused(side, reached, j) {
         return Ok(());
     }
-    let output = one_output(alloc, rows.shape(), j)?;
+    let output = cube_of_output(alloc, rows.shape(), j)?;
     let Some(wide) = growth.cube.output_consensus(&output)? else {
         unreachable!()
     };
     let rest = wide.without_outputs(&growth.cube)?;
-    if !is_implicant(side, rows_to_ask(rows, &growth.near), &rest)? {
+    if !is_implicant(alloc, side, rows, &growth.near, &rest)? {
         return Ok(());
     }
     growth.cube = wide;
@@ -129,7 +162,7 @@ fn with_output(
 fn grow_at_inputs(
     alloc: Global,
     side: Side,
-    rows: &Cover,
+    rows: &RowsByOutput,
     cube: &Cube,
 ) -> Result<Growth, AllocError>
     requires { IsCube rows.now.size cube.now }
@@ -159,7 +192,7 @@ fn grow_at_inputs(
 pub(crate) fn grow(
     alloc: Global,
     side: Side,
-    rows: &Cover,
+    rows: &RowsByOutput,
     cube: &Cube,
 ) -> Result<Growth, AllocError>
     requires { IsCube rows.now.size cube.now }
@@ -172,7 +205,7 @@ pub(crate) fn grow(
 {
     let mut growth = grow_at_inputs(alloc, side, rows, cube)?;
     let part = part_of(side, &growth.cube)?;
-    let reached = outputs_at(rows_to_ask(rows, &growth.near), part)?;
+    let reached = outputs_at(rows_to_ask(&*rows, &growth.near), part)?;
     for j in 0..rows.shape().outputs() {
         with_output(alloc, side, rows, &reached, &mut growth, j)?;
     }

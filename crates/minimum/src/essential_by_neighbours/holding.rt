@@ -1,24 +1,24 @@
-//! Whether a list holds a cube, where most cubes are left out in part.
+//! Whether rows hold a cube, where most cubes are left out in part.
 
-ghost use Rattle.std.specs.Prelude.{◌≡◌, IfOk};
-ghost use Rattle.cube.specs.Cube.{HasSize, holds};
+ghost use Rattle.std.specs.Prelude.{◌≡◌, IfOk, All};
+ghost use Rattle.cube.specs.Cube.{SameSize, holds, size_of};
 ghost use Rattle.cube.specs.Sum.{is_subset};
-ghost use Rattle.cover.specs.Places.{places};
+ghost use Rattle.rows.specs.Places.{places, behind};
 
 use crate::essential_by_neighbours::part_left_out::are_seen_to_leave_out;
-use cover::Cover;
 use cube::Cube;
-use std::alloc::AllocError;
+use regions::part_left_out;
+use std::alloc::{AllocError, Global};
 
 /// Whether each place of the cube is in some row. A part that the rows leave out is looked for
-/// first: that costs a look at each row, and splits of the cube may take many.
-pub(crate) fn hold_cube(rows: &Cover, cube: &Cube) -> Result<bool, AllocError>
-    requires { HasSize cube.now rows.now.size }
+/// first: that costs a few looks at each row, and splits of the cube may take many.
+pub(crate) fn hold_cube(alloc: Global, rows: &[&Cube], cube: &Cube) -> Result<bool, AllocError>
+    requires { All (λ d. SameSize d.now cube.now) rows.now }
     ensures { IfOk result (λ held. held
-        ≡ is_subset rows.now.size (holds cube.now) (places rows.now.cubes)) }
+        ≡ is_subset (size_of cube.now) (holds cube.now) (places (behind rows.now))) }
 {
-    if are_seen_to_leave_out(rows.as_slice(), cube)? {
+    if are_seen_to_leave_out(alloc, rows, cube)? {
         return Ok(false);
     }
-    rows.holds_cube(cube)
+    Ok(part_left_out(alloc, rows, cube)?.is_none())
 }

@@ -3,8 +3,8 @@
 ghost use Rattle.std.specs.Prelude.{IfOk, IfSome};
 ghost use Rattle.cube.specs.Cube.{SameSize};
 
-use crate::cubes::opposite;
 use cube::Cube;
+use rows::opposite;
 use std::alloc::AllocError;
 
 /// The part with the opposite of a literal that the row has and it has not; where there is none,

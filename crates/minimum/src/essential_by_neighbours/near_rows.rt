@@ -7,6 +7,7 @@ ghost use Rattle.std.specs.Prelude.{◌≡◌, true, IfOk};
 ghost use Rattle.cube.specs.Cube.{HasSize};
 ghost use Rattle.minimum.specs.Neighbours.{IsFar, AreNear, near_or};
 
+use crate::essential_by_neighbours::rows_by_output::RowsByOutput;
 use cover::Cover;
 use cube::Cube;
 use std::alloc::{AllocError, Global};
@@ -58,24 +59,24 @@ fn rows_not_far(alloc: Global, rows: &Cover, cube: &Cube) -> Result<Cover, Alloc
 /// outputs; `None` stands for all rows, where most of a sample of them are near.
 pub(crate) fn rows_near(
     alloc: Global,
-    rows: &Cover,
+    rows: &RowsByOutput,
     cube: &Cube,
 ) -> Result<Option<Cover>, AllocError>
     requires { HasSize cube.now rows.now.size }
     ensures { IfOk result (λ near. AreNear cube.now rows.now (near_or rows.now near)) }
 {
-    if !uses_near_rows(rows, cube) {
+    if !uses_near_rows(rows.list(), cube) {
         return Ok(None);
     }
-    Ok(Some(rows_not_far(alloc, rows, cube)?))
+    Ok(Some(rows_not_far(alloc, rows.list(), cube)?))
 }
 
 /// The rows that are to be asked: those near, or all rows where `near` is `None`.
-pub(crate) fn rows_to_ask<'a>(rows: &'a Cover, near: &'a Option<Cover>) -> &'a Cover
+pub(crate) fn rows_to_ask<'a>(rows: &'a RowsByOutput, near: &'a Option<Cover>) -> &'a Cover
     ensures { result.now ≡ near_or rows.now near.now }
 {
     match near {
-        None => rows,
+        None => rows.list(),
         Some(near) => near,
     }
 }

@@ -17,6 +17,7 @@ use crate::essential_by_neighbours::common_place::has_common;
 use crate::essential_by_neighbours::grown_primes::GrownPrimes;
 use crate::essential_by_neighbours::growth::{Growth, Side, grow};
 use crate::essential_by_neighbours::near_rows::rows_to_ask;
+use crate::essential_by_neighbours::rows_by_output::RowsByOutput;
 use cover::{Cover, in_row_order};
 use cube::Cube;
 use std::alloc::{AllocError, Global};
@@ -48,7 +49,7 @@ fn has_own_place(alloc: Global, on: &Cover, off: &Cover, prime: &Cube) -> Result
 fn add_essential(
     alloc: Global,
     on: &Cover,
-    off: &Cover,
+    off: &RowsByOutput,
     cube: &Cube,
     found: &mut GrownPrimes,
 ) -> Result<(), AllocError>
@@ -64,7 +65,7 @@ fn add_essential(
         return Ok(());
     }
     let Growth { cube: prime, near } = grow(alloc, Side::Outside, off, cube)?;
-    let is_essential = has_own_place(alloc, on, rows_to_ask(off, &near), &prime)?;
+    let is_essential = has_own_place(alloc, on, rows_to_ask(&*off, &near), &prime)?;
     found.add(prime, is_essential)
 }
 
@@ -77,9 +78,10 @@ pub fn find_essential_outside(alloc: Global, on: &Cover, off: &Cover) -> Result<
     ensures { IfOk result (λ list. (sets : SetLists) → IsSampled sets on.now off.now
         → list ≡ record { size = sets.size; cubes = essential_of sets (primes_of sets) }) }
 {
+    let rows = RowsByOutput::new(alloc, off)?;
     let mut found = GrownPrimes::new(alloc);
     for cube in on.as_slice() {
-        add_essential(alloc, on, off, cube, &mut found)?;
+        add_essential(alloc, on, &rows, cube, &mut found)?;
     }
     in_row_order(&Cover::from_cubes(on.shape(), found.essential))
 }

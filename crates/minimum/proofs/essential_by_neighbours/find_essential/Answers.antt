@@ -28,13 +28,13 @@ pub loop-cube-preserved : goal.loop-cube-preserved
 loop-cube-preserved c =
     let sets = c.args.sets.now in
     let adds = subst (λ l. AddsEssential sets.size (places l) (care_on sets) c.cube-item.result c.loop-cube.found c.add_essential.new.found)
-    (ap (λ k. k.cubes) c.in_ok-rows.ensures) c.in_ok-add_essential.ensures in
+    (ap (λ k. k.cubes) (c.in_ok-rows.ensures ∙ c.in_ok-list.ensures)) c.in_ok-add_essential.ensures in
     found_next sets.size (places (sets.on ++ sets.dc)) (care_on sets) c.as_slice-cube-items.result.now c.loop-cube.cube-index c.cube-item.result c.loop-cube.found c.add_essential.new.found
     c.loop-cube-test.true c.cube-item.is c.loop-cube.invariant adds
 
 pub from_cubes-requires : goal.from_cubes-requires
 from_cubes-requires c =
-    subst (λ n. AreCubes n c.loop-cube.found.essential.items) (sym (c.shape.ensures.size ∙ ap (λ k. k.size) c.in_ok-rows.ensures)) (sized c.args.sets.now c.loop-cube.found _ c.loop-cube.invariant).essential
+    subst (λ n. AreCubes n c.loop-cube.found.essential.items) (sym (c.shape.ensures.size ∙ ap (λ k. k.size) c.in_ok-list.ensures)) (sized c.args.sets.now c.loop-cube.found _ c.loop-cube.invariant).essential
 
 pub returns : goal.returns
 returns c =
@@ -48,6 +48,6 @@ returns c =
     if_ok_three c.in_row_order-2.result _ _ _ _ (λ list size rising same.
     let sorted = found_all sets.size s (care_on sets) (places sets.on) found list.cubes (λ p want. (and_parts (places sets.on p) (not (places sets.dc p)) want).0) so rising
     (subst (λ l. HasSameCubes l list.cubes) (ap (λ k. k.cubes) c.from_cubes.ensures) same) in
-    ap (λ z. made z list.cubes) (size ∙ ap (λ k. k.size) c.from_cubes.ensures ∙ c.shape.ensures.size ∙ ap (λ k. k.size) c.in_ok-rows.ensures)
+    ap (λ z. made z list.cubes) (size ∙ ap (λ k. k.size) c.from_cubes.ensures ∙ c.shape.ensures.size ∙ ap (λ k. k.size) c.in_ok-list.ensures)
     ∙ ap (made sets.size) (sorted ∙ same_essential sets (sets.on ++ sets.dc) refl))
     c.in_row_order-2.ensures.size c.in_row_order-2.ensures.rising c.in_row_order-2.ensures.cubes

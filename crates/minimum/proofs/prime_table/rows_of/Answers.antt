@@ -28,5 +28,5 @@ loop-j-preserved c =
     rows_more c.args.shape lists.primes.now lists.on.now lists.dc.now c.requires.primes c.requires.on c.requires.dc c.requires.enough c.loop-j.j c.in_ok-region.region
     (items_of c.loop-j.known.rows.items) (items_of c.add_rows_by_halves.new.known.rows.items) (let l = c.loop-j-test.true in let n = c.outputs-j-end.ensures.value in omega arith) c.in_ok-region.ensures c.loop-j.invariant c.in_ok-add_rows_by_halves.ensures
 
-pub one_output-requires : goal.one_output-requires
-one_output-requires c = let l = c.loop-j-test.true in let n = c.outputs-j-end.ensures.value in omega arith
+pub cube_of_output-requires : goal.cube_of_output-requires
+cube_of_output-requires c = let l = c.loop-j-test.true in let n = c.outputs-j-end.ensures.value in omega arith

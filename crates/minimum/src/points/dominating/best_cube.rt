@@ -11,12 +11,13 @@ ghost use Rattle.minimum.specs.declared.essential_by_neighbours.growth.Side.TheV
 ghost use Rattle.minimum.specs.Neighbours.{on_side, IsFreedAt, IsSettledInput, IsSettledOutput, AreFirst};
 ghost use Rattle.minimum.specs.Dominating.{IsBest, IsBestFreed, IsSettledUpTo};
 
-use crate::cubes::{are_apart, one_output, opposite};
+use crate::cubes::are_apart;
 use crate::points::dominating::fewest_literals::fewest_literals;
 use crate::points::dominating::refusing_rows::RefusingRows;
 use cover::Cover;
 use covering::Choice;
 use cube::{Cube, Symbol};
+use rows::{cube_of_output, opposite};
 use std::alloc::{AllocError, Global};
 
 /// Frees the cube of its literal at an input, unless a row is named that refuses it. `false`, and
@@ -74,7 +75,7 @@ fn settle_output(
         };
         return Ok(row.output(j) && cube.next_opposite(row, 0).is_none());
     }
-    let output = one_output(alloc, off.shape(), j)?;
+    let output = cube_of_output(alloc, off.shape(), j)?;
     let Some(wide) = cube.output_consensus(&output)? else {
         return Ok(false);
     };

@@ -15,10 +15,11 @@ ghost use Rattle.cover.specs.Cubes.{AreCubes};
 ghost use Rattle.cover.specs.Places.{places};
 ghost use Rattle.minimum.specs.Dominating.{HaveSameImplicantsOver, IsAgainst, IsWidened, IsAround};
 
-use crate::cubes::{lies_in_one_of, opposite};
+use crate::cubes::lies_in_one_of;
 use crate::points::source::large_first;
 use cover::Cover;
 use cube::{Cube, Shape, Symbol};
+use rows::opposite;
 use std::alloc::{AllocError, Global};
 
 /// At each input of the cube the other literal, and a dash where it has none.

@@ -23,10 +23,10 @@ widened c =
     }
 
 asked : (c : After-is_implicant) → IsWidened c.args.rows.now.size c.args.growth.now.cube c.args.j c.in_ok-output.output c.in-Some.wide → (b : Bool)
-    → IsTrue b ↔ IsSubset (holds c.in_ok-rest.rest) (on_side c.args.side c.rows_to_ask.result.now.cubes) → IsTrue b ↔ IsSubset (holds c.in_ok-rest.rest) (on_side c.args.side c.args.rows.now.cubes)
+    → IsTrue b ↔ IsSubset (holds c.in_ok-rest.rest) (on_side c.args.side (near_or c.args.rows.now c.args.growth.now.near).cubes) → IsTrue b ↔ IsSubset (holds c.in_ok-rest.rest) (on_side c.args.side c.args.rows.now.cubes)
 asked c w =
     let rows = c.args.rows.now in
-    answer_for_all c.args.growth.now.cube rows (near_or rows c.args.growth.now.near) c.rows_to_ask.result.now c.requires.near c.rows_to_ask.ensures c.args.side c.in_ok-rest.rest
+    answer_for_all c.args.growth.now.cube rows (near_or rows c.args.growth.now.near) c.requires.near c.args.side c.in_ok-rest.rest
     (beside_rest w c.in_ok-rest.rest c.in_ok-rest.ensures.value)
 
 -- ---- the calls
@@ -59,11 +59,10 @@ without_outputs-requires-clause-some c =
     let lacks = get_or_from_slice_get c.args.growth.now.cube.outputs c.args.j c.output.result false c.output.ensures ∙ c.if-output.false in
     rest_output (widened (goal.at.without_outputs-requires-clause-some c).In-Some) lacks
 
-pub is_implicant-requires : goal.is_implicant-requires
-is_implicant-requires c =
-    let same = (widened (goal.at.is_implicant-requires c).In-Some).same in
-    let own = c.requires.is_cube.has_size in
-    subst (HasSize c.in_ok-rest.rest) (sym (ap (λ k. k.size) c.rows_to_ask.ensures ∙ c.requires.near.size)) (
+pub is_implicant-requires-clause-size : goal.is_implicant-requires-clause-size
+is_implicant-requires-clause-size c =
+    let same = (widened (goal.at.is_implicant-requires-clause-size c).In-Some).same in
+    let own = c.requires.is_cube.has_size in (
       ap (λ k. length k.symbols) c.in_ok-rest.ensures.value ∙ same.0 ∙ own.0,
       ap (λ k. length k.outputs) c.in_ok-rest.ensures.value ∙ length-minus c.in-Some.wide.outputs c.args.growth.now.cube.outputs same.1 ∙ same.1 ∙ own.1,
     )

@@ -19,12 +19,12 @@ is_rest : (c : After-is_implicant) → c.in_ok-rest.rest ≡ with_symbol c.args.
 is_rest c = c.in_ok-rest.ensures.value ∙ ap (with_symbol c.args.growth.now.cube c.args.i) (c.opposite.ensures
     ∙ ap opposite (sym (get_or_from_slice_get c.args.growth.now.cube.symbols c.args.i c.symbol-literal.result Dash c.symbol-literal.ensures)))
 
-asked : (c : After-is_implicant) (b : Bool) → IsTrue b ↔ IsSubset (holds c.in_ok-rest.rest) (on_side c.args.side c.rows_to_ask.result.now.cubes)
+asked : (c : After-is_implicant) (b : Bool) → IsTrue b ↔ IsSubset (holds c.in_ok-rest.rest) (on_side c.args.side (near_or c.args.rows.now c.args.growth.now.near).cubes)
     → IsTrue b ↔ IsSubset (holds c.in_ok-rest.rest) (on_side c.args.side c.args.rows.now.cubes)
 asked c =
     let rows = c.args.rows.now in
     let cube = c.args.growth.now.cube in
-    answer_for_all cube rows (near_or rows c.args.growth.now.near) c.rows_to_ask.result.now c.requires.near c.rows_to_ask.ensures c.args.side c.in_ok-rest.rest
+    answer_for_all cube rows (near_or rows c.args.growth.now.near) c.requires.near c.args.side c.in_ok-rest.rest
     (beside_half cube c.args.i _ (within c) c.in_ok-rest.rest (is_rest c))
 
 -- ---- without the literal

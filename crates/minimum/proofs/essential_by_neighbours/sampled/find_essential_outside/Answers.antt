@@ -3,13 +3,13 @@ use Rattle.std.specs.List.{Contains}
 use Rattle.std.proofs.lemmas.List.{take_all}
 use Rattle.cube.specs.Size.{Size}
 use Rattle.std.proofs.lemmas.List.Elements.{All-nil}
-use Rattle.cube.specs.Cube.{Cube, IsCube, holds}
+use Rattle.cube.specs.Cube.{Cube, IsCube, IsSubset, holds}
 use Rattle.cover.specs.Cubes.{Cubes, AreCubes}
 use Rattle.cover.specs.Places.{places}
 use Rattle.cover.specs.Reduced.{HasSameCubes}
 use Rattle.cover.proofs.Lists.{list_any_from}
 use Rattle.minimum.specs.declared.essential_by_neighbours.growth.Side.TheVariants.{Outside}
-use Rattle.minimum.specs.Neighbours.{on_side, AreFoundIn}
+use Rattle.minimum.specs.Neighbours.{on_side, AddsEssential, AreFoundIn}
 use Rattle.minimum.proofs.EssentialByNeighbours.{found_none, found_next, found_all, if_ok_three}
 use Rattle.minimum.proofs.Blocking.{sampled_apart, sampled_essential}
 use Rattle.minimum.proofs.essential_by_neighbours.sampled.find_essential_outside.Goals as goal
@@ -25,7 +25,9 @@ loop-cube-preserved c =
     record {
       cubes = c.in_ok-add_essential.ensures.cubes;
       found = λ apart. found_next on.size s (places on.cubes) cubes k cube c.loop-cube.found c.add_essential.new.found c.loop-cube-test.true c.cube-item.is
-          (c.loop-cube.invariant.found apart) (c.in_ok-add_essential.ensures.adds (λ p h. apart p (list_any_from (λ d. holds d p) on.cubes cube member h)));
+          (c.loop-cube.invariant.found apart)
+          (subst (λ z. IsSubset (holds cube) (on_side Outside z.cubes) → AddsEssential on.size (on_side Outside z.cubes) (places on.cubes) cube c.loop-cube.found c.add_essential.new.found)
+          c.in_ok-rows.ensures c.in_ok-add_essential.ensures.adds (λ p h. apart p (list_any_from (λ d. holds d p) on.cubes cube member h)));
     }
 
 pub loop-cube-init : goal.loop-cube-init
