@@ -37,6 +37,10 @@ least_by choice size on dc = unwrap_or
 abbrev open_of : Description → Place → Bool
 open_of d p = not (places (d.on ++ d.off) p)
 
+-- a description has its own places
+pub same_alone : (d : Description) → HasSamePlaces d d
+same_alone d = record { size = refl; file_type = refl; on = λ p. refl; dc = λ p. refl; off = λ p. refl }
+
 module _ (d e : Description) (same : HasSamePlaces d e) where
   neither : open_of e ≡ open_of d
   neither = fun_ext (λ p. ap not (

@@ -13,7 +13,6 @@ ghost use Rattle.cover.specs.Places.{places};
 ghost use Rattle.pla.specs.declared.file_type.FileType.{FileType};
 ghost use Rattle.pla.specs.Completed.{sets_of};
 ghost use Rattle.pla.specs.Sets.{SetLists};
-ghost use Rattle.minimum.specs.declared.points.source.Source.{Source};
 ghost use Rattle.minimum.specs.Primes.{exact_of, primes_of};
 
 use crate::as_needed::exact_as_needed;
@@ -76,32 +75,15 @@ fn exact_by_table(
     cubes_at(alloc, primes, &least)
 }
 
-/// The least cover by primes, by points that are picked by the list of all primes, which `source`
-/// is; `None` where that is too much.
-fn exact_among(
-    alloc: Global,
-    sets: &Sets,
-    source: &Source,
-    choice: Choice,
-) -> Result<Option<Cover>, AllocError>
-    ghost lists: { SetLists }
-    requires lists { sets.now ≡ lists }
-    requires source { source.now ≡ Source.Primes (record
-        { size = lists.size; cubes = primes_of lists }) }
-    ensures { IfOk result (λ o. IfSome o (λ list. list ≡ record
-        { size = lists.size; cubes = exact_of choice lists })) }
-{
-    exact_by_points(alloc, sets.on(), sets.dc(), source, false, choice)
-}
-
-/// The least cover by primes, from a list of all of them.
+/// The least cover by primes, from a list of all of them: by points that are picked by this list, or
+/// where that is of no use or too much, from the table of all.
 fn exact_by_primes(alloc: Global, sets: &Sets, choice: Choice) -> Result<Cover, AllocError>
     ensures { IfOk result (λ list. list ≡ record
         { size = sets.now.size; cubes = exact_of choice sets.now }) }
 {
     let source = Source::Primes(primes(sets)?);
     if uses_points_of_primes(sets) {
-        if let Some(list) = exact_among(alloc, sets, &source, choice)? {
+        if let Some(list) = exact_by_points(alloc, sets.on(), sets.dc(), &source, false, choice)? {
             return Ok(list);
         }
     }

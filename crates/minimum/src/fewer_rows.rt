@@ -11,7 +11,8 @@ ghost use Rattle.pla.specs.Completed.{sets_of};
 ghost use Rattle.minimum.specs.Primes.{essential_of, exact_of, primes_of};
 ghost use Rattle.minimum.specs.SamePlaces.{HasSamePlaces};
 
-use crate::of_pla::{essential_of_rows, exact_of_rows};
+use crate::exact_minimum::{exact, exact_of_samples};
+use crate::of_pla::{essential_of_sets, essential_outside, off_alone};
 use crate::way_hints::uses_points;
 use cover::{Cover, merge_rows};
 use covering::Choice;
@@ -95,6 +96,17 @@ fn with_fewer_rows(pla: &Pla) -> Result<Option<Pla>, AllocError>
     Ok(Some(pla.with_lists(on, dc, off)))
 }
 
+// The description with fewer rows, or the given one where there is none.
+fn fewer_rows_or_given<'a>(fewer: &'a Option<Pla>, given: &'a Pla) -> &'a Pla
+    requires { IfSome fewer.now (HasSamePlaces given.now) }
+    ensures { HasSamePlaces given.now result.now }
+{
+    match fewer {
+        Some(pla) => pla,
+        None => given,
+    }
+}
+
 /// The essential primes of the description's sets, in row order.
 ///
 /// # Errors
@@ -106,9 +118,11 @@ pub fn essential_of_pla(alloc: Global, pla: &Pla) -> Result<Cover, AllocError>
       cubes = essential_of (sets_of pla.now true true) (primes_of (sets_of pla.now true true));
     }) }
 {
-    match with_fewer_rows(pla)? {
-        Some(fewer) => essential_of_rows(alloc, &fewer),
-        None => essential_of_rows(alloc, pla),
+    let fewer = with_fewer_rows(pla)?;
+    let pla = fewer_rows_or_given(&fewer, pla);
+    match off_alone(pla)? {
+        Some(off) => essential_outside(alloc, pla, &off),
+        None => essential_of_sets(alloc, &pla::sets(alloc, pla, true, false)?),
     }
 }
 
@@ -124,8 +138,13 @@ pub fn exact_of_pla(alloc: Global, pla: &Pla, choice: Choice) -> Result<Cover, A
       cubes = exact_of choice (sets_of pla.now true true);
     }) }
 {
-    match with_fewer_rows(pla)? {
-        Some(fewer) => exact_of_rows(alloc, &fewer, choice),
-        None => exact_of_rows(alloc, pla, choice),
+    let fewer = with_fewer_rows(pla)?;
+    let pla = fewer_rows_or_given(&fewer, pla);
+    if let Some(off) = off_alone(pla)? {
+        if let Some(list) = exact_of_samples(alloc, pla, off, choice)? {
+            return Ok(list);
+        }
     }
+    let sets = pla::sets(alloc, pla, true, false)?;
+    exact(alloc, &sets, choice)
 }

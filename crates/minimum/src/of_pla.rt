@@ -1,25 +1,24 @@
-//! The answers for a description, whose lists are made as far as they are needed.
+//! The primes of a description, and steps to its other answers: its lists are made as far as they are
+//! needed.
 
 ghost use Rattle.std.specs.Prelude.{◌≡◌, IfOk, IfSome, true};
 ghost use Rattle.cube.specs.Cube.{IsPlace, Place, difference as difference_of};
 ghost use Rattle.cover.specs.Places.{places};
 ghost use Rattle.pla.specs.Description.{Description};
 ghost use Rattle.pla.specs.Completed.{sets_of};
-ghost use Rattle.minimum.specs.Primes.{essential_of, exact_of, primes_of};
+ghost use Rattle.minimum.specs.Primes.{essential_of, primes_of};
 
 use crate::essential_by_neighbours::{find_essential, find_essential_outside};
 use crate::essential_primes::essential;
-use crate::exact_minimum::{exact, exact_of_samples};
 use crate::prime_implicants::primes;
 use crate::way_hints::{budget_of_off, uses_growth};
 use cover::{Cover, subtract};
-use covering::Choice;
 use pla::{FileType, Pla, Sets};
 use std::alloc::{AllocError, Global};
 
 // Cubes of the places of the OFF list that the ON list does not hold, under fr, unless that is too
 // much: outside them are the places of the ON-set with what neither list holds.
-fn off_alone(pla: &Pla) -> Result<Option<Cover>, AllocError>
+pub(crate) fn off_alone(pla: &Pla) -> Result<Option<Cover>, AllocError>
     ensures file_type { IfOk result (λ o. IfSome o (λ _. pla.now.file_type ≡ FileType.Fr)) }
     ensures size { IfOk result (λ o. IfSome o (λ off. off.size ≡ pla.now.size)) }
     ensures places { IfOk result (λ o. IfSome o (λ off. (p : Place) → IsPlace pla.now.size p
@@ -65,7 +64,7 @@ pub fn primes_of_pla(alloc: Global, pla: &Pla) -> Result<Cover, AllocError>
 }
 
 // The essential primes of the sets.
-fn essential_of_sets(alloc: Global, sets: &Sets) -> Result<Cover, AllocError>
+pub(crate) fn essential_of_sets(alloc: Global, sets: &Sets) -> Result<Cover, AllocError>
     ensures { IfOk result (λ list. list ≡ record {
       size = sets.now.size;
       cubes = essential_of sets.now (primes_of sets.now);
@@ -79,7 +78,7 @@ fn essential_of_sets(alloc: Global, sets: &Sets) -> Result<Cover, AllocError>
 }
 
 // The essential primes under fr, outside these places, which OFF alone holds.
-fn essential_outside(alloc: Global, pla: &Pla, off: &Cover) -> Result<Cover, AllocError>
+pub(crate) fn essential_outside(alloc: Global, pla: &Pla, off: &Cover) -> Result<Cover, AllocError>
     requires file_type { pla.now.file_type ≡ FileType.Fr }
     requires size { off.now.size ≡ pla.now.size }
     requires places { (p : Place) → IsPlace pla.now.size p
@@ -90,42 +89,4 @@ fn essential_outside(alloc: Global, pla: &Pla, off: &Cover) -> Result<Cover, All
     }) }
 {
     find_essential_outside(alloc, pla.on(), off)
-}
-
-/// The essential primes of the description's sets, in row order.
-///
-/// # Errors
-///
-/// [`AllocError`] if memory is refused.
-pub(crate) fn essential_of_rows(alloc: Global, pla: &Pla) -> Result<Cover, AllocError>
-    ensures { IfOk result (λ list. list ≡ record {
-      size = pla.now.size;
-      cubes = essential_of (sets_of pla.now true true) (primes_of (sets_of pla.now true true));
-    }) }
-{
-    match off_alone(pla)? {
-        Some(off) => essential_outside(alloc, pla, &off),
-        None => essential_of_sets(alloc, &pla::sets(alloc, pla, true, false)?),
-    }
-}
-
-/// The least cover by primes of the description's sets. Under fr no DC list is made, unless that is
-/// less work.
-///
-/// # Errors
-///
-/// [`AllocError`] if memory is refused.
-pub(crate) fn exact_of_rows(alloc: Global, pla: &Pla, choice: Choice) -> Result<Cover, AllocError>
-    ensures { IfOk result (λ list. list ≡ record {
-      size = pla.now.size;
-      cubes = exact_of choice (sets_of pla.now true true);
-    }) }
-{
-    if let Some(off) = off_alone(pla)? {
-        if let Some(list) = exact_of_samples(alloc, pla, off, choice)? {
-            return Ok(list);
-        }
-    }
-    let sets = pla::sets(alloc, pla, true, false)?;
-    exact(alloc, &sets, choice)
 }

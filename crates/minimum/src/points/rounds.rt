@@ -13,7 +13,6 @@ ghost use Rattle.cube.specs.Cube.{Cube as Row, IsSubset};
 ghost use Rattle.cube.specs.Limits.{IsWithinLimits, format_limits};
 ghost use Rattle.cover.specs.Cubes.{AreCubes};
 ghost use Rattle.cover.specs.Places.{places};
-ghost use Rattle.covering.specs.Cover.{IsLeast};
 ghost use Rattle.pla.specs.Sets.{SetLists};
 ghost use Rattle.minimum.specs.Points.{AreDominating, IsFound, function_by, function_of, IsLeastOfPoints, IsSource, StandsFor, lists_of};
 ghost use Rattle.minimum.specs.Primes.{care_on, exact_of};
@@ -25,34 +24,13 @@ use crate::points::round_hints::{asks_for_least, numbers_among};
 use crate::points::source::Source;
 use crate::points::{add_places, point_table};
 use cover::{Cover, in_row_order};
-use covering::{Choice, Effort, Table, least_cover_with_effort, short_cover};
+use covering::{Choice, Effort, least_cover_with_effort, short_cover};
 use cube::Cube;
 use signature_search::Proposer;
 use std::alloc::{AllocError, Global};
 
-/// The numbers of a cover of the table, of the columns in row order: the least, with what was done to
-/// find it, or only a short one near the last.
-fn numbers_of_cover(
-    alloc: Global,
-    table: &Table,
-    columns: &Cover,
-    choice: Choice,
-    is_least: bool,
-    last: &Cover,
-    effort: &mut Effort,
-) -> Result<Vec<usize>, AllocError>
-    ensures { IfOk result (λ v. is_least ≡ true → IsLeast choice table.now v.items) }
-{
-    if is_least {
-        *effort = Effort::none();
-        return least_cover_with_effort(table, choice, effort);
-    }
-    let near = numbers_among(alloc, columns, last)?;
-    short_cover(table, &near)
-}
-
-/// A cover of the table of the points by these columns, in row order: the least, with what was done to
-/// find it, or only a short one near the last, which is found sooner.
+/// A cover of the table of the points by these columns, in row order: the least, after which `effort`
+/// is what was done to find it, or only a short one near the last, which is found sooner.
 pub(crate) fn cover_of_points(
     alloc: Global,
     points: &[Cube],
@@ -74,7 +52,13 @@ pub(crate) fn cover_of_points(
 {
     let columns = in_row_order(columns)?;
     let table = point_table(alloc, points, &columns)?;
-    let numbers = numbers_of_cover(alloc, &table, &columns, choice, is_least, last, effort)?;
+    let numbers = if is_least {
+        *effort = Effort::none();
+        least_cover_with_effort(&table, choice, effort)?
+    } else {
+        let near = numbers_among(alloc, &columns, last)?;
+        short_cover(&table, &near)?
+    };
     cubes_at(alloc, &columns, &numbers)
 }
 

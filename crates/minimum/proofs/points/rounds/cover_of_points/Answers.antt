@@ -1,4 +1,5 @@
-use Rattle.std.proofs.Common.{◌∙◌, ap, sym, subst}
+use Rattle.std.proofs.Common.{◌≡◌, ◌∙◌, true, ap, sym, subst}
+use Rattle.std.proofs.lemmas.Bool.{true≢false}
 use Rattle.std.specs.List.{Contains}
 use Rattle.std.proofs.lemmas.Result.{IfOk-weaker}
 use Rattle.cube.specs.Limits.{IsWithinLimits, format_limits}
@@ -7,6 +8,7 @@ use Rattle.covering.specs.Cover.{IsLeast}
 use Rattle.minimum.specs.Points.{function_of, point_table}
 use Rattle.minimum.proofs.PickedPoints.{dominating_sorted, dominating_sizes}
 use Rattle.minimum.proofs.PointTables.{are_point_rows, chosen_member}
+use Rattle.minimum.proofs.points.rounds.cover_of_points.Goals.{then-is_least+in_ok-numbers, else-is_least+in_ok-near+in_ok-numbers-2}
 use Rattle.minimum.proofs.points.rounds.cover_of_points.Goals as goal
 
 pub point_table-requires-clause-sizes : goal.point_table-requires-clause-sizes
@@ -31,8 +33,12 @@ pub returns-clause-least : goal.returns-clause-least
 returns-clause-least g c =
     let points = c.args.points.now in
     let sorted = c.in_ok-columns.columns.cubes in
-    let numbers = c.deref.result.now in
-    let found = c.in_ok-numbers.numbers.items in
+    let numbers = c.deref-2.result.now in
+    let found = c.if-is_least.numbers.items in
+    let least : c.args.is_least ≡ true → IsLeast c.args.choice c.in_ok-table.table found = λ asked. elim c.if-is_least.branch [
+      | then-is_least+in_ok-numbers w ↦ subst (λ v. IsLeast c.args.choice c.in_ok-table.table v.items) (sym w.numbers-is) w.in_ok-numbers.ensures
+      | else-is_least+in_ok-near+in_ok-numbers-2 w ↦ absurd (true≢false (sym asked ∙ w.if-is_least.false))
+    ] in
     IfOk-weaker c.cubes_at.result _ _
     (λ list h asked. record {
       columns = sorted;
@@ -40,8 +46,8 @@ returns-clause-least g c =
       are_dominating = dominating_sorted c.args.choice (function_of g.sets) points c.args.columns.now.cubes sorted c.in_ok-columns.ensures.cubes c.requires.1.0;
       outside = λ d x none' there. absurd (Contains-nil d none');
       numbers = numbers;
-      least = subst (IsLeast c.args.choice (point_table points sorted)) (sym c.deref.ensures.value)
-          (subst (λ t. IsLeast c.args.choice t found) c.in_ok-table.ensures (c.in_ok-numbers.ensures asked));
+      least = subst (IsLeast c.args.choice (point_table points sorted)) (sym c.deref-2.ensures.value)
+          (subst (λ t. IsLeast c.args.choice t found) c.in_ok-table.ensures (least asked));
       cubes = ap (λ l. l.cubes) h;
     })
     c.cubes_at.ensures
@@ -52,5 +58,5 @@ point_table-requires-clause-limits g c = subst (IsWithinLimits format_limits) (s
 pub returns-clause-columns : goal.returns-clause-columns
 returns-clause-columns g c =
     IfOk-weaker c.cubes_at.result _ _
-    (λ list h d member. (c.in_ok-columns.ensures.cubes d).1 (chosen_member c.in_ok-columns.columns.cubes c.deref.result.now d (subst (λ l. Contains l d) (ap (λ l. l.cubes) h) member)))
+    (λ list h d member. (c.in_ok-columns.ensures.cubes d).1 (chosen_member c.in_ok-columns.columns.cubes c.deref-2.result.now d (subst (λ l. Contains l d) (ap (λ l. l.cubes) h) member)))
     c.cubes_at.ensures
