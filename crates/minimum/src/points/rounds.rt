@@ -14,7 +14,7 @@ ghost use Rattle.cube.specs.Limits.{IsWithinLimits, format_limits};
 ghost use Rattle.cover.specs.Cubes.{AreCubes};
 ghost use Rattle.cover.specs.Places.{places};
 ghost use Rattle.pla.specs.Sets.{SetLists};
-ghost use Rattle.minimum.specs.Points.{AreDominating, IsFound, function_by, function_of, IsLeastOfPoints, IsSource, StandsFor, lists_of};
+ghost use Rattle.minimum.specs.Points.{AreDominating, function_of, IsLeastOfPoints, IsSource, StandsFor, lists_of};
 ghost use Rattle.minimum.specs.Primes.{care_on, exact_of};
 
 use crate::cubes::{add_copy, cubes_at};
@@ -26,7 +26,6 @@ use crate::points::{add_places, point_table};
 use cover::{Cover, in_row_order};
 use covering::{Choice, Effort, least_cover_with_effort, short_cover};
 use cube::Cube;
-use signature_search::Proposer;
 use std::alloc::{AllocError, Global};
 
 /// A cover of the table of the points by these columns, in row order: the least, after which `effort`
@@ -85,54 +84,10 @@ fn left_out(alloc: Global, on: &Cover, dc: &Cover, list: &Cover) -> Result<Cover
 // At most this many rounds are made.
 const MOST_ROUNDS: usize = 500;
 
-/// The least cover by the primes of points from these points on: where a cover of their table
-/// leaves out a place, points are added to `found` for what it leaves out. `None` where none can be
-/// added, or the rounds are too many.
-fn exact_in_rounds(
-    alloc: Global,
-    on: &Cover,
-    dc: &Cover,
-    source: &Source,
-    proposer: &Proposer,
-    choice: Choice,
-    found: &mut PickedPoints,
-) -> Result<Option<Cover>, AllocError>
-    ghost sets: { SetLists }
-    requires dc { dc.now.size ≡ on.now.size }
-    requires source { IsSource on.now.size source.now }
-    requires same { StandsFor sets (lists_of on.now dc.now) source.now }
-    requires limits { IsWithinLimits format_limits on.now.size }
-    requires on { AreCubes on.now.size on.now.cubes }
-    requires found { IsFound choice (function_by (lists_of on.now dc.now) source.now) found.old }
-    ensures { IfOk result (λ o. IfSome o (λ list. list ≡ record
-        { size = on.now.size; cubes = exact_of choice sets })) }
-{
-    let mut is_least = true;
-    let mut last = Cover::new(alloc, on.shape());
-    let mut effort = Effort::none();
-    for _ in 0..MOST_ROUNDS {
-        let (points, columns) = (&found.points, &found.columns);
-        let list = cover_of_points(alloc, points, columns, choice, is_least, &last, &mut effort)?;
-        let left = left_out(alloc, on, dc, &list)?;
-        if left.is_empty() && is_least {
-            return Ok(Some(list));
-        }
-        is_least = asks_for_least(&left, &found.points, effort.tables);
-        let places = places_left_out(alloc, proposer, &left, &list)?;
-        last = list;
-        if left.is_empty() {
-            continue;
-        }
-        if !add_places(alloc, on, dc, source, &places, choice, found)? {
-            return Ok(None);
-        }
-    }
-    Ok(None)
-}
-
-/// The least cover by the primes of points, or none where the points that are proposed are not
-/// enough, or have too many primes. With `sampled` all that lies in neither the ON cubes nor the
-/// cubes outside is a don't-care.
+/// The least cover by the primes of points, which are picked in rounds: where a cover of their table
+/// leaves out a place, points are added for what it leaves out. `None` where the points that are
+/// proposed are not enough, or have too many primes, or the rounds are too many. With `sampled` all
+/// that lies in neither the ON cubes nor the cubes outside is a don't-care.
 pub(crate) fn exact_by_points(
     alloc: Global,
     on: &Cover,
@@ -152,5 +107,25 @@ pub(crate) fn exact_by_points(
     let mut found = PickedPoints::new(alloc, on.shape());
     let places = first_places(alloc, &proposer, on)?;
     add_places(alloc, on, dc, source, &places, choice, &mut found)?;
-    exact_in_rounds(alloc, on, dc, source, &proposer, choice, &mut found)
+    let mut is_least = true;
+    let mut last = Cover::new(alloc, on.shape());
+    let mut effort = Effort::none();
+    for _ in 0..MOST_ROUNDS {
+        let (points, columns) = (&found.points, &found.columns);
+        let list = cover_of_points(alloc, points, columns, choice, is_least, &last, &mut effort)?;
+        let left = left_out(alloc, on, dc, &list)?;
+        if left.is_empty() && is_least {
+            return Ok(Some(list));
+        }
+        is_least = asks_for_least(&left, &found.points, effort.tables);
+        let places = places_left_out(alloc, &proposer, &left, &list)?;
+        last = list;
+        if left.is_empty() {
+            continue;
+        }
+        if !add_places(alloc, on, dc, source, &places, choice, &mut found)? {
+            return Ok(None);
+        }
+    }
+    Ok(None)
 }

@@ -8,7 +8,7 @@ use Rattle.minimum.specs.Points.{lists_of}
 use Rattle.minimum.proofs.PrimeSources.{primes_among, stands_among}
 use Rattle.minimum.proofs.exact_minimum.exact_by_primes.Goals as goal
 
--- what the ON list and the DC list decide is the same of the lists alone
+-- what the ON list and the DC list of three lists decide, those lists alone decide
 by_lists : {X : Type 0} (sets : SetLists) (on dc : Cubes) → on ≡ record { size = sets.size; cubes = sets.on } → dc ≡ record { size = sets.size; cubes = sets.dc }
     → (answer : Size → List Cube → List Cube → X) → answer on.size on.cubes dc.cubes ≡ answer sets.size sets.on sets.dc
 by_lists sets on dc e f answer = ap (λ (l : Cubes). answer l.size l.cubes dc.cubes) e ∙ ap (λ (l : Cubes). answer sets.size sets.on l.cubes) f
@@ -17,6 +17,7 @@ by_lists sets on dc e f answer = ap (λ (l : Cubes). answer l.size l.cubes dc.cu
 abbrev two_lists : Size → List Cube → List Cube → SetLists
 two_lists size on dc = record { size = size; on = on; dc = dc; off = [] }
 
+-- their primes, as a list
 abbrev listed_primes : Size → List Cube → List Cube → Cubes
 listed_primes size on dc = record { size = size; cubes = primes_of (two_lists size on dc) }
 
