@@ -62,7 +62,7 @@ pub(crate) fn cover_of_points(
 }
 
 /// The ON cubes of which the list and the DC list leave out a place.
-fn left_out(alloc: Global, on: &Cover, dc: &Cover, list: &Cover) -> Result<Cover, AllocError>
+fn cubes_left_out(alloc: Global, on: &Cover, dc: &Cover, list: &Cover) -> Result<Cover, AllocError>
     requires dc { dc.now.size ≡ on.now.size }
     requires list { list.now.size ≡ on.now.size }
     ensures { IfOk result (λ left. left.cubes ≡ []
@@ -113,7 +113,7 @@ pub(crate) fn exact_by_points(
     for _ in 0..MOST_ROUNDS {
         let (points, columns) = (&found.points, &found.columns);
         let list = cover_of_points(alloc, points, columns, choice, is_least, &last, &mut effort)?;
-        let left = left_out(alloc, on, dc, &list)?;
+        let left = cubes_left_out(alloc, on, dc, &list)?;
         if left.is_empty() && is_least {
             return Ok(Some(list));
         }

@@ -40,8 +40,8 @@ returns-then-is_least g c =
     let size : list.size ≡ given.size = c.in_ok-list.ensures.size ∙ sym same.size in
     λ i. record { size = size i; cubes = cubes i }
 
-pub left_out-requires : goal.left_out-requires
-left_out-requires g c = record { dc = c.requires.0; list = c.in_ok-list.ensures.size ∙ sym c.requires.1.1.size }
+pub cubes_left_out-requires : goal.cubes_left_out-requires
+cubes_left_out-requires g c = record { dc = c.requires.0; list = c.in_ok-list.ensures.size ∙ sym c.requires.1.1.size }
 
 pub loop-preserved : goal.loop-preserved
 loop-preserved g c = c.in_ok-add_places-2.ensures

@@ -5,8 +5,8 @@ use Rattle.cover.specs.Cubes.{AreCubes}
 use Rattle.cover.specs.Places.{places}
 use Rattle.minimum.specs.Points.{lists_of}
 use Rattle.minimum.proofs.PickedPoints.{all_held, wanted_in}
-use Rattle.minimum.proofs.points.rounds.left_out.Goals as goal
-use Rattle.minimum.proofs.points.rounds.left_out.Goals.{then-not-index+in_ok-add_copy, else-not-index}
+use Rattle.minimum.proofs.points.rounds.cubes_left_out.Goals as goal
+use Rattle.minimum.proofs.points.rounds.cubes_left_out.Goals.{then-not-index+in_ok-add_copy, else-not-index}
 
 pub returns : goal.returns
 returns c = λ empty.

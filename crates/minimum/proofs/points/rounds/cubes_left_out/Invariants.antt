@@ -1,5 +1,5 @@
 use Rattle.std.proofs.Common.{◌≡◌, ℕ, ◌<◌, true, false, [], get_or}
-use Rattle.minimum.proofs.points.rounds.left_out.Given as goal
+use Rattle.minimum.proofs.points.rounds.cubes_left_out.Given as goal
 
 abbrev pub invariant-loop-k : goal.invariant-loop-k
 invariant-loop-k l = record {
