@@ -63,6 +63,9 @@ module _ (d e : Description) (same : HasSamePlaces d e) where
       ∙ ap (λ (s : Place → Bool). answer d.size s (places (dc_list e.file_type true e))) (fun_ext same.on)
       ∙ ap (λ (s : Place → Bool). answer d.size (places d.on) s) dc_is
 
+  pub same_primes : (let list : Cubes = record { size = e.size; cubes = primes_of (sets_of e true true) } in list) ≡ record { size = d.size; cubes = primes_of (sets_of d true true) }
+  same_primes = by_places (λ size on dc. let list : Cubes = record { size = size; cubes = primes_by size on dc } in list)
+
   pub same_essential : (let list : Cubes = record { size = e.size; cubes = essential_of (sets_of e true true) (primes_of (sets_of e true true)) } in list)
       ≡ record { size = d.size; cubes = essential_of (sets_of d true true) (primes_of (sets_of d true true)) }
   same_essential = by_places (λ size on dc. let list : Cubes = record { size = size; cubes = essential_by size on dc } in list)

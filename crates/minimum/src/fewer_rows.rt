@@ -1,8 +1,10 @@
-//! The answers for a description, of which long lists are taken with fewer rows.
+//! The answers for a description, of which lists are taken with fewer rows.
 //!
 //! What is asked depends on places alone, and not on the rows that give them. A table of truth, with
-//! a row for each point, takes far longer than the same places in few rows. (Its primes do not: the
-//! sum of many small rows is made sooner than these are merged.)
+//! a row for each point, takes far longer than the same places in few rows. Its primes do not: the
+//! sum of many small rows is made sooner than these are merged. But where rows of few literals were
+//! cut in two, each at an input of its own, sums of some of the rows depend on all these inputs, and
+//! grow with the power of two of the cuts.
 
 ghost use Rattle.std.specs.Prelude.{◌≡◌, IfOk, IfSome, true};
 ghost use Rattle.cube.specs.Cube.{Place};
@@ -12,7 +14,8 @@ ghost use Rattle.minimum.specs.Primes.{essential_of, exact_of, primes_of};
 ghost use Rattle.minimum.specs.SamePlaces.{HasSamePlaces};
 
 use crate::exact_minimum::{exact, exact_of_samples};
-use crate::of_pla::{essential_of_sets, essential_outside, off_alone};
+use crate::of_pla::{essential_of_sets, essential_outside, off_alone, primes_outside};
+use crate::prime_implicants::primes;
 use crate::way_hints::uses_points;
 use cover::{Cover, merge_rows};
 use covering::Choice;
@@ -56,9 +59,18 @@ fn are_nearly_points(list: &Cover) -> bool {
 // A list of so many rows is a long one.
 const LONG_LIST: usize = 2_000;
 
-// Whether merging rows may pay: with many inputs where the list is long or outputs
-// are several, and with few where both is so. Else what the rows take is little, beside primes or
-// points and the search.
+// What a description is asked for.
+#[derive(Clone, Copy)]
+enum Aim {
+    // All primes.
+    Primes,
+    // The essential ones, or a least cover.
+    Cover,
+}
+
+// Whether merging the rows of a list of points may pay: with many inputs where the list is long or
+// outputs are several, and with few where both is so. Else what the rows take is little, beside
+// primes or points and the search.
 fn is_worth_merging(list: &Cover) -> bool {
     let has_outputs = list.shape().outputs() > 1;
     let is_long = list.len() >= LONG_LIST;
@@ -68,25 +80,34 @@ fn is_worth_merging(list: &Cover) -> bool {
     has_outputs && is_long
 }
 
-// The list with fewer rows, if it is one of points and that pays.
-fn merged_points(list: &Cover) -> Result<Option<Cover>, AllocError>
+// Whether to merge the rows of the list: for primes with many inputs, unless they are points, and
+// else if they are points and that pays.
+fn is_to_be_merged(aim: Aim, list: &Cover) -> bool {
+    match aim {
+        Aim::Primes => uses_points(list.shape()) && !are_nearly_points(list),
+        Aim::Cover => is_worth_merging(list) && are_nearly_points(list),
+    }
+}
+
+// The list with fewer rows, if its rows are to be merged and some can be.
+fn merged_list(aim: Aim, list: &Cover) -> Result<Option<Cover>, AllocError>
     ensures size { IfOk result (λ found. IfSome found (λ fewer. fewer.size ≡ list.now.size)) }
     ensures places { IfOk result (λ found. IfSome found
         (λ fewer. (p : Place) → places fewer.cubes p ≡ places list.now.cubes p)) }
 {
-    if !is_worth_merging(list) || !are_nearly_points(list) {
+    if !is_to_be_merged(aim, list) {
         return Ok(None);
     }
     merge_rows(list)
 }
 
-// The description with lists of fewer rows, or `None` where merging rows does not pay.
-fn with_fewer_rows(pla: &Pla) -> Result<Option<Pla>, AllocError>
+// The description with lists of fewer rows, or `None` where none is merged.
+fn with_fewer_rows(aim: Aim, pla: &Pla) -> Result<Option<Pla>, AllocError>
     ensures { IfOk result (λ found. IfSome found (λ fewer. HasSamePlaces pla.now fewer)) }
 {
-    let on = merged_points(pla.on())?;
-    let dc = merged_points(pla.dc())?;
-    let off = merged_points(pla.off())?;
+    let on = merged_list(aim, pla.on())?;
+    let dc = merged_list(aim, pla.dc())?;
+    let off = merged_list(aim, pla.off())?;
     if on.is_none() && dc.is_none() && off.is_none() {
         return Ok(None);
     }
@@ -107,6 +128,28 @@ fn fewer_rows_or_given<'a>(fewer: &'a Option<Pla>, given: &'a Pla) -> &'a Pla
     }
 }
 
+/// The primes of the description's sets, in row order.
+///
+/// Under fr the DC-set is not made, unless that is less work: the primes are the complete sum of
+/// the places outside those that OFF alone holds.
+///
+/// # Errors
+///
+/// [`AllocError`] if memory is refused.
+pub fn primes_of_pla(alloc: Global, pla: &Pla) -> Result<Cover, AllocError>
+    ensures { IfOk result (λ list. list ≡ record {
+      size = pla.now.size;
+      cubes = primes_of (sets_of pla.now true true);
+    }) }
+{
+    let fewer = with_fewer_rows(Aim::Primes, pla)?;
+    let pla = fewer_rows_or_given(&fewer, pla);
+    match off_alone(pla)? {
+        Some(off) => primes_outside(&off),
+        None => primes(&pla::sets(alloc, pla, true, false)?),
+    }
+}
+
 /// The essential primes of the description's sets, in row order.
 ///
 /// # Errors
@@ -118,7 +161,7 @@ pub fn essential_of_pla(alloc: Global, pla: &Pla) -> Result<Cover, AllocError>
       cubes = essential_of (sets_of pla.now true true) (primes_of (sets_of pla.now true true));
     }) }
 {
-    let fewer = with_fewer_rows(pla)?;
+    let fewer = with_fewer_rows(Aim::Cover, pla)?;
     let pla = fewer_rows_or_given(&fewer, pla);
     match off_alone(pla)? {
         Some(off) => essential_outside(alloc, pla, &off),
@@ -138,7 +181,7 @@ pub fn exact_of_pla(alloc: Global, pla: &Pla, choice: Choice) -> Result<Cover, A
       cubes = exact_of choice (sets_of pla.now true true);
     }) }
 {
-    let fewer = with_fewer_rows(pla)?;
+    let fewer = with_fewer_rows(Aim::Cover, pla)?;
     let pla = fewer_rows_or_given(&fewer, pla);
     if let Some(off) = off_alone(pla)? {
         if let Some(list) = exact_of_samples(alloc, pla, off, choice)? {

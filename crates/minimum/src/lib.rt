@@ -60,8 +60,7 @@ pub use covering::{
 pub use essential_by_neighbours::{find_essential, find_essential_outside};
 pub use essential_primes::essential;
 pub use exact_minimum::exact;
-pub use fewer_rows::{essential_of_pla, exact_of_pla};
+pub use fewer_rows::{essential_of_pla, exact_of_pla, primes_of_pla};
 pub use laws::points_are_enough;
-pub use of_pla::primes_of_pla;
 pub use prime_implicants::primes;
 pub use prime_table::OfPrimes;

@@ -1,5 +1,4 @@
-//! The primes of a description, and steps to its other answers: its lists are made as far as they are
-//! needed.
+//! Steps to the answers for a description, whose lists are made as far as they are needed.
 
 ghost use Rattle.std.specs.Prelude.{◌≡◌, IfOk, IfSome, true};
 ghost use Rattle.cube.specs.Cube.{IsPlace, Place, difference as difference_of};
@@ -31,7 +30,7 @@ pub(crate) fn off_alone(pla: &Pla) -> Result<Option<Cover>, AllocError>
 }
 
 // The primes under fr: the complete sum outside these places, which OFF alone holds.
-fn primes_outside(off: &Cover) -> Result<Cover, AllocError>
+pub(crate) fn primes_outside(off: &Cover) -> Result<Cover, AllocError>
     ensures { (pla : Description) → pla.file_type ≡ FileType.Fr → off.now.size ≡ pla.size
         → ((p : Place) → IsPlace pla.size p
         → places off.now.cubes p ≡ difference_of (places pla.off) (places pla.on) p)
@@ -41,26 +40,6 @@ fn primes_outside(off: &Cover) -> Result<Cover, AllocError>
         }) }
 {
     off.complement()
-}
-
-/// The primes of the description's sets, in row order.
-///
-/// Under fr the DC-set is not made, unless that is less work: the primes are the complete sum of
-/// the places outside those that OFF alone holds.
-///
-/// # Errors
-///
-/// [`AllocError`] if memory is refused.
-pub fn primes_of_pla(alloc: Global, pla: &Pla) -> Result<Cover, AllocError>
-    ensures { IfOk result (λ list. list ≡ record {
-      size = pla.now.size;
-      cubes = primes_of (sets_of pla.now true true);
-    }) }
-{
-    match off_alone(pla)? {
-        Some(off) => primes_outside(&off),
-        None => primes(&pla::sets(alloc, pla, true, false)?),
-    }
 }
 
 // The essential primes of the sets.
