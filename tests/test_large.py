@@ -3,7 +3,10 @@
 A program may give up for want of memory at any time, and would still be proved. So each command is asked here for more
 rows, inputs, outputs, primes and columns than a list that it would be tempted to keep short has."""
 from itertools import combinations, product
+from random import Random
 
+from definition import Description
+from least import Answers
 from support import Case, ProgramTest, answer_in, closed, fault, folder_of, lines, on_input, pla, printed
 from worked import DIFFERENT, EQUAL, GAPS, NO_TAUTOLOGY, ON_OFF, PARTITION, TAUTOLOGY
 
@@ -191,6 +194,14 @@ class ManyPrimes(Large):
         rows = [f"{point} {point.count('1'):04b}" for point in points(12)[1:]]
         primes = [f"{cube} {marked(4, held)}" for cube, held in by_count(12, 4, 1)]
         self.each("a count of ones", (12, 4), rows, primes, ("primes",))
+
+    def test_primes_of_rows_cut_in_two(self):
+        """Rows of four inputs, each cut in two at one input more of its own, on which nothing depends: 36 of these inputs."""
+        chance = Random(1)
+        rows = [("".join(chance.choice("01-") for _ in range(4)), chance.choice(("001", "010", "011", "100", "110"))) for _ in range(36)]
+        cut = [f"{cube}{'-' * k}{bit}{'-' * (35 - k)} {out}" for k, (cube, out) in enumerate(rows) for bit in "01"]
+        primes = Answers(Description(4, 3, "f", tuple(rows))).primes
+        self.each("cut rows", (40, 3), cut, [f"{cube}{'-' * 36} {out}" for cube, out in primes], ("primes",))
 
     def test_a_table_of_many_columns(self):
         """A ring of six primes for each of 256 points that are apart: 1,536 columns, of which none is taken and none dropped."""
