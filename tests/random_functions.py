@@ -57,21 +57,22 @@ def rings(chance, inputs, outputs):
     return rows
 
 
-def lines(chance, inputs, outputs):
-    """Rows with few literals, each of which raises one or two of many outputs."""
+def lines(chance, inputs, outputs, kind):
+    """Rows with few literals, each of which marks one or two of many outputs."""
+    marks, rest = ("01", "~") if kind in ("fr", "fdr") else ("111-", "0")
     rows = []
     for _ in range(chance.randrange(outputs, 4 * outputs)):
-        raised, mark = chance.sample(range(outputs), chance.choice((1, 1, 2))), chance.choice("111-")
-        rows.append(("".join(chance.choice("01--") for _ in range(inputs)), "".join(mark if j in raised else "0" for j in range(outputs))))
+        raised, mark = chance.sample(range(outputs), chance.choice((1, 1, 2))), chance.choice(marks)
+        rows.append(("".join(chance.choice("01--") for _ in range(inputs)), "".join(mark if j in raised else rest for j in range(outputs))))
     return rows
 
 
 def drawn(chance):
     """A function."""
     kind = chance.choice(("f", "fd", "fr", "fdr"))
-    if kind in ("f", "fd") and chance.random() < 0.3:
+    if chance.random() < 0.3:
         inputs, outputs = chance.randrange(3, 7), chance.randrange(8, 15)
-        return Description(inputs, outputs, kind, tuple(lines(chance, inputs, outputs)))
+        return Description(inputs, outputs, kind, tuple(lines(chance, inputs, outputs, kind)))
     inputs, outputs = chance.randrange(1, 8), chance.randrange(1, 6)
     forms = [cubes, cubes, samples, table]
     if inputs > 2:
