@@ -62,7 +62,7 @@ NO_CUBES_OF_OFF = [(WAYS, "MOST_OF_OFF: usize = 200_000", "MOST_OF_OFF: usize = 
 FEW_CUBES_OF_OFF = [(WAYS, "MOST_OF_OFF: usize = 200_000", "MOST_OF_OFF: usize = 2"),
                     (WAYS, "MOST_ROWS_OF_OFF: usize = 4_000_000", "MOST_ROWS_OF_OFF: usize = 4")]
 MERGED = [
-    (MERGING, "LEAST_ROWS: usize = 64", "LEAST_ROWS: usize = 2"),
+    (MERGING, "LEAST_ROWS: usize = 8", "LEAST_ROWS: usize = 2"),
     ("minimum/fewer_rows", "LONG_LIST: usize = 2_000", "LONG_LIST: usize = 0"),
     ("minimum/fewer_rows", "row.literals().saturating_mul(4) < inputs.saturating_mul(3)", "inputs > 2000"),
     ("cover/merging/input_order", "count.saturating_mul(4).saturating_mul(step) >= rows.len()",

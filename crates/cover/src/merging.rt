@@ -22,7 +22,7 @@ use rows::{cube_of_output, is_same_symbol, opposite};
 use std::alloc::{AllocError, Global};
 
 // Lists of fewer rows stay as they are.
-const LEAST_ROWS: usize = 64;
+const LEAST_ROWS: usize = 8;
 
 // Lists that may take more steps than this stay as they are: rows times inputs times outputs.
 const MOST_STEPS: usize = 1_000_000_000;

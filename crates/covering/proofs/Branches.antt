@@ -1,5 +1,5 @@
 -- What a search over a table rests on: the leaf, the two branches, steps and columns outside the
--- budget.
+-- cutoff.
 use Rattle.std.proofs.Common.{◌≡◌, ◌≢◌, ℕ, zero, suc, ◌+◌, ◌<◌, ◌≤◌, ◌⊎◌, inl, inr, Bool, true, false, not, List, [], ◌∷◌, ◌++◌, eqb, replicate, length, map, refl, sym, ap, subst, ◌∙◌, arith}
 use Rattle.std.specs.Prelude.{Option, Some, None, filter, MatchBool, MatchOption, nat_lt}
 use Rattle.std.specs.List.{AllByRecursion, list_any}
@@ -51,7 +51,7 @@ below_first t c s x first h k m below a = elim (or_cases (has m t.taken) (has m 
 ]
 
 module _ (choice : Choice) (t : Table) (k w : ℕ) (s : List ℕ) (fits : length s ≤ k) (counts : sum_over (counted choice t.weights) s ≤ w) where
-  -- beyond the budget is after what is within it
+  -- beyond the cutoff is after what is within it
   pub later : NoneBelow choice t k w → (x : List ℕ) → IsCover t x → IsBeyond (counted choice t.weights) k w x → Precedes (counted choice t.weights) s x
   later low x h (inl b) = inl (omega arith)
   later low x h (inr b) = elim (low x h) [
@@ -62,7 +62,7 @@ module _ (choice : Choice) (t : Table) (k w : ℕ) (s : List ℕ) (fits : length
     ]
   ]
 
-  -- what is least with the first live column is least where no cover is below the budget
+  -- what is least with the first live column is least where no cover is below the cutoff
   pub taken_least : (c : ℕ) → has c t.live ≡ true → ((m : ℕ) → has m t.live ≡ true → c ≤ m) → NoneBelow choice t k w → IsLeast choice (take_column c t) s → IsLeast choice t s
   taken_least c live front low h =
       let back = take_back t c s live h.cover in
@@ -138,7 +138,7 @@ pub lead_steps : (choice : Choice) (t u : Table) (k w : ℕ) → IsTable t → S
 lead_steps choice t _ k w wt (done _) o a = a
 lead_steps choice t _ k w wt (more _ u v h s) o a = lead_steps choice t u k w wt h o (lead_step choice u v k w (steps_keep choice t u wt h).0 s o a)
 
--- ---- columns outside the budget
+-- ---- columns outside the cutoff
 
 module _ (test : ℕ → Bool) (t : Table) where
   pub kept_back : (x : List ℕ) → IsCover (keep_columns test t) x → IsCover t x

@@ -10,7 +10,7 @@ use Rattle.covering.proofs.Sets.{has_here, has_later}
 use Rattle.covering.proofs.Subsets.{minus, minus_length, minus_sum}
 use Rattle.covering.proofs.Sides.{all_has}
 use Rattle.covering.proofs.Renumbered.{rest_live}
-use Rattle.covering.proofs.Budgets.{sum_nothing}
+use Rattle.covering.proofs.Cutoffs.{sum_nothing}
 
 sum_even : (count : ℕ → ℕ) (k : ℕ) (xs ys : List ℕ) → length xs ≡ length ys → ((c : ℕ) → has c xs ≡ true → count c ≡ k) → ((c : ℕ) → has c ys ≡ true → count c ≡ k) → sum_over count xs ≡ sum_over count ys
 sum_even count k [] [] e f g = refl

@@ -86,7 +86,7 @@ scaled_sum : (a b c : ℕ) → a * (b + c) ≡ a * b + a * c
 scaled_sum zero b c = omega arith
 scaled_sum (suc a) b c = let k = scaled_sum a b c in omega arith
 
--- ---- the covers of a table, within a budget
+-- ---- the covers of a table, within a cutoff
 
 sum_scaled_costs : (one each : ℕ) (g scaled_cost : ℕ → ℕ) (cs : List ℕ) → ((c : ℕ) → has c cs ≡ true → scaled_cost c ≡ one + each * g c) → sum_over scaled_cost cs ≡ one * length cs + each * sum_over g cs
 sum_scaled_costs one each g scaled_cost [] f = omega arith
@@ -116,7 +116,7 @@ module _ (choice : Choice) (t : Table) (k w one each : ℕ) (scaled_costs loads 
       each = rows_hit (minus x t.taken) t.rows (rows_met t x t.rows wt h (rows_within t t.rows wt.rows) h.rows);
     }
 
-    -- more shares than the budget leaves are past the budget
+    -- more shares than the cutoff leaves are past the cutoff
     past : one * (k - length t.taken) + each * (w - sum_over (counted choice t.weights) t.taken) < sum_over (at scaled_costs) (minus x t.taken) → IsBeyond (counted choice t.weights) k w x
     past over =
         let a = minus_length 0 x t.taken h.rises wt.taken_rises h.taken in

@@ -16,7 +16,7 @@ pub mod Branches
 pub mod Rows
 pub mod Pushes
 pub mod Made
-pub mod Budgets
+pub mod Cutoffs
 pub mod TransposeSteps
 pub mod Dominance
 pub mod Signatures

@@ -1,4 +1,4 @@
--- Columns decided one by one, with a cover within the budget.
+-- Columns decided one by one, with a cover within the cutoff.
 use Rattle.std.proofs.Common.{◌≡◌, ◌≢◌, ℕ, ◌+◌, ◌<◌, ◌≤◌, ◌⊎◌, inl, inr, Bool, true, false, List, [], ◌∷◌, ◌++◌, length, map, not, eqb, refl, sym, ap, subst, ◌∙◌, arith}
 use Rattle.std.specs.Prelude.{filter, Option, Some, None, MatchOption}
 use Rattle.std.specs.List.{AllByRecursion, list_any, range_with_len}
@@ -16,12 +16,12 @@ use Rattle.covering.proofs.Lagrange.{marks_at}
 use Rattle.covering.proofs.Made.{table_same}
 use Rattle.covering.proofs.Reduced.{filter_at, eqb_swap}
 
--- within the budget and beyond it
+-- within the cutoff and beyond it
 not_both : (choice : Choice) (t : Table) (k w : ℕ) (s : List ℕ) → IsAnswer choice t k w s → ((k < length s) ⊎ (w < sum_over (counted choice t.weights) s)) → ⊥
 not_both choice t k w s a (inl l) = let f = a.fits in omega arith
 not_both choice t k w s a (inr l) = let f = a.counts in omega arith
 
--- what is least is within the budget too
+-- what is least is within the cutoff too
 least_within : (choice : Choice) (t : Table) (k w : ℕ) (s x : List ℕ) → IsAnswer choice t k w s → NoneBelow choice t k w → IsLeast choice t x → (length x ≤ k) × (sum_over (counted choice t.weights) x ≤ w)
 least_within choice t k w s x a none h =
     let fits = a.fits in
@@ -49,11 +49,11 @@ module _ (choice : Choice) (t : Table) (c k w : ℕ) (s : List ℕ) (none : None
 pub witness_taken : (choice : Choice) (t : Table) (c k w : ℕ) (s : List ℕ) → has c s ≡ true → IsAnswer choice t k w s → IsAnswer choice (take_column c t) k w s
 witness_taken choice t c k w s h a = record { cover = take_cover t c s a.cover h; fits = a.fits; counts = a.counts }
 
--- a column that the budget rules out
+-- a column that the cutoff rules out
 pub outside_taken : (choice : Choice) (t : Table) (c k w : ℕ) → NoneWithin choice (take_column c t) k w → IsOutside choice t k w c
 outside_taken choice t c k w none x h there = none x (take_cover t c x h there)
 
--- ---- columns that no cover within the budget has
+-- ---- columns that no cover within the cutoff has
 
 module _ (choice : Choice) (test : ℕ → Bool) (t : Table) (k w : ℕ) (s : List ℕ) (wt : IsTable t) (partial : IsPartial choice k w t s) (out : (c : ℕ) → has c t.live ≡ true → test c ≡ false → IsOutside choice t k w c) where
   has_kept : (c : ℕ) → has c s ≡ true → has c t.live ≡ true → test c ≡ true

@@ -1,7 +1,7 @@
--- What a search within a budget answers.
+-- What a search within a cutoff answers.
 use Rattle.std.specs.Prelude.{◌≡◌, ℕ, ◌<◌, ◌≤◌, ◌+◌, ◌⊎◌, Bool, true, false, ◌==◌, List, length, map, filter, slice_index_or, Option, Some, None, Vec}
 use Rattle.std.specs.Option.{option_map}
-use Rattle.covering.specs.declared.bound.Budget.{Budget}
+use Rattle.covering.specs.declared.bound.Cutoff.{Cutoff}
 use Rattle.covering.specs.declared.choice.Choice.{Choice}
 use Rattle.covering.specs.declared.choice.Choice.TheVariants.{Literals}
 use Rattle.covering.specs.declared.in_order.Partial.{Partial}
@@ -21,27 +21,27 @@ abbrev pub NoneBelow : Choice → Table → ℕ → ℕ → Type 0
 NoneBelow choice t k w = (x : List ℕ) → IsCover t x → (k < length x)
     ⊎ ((length x ≡ k) × (w ≤ sum_over (counted choice t.weights) x))
 
--- a cover within the budget
+-- a cover within the cutoff
 pub record IsAnswer (choice : Choice) (t : Table) (k w : ℕ) (s : List ℕ) : Type 0 where
   pub cover : IsCover t s
   pub fits : length s ≤ k
   pub counts : sum_over (counted choice t.weights) s ≤ w
 
--- a cover within the budget, or none because there is none
+-- a cover within the cutoff, or none because there is none
 abbrev pub Answers : Choice → Table → ℕ → ℕ → Option (List ℕ) → Type 0
 Answers choice t k w None = NoneWithin choice t k w
 Answers choice t k w (Some s) = IsAnswer choice t k w s
 
--- the same, of the list that a search within a budget gives
-abbrev pub AnswersWithin : {Z : Type 0} → Choice → Table → Budget → Option (Vec ℕ Z) → Type 0
-AnswersWithin choice t budget found =
-    Answers choice t budget.columns budget.cost (option_map (λ v. v.items) found)
+-- the same, of the list that a search within a cutoff gives
+abbrev pub AnswersWithin : {Z : Type 0} → Choice → Table → Cutoff → Option (Vec ℕ Z) → Type 0
+AnswersWithin choice t cutoff found =
+    Answers choice t cutoff.columns cutoff.cost (option_map (λ v. v.items) found)
 
 -- what is answered for the second table is right for the first
 abbrev pub Leads : Choice → ℕ → ℕ → Table → Table → Type 0
 Leads choice k w t u = (o : Option (List ℕ)) → Answers choice u k w o → Answers choice t k w o
 
--- every cover with the column is beyond the budget
+-- every cover with the column is beyond the cutoff
 abbrev pub IsOutside : Choice → Table → ℕ → ℕ → ℕ → Type 0
 IsOutside choice t k w c = (x : List ℕ) → IsCover t x → has c x ≡ true
     → IsBeyond (counted choice t.weights) k w x
@@ -96,7 +96,7 @@ IsServed choice t keep = (x : List ℕ) → IsCover t x → (y : List ℕ) × Is
     × (length y ≤ length x) × (sum_over (counted choice t.weights) y
     ≤ sum_over (counted choice t.weights) x)
 
--- a table in which to search instead, whatever the budget, with no more live columns
+-- a table in which to search instead, whatever the cutoff, with no more live columns
 pub record IsWeaklyReduced (choice : Choice) (t u : Table) : Type 0 where
   pub leads : (k w : ℕ) → Leads choice k w t u
   pub live : length u.live ≤ length t.live
@@ -106,15 +106,15 @@ pub record IsWeakStep (choice : Choice) (t u : Table) : Type 0 where
   pub is : IsWeaklyReduced choice t u
   pub smaller : length u.live + length u.rows < length t.live + length t.rows
 
--- a cover within a budget below which there is none
+-- a cover within a cutoff below which there is none
 pub record IsPartial (choice : Choice) (k w : ℕ) (t : Table) (s : List ℕ) : Type 0 where
   pub none : NoneBelow choice t k w
   pub witness : IsAnswer choice t k w s
 
 -- the same, of a partial solution and its witness
-abbrev pub IsPartialWithin : Choice → Budget → Partial → Type 0
-IsPartialWithin choice budget p =
-    IsPartial choice budget.columns budget.cost p.table p.witness.items
+abbrev pub IsPartialWithin : Choice → Cutoff → Partial → Type 0
+IsPartialWithin choice cutoff p =
+    IsPartial choice cutoff.columns cutoff.cost p.table p.witness.items
 
 -- what is least in the second table is least in the first, which has all its live columns
 pub record Continues (choice : Choice) (t u : Table) : Type 0 where

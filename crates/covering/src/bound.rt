@@ -1,4 +1,4 @@
-//! Budgets, the scaled costs of columns under a bound, and the columns that its gap leaves. The weights
+//! Cutoffs, the scaled costs of columns under a bound, and the columns that its gap leaves. The weights
 //! of rows come from `warm_start`, whose steps are in `heuristics`; here and in `lagrangian` they are
 //! checked.
 
@@ -12,7 +12,7 @@ use std::alloc::{AllocError, Global};
 
 /// What a cover may have at most.
 #[derive(Clone, Copy)]
-pub(crate) struct Budget {
+pub(crate) struct Cutoff {
     /// The number of its columns.
     pub(crate) columns: usize,
     /// Their cost, all together.

@@ -1,7 +1,7 @@
 //! Column dominance: drop a column if another is in all its rows and may replace it.
 //!
 //! In a reduction the other one costs less, or as much and has a smaller number. In a search within
-//! a budget, which asks for any cover, it costs no more. It is in each row of the dropped column,
+//! a cutoff, which asks for any cover, it costs no more. It is in each row of the dropped column,
 //! so candidates are looked for in a shortest one. Most of these are ruled out by one word: the
 //! signature of a column has the bits of its rows, and a column that is in all rows of another has
 //! all bits of that one's.
@@ -346,7 +346,7 @@ impl Table {
     }
 
     /// Drops columns that others dominate which cost no more, in a search for some cover within a
-    /// budget; answers whether there was one.
+    /// cutoff; answers whether there was one.
     pub(crate) fn drop_weakly_dominated_columns(
         &mut self,
         alloc: Global,

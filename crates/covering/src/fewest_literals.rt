@@ -4,7 +4,7 @@
 ghost use Rattle.std.specs.Prelude.{IfOk, MatchOption};
 ghost use Rattle.covering.specs.Search.{HasFewer, IsBest, IsFewest};
 
-use crate::bound::Budget;
+use crate::bound::Cutoff;
 use crate::choice::{Choice, total_cost};
 use crate::search::UNLIMITED;
 use crate::table::Table;
@@ -27,8 +27,8 @@ impl Table {
         let Some(cost) = literals.checked_sub(1) else {
             return Ok(None);
         };
-        let budget = Budget { columns, cost };
-        let fewer = self.find_or_refute(alloc, Choice::Literals, budget, warm_start, UNLIMITED)?;
+        let cutoff = Cutoff { columns, cost };
+        let fewer = self.find_or_refute(alloc, Choice::Literals, cutoff, warm_start, UNLIMITED)?;
         Ok(fewer)
     }
 
@@ -69,8 +69,8 @@ impl Table {
         cost: u128,
         warm_start: &mut WarmStart,
     ) -> Result<u128, AllocError> {
-        let budget = Budget { columns, cost };
-        self.columns_within_budget(alloc, Choice::Literals, budget, warm_start)?;
+        let cutoff = Cutoff { columns, cost };
+        self.columns_within_cutoff(alloc, Choice::Literals, cutoff, warm_start)?;
         Ok(cost.saturating_sub(u128::from(warm_start.shortfall())))
     }
 }

@@ -1,9 +1,9 @@
 //! The first of the best covers in list order: columns are decided one by one.
 //!
-//! If the witness, a cover within the budget, has the next column, so has the least cover; else it is
-//! asked whether some cover within the budget has it, which gives a new witness or drops the column. A
+//! If the witness, a cover within the cutoff, has the next column, so has the least cover; else it is
+//! asked whether some cover within the cutoff has it, which gives a new witness or drops the column. A
 //! batch of columns is asked for at once, by a further row of them: if then no cover is within the
-//! budget, all are dropped. From time to time what is left is reduced: without the columns that were
+//! cutoff, all are dropped. From time to time what is left is reduced: without the columns that were
 //! dropped, more of them are dominated.
 
 ghost use Rattle.std.specs.Prelude.{◌≡◌, ◌≤◌, ℕ, IfOk, filter, map, true, false};
@@ -12,7 +12,7 @@ ghost use Rattle.covering.specs.Table.{has};
 ghost use Rattle.covering.specs.Cover.{IsLeast};
 ghost use Rattle.covering.specs.Search.{Continues, IsBest, IsPartialWithin, is_blank, keep_columns, marked};
 
-use crate::bound::Budget;
+use crate::bound::Cutoff;
 use crate::choice::{Choice, total_cost};
 use crate::columns::{contains, copy_of};
 use crate::marks::{all_but, others};
@@ -23,7 +23,7 @@ use heuristics::batch;
 use std::alloc::{AllocError, Global};
 use warm_start::is_worth_a_bound;
 
-/// A partial solution: the table of what is undecided, and a cover of it within the budget.
+/// A partial solution: the table of what is undecided, and a cover of it within the cutoff.
 struct Partial {
     table: Table,
     witness: Vec<usize>,
@@ -54,19 +54,19 @@ impl Partial {
         }
     }
 
-    /// Drops a batch of live columns, from `column` on, if no cover within the budget has one of
+    /// Drops a batch of live columns, from `column` on, if no cover within the cutoff has one of
     /// them; else such a cover is the witness. Nothing changes if they are fewer than two or the
     /// question is given up.
     fn ask_for_many(
         mut self,
         alloc: Global,
         choice: Choice,
-        budget: Budget,
+        cutoff: Cutoff,
         column: usize,
         questions: &mut Questions,
     ) -> Result<Partial, AllocError>
-        requires { IsPartialWithin choice budget self }
-        ensures partial { IfOk result (IsPartialWithin choice budget) }
+        requires { IsPartialWithin choice cutoff self }
+        ensures partial { IfOk result (IsPartialWithin choice cutoff) }
         ensures next { IfOk result (λ s. Continues choice self.table s.table) }
     {
         let marks = batch(
@@ -77,7 +77,7 @@ impl Partial {
             questions.batch_size,
             self.table.columns(),
         )?;
-        let Some(answer) = questions.ask_for_marked(alloc, choice, budget, &self.table, &marks)?
+        let Some(answer) = questions.ask_for_marked(alloc, choice, cutoff, &self.table, &marks)?
         else {
             return Ok(self);
         };
@@ -93,19 +93,19 @@ impl Partial {
         }
     }
 
-    /// Takes `column`, the first live one, if a cover within the budget has it, and else drops it.
+    /// Takes `column`, the first live one, if a cover within the cutoff has it, and else drops it.
     fn ask_for_one(
         mut self,
         alloc: Global,
         choice: Choice,
-        budget: Budget,
+        cutoff: Cutoff,
         column: usize,
         questions: &mut Questions,
     ) -> Result<Partial, AllocError>
-        requires partial { IsPartialWithin choice budget self }
+        requires partial { IsPartialWithin choice cutoff self }
         requires live { has column self.table.live ≡ true }
         requires first { (c : ℕ) → has c self.table.live ≡ true → column ≤ c }
-        ensures partial { IfOk result (IsPartialWithin choice budget) }
+        ensures partial { IfOk result (IsPartialWithin choice cutoff) }
         ensures next { IfOk result (λ s. Continues choice self.table s.table) }
         ensures gone { IfOk result (λ s. has column s.table.live ≡ false) }
     {
@@ -114,7 +114,7 @@ impl Partial {
             self.table = with;
             return Ok(self);
         }
-        match questions.ask(alloc, choice, budget, &with, UNLIMITED)? {
+        match questions.ask(alloc, choice, cutoff, &with, UNLIMITED)? {
             Some(witness) => Ok(Partial {
                 table: with,
                 witness,
@@ -126,43 +126,43 @@ impl Partial {
         }
     }
 
-    /// Drops the columns that row weights show to be in no cover within the budget.
-    fn drop_columns_over_budget_once(
+    /// Drops the columns that row weights show to be in no cover within the cutoff.
+    fn drop_columns_over_cutoff_once(
         self,
         alloc: Global,
         choice: Choice,
-        budget: Budget,
+        cutoff: Cutoff,
         questions: &mut Questions,
     ) -> Result<Partial, AllocError>
-        requires { IsPartialWithin choice budget self }
-        ensures partial { IfOk result (IsPartialWithin choice budget) }
+        requires { IsPartialWithin choice cutoff self }
+        ensures partial { IfOk result (IsPartialWithin choice cutoff) }
         ensures next { IfOk result (λ s. Continues choice self.table s.table) }
     {
         match self
             .table
-            .columns_within_budget(alloc, choice, budget, &mut questions.warm_start)?
+            .columns_within_cutoff(alloc, choice, cutoff, &mut questions.warm_start)?
         {
             Some(keep) => Ok(self.keep_columns_marked(&keep)),
             None => unreachable!(),
         }
     }
 
-    /// Drops columns that are in no cover within the budget, until row weights show few more.
-    fn drop_columns_over_budget(
+    /// Drops columns that are in no cover within the cutoff, until row weights show few more.
+    fn drop_columns_over_cutoff(
         self,
         alloc: Global,
         choice: Choice,
-        budget: Budget,
+        cutoff: Cutoff,
         questions: &mut Questions,
     ) -> Result<Partial, AllocError>
-        requires { IsPartialWithin choice budget self }
-        ensures partial { IfOk result (IsPartialWithin choice budget) }
+        requires { IsPartialWithin choice cutoff self }
+        ensures partial { IfOk result (IsPartialWithin choice cutoff) }
         ensures next { IfOk result (λ s. Continues choice self.table s.table) }
     {
         let mut partial = self;
         loop {
             let live = partial.table.live_columns().len();
-            partial = partial.drop_columns_over_budget_once(alloc, choice, budget, questions)?;
+            partial = partial.drop_columns_over_cutoff_once(alloc, choice, cutoff, questions)?;
             let still_live = partial.table.live_columns().len();
             if live <= still_live || !is_worth_a_bound(live, still_live) {
                 return Ok(partial);
@@ -171,25 +171,25 @@ impl Partial {
     }
 
     /// The reduced table and a cover of it that a local search finds; unchanged where it is not
-    /// worth a reduction or no cover within the budget is found.
+    /// worth a reduction or no cover within the cutoff is found.
     fn reduce(
         self,
         alloc: Global,
         choice: Choice,
-        budget: Budget,
+        cutoff: Cutoff,
         questions: &mut Questions,
     ) -> Result<Partial, AllocError>
-        requires { IsPartialWithin choice budget self }
-        ensures partial { IfOk result (IsPartialWithin choice budget) }
+        requires { IsPartialWithin choice cutoff self }
+        ensures partial { IfOk result (IsPartialWithin choice cutoff) }
         ensures next { IfOk result (λ s. Continues choice self.table s.table) }
     {
         if !questions.is_worth_a_reduction(self.table.live_columns().len()) {
             return Ok(self);
         }
         let table = self.table.cyclic_core(alloc, choice)?;
-        let goal = table.goal(choice, budget);
+        let goal = table.goal(choice, cutoff);
         let steps = steps_in_reduced(table.row_lists().len());
-        match table.find_by_local_search(alloc, choice, budget, goal, &self.witness, steps)? {
+        match table.find_by_local_search(alloc, choice, cutoff, goal, &self.witness, steps)? {
             Some(witness) => {
                 questions.note_reduction(table.live_columns().len());
                 Ok(Partial { table, witness })
@@ -206,28 +206,28 @@ impl Partial {
         self,
         alloc: Global,
         choice: Choice,
-        budget: Budget,
+        cutoff: Cutoff,
         column: usize,
         questions: &mut Questions,
     ) -> Result<Partial, AllocError>
-        requires partial { IsPartialWithin choice budget self }
+        requires partial { IsPartialWithin choice cutoff self }
         requires first { (c : ℕ) → has c self.table.live ≡ true → column ≤ c }
-        ensures partial { IfOk result (IsPartialWithin choice budget) }
+        ensures partial { IfOk result (IsPartialWithin choice cutoff) }
         ensures next { IfOk result (λ s. Continues choice self.table s.table) }
         ensures gone { IfOk result (λ s. has column s.table.live ≡ false) }
     {
         if !contains(self.table.live_columns(), column) {
             return Ok(self);
         }
-        let partial = self.ask_for_many(alloc, choice, budget, column, questions)?;
+        let partial = self.ask_for_many(alloc, choice, cutoff, column, questions)?;
         if !contains(partial.table.live_columns(), column) {
-            return partial.drop_columns_over_budget(alloc, choice, budget, questions);
+            return partial.drop_columns_over_cutoff(alloc, choice, cutoff, questions);
         }
         if contains(&partial.witness, column) {
-            return partial.ask_for_one(alloc, choice, budget, column, questions);
+            return partial.ask_for_one(alloc, choice, cutoff, column, questions);
         }
-        let partial = partial.ask_for_one(alloc, choice, budget, column, questions)?;
-        partial.drop_columns_over_budget(alloc, choice, budget, questions)
+        let partial = partial.ask_for_one(alloc, choice, cutoff, column, questions)?;
+        partial.drop_columns_over_cutoff(alloc, choice, cutoff, questions)
     }
 }
 
@@ -243,7 +243,7 @@ impl Table {
         requires { IsBest choice self.now best.items }
         ensures { IfOk result (λ v. IsLeast choice self.now v.items) }
     {
-        let budget = Budget {
+        let cutoff = Cutoff {
             columns: best.len(),
             cost: total_cost(choice, self.literals(), &best),
         };
@@ -252,14 +252,14 @@ impl Table {
             table: self.copy(alloc)?,
             witness: best,
         };
-        partial = partial.drop_columns_over_budget(alloc, choice, budget, questions)?;
+        partial = partial.drop_columns_over_cutoff(alloc, choice, cutoff, questions)?;
         questions.warm_start.hurry();
         for column in 0..self.columns() {
             if partial.table.is_solved() {
                 return copy_of(alloc, partial.table.taken_columns());
             }
-            partial = partial.decide_column(alloc, choice, budget, column, questions)?;
-            partial = partial.reduce(alloc, choice, budget, questions)?;
+            partial = partial.decide_column(alloc, choice, cutoff, column, questions)?;
+            partial = partial.reduce(alloc, choice, cutoff, questions)?;
         }
         copy_of(alloc, partial.table.taken_columns())
     }

@@ -23,8 +23,8 @@
 //! those that share its rarest column or its shortest row (Rudell, Logic synthesis for VLSI design,
 //! 1989). The least cover is found by its length first: shorter covers are asked for until there is
 //! none, and with literals covers with fewer. Then its columns are decided in list order: one of
-//! the witness, a known cover within the budget, is taken, and of any other it is asked whether a
-//! cover within the budget has it. A question is answered by a search that branches on any column;
+//! the witness, a known cover within the cutoff, is taken, and of any other it is asked whether a
+//! cover within the cutoff has it. A question is answered by a search that branches on any column;
 //! each of its tables is reduced, also by weak column dominance, and bounded by weights of its rows
 //! in whole numbers (Coudert, On solving covering problems, 1996). Weights, witnesses and branches
 //! are hints, which are checked before they are used. Rows that fall into parts which share no

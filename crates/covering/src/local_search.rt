@@ -1,14 +1,14 @@
-//! Covers within a budget that a local search finds.
+//! Covers within a cutoff that a local search finds.
 //!
 //! The columns that a local search answers are a hint. With the taken ones they are an answer if
-//! they are a cover and within the budget, which is tested; if not, there may still be another one.
+//! they are a cover and within the cutoff, which is tested; if not, there may still be another one.
 
 ghost use Rattle.std.specs.Prelude.{◌≡◌, ◌&&◌, ◌||◌, IfOk, IfSome, filter};
 ghost use Rattle.std.specs.List.{range_with_len};
 ghost use Rattle.covering.specs.Table.{has, RisesFrom};
 ghost use Rattle.covering.specs.Search.{IsAnswer, marked};
 
-use crate::bound::Budget;
+use crate::bound::Cutoff;
 use crate::choice::{Choice, total_cost};
 use crate::columns::{rising_contains, rising_meets_all};
 use crate::marks::is_marked;
@@ -53,16 +53,16 @@ fn taken_and_marked(
 
 impl Table {
     /// The rising list of the taken columns and the marked live ones; `None` if it is no cover or
-    /// not within the budget.
+    /// not within the cutoff.
     fn cover_from_marks(
         &self,
         alloc: Global,
         choice: Choice,
-        budget: Budget,
+        cutoff: Cutoff,
         marks: &[bool],
     ) -> Result<Option<Vec<usize>>, AllocError>
-        ensures { IfOk result (λ o. IfSome o (λ v. IsAnswer choice self.now budget.columns
-            budget.cost v.items)) }
+        ensures { IfOk result (λ o. IfSome o (λ v. IsAnswer choice self.now cutoff.columns
+            cutoff.cost v.items)) }
     {
         let cover = taken_and_marked(
             alloc,
@@ -71,10 +71,10 @@ impl Table {
             marks,
             self.columns(),
         )?;
-        if budget.columns < cover.len() {
+        if cutoff.columns < cover.len() {
             return Ok(None);
         }
-        if budget.cost < total_cost(choice, self.literals(), &cover) {
+        if cutoff.cost < total_cost(choice, self.literals(), &cover) {
             return Ok(None);
         }
         if !rising_meets_all(&cover, self.row_lists()) {
@@ -83,25 +83,25 @@ impl Table {
         Ok(Some(cover))
     }
 
-    /// A cover within the budget, if a local search of so many steps finds one; `None` does not say
+    /// A cover within the cutoff, if a local search of so many steps finds one; `None` does not say
     /// that there is none. It starts with the live columns of the hint, and ends early at the goal.
     pub(crate) fn find_by_local_search(
         &self,
         alloc: Global,
         choice: Choice,
-        budget: Budget,
+        cutoff: Cutoff,
         goal: Goal,
         hint: &[usize],
         steps: usize,
     ) -> Result<Option<Vec<usize>>, AllocError>
-        ensures { IfOk result (λ o. IfSome o (λ v. IsAnswer choice self.now budget.columns
-            budget.cost v.items)) }
+        ensures { IfOk result (λ o. IfSome o (λ v. IsAnswer choice self.now cutoff.columns
+            cutoff.cost v.items)) }
     {
         let compact = self.compact(alloc, choice)?;
         let steps = steps.min(MOST_STEPS);
         let live = self.live_columns();
         let found = local_search(alloc, &compact, live, self.columns(), hint, goal, steps)?;
         let marks = marks_of(alloc, self.live_columns(), &found, self.columns())?;
-        self.cover_from_marks(alloc, choice, budget, &marks)
+        self.cover_from_marks(alloc, choice, cutoff, &marks)
     }
 }

@@ -1,4 +1,4 @@
-//! Questions on the way to the least cover: whether there is a cover within a budget.
+//! Questions on the way to the least cover: whether there is a cover within a cutoff.
 //!
 //! Each starts from the row weights of the one before, and is counted. A question about a batch of
 //! columns may look at a few tables only; if they do not suffice the first column is asked for alone.
@@ -10,7 +10,7 @@ ghost use Rattle.covering.specs.Table.{IsWithin, RisesFrom};
 ghost use Rattle.covering.specs.Search.{AnswersWithin, marked};
 ghost use Rattle.covering.specs.Steps.{with_rows};
 
-use crate::bound::Budget;
+use crate::bound::Cutoff;
 use crate::choice::Choice;
 use crate::marks::marked_columns;
 use crate::search::Stop;
@@ -125,17 +125,17 @@ impl Questions {
         }
     }
 
-    /// A cover of the table within the budget, or none if there is none; branches into no more than
+    /// A cover of the table within the cutoff, or none if there is none; branches into no more than
     /// `most_tables` tables, and is `Spent` if they do not suffice. Learns for the next question.
     pub(crate) fn ask(
         &mut self,
         alloc: Global,
         choice: Choice,
-        budget: Budget,
+        cutoff: Cutoff,
         table: &Table,
         most_tables: u64,
     ) -> Result<Option<Vec<usize>>, Stop>
-        ensures { IfOk result (AnswersWithin choice table.now budget) }
+        ensures { IfOk result (AnswersWithin choice table.now cutoff) }
     {
         let before = self.warm_start.effort();
         let answer = {
@@ -144,7 +144,7 @@ impl Questions {
             let answer = table.find_or_refute_for_order(
                 alloc,
                 choice,
-                budget,
+                cutoff,
                 &mut warm_start,
                 most_tables,
             );
@@ -165,12 +165,12 @@ impl Questions {
         &mut self,
         alloc: Global,
         choice: Choice,
-        budget: Budget,
+        cutoff: Cutoff,
         table: &Table,
     ) -> Result<Option<Option<Vec<usize>>>, AllocError>
-        ensures { IfOk result (λ r. IfSome r (AnswersWithin choice table.now budget)) }
+        ensures { IfOk result (λ r. IfSome r (AnswersWithin choice table.now cutoff)) }
     {
-        match self.ask(alloc, choice, budget, table, BATCH_TABLES) {
+        match self.ask(alloc, choice, cutoff, table, BATCH_TABLES) {
             Ok(witness) => Ok(Some(witness)),
             Err(Stop::Spent) => {
                 self.batch_size = 1;
@@ -186,16 +186,16 @@ impl Questions {
         &mut self,
         alloc: Global,
         choice: Choice,
-        budget: Budget,
+        cutoff: Cutoff,
         table: &Table,
         marks: &[bool],
     ) -> Result<Option<Option<Vec<usize>>>, AllocError>
         ensures { IfOk result (λ r. IfSome r (AnswersWithin choice (with_rows table.now
-            (table.now.rows ++ filter (marked marks.now) table.now.live ∷ [])) budget)) }
+            (table.now.rows ++ filter (marked marks.now) table.now.live ∷ [])) cutoff)) }
     {
         match table.with_marked_row(alloc, marks)? {
             None => Ok(None),
-            Some(extended) => self.ask_briefly(alloc, choice, budget, &extended),
+            Some(extended) => self.ask_briefly(alloc, choice, cutoff, &extended),
         }
     }
 }

@@ -142,7 +142,7 @@ impl Table {
     }
 
     /// Takes the essential columns or else makes the first due pass that changes the table, in a
-    /// search for some cover within a budget; answers whether it changed. `due` is what is due
+    /// search for some cover within a cutoff; answers whether it changed. `due` is what is due
     /// then. The lists are memory for the rows of each column.
     fn reduce_weakly_once(
         &mut self,
@@ -167,7 +167,7 @@ impl Table {
         Ok(is_changed)
     }
 
-    /// The table after all passes that are due, in a search for some cover within a budget. The lists
+    /// The table after all passes that are due, in a search for some cover within a cutoff. The lists
     /// are memory for the rows of each column.
     pub(crate) fn reduce_weakly(
         self,

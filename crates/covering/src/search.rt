@@ -1,18 +1,18 @@
-//! Whether there is a cover within a budget.
+//! Whether there is a cover within a cutoff.
 //!
-//! A budget is a number of columns and a cost. A search answers a cover within it, or that there is
+//! A cutoff is a number of columns and a cost. A search answers a cover within it, or that there is
 //! none: it prunes the table, branches on a column, first taken and then dropped, and prunes on. A
 //! table is pruned by the steps of a reduction, by dropping columns that another one dominates and
 //! that cost no less, and by weights of its rows (the dual bound): if the weights are more than the
-//! budget there is no cover within it, and a column with more slack than the remaining gap is in
-//! none. Any cover within the budget is a right answer, so any order of branches serves.
+//! cutoff there is no cover within it, and a column with more slack than the remaining gap is in
+//! none. Any cover within the cutoff is a right answer, so any order of branches serves.
 
 ghost use Rattle.std.specs.Prelude.{◌≡◌, ◌≤◌, ◌-◌, ℕ, [], IfOk, MatchOption, MatchBool, length, true, false};
 ghost use Rattle.covering.specs.Table.{IsTable, has};
 ghost use Rattle.covering.specs.Cover.{counted, sum_over};
 ghost use Rattle.covering.specs.Search.{NoneWithin, AnswersWithin, IsPruned, IsOutside, marked};
 
-use crate::bound::{Budget, columns_within_gap, limit_of, scaled_costs};
+use crate::bound::{Cutoff, columns_within_gap, limit_of, scaled_costs};
 use crate::choice::{Choice, cost, total_cost};
 use crate::columns::{contains, copy_of};
 use crate::lagrangian::lagrangian;
@@ -99,38 +99,38 @@ fn live_costs(
 }
 
 impl Table {
-    /// Whether the taken columns alone go past the budget.
-    fn is_over_budget(&self, choice: Choice, budget: Budget) -> bool
-        ensures { MatchBool result (NoneWithin choice self.now budget.columns budget.cost)
-            ((length self.now.taken ≤ budget.columns)
-            × (sum_over (counted choice self.now.weights) self.now.taken ≤ budget.cost)) }
+    /// Whether the taken columns alone go past the cutoff.
+    fn is_over_cutoff(&self, choice: Choice, cutoff: Cutoff) -> bool
+        ensures { MatchBool result (NoneWithin choice self.now cutoff.columns cutoff.cost)
+            ((length self.now.taken ≤ cutoff.columns)
+            × (sum_over (counted choice self.now.weights) self.now.taken ≤ cutoff.cost)) }
     {
-        if self.taken_columns().len() > budget.columns {
+        if self.taken_columns().len() > cutoff.columns {
             return true;
         }
-        total_cost(choice, self.literals(), self.taken_columns()) > budget.cost
+        total_cost(choice, self.literals(), self.taken_columns()) > cutoff.cost
     }
 
-    /// The budget less the taken columns: what a cover within it may have beside these; 0 where
+    /// The cutoff less the taken columns: what a cover within it may have beside these; 0 where
     /// they go past it.
-    fn remaining_budget(&self, choice: Choice, budget: Budget) -> Budget
-        ensures columns { result.columns ≡ budget.columns - length self.now.taken }
-        ensures cost { result.cost ≡ budget.cost
+    fn remaining_cutoff(&self, choice: Choice, cutoff: Cutoff) -> Cutoff
+        ensures columns { result.columns ≡ cutoff.columns - length self.now.taken }
+        ensures cost { result.cost ≡ cutoff.cost
             - sum_over (counted choice self.now.weights) self.now.taken }
     {
         let taken = self.taken_columns();
-        Budget {
-            columns: budget.columns.saturating_sub(taken.len()),
-            cost: budget
+        Cutoff {
+            columns: cutoff.columns.saturating_sub(taken.len()),
+            cost: cutoff
                 .cost
                 .saturating_sub(total_cost(choice, self.literals(), taken)),
         }
     }
 
-    /// What is left of the budget beside the taken columns, as hints take it: a number that is too
+    /// What is left of the cutoff beside the taken columns, as hints take it: a number that is too
     /// large for them is the largest.
-    pub(crate) fn goal(&self, choice: Choice, budget: Budget) -> Goal {
-        let rest = self.remaining_budget(choice, budget);
+    pub(crate) fn goal(&self, choice: Choice, cutoff: Cutoff) -> Goal {
+        let rest = self.remaining_cutoff(choice, cutoff);
         Goal {
             columns: i64::try_from(rest.columns).unwrap_or(i64::MAX),
             cost: i64::try_from(rest.cost).unwrap_or(i64::MAX),
@@ -154,18 +154,18 @@ impl Table {
         all_marked(alloc, self.columns())
     }
 
-    /// Marks the columns that a cover within the budget may have, as far as these multipliers show;
+    /// Marks the columns that a cover within the cutoff may have, as far as these multipliers show;
     /// `None` if they show that there is no such cover.
     fn columns_by_bound(
         &self,
         alloc: Global,
         choice: Choice,
-        budget: Budget,
+        cutoff: Cutoff,
         multipliers: &Multipliers,
     ) -> Result<Option<Vec<bool>>, AllocError>
-        ensures { IfOk result (λ o. MatchOption o (NoneWithin choice self.now budget.columns
-            budget.cost) (λ v. (c : ℕ) → has c self.now.live ≡ true → marked v.items c ≡ false
-            → IsOutside choice self.now budget.columns budget.cost c)) }
+        ensures { IfOk result (λ o. MatchOption o (NoneWithin choice self.now cutoff.columns
+            cutoff.cost) (λ v. (c : ℕ) → has c self.now.live ≡ true → marked v.items c ≡ false
+            → IsOutside choice self.now cutoff.columns cutoff.cost c)) }
     {
         let rows = self.row_lists();
         if multipliers.weights.len() != rows.len() || rows.len() >= 4611686018427387904 {
@@ -179,7 +179,7 @@ impl Table {
             multipliers.cost,
         )?;
         let loads = lagrangian(alloc, rows, &multipliers.weights, &scaled_costs)?;
-        let rest = self.remaining_budget(choice, budget);
+        let rest = self.remaining_cutoff(choice, cutoff);
         let Some(limit) = limit_of(
             multipliers.column,
             rest.columns,
@@ -195,23 +195,23 @@ impl Table {
         Ok(Some(columns_within_gap(alloc, &scaled_costs, &loads.loads, limit - loads.total)?))
     }
 
-    /// Marks the columns that a cover within the budget may have, as far as the multipliers show that
+    /// Marks the columns that a cover within the cutoff may have, as far as the multipliers show that
     /// subgradient steps find, or the linear relaxation where the search has one; `None` if they show
     /// that there is no such cover.
-    pub(crate) fn columns_within_budget(
+    pub(crate) fn columns_within_cutoff(
         &self,
         alloc: Global,
         choice: Choice,
-        budget: Budget,
+        cutoff: Cutoff,
         warm_start: &mut WarmStart,
     ) -> Result<Option<Vec<bool>>, AllocError>
-        ensures marks { IfOk result (λ o. MatchOption o (NoneWithin choice self.now budget.columns
-            budget.cost) (λ v. (c : ℕ) → has c self.now.live ≡ true → marked v.items c ≡ false
-            → IsOutside choice self.now budget.columns budget.cost c)) }
+        ensures marks { IfOk result (λ o. MatchOption o (NoneWithin choice self.now cutoff.columns
+            cutoff.cost) (λ v. (c : ℕ) → has c self.now.live ≡ true → marked v.items c ≡ false
+            → IsOutside choice self.now cutoff.columns cutoff.cost c)) }
         ensures table { IsTable self.now }
     {
         let compact = self.compact(alloc, choice)?;
-        let goal = self.goal(choice, budget);
+        let goal = self.goal(choice, cutoff);
         let multipliers = warm_start.multipliers(
             alloc,
             &compact,
@@ -221,22 +221,22 @@ impl Table {
             self.columns(),
             goal,
         )?;
-        self.columns_by_bound(alloc, choice, budget, &multipliers)
+        self.columns_by_bound(alloc, choice, cutoff, &multipliers)
     }
 
-    /// The table without the columns that no cover within the budget has, as far as row weights
+    /// The table without the columns that no cover within the cutoff has, as far as row weights
     /// show; `None` if they show that there is no such cover.
     fn drop_by_bound(
         self,
         alloc: Global,
         choice: Choice,
-        budget: Budget,
+        cutoff: Cutoff,
         warm_start: &mut WarmStart,
     ) -> Result<Option<Table>, AllocError>
-        ensures { IfOk result (λ o. MatchOption o (NoneWithin choice self budget.columns
-            budget.cost) (IsPruned choice budget.columns budget.cost self)) }
+        ensures { IfOk result (λ o. MatchOption o (NoneWithin choice self cutoff.columns
+            cutoff.cost) (IsPruned choice cutoff.columns cutoff.cost self)) }
     {
-        let Some(keep) = self.columns_within_budget(alloc, choice, budget, warm_start)? else {
+        let Some(keep) = self.columns_within_cutoff(alloc, choice, cutoff, warm_start)? else {
             return Ok(None);
         };
         if all_kept(self.live_columns(), &keep) {
@@ -245,25 +245,25 @@ impl Table {
         Ok(self.keep_marked(&keep))
     }
 
-    /// The table as far as a search within the budget has to look at it, after the passes that are
+    /// The table as far as a search within the cutoff has to look at it, after the passes that are
     /// due and the bound by row weights; `None` if these show that there is no such cover. The
     /// lists are memory for the rows of each column.
     fn prune(
         self,
         alloc: Global,
         choice: Choice,
-        budget: Budget,
+        cutoff: Cutoff,
         due: Due,
         warm_start: &mut WarmStart,
         lists: &mut Vec<Vec<usize>>,
     ) -> Result<Option<Table>, AllocError>
-        ensures { IfOk result (λ o. MatchOption o (NoneWithin choice self budget.columns
-            budget.cost) (IsPruned choice budget.columns budget.cost self)) }
+        ensures { IfOk result (λ o. MatchOption o (NoneWithin choice self cutoff.columns
+            cutoff.cost) (IsPruned choice cutoff.columns cutoff.cost self)) }
     {
         let mut table = self.reduce_weakly(alloc, choice, due, lists)?;
         loop {
             let live = table.live_columns().len();
-            let Some(next) = table.drop_by_bound(alloc, choice, budget, warm_start)? else {
+            let Some(next) = table.drop_by_bound(alloc, choice, cutoff, warm_start)? else {
                 return Ok(None);
             };
             if live <= next.live_columns().len() {
@@ -303,7 +303,7 @@ impl Table {
         Ok(self.live.first().copied())
     }
 
-    /// A cover within the budget, or none if there is none: prunes, first by the passes that are
+    /// A cover within the cutoff, or none if there is none: prunes, first by the passes that are
     /// due, and branches. It looks at no more than `tables_left` tables, subtracts those that it
     /// looked at, and is `Spent` if they do not suffice. What it learns of row weights goes back to
     /// the warm start.
@@ -312,13 +312,13 @@ impl Table {
         self,
         alloc: Global,
         choice: Choice,
-        budget: Budget,
+        cutoff: Cutoff,
         due: Due,
         warm_start: &mut WarmStart,
         tables_left: &mut u64,
         lists: &mut Vec<Vec<usize>>,
     ) -> Result<Option<Vec<usize>>, Stop>
-        ensures { IfOk result (AnswersWithin choice self budget) }
+        ensures { IfOk result (AnswersWithin choice self cutoff) }
     {
         let Some(rest) = tables_left.checked_sub(1) else {
             return Err(Stop::Spent);
@@ -327,16 +327,16 @@ impl Table {
         let mut own = warm_start.copy(alloc)?;
         own.count_table();
         own.take_relaxation(warm_start);
-        let found = match self.prune(alloc, choice, budget, due, &mut own, lists)? {
+        let found = match self.prune(alloc, choice, cutoff, due, &mut own, lists)? {
             None => Ok(None),
-            Some(table) => table.branch(alloc, choice, budget, &mut own, tables_left, lists),
+            Some(table) => table.branch(alloc, choice, cutoff, &mut own, tables_left, lists),
         };
         warm_start.learn(&own);
         warm_start.take_relaxation(&mut own);
         found
     }
 
-    /// A cover within the budget, or none if there is none: branches on a live column, which is
+    /// A cover within the cutoff, or none if there is none: branches on a live column, which is
     /// first taken, and dropped if no such cover has it. Subtracts the tables that it branches into
     /// from `tables_left`, and is `Spent` if they do not suffice.
     #[cycle(search)]
@@ -344,20 +344,20 @@ impl Table {
         &self,
         alloc: Global,
         choice: Choice,
-        budget: Budget,
+        cutoff: Cutoff,
         warm_start: &mut WarmStart,
         tables_left: &mut u64,
         lists: &mut Vec<Vec<usize>>,
     ) -> Result<Option<Vec<usize>>, Stop>
-        ensures { IfOk result (AnswersWithin choice self.now budget) }
+        ensures { IfOk result (AnswersWithin choice self.now cutoff) }
     {
-        if self.is_over_budget(choice, budget) {
+        if self.is_over_cutoff(choice, cutoff) {
             return Ok(None);
         }
         if self.is_solved() {
             return Ok(Some(copy_of(alloc, self.taken_columns())?));
         }
-        let goal = self.goal(choice, budget);
+        let goal = self.goal(choice, cutoff);
         let Some(column) = self.branching_column(alloc, goal, warm_start)? else {
             return Ok(None);
         };
@@ -366,7 +366,7 @@ impl Table {
         if let Some(cover) = with.search(
             alloc,
             choice,
-            budget,
+            cutoff,
             Due::COLUMNS,
             warm_start,
             tables_left,
@@ -381,7 +381,7 @@ impl Table {
                 rest.search(
                     alloc,
                     choice,
-                    budget,
+                    cutoff,
                     Due::ROWS,
                     warm_start,
                     tables_left,
@@ -414,75 +414,75 @@ impl Table {
         warm_start.relax(alloc, &compact, live, rows, self.columns())
     }
 
-    /// A cover within the budget, or none if there is none: a search with the linear relaxation,
+    /// A cover within the cutoff, or none if there is none: a search with the linear relaxation,
     /// which is `Spent` if `most_tables` tables do not suffice.
     fn search_with_relaxation(
         self,
         alloc: Global,
         choice: Choice,
-        budget: Budget,
+        cutoff: Cutoff,
         warm_start: &mut WarmStart,
         most_tables: u64,
         lists: &mut Vec<Vec<usize>>,
     ) -> Result<Option<Vec<usize>>, Stop>
-        ensures { IfOk result (AnswersWithin choice self budget) }
+        ensures { IfOk result (AnswersWithin choice self cutoff) }
     {
         self.relax(alloc, choice, warm_start)?;
         let mut tables_left = most_tables;
-        let found = match self.prune(alloc, choice, budget, Due::ALL, warm_start, lists)? {
+        let found = match self.prune(alloc, choice, cutoff, Due::ALL, warm_start, lists)? {
             None => Ok(None),
             Some(table) => {
-                table.branch(alloc, choice, budget, warm_start, &mut tables_left, lists)
+                table.branch(alloc, choice, cutoff, warm_start, &mut tables_left, lists)
             }
         };
         warm_start.stop_relaxing();
         found
     }
 
-    /// A cover within the budget, or none if there is none: a local search of `steps` steps a row
+    /// A cover within the cutoff, or none if there is none: a local search of `steps` steps a row
     /// looks for one, and then a search with the linear relaxation, of no more than `most_tables`
     /// tables.
     fn find_or_refute_by_relaxation(
         &self,
         alloc: Global,
         choice: Choice,
-        budget: Budget,
+        cutoff: Cutoff,
         warm_start: &mut WarmStart,
         steps: usize,
         most_tables: u64,
         lists: &mut Vec<Vec<usize>>,
     ) -> Result<Option<Vec<usize>>, Stop>
-        ensures { IfOk result (AnswersWithin choice self.now budget) }
+        ensures { IfOk result (AnswersWithin choice self.now cutoff) }
     {
-        let goal = self.goal(choice, budget);
+        let goal = self.goal(choice, cutoff);
         let hint = warm_start.hint();
         let steps = steps.saturating_mul(self.row_lists().len());
-        let found = self.find_by_local_search(alloc, choice, budget, goal, hint, steps)?;
+        let found = self.find_by_local_search(alloc, choice, cutoff, goal, hint, steps)?;
         if let Some(cover) = found {
             return Ok(Some(cover));
         }
         let copy = self.copy(alloc)?;
-        copy.search_with_relaxation(alloc, choice, budget, warm_start, most_tables, lists)
+        copy.search_with_relaxation(alloc, choice, cutoff, warm_start, most_tables, lists)
     }
 
-    /// A cover within the budget, or none if there is none: a brief look, which mostly is enough,
+    /// A cover within the cutoff, or none if there is none: a brief look, which mostly is enough,
     /// and then a long one, of no more than `most_tables` tables.
     fn find_or_refute_in_two_looks(
         &self,
         alloc: Global,
         choice: Choice,
-        budget: Budget,
+        cutoff: Cutoff,
         warm_start: &mut WarmStart,
         most_tables: u64,
         lists: &mut Vec<Vec<usize>>,
     ) -> Result<Option<Vec<usize>>, Stop>
-        ensures { IfOk result (AnswersWithin choice self.now budget) }
+        ensures { IfOk result (AnswersWithin choice self.now cutoff) }
     {
         let steps = steps_of_long_search(self.row_lists(), self.live_columns().len());
         let found = self.find_or_refute_by_relaxation(
             alloc,
             choice,
-            budget,
+            cutoff,
             warm_start,
             steps / BRIEF_PART,
             most_tables.min(BRIEF_TABLES),
@@ -494,7 +494,7 @@ impl Table {
         self.find_or_refute_by_relaxation(
             alloc,
             choice,
-            budget,
+            cutoff,
             warm_start,
             steps,
             most_tables,
@@ -502,94 +502,94 @@ impl Table {
         )
     }
 
-    /// A cover within the budget, or none if there is none, where a search did not end soon: the
+    /// A cover within the cutoff, or none if there is none, where a search did not end soon: the
     /// table is pruned, and then looked at with the linear relaxation, in no more than
     /// `most_tables` tables.
     fn find_or_refute_with_relaxation(
         self,
         alloc: Global,
         choice: Choice,
-        budget: Budget,
+        cutoff: Cutoff,
         warm_start: &mut WarmStart,
         most_tables: u64,
     ) -> Result<Option<Vec<usize>>, Stop>
-        ensures { IfOk result (AnswersWithin choice self budget) }
+        ensures { IfOk result (AnswersWithin choice self cutoff) }
     {
         let mut lists = Vec::new(alloc);
-        let Some(table) = self.prune(alloc, choice, budget, Due::ALL, warm_start, &mut lists)?
+        let Some(table) = self.prune(alloc, choice, cutoff, Due::ALL, warm_start, &mut lists)?
         else {
             return Ok(None);
         };
         table.find_or_refute_in_two_looks(
             alloc,
             choice,
-            budget,
+            cutoff,
             warm_start,
             most_tables,
             &mut lists,
         )
     }
 
-    /// A cover within the budget, or none if there is none, as the length is found: if a search does not
+    /// A cover within the cutoff, or none if there is none, as the length is found: if a search does not
     /// end soon, it is begun anew with the linear relaxation, and branches into no more than
     /// `most_tables` tables.
     pub(crate) fn find_or_refute_for_length(
         &self,
         alloc: Global,
         choice: Choice,
-        budget: Budget,
+        cutoff: Cutoff,
         warm_start: &mut WarmStart,
         most_tables: u64,
     ) -> Result<Option<Vec<usize>>, Stop>
-        ensures { IfOk result (AnswersWithin choice self.now budget) }
+        ensures { IfOk result (AnswersWithin choice self.now cutoff) }
     {
         let quick_tables = self.quick_tables(choice, warm_start).min(most_tables);
-        let found = self.find_or_refute(alloc, choice, budget, warm_start, quick_tables);
+        let found = self.find_or_refute(alloc, choice, cutoff, warm_start, quick_tables);
         if quick_tables == most_tables || !is_spent(&found) {
             return found;
         }
         let copy = self.copy(alloc)?;
-        copy.find_or_refute_with_relaxation(alloc, choice, budget, warm_start, most_tables)
+        copy.find_or_refute_with_relaxation(alloc, choice, cutoff, warm_start, most_tables)
     }
 
-    /// A cover within the budget, or none if there is none, as columns are decided in order: with the
+    /// A cover within the cutoff, or none if there is none, as columns are decided in order: with the
     /// linear relaxation only if the length wanted it.
     pub(crate) fn find_or_refute_for_order(
         &self,
         alloc: Global,
         choice: Choice,
-        budget: Budget,
+        cutoff: Cutoff,
         warm_start: &mut WarmStart,
         most_tables: u64,
     ) -> Result<Option<Vec<usize>>, Stop>
-        ensures { IfOk result (AnswersWithin choice self.now budget) }
+        ensures { IfOk result (AnswersWithin choice self.now cutoff) }
     {
         if warm_start.is_hard() {
-            return self.find_or_refute_for_length(alloc, choice, budget, warm_start, most_tables);
+            return self.find_or_refute_for_length(alloc, choice, cutoff, warm_start, most_tables);
         }
-        self.find_or_refute(alloc, choice, budget, warm_start, most_tables)
+        self.find_or_refute(alloc, choice, cutoff, warm_start, most_tables)
     }
 
-    /// A cover within the budget, or none if there is none: local searches look for one first, and
+    /// A cover within the cutoff, or none if there is none: local searches look for one first, and
     /// then a search that branches into no more than `most_tables` tables.
     pub(crate) fn find_or_refute(
         &self,
         alloc: Global,
         choice: Choice,
-        budget: Budget,
+        cutoff: Cutoff,
         warm_start: &mut WarmStart,
         most_tables: u64,
     ) -> Result<Option<Vec<usize>>, Stop>
-        ensures { IfOk result (AnswersWithin choice self.now budget) }
+        ensures { IfOk result (AnswersWithin choice self.now cutoff) }
     {
         warm_start.count_question();
         warm_start.count_table();
-        let goal = self.goal(choice, budget);
+        let goal = self.goal(choice, cutoff);
         let steps = steps_near(self.row_lists().len());
         let found = self.find_by_local_search(
             alloc,
             choice,
-            budget,
+            cutoff,
             goal,
             warm_start.hint(),
             steps,
@@ -599,16 +599,16 @@ impl Table {
         }
         let mut lists = Vec::new(alloc);
         let copy = self.copy(alloc)?;
-        let Some(table) = copy.prune(alloc, choice, budget, Due::ALL, warm_start, &mut lists)?
+        let Some(table) = copy.prune(alloc, choice, cutoff, Due::ALL, warm_start, &mut lists)?
         else {
             return Ok(None);
         };
-        let goal = table.goal(choice, budget);
+        let goal = table.goal(choice, cutoff);
         let steps = steps_in_reduced(table.row_lists().len());
         let found = table.find_by_local_search(
             alloc,
             choice,
-            budget,
+            cutoff,
             goal,
             warm_start.hint(),
             steps,
@@ -620,7 +620,7 @@ impl Table {
         table.branch(
             alloc,
             choice,
-            budget,
+            cutoff,
             warm_start,
             &mut tables_left,
             &mut lists,

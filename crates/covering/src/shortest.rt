@@ -4,7 +4,7 @@ ghost use Rattle.std.specs.Prelude.{IfOk};
 ghost use Rattle.covering.specs.Cover.{IsCover};
 ghost use Rattle.covering.specs.Search.{IsBest};
 
-use crate::bound::Budget;
+use crate::bound::Cutoff;
 use crate::choice::Choice;
 use crate::columns::union_of;
 use crate::search::UNLIMITED;
@@ -34,7 +34,7 @@ impl Table {
     ) -> Result<Vec<usize>, AllocError>
         ensures { IfOk result (λ v. IsCover self.now v.items) }
     {
-        let budget = Budget {
+        let cutoff = Cutoff {
             columns: self.columns(),
             cost: u128::MAX,
         };
@@ -44,7 +44,7 @@ impl Table {
             cost: 0,
         };
         let steps = steps.saturating_mul(self.row_lists().len());
-        match self.find_by_local_search(alloc, choice, budget, goal, near, steps)? {
+        match self.find_by_local_search(alloc, choice, cutoff, goal, near, steps)? {
             None => self.all_columns(alloc),
             Some(cover) => Ok(cover),
         }
@@ -59,11 +59,11 @@ impl Table {
         warm_start: &mut WarmStart,
     ) -> Result<usize, AllocError> {
         let fewer = columns.saturating_sub(1);
-        let budget = Budget {
+        let cutoff = Cutoff {
             columns: fewer,
             cost: 0,
         };
-        match self.columns_within_budget(alloc, Choice::First, budget, warm_start)? {
+        match self.columns_within_cutoff(alloc, Choice::First, cutoff, warm_start)? {
             None => Ok(columns),
             Some(_) => {
                 let missing = usize::try_from(warm_start.shortfall()).unwrap_or(usize::MAX);
@@ -100,11 +100,11 @@ impl Table {
         let mut cover = self.short_cover(alloc, choice, &[], warm_start)?;
         warm_start.set_hint(alloc, &cover)?;
         while let Some(columns) = cover.len().checked_sub(1) {
-            let budget = Budget { columns, cost: 0 };
+            let cutoff = Cutoff { columns, cost: 0 };
             match self.find_or_refute_for_length(
                 alloc,
                 Choice::First,
-                budget,
+                cutoff,
                 warm_start,
                 UNLIMITED,
             )? {

@@ -62,10 +62,10 @@ const LONG_LIST: usize = 2_000;
 // What a description is asked for.
 #[derive(Clone, Copy)]
 enum Aim {
-    // All primes.
-    Primes,
-    // The essential ones, or a least cover.
-    Cover,
+    // Its primes.
+    AllPrimes,
+    // The essential ones among them, or a least cover.
+    SomePrimes,
 }
 
 // Whether merging the rows of a list of points may pay: with many inputs where the list is long or
@@ -84,8 +84,8 @@ fn is_worth_merging(list: &Cover) -> bool {
 // else if they are points and that pays.
 fn is_to_be_merged(aim: Aim, list: &Cover) -> bool {
     match aim {
-        Aim::Primes => uses_points(list.shape()) && !are_nearly_points(list),
-        Aim::Cover => is_worth_merging(list) && are_nearly_points(list),
+        Aim::AllPrimes => uses_points(list.shape()) && !are_nearly_points(list),
+        Aim::SomePrimes => is_worth_merging(list) && are_nearly_points(list),
     }
 }
 
@@ -142,7 +142,7 @@ pub fn primes_of_pla(alloc: Global, pla: &Pla) -> Result<Cover, AllocError>
       cubes = primes_of (sets_of pla.now true true);
     }) }
 {
-    let fewer = with_fewer_rows(Aim::Primes, pla)?;
+    let fewer = with_fewer_rows(Aim::AllPrimes, pla)?;
     let pla = fewer_rows_or_given(&fewer, pla);
     match off_alone(pla)? {
         Some(off) => primes_outside(&off),
@@ -161,7 +161,7 @@ pub fn essential_of_pla(alloc: Global, pla: &Pla) -> Result<Cover, AllocError>
       cubes = essential_of (sets_of pla.now true true) (primes_of (sets_of pla.now true true));
     }) }
 {
-    let fewer = with_fewer_rows(Aim::Cover, pla)?;
+    let fewer = with_fewer_rows(Aim::SomePrimes, pla)?;
     let pla = fewer_rows_or_given(&fewer, pla);
     match off_alone(pla)? {
         Some(off) => essential_outside(alloc, pla, &off),
@@ -181,7 +181,7 @@ pub fn exact_of_pla(alloc: Global, pla: &Pla, choice: Choice) -> Result<Cover, A
       cubes = exact_of choice (sets_of pla.now true true);
     }) }
 {
-    let fewer = with_fewer_rows(Aim::Cover, pla)?;
+    let fewer = with_fewer_rows(Aim::SomePrimes, pla)?;
     let pla = fewer_rows_or_given(&fewer, pla);
     if let Some(off) = off_alone(pla)? {
         if let Some(list) = exact_of_samples(alloc, pla, off, choice)? {

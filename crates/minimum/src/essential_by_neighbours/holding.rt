@@ -11,7 +11,7 @@ use regions::part_left_out;
 use std::alloc::{AllocError, Global};
 
 /// Whether each place of the cube is in some row. A part that the rows leave out is looked for
-/// first: that costs a few looks at each row, and splits of the cube may take many.
+/// first: that costs up to eight looks at each row, and splits of the cube may take many.
 pub(crate) fn hold_cube(alloc: Global, rows: &[&Cube], cube: &Cube) -> Result<bool, AllocError>
     requires { All (λ d. SameSize d.now cube.now) rows.now }
     ensures { IfOk result (λ held. held

@@ -3,7 +3,8 @@
 //! Most rows have no place of a region, or a few of its places. So the region is narrowed row by
 //! row, at one look at each: a row that meets what is left loses it by the opposite of one of its
 //! literals. No step is taken back, so that a part can be missed. If a row then holds all that is
-//! left, the region is narrowed once more from the start, by the rows that were met too late first.
+//! left, the region is narrowed anew from the start, by the rows that were met too late first; up to
+//! eight times in all.
 
 ghost use Rattle.std.specs.Prelude.{◌≡◌, true, IfOk, IfSome, IfNone, OnOk, All};
 ghost use Rattle.cube.specs.Cube.{SameSize, IsSubset, IsDisjoint, holds};
@@ -81,10 +82,13 @@ pub(crate) fn are_seen_to_leave_out(
 {
     let mut late = Vec::new(alloc);
     for _ in 0..MOST_TIMES {
-        match first_not_left_out(rows, region, &late)? {
-            Some(row) => late.insert(0, row)?,
-            None => return Ok(true),
+        let Some(row) = first_not_left_out(rows, region, &late)? else {
+            return Ok(true);
+        };
+        if row.contains(region) {
+            return Ok(false);
         }
+        late.insert(0, row)?;
     }
     Ok(false)
 }

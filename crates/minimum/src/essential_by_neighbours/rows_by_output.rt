@@ -94,7 +94,7 @@ impl<'a> RowsByOutput<'a> {
     }
 
     /// Rows that hold the same places of the region as all rows do: those that have one of its
-    /// outputs, a row once for each; `None` where these are not few.
+    /// outputs, a row once for each; `None` where these are not few, or more than all rows are.
     pub(crate) fn rows_reaching(
         &self,
         alloc: Global,
@@ -112,6 +112,9 @@ impl<'a> RowsByOutput<'a> {
                 let Some(Some(few)) = self.by_output.get(j) else {
                     return Ok(None);
                 };
+                if found.len() >= self.all.len() {
+                    return Ok(None);
+                }
                 found.extend_from_slice(few)?;
             }
         }

@@ -8,7 +8,7 @@ pub returns-then-not-is_worth_a_reduction-clause-next : goal.returns-then-not-is
 returns-then-not-is_worth_a_reduction-clause-next c = next_self c.args.choice c.args.self.table
 
 pub returns-in-Some-clause-partial : goal.returns-in-Some-clause-partial
-returns-in-Some-clause-partial c = partial_reduced c.args.choice c.args.self.table c.in_ok-table.table c.in_ok-table.ensures.table c.in_ok-table.ensures.steps c.args.budget.columns c.args.budget.cost c.in-Some.witness.items c.requires.none (rw c.in-Some.is at c.in_ok-witness.ensures)
+returns-in-Some-clause-partial c = partial_reduced c.args.choice c.args.self.table c.in_ok-table.table c.in_ok-table.ensures.table c.in_ok-table.ensures.steps c.args.cutoff.columns c.args.cutoff.cost c.in-Some.witness.items c.requires.none (rw c.in-Some.is at c.in_ok-witness.ensures)
 
 pub returns-in-Some-clause-next : goal.returns-in-Some-clause-next
 returns-in-Some-clause-next c = next_reduced c.args.choice c.args.self.table c.in_ok-table.table c.in_ok-table.ensures.table c.in_ok-table.ensures.steps

@@ -10,8 +10,8 @@ use Rattle.covering.proofs.table.Table.+search.Goals as goal
 
 pub branch-returns-then-is_solved : goal.branch-returns-then-is_solved
 branch-returns-then-is_solved t c =
-    let fits = MatchBool-at_false _ _ c.if-is_over_budget.false c.is_over_budget.ensures in
-    answer_leaf c.args.choice c.args.self.now c.args.budget.columns c.args.budget.cost _ c.if-is_solved.ensures.table (c.if-is_solved.ensures.solved.0 refl) (c.in_ok-copy_of.ensures ∙ c.taken_columns.ensures.value) fits.0 fits.1
+    let fits = MatchBool-at_false _ _ c.if-is_over_cutoff.false c.is_over_cutoff.ensures in
+    answer_leaf c.args.choice c.args.self.now c.args.cutoff.columns c.args.cutoff.cost _ c.if-is_solved.ensures.table (c.if-is_solved.ensures.solved.0 refl) (c.in_ok-copy_of.ensures ∙ c.taken_columns.ensures.value) fits.0 fits.1
 
 pub branch-returns-in_default : goal.branch-returns-in_default
 branch-returns-in_default t c = absurd (true≢false (sym (c.if-is_solved.ensures.solved.1 (no_live c.args.self.now c.in_ok-column.ensures.table (rw c.in_default.is at c.in_ok-column.ensures.live)))))
@@ -24,15 +24,15 @@ branch-search-requires t c =
 
 pub branch-returns-in-Some-2 : goal.branch-returns-in-Some-2
 branch-returns-in-Some-2 t c =
-    let found = subst (λ (o : Option (Vec ℕ Global)). Answers c.args.choice c.in_ok-with.with c.args.budget.columns c.args.budget.cost (option_map (λ v. v.items) o)) c.in-Some-2.is c.in_ok-cover.ensures in
-    answer_taken c.args.choice c.args.self.now c.in-Some.column c.args.budget.columns c.args.budget.cost _ (rw c.in-Some.is at c.in_ok-column.ensures.live)
-    (subst (λ g. IsAnswer c.args.choice g c.args.budget.columns c.args.budget.cost c.in-Some-2.cover.items) c.in_ok-with.ensures.taken found)
+    let found = subst (λ (o : Option (Vec ℕ Global)). Answers c.args.choice c.in_ok-with.with c.args.cutoff.columns c.args.cutoff.cost (option_map (λ v. v.items) o)) c.in-Some-2.is c.in_ok-cover.ensures in
+    answer_taken c.args.choice c.args.self.now c.in-Some.column c.args.cutoff.columns c.args.cutoff.cost _ (rw c.in-Some.is at c.in_ok-column.ensures.live)
+    (subst (λ g. IsAnswer c.args.choice g c.args.cutoff.columns c.args.cutoff.cost c.in-Some-2.cover.items) c.in_ok-with.ensures.taken found)
 
 pub branch-returns-in-None : goal.branch-returns-in-None
 branch-returns-in-None t c =
-    let none = subst (λ (o : Option (Vec ℕ Global)). Answers c.args.choice c.in_ok-with.with c.args.budget.columns c.args.budget.cost (option_map (λ v. v.items) o)) c.in_default-2.is c.in_ok-cover.ensures in
+    let none = subst (λ (o : Option (Vec ℕ Global)). Answers c.args.choice c.in_ok-with.with c.args.cutoff.columns c.args.cutoff.cost (option_map (λ v. v.items) o)) c.in_default-2.is c.in_ok-cover.ensures in
     let forced = subst (λ o. MatchOption o (IsForced c.args.self.now c.in-Some.column) (λ u. u ≡ drop_column c.in-Some.column c.args.self.now)) c.in-None.is c.in_ok-drop_live.ensures in
-    none_forced c.args.choice c.args.self.now c.in-Some.column c.args.budget.columns c.args.budget.cost forced (subst (λ g. NoneWithin c.args.choice g c.args.budget.columns c.args.budget.cost) c.in_ok-with.ensures.taken none)
+    none_forced c.args.choice c.args.self.now c.in-Some.column c.args.cutoff.columns c.args.cutoff.cost forced (subst (λ g. NoneWithin c.args.choice g c.args.cutoff.columns c.args.cutoff.cost) c.in_ok-with.ensures.taken none)
 
 pub branch-search-requires-in-Some-3 : goal.branch-search-requires-in-Some-3
 branch-search-requires-in-Some-3 t c =
@@ -43,8 +43,8 @@ branch-search-requires-in-Some-3 t c =
 
 pub branch-returns-in-Some-3 : goal.branch-returns-in-Some-3
 branch-returns-in-Some-3 t c =
-    let none = subst (λ (o : Option (Vec ℕ Global)). Answers c.args.choice c.in_ok-with.with c.args.budget.columns c.args.budget.cost (option_map (λ v. v.items) o)) c.in_default-2.is c.in_ok-cover.ensures in
+    let none = subst (λ (o : Option (Vec ℕ Global)). Answers c.args.choice c.in_ok-with.with c.args.cutoff.columns c.args.cutoff.cost (option_map (λ v. v.items) o)) c.in_default-2.is c.in_ok-cover.ensures in
     let is = subst (λ o. MatchOption o (IsForced c.args.self.now c.in-Some.column) (λ u. u ≡ drop_column c.in-Some.column c.args.self.now)) c.in-Some-3.is c.in_ok-drop_live.ensures in
     IfOk-weaker c.search-in-Some-3.result _ _
-    (λ o a. answers_dropped c.args.choice c.args.self.now c.in-Some.column c.args.budget.columns c.args.budget.cost (option_map (λ v. v.items) o) c.in_ok-column.ensures.table (rw c.in-Some.is at c.in_ok-column.ensures.live) (subst (λ g. NoneWithin c.args.choice g c.args.budget.columns c.args.budget.cost) c.in_ok-with.ensures.taken none) (subst (λ g. Answers c.args.choice g c.args.budget.columns c.args.budget.cost (option_map (λ v. v.items) o)) is a))
+    (λ o a. answers_dropped c.args.choice c.args.self.now c.in-Some.column c.args.cutoff.columns c.args.cutoff.cost (option_map (λ v. v.items) o) c.in_ok-column.ensures.table (rw c.in-Some.is at c.in_ok-column.ensures.live) (subst (λ g. NoneWithin c.args.choice g c.args.cutoff.columns c.args.cutoff.cost) c.in_ok-with.ensures.taken none) (subst (λ g. Answers c.args.choice g c.args.cutoff.columns c.args.cutoff.cost (option_map (λ v. v.items) o)) is a))
     c.search-in-Some-3.ensures

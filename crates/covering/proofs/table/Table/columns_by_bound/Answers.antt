@@ -34,17 +34,17 @@ covers : (c : In-Some) → BoundsCovers c.args.self.now.rows c.in_ok-scaled_cost
 covers c = subst (λ rows. BoundsCovers rows c.in_ok-scaled_costs.scaled_costs.items c.in_ok-loads.loads.loads.items c.in_ok-loads.loads.total c.in_ok-loads.loads.over) c.row_lists-rows.ensures.value
     (subst (λ scaled_costs. BoundsCovers (items_of c.row_lists-rows.result.now) scaled_costs c.in_ok-loads.loads.loads.items c.in_ok-loads.loads.total c.in_ok-loads.loads.over) c.deref-2.ensures.value c.in_ok-loads.ensures.covers)
 
-limit : (c : In-Some) → c.in-Some.limit ≡ c.args.multipliers.now.column * (c.args.budget.columns - length c.args.self.now.taken) + c.args.multipliers.now.cost * (c.args.budget.cost - sum_over (counted c.args.choice c.args.self.now.weights) c.args.self.now.taken) + c.in_ok-loads.loads.over
+limit : (c : In-Some) → c.in-Some.limit ≡ c.args.multipliers.now.column * (c.args.cutoff.columns - length c.args.self.now.taken) + c.args.multipliers.now.cost * (c.args.cutoff.cost - sum_over (counted c.args.choice c.args.self.now.weights) c.args.self.now.taken) + c.in_ok-loads.loads.over
 limit c =
-    let k = c.args.budget.columns in
+    let k = c.args.cutoff.columns in
     let one = c.args.multipliers.now.column in
     let per = c.args.multipliers.now.cost in
-    c.in-Some.ensures ∙ ap (λ n. one * n + per * c.remaining_budget-rest.result.cost + c.in_ok-loads.loads.over) c.remaining_budget-rest.ensures.columns ∙ ap (λ n. one * (k - length c.args.self.now.taken) + per * n + c.in_ok-loads.loads.over) c.remaining_budget-rest.ensures.cost
+    c.in-Some.ensures ∙ ap (λ n. one * n + per * c.remaining_cutoff-rest.result.cost + c.in_ok-loads.loads.over) c.remaining_cutoff-rest.ensures.columns ∙ ap (λ n. one * (k - length c.args.self.now.taken) + per * n + c.in_ok-loads.loads.over) c.remaining_cutoff-rest.ensures.cost
 
 pub returns-then-loads-limit : goal.returns-then-loads-limit
 returns-then-loads-limit c =
     let p = (goal.at.returns-then-loads-limit c).In-Some in
-    none_within c.args.choice c.args.self.now c.args.budget.columns c.args.budget.cost c.args.multipliers.now.column c.args.multipliers.now.cost c.in_ok-scaled_costs.scaled_costs.items c.in_ok-loads.loads.loads.items c.in_ok-loads.loads.total c.in_ok-loads.loads.over
+    none_within c.args.choice c.args.self.now c.args.cutoff.columns c.args.cutoff.cost c.args.multipliers.now.column c.args.multipliers.now.cost c.in_ok-scaled_costs.scaled_costs.items c.in_ok-loads.loads.loads.items c.in_ok-loads.loads.total c.in_ok-loads.loads.over
     c.literals.ensures.table (covers p) (long p) (each p) c.in-Some.limit (limit p) (let over = c.if-loads-limit.true in omega arith)
 
 pub returns : goal.returns
@@ -59,5 +59,5 @@ returns c d l e =
     let mark = ap (λ xs. marked xs d) marks ∙ marks_at (λ n. leb (at scaled_costs n - at loads n) gap) (length scaled_costs) d (omega arith) in
     let over : gap < at scaled_costs d - at loads d = leb-false (at scaled_costs d - at loads d) gap (sym mark ∙ e) in
     let under = c.if-loads-limit.false in
-    outside c.args.choice c.args.self.now c.args.budget.columns c.args.budget.cost c.args.multipliers.now.column c.args.multipliers.now.cost scaled_costs loads c.in_ok-loads.loads.total c.in_ok-loads.loads.over
+    outside c.args.choice c.args.self.now c.args.cutoff.columns c.args.cutoff.cost c.args.multipliers.now.column c.args.multipliers.now.cost scaled_costs loads c.in_ok-loads.loads.total c.in_ok-loads.loads.over
     c.literals.ensures.table (covers p) (long p) (each p) c.in-Some.limit (limit p) d l (omega arith)

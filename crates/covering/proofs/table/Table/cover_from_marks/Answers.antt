@@ -29,7 +29,7 @@ returns c =
     let s = c.in_ok-cover.cover.items in
     let held : AllByRecursion (λ row. meets s row ≡ true) t.rows = subst (AllByRecursion (λ row. meets s row ≡ true)) c.row_lists.ensures.value (all_met s c.row_lists.result.now (subst (λ xs. list_all (λ row. meets xs row.items) c.row_lists.result.now ≡ true) c.deref-2.ensures.value (sym c.rising_meets_all.ensures ∙ c.if-not-rising_meets_all.false))) in
     let long : length s ≡ c.len.result = omega (arith, c.len.ensures, c.in_ok-cover.cover.ok) in
-    let few = c.if-budget-len.false in
+    let few = c.if-cutoff-len.false in
     let sum : c.total_cost.result ≡ sum_over (counted c.args.choice t.weights) s = c.total_cost.ensures ∙ ap (λ ws. sum_over (counted c.args.choice ws) c.deref.result.now) c.literals.ensures.value ∙ ap (sum_over (counted c.args.choice t.weights)) c.deref.ensures.value in
-    let less = c.if-budget-total_cost.false in
+    let less = c.if-cutoff-total_cost.false in
     record { cover = chosen_cover t c.args.marks.now s c.taken_columns.ensures.table (made p) held; fits = omega arith; counts = omega arith }

@@ -10,9 +10,9 @@ use Rattle.covering.proofs.table.Table.drop_by_bound.Goals as goal
 pub returns : goal.returns
 returns c =
     let out = rw c.in-Some.is at c.in_ok-keep.ensures.marks in
-    pruned_from c.args.choice (marked c.in-Some.keep.items) c.args.self c.args.budget.columns c.args.budget.cost c.in_ok-keep.ensures.table out c.keep_marked.result
+    pruned_from c.args.choice (marked c.in-Some.keep.items) c.args.self c.args.cutoff.columns c.args.cutoff.cost c.in_ok-keep.ensures.table out c.keep_marked.result
     (subst (λ ks. MatchOption c.keep_marked.result (list_any is_blank (map (filter (marked ks)) c.args.self.rows) ≡ true) (λ u. u ≡ keep_columns (marked ks) c.args.self)) c.deref-2.ensures.value c.keep_marked.ensures)
 
 pub returns-then-all_kept : goal.returns-then-all_kept
 returns-then-all_kept c =
-    weakly_reduced_pruned c.args.choice c.args.budget.columns c.args.budget.cost c.args.self c.args.self (weakly_reduced_same c.args.choice c.args.self)
+    weakly_reduced_pruned c.args.choice c.args.cutoff.columns c.args.cutoff.cost c.args.self c.args.self (weakly_reduced_same c.args.choice c.args.self)

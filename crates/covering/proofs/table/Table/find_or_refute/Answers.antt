@@ -6,4 +6,4 @@ pub returns-in-Some-found : goal.returns-in-Some-found
 returns-in-Some-found c =
     let n = rw c.in-Some-2.is at c.in_ok-table.ensures in
     let found = rw c.in-Some-found.is at c.in_ok-found-2.ensures in
-    subst (λ t. IsAnswer c.args.choice t c.args.budget.columns c.args.budget.cost c.in-Some-found.cover.items) c.in_ok-copy.ensures.copy (n.leads (Some c.in-Some-found.cover.items) found)
+    subst (λ t. IsAnswer c.args.choice t c.args.cutoff.columns c.args.cutoff.cost c.in-Some-found.cover.items) c.in_ok-copy.ensures.copy (n.leads (Some c.in-Some-found.cover.items) found)

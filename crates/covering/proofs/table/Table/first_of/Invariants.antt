@@ -5,7 +5,7 @@ use Rattle.covering.proofs.table.Table.first_of.Given as goal
 
 abbrev pub invariant-loop-column : goal.invariant-loop-column
 invariant-loop-column l = record {
-  partial : IsPartial l.choice l.budget.columns l.budget.cost l.partial.table l.partial.witness.items;
+  partial : IsPartial l.choice l.cutoff.columns l.cutoff.cost l.partial.table l.partial.witness.items;
   next : Continues l.choice l.self l.partial.table;
   first : (c : ℕ) → has c l.partial.table.live ≡ true → l.column ≤ c;
 }

@@ -3,17 +3,17 @@ use Rattle.covering.proofs.Reduced.{pruned_join, pruned_weakly_reduced, weakly_r
 use Rattle.covering.proofs.table.Table.prune.Goals as goal
 
 pub loop-next-init : goal.loop-next-init
-loop-next-init c = weakly_reduced_pruned c.args.choice c.args.budget.columns c.args.budget.cost c.args.self c.in_ok-table.table c.in_ok-table.ensures
+loop-next-init c = weakly_reduced_pruned c.args.choice c.args.cutoff.columns c.args.cutoff.cost c.args.self c.in_ok-table.table c.in_ok-table.ensures
 
 pub loop-next-preserved : goal.loop-next-preserved
 loop-next-preserved c =
     let bounded = rw c.in-Some.is at c.in_ok-next.ensures in
-    pruned_weakly_reduced c.args.choice c.args.budget.columns c.args.budget.cost c.args.self c.loop-next.table c.in-Some.next c.in_ok-table-2.table c.loop-next.invariant bounded c.in_ok-table-2.ensures
+    pruned_weakly_reduced c.args.choice c.args.cutoff.columns c.args.cutoff.cost c.args.self c.loop-next.table c.in-Some.next c.in_ok-table-2.table c.loop-next.invariant bounded c.in_ok-table-2.ensures
 
 pub returns-then-not-is_worth_a_bound : goal.returns-then-not-is_worth_a_bound
 returns-then-not-is_worth_a_bound c =
     let bounded = rw c.in-Some.is at c.in_ok-next.ensures in
-    pruned_weakly_reduced c.args.choice c.args.budget.columns c.args.budget.cost c.args.self c.loop-next.table c.in-Some.next c.in_ok-table-2.table c.loop-next.invariant bounded c.in_ok-table-2.ensures
+    pruned_weakly_reduced c.args.choice c.args.cutoff.columns c.args.cutoff.cost c.args.self c.loop-next.table c.in-Some.next c.in_ok-table-2.table c.loop-next.invariant bounded c.in_ok-table-2.ensures
 
 pub loop-next-smaller : goal.loop-next-smaller
 loop-next-smaller c =
@@ -30,4 +30,4 @@ returns-in_default c =
 pub returns-then-live-live_columns : goal.returns-then-live-live_columns
 returns-then-live-live_columns c =
     let bounded = rw c.in-Some.is at c.in_ok-next.ensures in
-    pruned_join c.args.choice c.args.budget.columns c.args.budget.cost c.args.self c.loop-next.table c.in-Some.next c.loop-next.invariant bounded
+    pruned_join c.args.choice c.args.cutoff.columns c.args.cutoff.cost c.args.self c.loop-next.table c.in-Some.next c.loop-next.invariant bounded

@@ -1,5 +1,5 @@
 use Rattle.std.proofs.Common.{◌≡◌, ◌≤◌, ◌+◌, length, arith}
-use Rattle.covering.proofs.Budgets.{none_shorter, shortest_best}
+use Rattle.covering.proofs.Cutoffs.{none_shorter, shortest_best}
 use Rattle.covering.proofs.table.Table.shortest_cover.Goals as goal
 
 pub returns : goal.returns

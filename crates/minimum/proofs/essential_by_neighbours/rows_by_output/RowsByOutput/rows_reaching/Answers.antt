@@ -4,7 +4,7 @@ use Rattle.std.proofs.lemmas.Option.{get_or_from_slice_get, slice_get-get_or}
 use Rattle.rows.specs.Cubes.{AreCubes}
 use Rattle.minimum.proofs.RowsByOutput.{AreReaching, reaching_lacks, reaching_more, reaching_all, reaching_sizes}
 use Rattle.minimum.proofs.essential_by_neighbours.rows_by_output.RowsByOutput.rows_reaching.Goals as goal
-use Rattle.minimum.proofs.essential_by_neighbours.rows_by_output.RowsByOutput.rows_reaching.Goals.{then-output+in-Some-Some+in_ok-extend_from_slice, else-output}
+use Rattle.minimum.proofs.essential_by_neighbours.rows_by_output.RowsByOutput.rows_reaching.Goals.{then-output+in-Some-Some+else-len+in_ok-extend_from_slice, else-output}
 
 pub loop-j-preserved : goal.loop-j-preserved
 loop-j-preserved c =
@@ -12,7 +12,7 @@ loop-j-preserved c =
     let all = c.self.inside.all.items in
     let j = c.loop-j.j in
     elim c.if-output.branch [
-      | then-output+in-Some-Some+in_ok-extend_from_slice w ↦
+      | then-output+in-Some-Some+else-len+in_ok-extend_from_slice w ↦
           let few = w.deref-then-output.result.now in
           let slots = w.deref.result.now in
           let slot = w.in-Some-Some.field-0 in

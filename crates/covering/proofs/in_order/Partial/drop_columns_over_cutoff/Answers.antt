@@ -1,11 +1,11 @@
 use Rattle.covering.proofs.Partials.{next_self, next_join}
-use Rattle.covering.proofs.in_order.Partial.drop_columns_over_budget.Goals as goal
+use Rattle.covering.proofs.in_order.Partial.drop_columns_over_cutoff.Goals as goal
 
 pub loop-partial-init : goal.loop-partial-init
 loop-partial-init c = record { partial = c.requires; next = next_self c.args.choice c.args.self.table }
 
-pub drop_columns_over_budget_once-requires : goal.drop_columns_over_budget_once-requires
-drop_columns_over_budget_once-requires c = c.loop-partial.invariant.partial
+pub drop_columns_over_cutoff_once-requires : goal.drop_columns_over_cutoff_once-requires
+drop_columns_over_cutoff_once-requires c = c.loop-partial.invariant.partial
 
 pub returns-then-live-still_live-clause-partial : goal.returns-then-live-still_live-clause-partial
 returns-then-live-still_live-clause-partial c = c.in_ok-partial.ensures.partial

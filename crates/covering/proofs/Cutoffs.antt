@@ -1,4 +1,4 @@
--- The best covers from searches within budgets.
+-- The best covers from searches within cutoffs.
 use Rattle.std.proofs.Common.{◌≡◌, ℕ, ◌+◌, ◌<◌, ◌≤◌, ◌⊎◌, inl, inr, List, [], ◌∷◌, length, refl, arith}
 use Rattle.std.proofs.lemmas.Bool.{cases_lt}
 use Rattle.covering.specs.declared.choice.Choice.TheVariants.{First}

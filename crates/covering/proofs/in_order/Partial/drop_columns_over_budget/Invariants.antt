@@ -1,9 +1,0 @@
-use Rattle.std.proofs.Common.{length}
-use Rattle.covering.specs.Search.{IsPartial, Continues}
-use Rattle.covering.proofs.in_order.Partial.drop_columns_over_budget.Given as goal
-
-abbrev pub invariant-loop-partial : goal.invariant-loop-partial
-invariant-loop-partial l = record { partial : IsPartial l.choice l.budget.columns l.budget.cost l.partial.table l.partial.witness.items; next : Continues l.choice l.fn.self.table l.partial.table }
-
-abbrev pub decreases-loop-partial : goal.decreases-loop-partial
-decreases-loop-partial l = length l.partial.table.live
