@@ -232,6 +232,62 @@ class ManyPrimes(Large):
         self.assertTrue(all(zeros.intersection(triple) for triple in triples(17)))
 
 
+def pieces(cube, cuts, chance):
+    """The cube in pieces: a piece is cut in two at an input where it has no literal, so often."""
+    found = [cube]
+    for _ in range(cuts):
+        piece = found.pop(chance.randrange(len(found)))
+        at = chance.choice([i for i, symbol in enumerate(piece) if symbol == "-"])
+        found += [piece[:at] + bit + piece[at + 1:] for bit in "01"]
+    return found
+
+
+class Pieces(Large):
+    """Rows that were cut in pieces, at inputs on which they do not depend."""
+
+    def test_joined_rings(self):
+        """Twelve rings of six primes, each of inputs of its own: every row in four pieces, and fifteen points that lie in rows."""
+        ring, least, chance = ("00-", "-01", "1-1", "11-", "-10", "0-0"), ("-01", "0-0", "11-"), Random(2)
+
+        def joined(cubes):
+            return sorted("---" * k + cube + "---" * (11 - k) for k in range(12) for cube in cubes)
+
+        cut = [piece for cube in joined(ring) for piece in pieces(cube, 3, chance)]
+        inside = [format(chance.getrandbits(33), "033b") + "011" for _ in range(15)]
+        rows = listed(chance.sample(cut + inside, len(cut + inside)))
+        self.each("joined rings in pieces", (36, 1), rows, listed(joined(ring)), ("primes",))
+        self.each("joined rings in pieces", (36, 1), rows, listed(joined(least)), ("exact", "exact --literals"))
+        self.each("joined rings in pieces", (36, 1), rows, [], ("essen",))
+
+    def test_two_versions(self):
+        """What one version has beside the other, whose rows are those of the first in two pieces: nothing, or the one row more."""
+        chance = Random(3)
+        rows = [(cube_of(47, chosen[:3], chosen[3:]), marked(30, chance.sample(range(29), 2)))
+                for chosen in (chance.sample(range(47), 5) for _ in range(150))]
+        first = [f"{cube} {outputs}" for cube, outputs in rows]
+        second = [f"{piece} {outputs}" for cube, outputs in rows for piece in pieces(cube, 1, chance)]
+        more = f"{'01' * 23}0 {marked(30, [29])}"
+        self.both("two versions", "-Dsharp", pla(47, 30, *first), pla(47, 30, *second), printed(47, 30))
+        self.both("two versions, turned round", "-Dsharp", pla(47, 30, *second), pla(47, 30, *first), printed(47, 30))
+        self.both("one row more", "-Dsharp", pla(47, 30, *first, more), pla(47, 30, *second), printed(47, 30, more))
+
+    def test_many_functions_joined_in_one_output(self):
+        """Functions of eight inputs each, which have some of them in common. No list of the primes is to be had; a least cover is, and
+        that of it is it."""
+        chance, rows = Random(4), []
+        for k in range(150):
+            inputs = chance.sample(range(k % 15 * 2, k % 15 * 2 + 8), chance.randint(2, 6)) + [36 + k % 3]
+            bits = [i for i in inputs if chance.random() < 0.5]
+            rows.append(cube_of(39, bits, [i for i in inputs if i not in bits]))
+        text = pla(39, 1, *listed(rows))
+        with folder_of({}) as folder:
+            least, _ = answer_in(folder, ["-Dexact"], text)
+            again, _ = answer_in(folder, ["-Dexact"], least.output)
+        self.assertEqual(least.status, 0, least.message)
+        self.same(again, least)
+        self.both("a least cover", "-Dverify", text, least.output, EQUAL)
+
+
 class Apart(Large):
     """Rows that are apart by their first symbols, which have an odd number of ones, with a literal after them and two outputs."""
 

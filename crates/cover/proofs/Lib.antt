@@ -2,6 +2,7 @@ pub mod Cofactors
 pub mod MaskedAgreement
 pub mod MergedRows
 pub mod MergedOutputs
+pub mod NotHeld
 pub use Rattle.rows.proofs.Inputs
 pub use Rattle.rows.proofs.Lists
 pub use Rattle.rows.proofs.Found

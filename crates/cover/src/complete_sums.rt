@@ -1,6 +1,6 @@
 //! Complete sums of covers: `sums` makes them.
 ghost use Rattle.std.specs.Prelude.{◌≡◌, ◌<◌, true, IfOk, not, IfSome, filter};
-ghost use Rattle.cube.specs.Cube.{intersection, difference as difference_of, HasSize};
+ghost use Rattle.cube.specs.Cube.{intersection, difference as difference_of, HasSize, Place};
 ghost use Rattle.cube.specs.Sum.{complete_sum as complete_sum_of};
 ghost use Rattle.rows.specs.Cubes.{AreCubes};
 ghost use Rattle.rows.specs.Places.{places, holds_all};
@@ -92,10 +92,48 @@ pub fn intersect(list: &Cover, other: &Cover) -> Result<Cover, AllocError>
     Ok(Cover::from_cubes(shape, sum))
 }
 
+/// The rows of the list that are not wholly in the other: those that lie in it have no place in the
+/// difference.
+fn rows_not_held(list: &Cover, other: &Cover) -> Result<Vec<Cube>, AllocError>
+    requires { other.now.size ≡ list.now.size }
+    ensures cubes { IfOk result (λ rows. AreCubes list.now.size rows.items) }
+    ensures places { IfOk result (λ rows. (p : Place)
+        → difference_of (places rows.items) (places other.now.cubes) p
+        ≡ difference_of (places list.now.cubes) (places other.now.cubes) p) }
+{
+    let cubes = list.as_slice();
+    let are_held = other.holds_cubes(cubes)?;
+    let mut rows = Vec::new(list.allocator());
+    for k in 0..cubes.len() {
+        if !are_held[k] {
+            rows.push(cubes[k].try_clone()?)?;
+        }
+    }
+    Ok(rows)
+}
+
+/// Rows that have the places of the list outside the other: those that are not wholly in it, or all
+/// where there is one at most, since the sum is then found as soon as the question is answered.
+fn rows_to_subtract_from(list: &Cover, other: &Cover) -> Result<Vec<Cube>, AllocError>
+    requires { other.now.size ≡ list.now.size }
+    ensures cubes { IfOk result (λ rows. AreCubes list.now.size rows.items) }
+    ensures places { IfOk result (λ rows. (p : Place)
+        → difference_of (places rows.items) (places other.now.cubes) p
+        ≡ difference_of (places list.now.cubes) (places other.now.cubes) p) }
+{
+    if list.len() < 2 {
+        Ok(list.try_clone()?.into_cubes())
+    } else {
+        rows_not_held(list, other)
+    }
+}
+
 /// The complete sum of the places that are in the first list and not in the second, of one shape.
 ///
-/// Both lists are split together, so no complement is formed. The cost is that of [`complete_sum`],
-/// with the cubes of both lists.
+/// Rows of the first list that lie wholly in the second are left out first: for two versions of one
+/// function little is left then. Both lists are then split together, so no complement is formed.
+/// The cost is that of a question to the second list for each row of the first, and that of
+/// [`complete_sum`], with the cubes that are left of both lists.
 ///
 /// # Errors
 ///
@@ -110,7 +148,7 @@ pub fn difference(list: &Cover, other: &Cover) -> Result<Cover, AllocError>
 {
     let alloc = list.allocator();
     let shape = list.shape();
-    let minuend = list.try_clone()?.into_cubes();
+    let minuend = rows_to_subtract_from(list, other)?;
     let subtrahend = other.try_clone()?.into_cubes();
     let sum = sum_of_difference(alloc, shape, minuend, subtrahend)?;
     Ok(Cover::from_cubes(shape, sum))

@@ -27,6 +27,9 @@ const LEAST_ROWS: usize = 8;
 // Lists that may take more steps than this stay as they are: rows times inputs times outputs.
 const MOST_STEPS: usize = 1_000_000_000;
 
+// At most this many passes are made.
+const MOST_PASSES: usize = 8;
+
 // How many steps merging takes at most.
 fn most_steps(list: &Cover) -> usize {
     let shape = list.shape();
@@ -309,17 +312,10 @@ fn merge_rows_of_outputs(
     Ok(Some(rows))
 }
 
-/// A list with the same places and no more rows; `None` where the rows are few or merging takes too
-/// many steps, where a sample shows that it does not pay, or where it leaves no fewer rows.
-///
-/// Rows of one output that differ in one literal alone become one, input by input, and rows with
-/// equal symbols become one with the outputs of both. It takes time in the number of rows times
-/// inputs, for each output that they have, and memory for some copies of the list at most.
-///
-/// # Errors
-///
-/// [`AllocError`] if memory is refused.
-pub fn merge_rows(list: &Cover) -> Result<Option<Cover>, AllocError>
+// A list with the same places and no more rows, by one pass over all inputs; `None` where there are
+// few rows or too many steps, where a sample shows that it does not pay, or where it leaves no fewer
+// rows.
+fn merge_rows_once(list: &Cover) -> Result<Option<Cover>, AllocError>
     ensures size { IfOk result (λ found. IfSome found (λ fewer. fewer.size ≡ list.now.size)) }
     ensures places { IfOk result (λ found. IfSome found (λ fewer. (p : Place)
         → places fewer.cubes p ≡ places list.now.cubes p)) }
@@ -335,4 +331,35 @@ pub fn merge_rows(list: &Cover) -> Result<Option<Cover>, AllocError>
         return Ok(None);
     }
     merge_rows_of_outputs(alloc, list, &hashes)
+}
+
+/// A list with the same places and no more rows; `None` where the rows are few or merging takes too
+/// many steps, where a sample shows that it does not pay, or where it leaves no fewer rows.
+///
+/// Rows of one output that differ in one literal alone become one, input by input, and rows with
+/// equal symbols become one with the outputs of both. It takes time in the number of rows times
+/// inputs, for each output that they have, and memory for some copies of the list at most. Rows that
+/// were cut in two several times take a pass for each cut; a pass is repeated only while it made the
+/// list shorter, at most eight times.
+///
+/// # Errors
+///
+/// [`AllocError`] if memory is refused.
+pub fn merge_rows(list: &Cover) -> Result<Option<Cover>, AllocError>
+    ensures size { IfOk result (λ found. IfSome found (λ fewer. fewer.size ≡ list.now.size)) }
+    ensures places { IfOk result (λ found. IfSome found (λ fewer. (p : Place)
+        → places fewer.cubes p ≡ places list.now.cubes p)) }
+    ensures no_more { IfOk result (λ found. IfSome found (λ fewer.
+        length fewer.cubes ≤ length list.now.cubes)) }
+{
+    let Some(mut merged) = merge_rows_once(list)? else {
+        return Ok(None);
+    };
+    for _ in 1..MOST_PASSES {
+        match merge_rows_once(&merged)? {
+            Some(fewer) => merged = fewer,
+            None => break,
+        }
+    }
+    Ok(Some(merged))
 }

@@ -11,11 +11,13 @@
 //! point avoid the places outside that are known so far. A column that is no implicant shows a place
 //! outside that is not known, and the cube that this is grown to is known from then on. The columns
 //! are made anew until all are implicants: then they are primes, and no other point changes them.
-//! A wanted place that the cover of the table leaves out is the next point.
+//! A wanted place that the cover of the table leaves out is the next point: one that few primes contain,
+//! as far as the known places outside show it (`narrowing`). A place of the middle of many rows lies in
+//! more primes than can be made, and its row of the table says little.
 //!
-//! A point costs its columns, and a question for each of them, two to ten times; a round costs a cover
-//! of the table, and a question for each ON cube. Seen were five to fifty cubes with places outside
-//! for a point.
+//! A point costs its columns, and a question for each of them, two to ten times, and some looks at each
+//! known cube outside; a round costs a cover of the table, and a question for each ON cube. Seen were
+//! five to fifty cubes with places outside for a point.
 
 ghost use Rattle.std.specs.Prelude.{◌≡◌, ◌≢◌, ◌<◌, ◌++◌, true, [], IfOk, IfSome, OnOk, All, length};
 ghost use Rattle.std.specs.List.{Contains};
@@ -31,6 +33,7 @@ ghost use Rattle.minimum.specs.PrimeRows.{HasOneOutput};
 ghost use Rattle.minimum.specs.Points.{AreColumnsOf, IsOnePoint};
 ghost use Rattle.minimum.specs.AsNeeded.{inside_of, primes_inside, AreOutside, IsKnown};
 
+use crate::as_needed::narrowing::Narrowing;
 use crate::as_needed::places_outside::{add_refusals, add_refusals_of_growth, parts_left_out};
 use crate::cubes::are_apart;
 use crate::essential_by_neighbours::find_essential;
@@ -47,6 +50,7 @@ use cube::{Cube, Shape, Symbol};
 use pla::Sets;
 use std::alloc::{AllocError, Global};
 
+mod narrowing;
 mod places_outside;
 
 /// What the rounds know.
@@ -189,26 +193,64 @@ fn add_point_in(
     Ok(())
 }
 
-/// Adds a point of each of these parts, with its columns, where one is wanted, lies in no essential
-/// prime, and its columns are found. `true` if some point was added.
+// At most so many steps are tried to narrow the row of a point.
+const MOST_STEPS: usize = 400;
+
+/// A part that the list leaves out of the row that contains this part: of the last step of those that
+/// leave one, in which the row is narrowed towards places outside; the part itself if there is none.
+fn part_of_few_primes(
+    alloc: Global,
+    rows: &Cover,
+    list: &Cover,
+    outside: &Cover,
+    part: &Cube,
+) -> Result<Cube, AllocError>
+    requires { IsCube list.now.size part.now }
+    ensures { IfOk result (IsCube list.now.size) }
+{
+    let outside = outside.as_slice();
+    let mut narrowing = Narrowing::new(alloc, rows.as_slice(), outside, part)?;
+    let mut found = part.try_clone()?;
+    for _ in 0..MOST_STEPS {
+        let Some(step) = narrowing.next_step(outside)? else {
+            break;
+        };
+        if step.narrow.shape() != list.shape() {
+            break;
+        }
+        if let Some(part) = list.part_left_out(&step.narrow)? {
+            narrowing.take(alloc, outside, step)?;
+            found = part;
+        }
+    }
+    Ok(found)
+}
+
+/// Adds a point for each of these parts, with its columns, where one is wanted, lies in no essential
+/// prime, and its columns are found: of a part that the cover and the DC cubes leave out of the same ON
+/// cube. `true` if some point was added.
 fn add_points(
     alloc: Global,
     sets: &Sets,
     all: &RowsByOutput,
     essential: &Cover,
+    cover: &Cover,
     parts: &[Cube],
     choice: Choice,
     known: &mut Known,
 ) -> Result<bool, AllocError>
     requires all { all.now ≡ inside_of sets.now }
     requires essential { essential.now.size ≡ sets.now.size }
+    requires cover { cover.now.size ≡ sets.now.size }
     requires parts { (c : Row) → Contains parts.now c → IsCube sets.now.size c }
     requires known { IsKnown choice sets.now essential.now.cubes known.old }
     ensures { OnOk result (IsKnown choice sets.now essential.now.cubes known.new) }
 {
     let count = known.found.points.len();
+    let held = cubes_of_both(cover, sets.dc())?;
     for part in parts {
-        add_point_in(alloc, sets, all, essential, part, choice, known)?;
+        let part = part_of_few_primes(alloc, sets.on(), &held, &known.outside, part)?;
+        add_point_in(alloc, sets, all, essential, &part, choice, known)?;
     }
     Ok(known.found.points.len() > count)
 }
@@ -289,7 +331,9 @@ fn exact_beside(
         if is_least {
             continue;
         }
-        if !add_points(alloc, sets, all, essential, &parts, choice, &mut known)? {
+        if !add_points(
+            alloc, sets, all, essential, &cover, &parts, choice, &mut known,
+        )? {
             return Ok(None);
         }
     }

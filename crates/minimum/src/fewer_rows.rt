@@ -4,7 +4,7 @@
 //! a row for each point, takes far longer than the same places in few rows. Its primes do not: the
 //! sum of many small rows is made sooner than these are merged. But where rows of few literals were
 //! cut in two, each at an input of its own, sums of some of the rows depend on all these inputs, and
-//! grow with the power of two of the cuts.
+//! grow with the power of two of the cuts. So do they where rows of many literals lie in others.
 
 ghost use Rattle.std.specs.Prelude.{◌≡◌, IfOk, IfSome, true};
 ghost use Rattle.cube.specs.Cube.{Place};
@@ -15,6 +15,8 @@ ghost use Rattle.minimum.specs.SamePlaces.{HasSamePlaces};
 
 use crate::exact_minimum::{exact, exact_of_samples};
 use crate::of_pla::{essential_of_sets, essential_outside, off_alone, primes_outside};
+use crate::points::dominating::rows_around::without_contained;
+use crate::points::source::large_first;
 use crate::prime_implicants::primes;
 use crate::way_hints::uses_points;
 use cover::{Cover, merge_rows};
@@ -23,16 +25,15 @@ use pla::Pla;
 use std::alloc::{AllocError, Global};
 
 // The list with fewer rows, or a copy where none was made.
-fn merged_or_copy(merged: Option<Cover>, list: &Cover) -> Result<Cover, AllocError>
-    requires size { IfSome merged (λ fewer. fewer.size ≡ list.now.size) }
-    requires places { IfSome merged
-        (λ fewer. (p : Place) → places fewer.cubes p ≡ places list.now.cubes p) }
+fn fewer_or_copy(fewer: Option<Cover>, list: &Cover) -> Result<Cover, AllocError>
+    requires size { IfSome fewer (λ l. l.size ≡ list.now.size) }
+    requires places { IfSome fewer (λ l. (p : Place) → places l.cubes p ≡ places list.now.cubes p) }
     ensures size { IfOk result (λ all. all.size ≡ list.now.size) }
     ensures places { IfOk result
         (λ all. (p : Place) → places all.cubes p ≡ places list.now.cubes p) }
 {
-    match merged {
-        Some(fewer) => Ok(fewer),
+    match fewer {
+        Some(rows) => Ok(rows),
         None => list.try_clone(),
     }
 }
@@ -80,40 +81,82 @@ fn is_worth_merging(list: &Cover) -> bool {
     has_outputs && is_long
 }
 
-// Whether to merge the rows of the list: for primes with many inputs, unless they are points, and
-// else if they are points and that pays.
+// Whether to merge the rows of the list. Points are merged where that pays, but not for primes. Other
+// rows are with many inputs, where all primes may have to be listed: for primes, and of one output.
 fn is_to_be_merged(aim: Aim, list: &Cover) -> bool {
+    let shape = list.shape();
     match aim {
-        Aim::AllPrimes => uses_points(list.shape()) && !are_nearly_points(list),
-        Aim::SomePrimes => is_worth_merging(list) && are_nearly_points(list),
+        Aim::AllPrimes => uses_points(shape) && !are_nearly_points(list),
+        Aim::SomePrimes if are_nearly_points(list) => is_worth_merging(list),
+        Aim::SomePrimes => uses_points(shape) && shape.outputs() == 1,
     }
 }
 
-// The list with fewer rows, if its rows are to be merged and some can be.
-fn merged_list(aim: Aim, list: &Cover) -> Result<Option<Cover>, AllocError>
+// Of more rows it is not asked which lie in others: each may be compared with all.
+const MOST_ROWS_TO_COMPARE: usize = 5_000;
+
+// The list without the rows that lie in others, those with few literals first; `None` where there is no
+// such row. Of points few lie in others, so they are not looked through.
+fn absorbed_list(alloc: Global, list: &Cover) -> Result<Option<Cover>, AllocError>
     ensures size { IfOk result (λ found. IfSome found (λ fewer. fewer.size ≡ list.now.size)) }
     ensures places { IfOk result (λ found. IfSome found
         (λ fewer. (p : Place) → places fewer.cubes p ≡ places list.now.cubes p)) }
 {
-    if !is_to_be_merged(aim, list) {
+    if list.len() > MOST_ROWS_TO_COMPARE || are_nearly_points(list) {
         return Ok(None);
     }
-    merge_rows(list)
+    let sorted = large_first(list.try_clone()?)?;
+    let rest = without_contained(alloc, &sorted)?;
+    if rest.len() >= list.len() {
+        return Ok(None);
+    }
+    Ok(Some(rest))
+}
+
+// The list with fewer rows, or the given one where there is none.
+fn fewer_or_given<'a>(fewer: &'a Option<Cover>, given: &'a Cover) -> &'a Cover
+    requires size { IfSome fewer.now (λ l. l.size ≡ given.now.size) }
+    requires places { IfSome fewer.now
+        (λ l. (p : Place) → places l.cubes p ≡ places given.now.cubes p) }
+    ensures size { result.now.size ≡ given.now.size }
+    ensures places { (p : Place) → places result.now.cubes p ≡ places given.now.cubes p }
+{
+    match fewer {
+        Some(list) => list,
+        None => given,
+    }
+}
+
+// The list with fewer rows: without those that lie in others, and merged if they are to be; `None`
+// where that is the list.
+fn list_of_fewer_rows(alloc: Global, aim: Aim, list: &Cover) -> Result<Option<Cover>, AllocError>
+    ensures size { IfOk result (λ found. IfSome found (λ fewer. fewer.size ≡ list.now.size)) }
+    ensures places { IfOk result (λ found. IfSome found
+        (λ fewer. (p : Place) → places fewer.cubes p ≡ places list.now.cubes p)) }
+{
+    let absorbed = absorbed_list(alloc, list)?;
+    let rows = fewer_or_given(&absorbed, list);
+    if is_to_be_merged(aim, rows) {
+        if let Some(merged) = merge_rows(rows)? {
+            return Ok(Some(merged));
+        }
+    }
+    Ok(absorbed)
 }
 
 // The description with lists of fewer rows, or `None` where none is merged.
-fn with_fewer_rows(aim: Aim, pla: &Pla) -> Result<Option<Pla>, AllocError>
+fn with_fewer_rows(alloc: Global, aim: Aim, pla: &Pla) -> Result<Option<Pla>, AllocError>
     ensures { IfOk result (λ found. IfSome found (λ fewer. HasSamePlaces pla.now fewer)) }
 {
-    let on = merged_list(aim, pla.on())?;
-    let dc = merged_list(aim, pla.dc())?;
-    let off = merged_list(aim, pla.off())?;
+    let on = list_of_fewer_rows(alloc, aim, pla.on())?;
+    let dc = list_of_fewer_rows(alloc, aim, pla.dc())?;
+    let off = list_of_fewer_rows(alloc, aim, pla.off())?;
     if on.is_none() && dc.is_none() && off.is_none() {
         return Ok(None);
     }
-    let on = merged_or_copy(on, pla.on())?;
-    let dc = merged_or_copy(dc, pla.dc())?;
-    let off = merged_or_copy(off, pla.off())?;
+    let on = fewer_or_copy(on, pla.on())?;
+    let dc = fewer_or_copy(dc, pla.dc())?;
+    let off = fewer_or_copy(off, pla.off())?;
     Ok(Some(pla.with_lists(on, dc, off)))
 }
 
@@ -142,7 +185,7 @@ pub fn primes_of_pla(alloc: Global, pla: &Pla) -> Result<Cover, AllocError>
       cubes = primes_of (sets_of pla.now true true);
     }) }
 {
-    let fewer = with_fewer_rows(Aim::AllPrimes, pla)?;
+    let fewer = with_fewer_rows(alloc, Aim::AllPrimes, pla)?;
     let pla = fewer_rows_or_given(&fewer, pla);
     match off_alone(pla)? {
         Some(off) => primes_outside(&off),
@@ -161,7 +204,7 @@ pub fn essential_of_pla(alloc: Global, pla: &Pla) -> Result<Cover, AllocError>
       cubes = essential_of (sets_of pla.now true true) (primes_of (sets_of pla.now true true));
     }) }
 {
-    let fewer = with_fewer_rows(Aim::SomePrimes, pla)?;
+    let fewer = with_fewer_rows(alloc, Aim::SomePrimes, pla)?;
     let pla = fewer_rows_or_given(&fewer, pla);
     match off_alone(pla)? {
         Some(off) => essential_outside(alloc, pla, &off),
@@ -181,7 +224,7 @@ pub fn exact_of_pla(alloc: Global, pla: &Pla, choice: Choice) -> Result<Cover, A
       cubes = exact_of choice (sets_of pla.now true true);
     }) }
 {
-    let fewer = with_fewer_rows(Aim::SomePrimes, pla)?;
+    let fewer = with_fewer_rows(alloc, Aim::SomePrimes, pla)?;
     let pla = fewer_rows_or_given(&fewer, pla);
     if let Some(off) = off_alone(pla)? {
         if let Some(list) = exact_of_samples(alloc, pla, off, choice)? {

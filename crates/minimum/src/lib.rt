@@ -31,8 +31,9 @@
 //! a ring. Its table has the rows {0,3}, {0,4}, {1,2}, {1,5}, {2,3} and {4,5}; no step reduces it,
 //! and its least cover is 0, 2, 5.
 //!
-//! Lists of many points are merged before anything else is asked of them, but for their primes; for
-//! primes of more than 12 inputs the other lists are, as rows that were cut in two have many sums.
+//! Lists of many points are merged before anything else is asked of them, but for their primes. Of other
+//! lists the rows that lie in others are dropped, and with more than 12 inputs their rows are merged for
+//! primes and with one output, as rows that were cut in two have many sums.
 //!
 //! There may be exponentially many primes in the inputs, and the least cover may take exponentially many
 //! branches of its table. Where points are picked, memory is for their columns and not for the primes.

@@ -113,7 +113,7 @@ fn widened_rows(alloc: Global, off: &Cover, point: &Cube) -> Result<Cover, Alloc
 }
 
 /// The list without cubes that lie in one before them.
-fn without_contained(alloc: Global, list: &Cover) -> Result<Cover, AllocError>
+pub(crate) fn without_contained(alloc: Global, list: &Cover) -> Result<Cover, AllocError>
     ensures size { IfOk result (λ left. left.size ≡ list.now.size) }
     ensures members { IfOk result (λ left. (c : Row) → Contains left.cubes c
         → Contains list.now.cubes c) }
