@@ -218,6 +218,22 @@ class ManyPrimes(Large):
         rows = [cube_of(60, (k, 30 + k), ()) for k in range(30)] + [cube_of(60, (), range(30))]
         self.each("products", (60, 1), listed(rows), sorted(listed(rows)), ("essen", "exact", "exact --literals"))
 
+    def test_many_functions_joined_in_one_output(self):
+        """Fifteen functions of ten rows, each of nine inputs, some of them in common. Their primes are too many to list; a least cover is
+        found, and is its own least cover."""
+        chance, rows = Random(4), []
+        for k in range(150):
+            inputs = chance.sample(range(k % 15 * 2, k % 15 * 2 + 8), chance.randint(2, 6)) + [36 + k % 3]
+            bits = [i for i in inputs if chance.random() < 0.5]
+            rows.append(cube_of(39, bits, [i for i in inputs if i not in bits]))
+        text = pla(39, 1, *listed(rows))
+        with folder_of({}) as folder:
+            least, _ = answer_in(folder, ["-Dexact"], text)
+            again, _ = answer_in(folder, ["-Dexact"], least.output)
+        self.assertEqual(least.status, 0, least.message)
+        self.same(again, least)
+        self.both("a least cover", "-Dverify", text, least.output, EQUAL)
+
     def test_a_search_of_many_tables(self):
         """A sample for each triple of 51 numbers, with zeros at these, against ones alone: the primes are the single zeros,
         and a cover has one of each triple. The search for a least one looks at some 50,000 tables."""
@@ -233,7 +249,7 @@ class ManyPrimes(Large):
 
 
 def pieces(cube, cuts, chance):
-    """The cube in pieces: a piece is cut in two at an input where it has no literal, so often."""
+    """The cube in pieces: this many times a piece is cut in two at an input where it has no literal."""
     found = [cube]
     for _ in range(cuts):
         piece = found.pop(chance.randrange(len(found)))
@@ -270,22 +286,6 @@ class Pieces(Large):
         self.both("two versions", "-Dsharp", pla(47, 30, *first), pla(47, 30, *second), printed(47, 30))
         self.both("two versions, turned round", "-Dsharp", pla(47, 30, *second), pla(47, 30, *first), printed(47, 30))
         self.both("one row more", "-Dsharp", pla(47, 30, *first, more), pla(47, 30, *second), printed(47, 30, more))
-
-    def test_many_functions_joined_in_one_output(self):
-        """Functions of eight inputs each, which have some of them in common. No list of the primes is to be had; a least cover is, and
-        that of it is it."""
-        chance, rows = Random(4), []
-        for k in range(150):
-            inputs = chance.sample(range(k % 15 * 2, k % 15 * 2 + 8), chance.randint(2, 6)) + [36 + k % 3]
-            bits = [i for i in inputs if chance.random() < 0.5]
-            rows.append(cube_of(39, bits, [i for i in inputs if i not in bits]))
-        text = pla(39, 1, *listed(rows))
-        with folder_of({}) as folder:
-            least, _ = answer_in(folder, ["-Dexact"], text)
-            again, _ = answer_in(folder, ["-Dexact"], least.output)
-        self.assertEqual(least.status, 0, least.message)
-        self.same(again, least)
-        self.both("a least cover", "-Dverify", text, least.output, EQUAL)
 
 
 class Apart(Large):

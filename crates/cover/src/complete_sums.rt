@@ -112,8 +112,13 @@ fn rows_not_held(list: &Cover, other: &Cover) -> Result<Vec<Cube>, AllocError>
     Ok(rows)
 }
 
+// Of more pairs of rows it is not asked which rows lie in the other list: a question may look at all of
+// its rows, and the sum of so many small rows is made sooner.
+const MOST_PAIRS: usize = 10_000_000;
+
 /// Rows that have the places of the list outside the other: those that are not wholly in it, or all
-/// where there is one at most, since the sum is then found as soon as the question is answered.
+/// where there is one at most, since the sum is then found as soon as the question is answered, or
+/// where both lists are long.
 fn rows_to_subtract_from(list: &Cover, other: &Cover) -> Result<Vec<Cube>, AllocError>
     requires { other.now.size ≡ list.now.size }
     ensures cubes { IfOk result (λ rows. AreCubes list.now.size rows.items) }
@@ -121,7 +126,7 @@ fn rows_to_subtract_from(list: &Cover, other: &Cover) -> Result<Vec<Cube>, Alloc
         → difference_of (places rows.items) (places other.now.cubes) p
         ≡ difference_of (places list.now.cubes) (places other.now.cubes) p) }
 {
-    if list.len() < 2 {
+    if list.len() < 2 || list.len().saturating_mul(other.len()) > MOST_PAIRS {
         Ok(list.try_clone()?.into_cubes())
     } else {
         rows_not_held(list, other)
@@ -132,8 +137,8 @@ fn rows_to_subtract_from(list: &Cover, other: &Cover) -> Result<Vec<Cube>, Alloc
 ///
 /// Rows of the first list that lie wholly in the second are left out first: for two versions of one
 /// function little is left then. Both lists are then split together, so no complement is formed.
-/// The cost is that of a question to the second list for each row of the first, and that of
-/// [`complete_sum`], with the cubes that are left of both lists.
+/// The cost is that of a question to the second list for each row of the first, where these are
+/// several and not too many, and that of [`complete_sum`], with the cubes that are left of both.
 ///
 /// # Errors
 ///
@@ -156,7 +161,7 @@ pub fn difference(list: &Cover, other: &Cover) -> Result<Cover, AllocError>
 
 impl Cover {
     /// The complete sum of the places that are in no cube of the list: the [`difference`] between
-    /// all places and the list, at its cost.
+    /// all places and the list, at the cost of its sum.
     ///
     /// # Errors
     ///

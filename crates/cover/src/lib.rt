@@ -16,7 +16,7 @@
 //!   complete sum of the places inside, outside, in both lists and in the first alone;
 //! - [`outside`] and [`subtract`], some cubes with the places outside and in the first list alone,
 //!   where the complete sum may be far too long, within a [`Budget`];
-//! - [`merge_rows`], a list with the same places and fewer rows, for tables of truth and the like;
+//! - [`merge_rows`], a list with the same places and fewer rows, for tables of truth and rows in pieces;
 //! - [`sum_containing`] and [`cubes_containing`], the cubes of a complete sum and of a list that
 //!   contain a region, without the others; and [`in_row_order`], the list sorted.
 //!

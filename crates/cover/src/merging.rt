@@ -1,11 +1,11 @@
-//! A list with the same places and fewer rows, for lists of many small cubes such as tables of
-//! truth.
+//! A list with the same places and fewer rows, for tables of truth and for rows that were cut in
+//! pieces.
 //!
 //! The rows of each output are taken by themselves. Input by input, two of them that have opposite
 //! literals there and differ nowhere else become one without a literal. What is left of all outputs
 //! is put together: rows with equal symbols become one with the outputs of both. Which rows may
 //! become one is found by hashes of their symbols, so that no pairs are formed; in which order
-//! inputs are taken is a hint from a sample.
+//! inputs are taken is a hint from a sample. All this is done again while the list gets shorter.
 pub(crate) mod input_order;
 pub(crate) mod row_table;
 
@@ -24,13 +24,14 @@ use std::alloc::{AllocError, Global};
 // Lists of fewer rows stay as they are.
 const LEAST_ROWS: usize = 8;
 
-// Lists that may take more steps than this stay as they are: rows times inputs times outputs.
+// Lists of which a pass may take more steps than this stay as they are: rows times inputs times
+// outputs.
 const MOST_STEPS: usize = 1_000_000_000;
 
 // At most this many passes are made.
 const MOST_PASSES: usize = 8;
 
-// How many steps merging takes at most.
+// How many steps a pass takes at most.
 fn most_steps(list: &Cover) -> usize {
     let shape = list.shape();
     let outputs = shape.outputs();
@@ -339,8 +340,8 @@ fn merge_rows_once(list: &Cover) -> Result<Option<Cover>, AllocError>
 /// Rows of one output that differ in one literal alone become one, input by input, and rows with
 /// equal symbols become one with the outputs of both. It takes time in the number of rows times
 /// inputs, for each output that they have, and memory for some copies of the list at most. Rows that
-/// were cut in two several times take a pass for each cut; a pass is repeated only while it made the
-/// list shorter, at most eight times.
+/// were cut several times may need a pass for each cut: after one that made the list shorter another
+/// follows, eight in all at most.
 ///
 /// # Errors
 ///

@@ -5,7 +5,8 @@
 //! table is pruned by the steps of a reduction, by dropping columns that another one dominates and
 //! that cost no less, and by weights of its rows (the dual bound): if the weights are more than the
 //! cutoff there is no cover within it, and a column with more slack than the remaining gap is in
-//! none. Any cover within the cutoff is a right answer, so any order of branches serves.
+//! none. Any cover within the cutoff is a right answer, so any order of branches serves. A search that
+//! looked at many tables is begun anew, with its tables bounded by their linear relaxation.
 
 ghost use Rattle.std.specs.Prelude.{◌≡◌, ◌≤◌, ◌-◌, ℕ, [], IfOk, MatchOption, MatchBool, length, true, false};
 ghost use Rattle.covering.specs.Table.{IsTable, has};

@@ -1,4 +1,5 @@
-//! The transpose of a table: the rows of each column.
+//! The transpose of a table: the rows of each column. Each list is made with room for its rows, which
+//! are counted before: a hint.
 
 ghost use Rattle.std.specs.Prelude.{◌≡◌, [], IfOk, length, replicate};
 ghost use Rattle.covering.specs.Table.{RisesFrom, items_of};
@@ -40,7 +41,8 @@ fn clear_each(lists: &mut Vec<Vec<usize>>)
     }
 }
 
-/// The number at the place; 0 if there is none or it is negative.
+/// How much room to make for the list at the place: the number there, 0 if there is none or it is
+/// negative.
 fn room_at(numbers: &[i64], place: usize) -> usize {
     let room = if place < numbers.len() {
         numbers[place]

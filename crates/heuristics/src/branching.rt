@@ -1,5 +1,5 @@
-//! Which column a search branches on, and which columns it asks for together; also how many rows
-//! each column is in.
+//! Which column a search branches on, and which columns it asks for together: those before the
+//! first that the witness has; also how many rows each column is in.
 
 use number_lists::{at, mark};
 use std::alloc::{AllocError, Global};
@@ -83,7 +83,7 @@ pub fn likeliest(rows: &[Vec<usize>], likely: &[i64], counts: &[i64]) -> usize {
     best
 }
 
-/// Whether the list has the column.
+/// Whether the witness has the column.
 fn has(columns: &[usize], column: usize) -> bool {
     for other in columns {
         if *other == column {

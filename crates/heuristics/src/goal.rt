@@ -1,4 +1,4 @@
-//! What a cover is to reach.
+//! The goal: how many columns and what cost a cover may have.
 
 /// What a cover may have beside the columns that are taken already.
 #[derive(Clone, Copy)]

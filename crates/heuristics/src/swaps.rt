@@ -1,4 +1,4 @@
-//! A local search for a cover.
+//! A local search for a cover that reaches a goal.
 //!
 //! It adds columns until each row is covered, drops one, and goes on by swaps: it drops the column
 //! whose loss is least, and adds a column of some uncovered row. Rows that stay uncovered get

@@ -15,9 +15,10 @@
 //! as far as the known places outside show it (`narrowing`). A place of the middle of many rows lies in
 //! more primes than can be made, and its row of the table says little.
 //!
-//! A point costs its columns, and a question for each of them, two to ten times, and some looks at each
-//! known cube outside; a round costs a cover of the table, and a question for each ON cube. Seen were
-//! five to fifty cubes with places outside for a point.
+//! A point costs its columns, and a question for each of them, two to ten times. To pick it costs a look
+//! at each ON cube, and up to 400 looks at the known cubes outside and questions to the cover and the DC
+//! cubes, mostly some twenty. A round costs a cover of the table, and a question for each ON cube. Seen
+//! were five to fifty cubes with places outside for a point.
 
 ghost use Rattle.std.specs.Prelude.{◌≡◌, ◌≢◌, ◌<◌, ◌++◌, true, [], IfOk, IfSome, OnOk, All, length};
 ghost use Rattle.std.specs.List.{Contains};
@@ -196,8 +197,12 @@ fn add_point_in(
 // At most so many steps are tried to narrow the row of a point.
 const MOST_STEPS: usize = 400;
 
-/// A part that the list leaves out of the row that contains this part: of the last step of those that
-/// leave one, in which the row is narrowed towards places outside; the part itself if there is none.
+// After so many steps in a row that leave nothing no other is tried.
+const MOST_REFUSED: usize = 60;
+
+/// The part that the list leaves out of the row after the last step that leaves one; each step narrows
+/// the row, the first that contains the given part, towards a place outside. That part itself if there
+/// is no such step.
 fn part_of_few_primes(
     alloc: Global,
     rows: &Cover,
@@ -211,24 +216,27 @@ fn part_of_few_primes(
     let outside = outside.as_slice();
     let mut narrowing = Narrowing::new(alloc, rows.as_slice(), outside, part)?;
     let mut found = part.try_clone()?;
+    let mut refused: usize = 0;
     for _ in 0..MOST_STEPS {
         let Some(step) = narrowing.next_step(outside)? else {
             break;
         };
-        if step.narrow.shape() != list.shape() {
+        if refused >= MOST_REFUSED || step.narrow.shape() != list.shape() {
             break;
         }
+        refused = refused.saturating_add(1);
         if let Some(part) = list.part_left_out(&step.narrow)? {
             narrowing.take(alloc, outside, step)?;
             found = part;
+            refused = 0;
         }
     }
     Ok(found)
 }
 
 /// Adds a point for each of these parts, with its columns, where one is wanted, lies in no essential
-/// prime, and its columns are found: of a part that the cover and the DC cubes leave out of the same ON
-/// cube. `true` if some point was added.
+/// prime, and its columns are found: of a part that the cover and the DC cubes leave out of the first ON
+/// cube that contains it. `true` if some point was added.
 fn add_points(
     alloc: Global,
     sets: &Sets,

@@ -42,8 +42,8 @@ fn fewer_or_copy(fewer: Option<Cover>, list: &Cover) -> Result<Cover, AllocError
 const MOST_SAMPLED: usize = 16;
 
 // Whether rows are points, or nearly so, by some of them: they have literals at three quarters of
-// the inputs or more; `true` of an empty list. Rows of few literals are left as they are, as the
-// search for points begins with them.
+// the inputs or more; `true` of an empty list. Other rows are merged for primes and with one output
+// alone: with several the search for points begins with them as they are.
 fn are_nearly_points(list: &Cover) -> bool {
     let inputs = list.shape().inputs();
     let step = list.len() / MOST_SAMPLED + 1;
@@ -144,7 +144,7 @@ fn list_of_fewer_rows(alloc: Global, aim: Aim, list: &Cover) -> Result<Option<Co
     Ok(absorbed)
 }
 
-// The description with lists of fewer rows, or `None` where none is merged.
+// The description with lists of fewer rows, or `None` where no list has fewer.
 fn with_fewer_rows(alloc: Global, aim: Aim, pla: &Pla) -> Result<Option<Pla>, AllocError>
     ensures { IfOk result (λ found. IfSome found (λ fewer. HasSamePlaces pla.now fewer)) }
 {

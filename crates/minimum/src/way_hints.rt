@@ -8,8 +8,7 @@ use pla::{Pla, Sets};
 use std::alloc::AllocError;
 
 // At most this many cubes with the places outside are made for an output on average. Where many
-// functions are joined in one output there are far more, but few primes, and all of these are
-// listed.
+// functions are joined in one output there are far more, and those that are needed are made.
 const MOST_OF_AN_OUTPUT: usize = 250;
 
 // At most this many such cubes are made for all outputs together.

@@ -4,7 +4,9 @@
 //!   number, the lists that have it.
 //! - [`Compact`] is a covering table with its live columns renumbered from 0 on: the columns of each
 //!   row, the rows of each column, and what each column costs.
-//! - The others read and write at an index that may be past the end, where a read gives 0 and a write
+//! - [`is_live_part_of`] tells whether a row is what another one has of the live columns, by which it
+//!   is known again from table to table.
+//! - Most others read and write at an index that may be past the end, where a read gives 0 and a write
 //!   does nothing: [`at`] and [`put`] for `i64`, [`number`] and [`set`] for `usize`, [`flag`] and
 //!   [`mark`] for marks. [`next_random`] is a fixed pseudo-random sequence.
 //!

@@ -1,4 +1,5 @@
-//! The trail: literals that are set, in the order in which they were set, with levels and reasons.
+//! The trail: literals that are set, in the order in which they were set, with levels and reasons; and
+//! how each variable is tried when it is decided next.
 
 use crate::numbers::{NONE, add, saturating_u32};
 use crate::order::Order;

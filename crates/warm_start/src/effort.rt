@@ -5,7 +5,7 @@
 pub struct Effort {
     /// The nodes of the search: tables that were looked at.
     pub tables: u64,
-    /// How often it was asked whether there is a cover within a budget.
+    /// How often it was asked whether there is a cover within a cutoff.
     pub questions: u64,
     /// How many bounds were computed, each by a round of subgradient steps or by the linear
     /// relaxation.

@@ -4,7 +4,7 @@
 //! row, at one look at each: a row that meets what is left loses it by the opposite of one of its
 //! literals. No step is taken back, so that a part can be missed. If a row then holds all that is
 //! left, the region is narrowed anew from the start, by the rows that were met too late first; up to
-//! eight times in all.
+//! eight times in all. A row that holds the whole region ends it: nothing is left out.
 
 ghost use Rattle.std.specs.Prelude.{◌≡◌, true, IfOk, IfSome, IfNone, OnOk, All};
 ghost use Rattle.cube.specs.Cube.{SameSize, IsSubset, IsDisjoint, holds};

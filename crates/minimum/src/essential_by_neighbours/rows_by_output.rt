@@ -94,7 +94,8 @@ impl<'a> RowsByOutput<'a> {
     }
 
     /// Rows that hold the same places of the region as all rows do: those that have one of its
-    /// outputs, a row once for each; `None` where these are not few, or more than all rows are.
+    /// outputs, a row once for each; `None` where these are not few, or those of some outputs are
+    /// already as many as all rows.
     pub(crate) fn rows_reaching(
         &self,
         alloc: Global,
