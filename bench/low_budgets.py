@@ -18,8 +18,8 @@ import as_rust  # noqa: E402
 WAYS, NEEDED = "minimum/way_hints", "minimum/as_needed"
 POINTS, SOURCE, ROUNDS = "minimum/points", "minimum/points/source", "minimum/points/rounds"
 ROUND_HINTS = "minimum/points/round_hints"
-COLUMNS = "minimum/points/dominating"
-NEAR, MERGING = "minimum/essential_by_neighbours/near_rows", "cover/merging"
+COLUMNS = "growth/columns"
+NEAR, MERGING = "growth/near_rows", "cover/merging"
 
 # Changes: a file of a crate, a text that stands there, and what stands there in its place.
 POINTS_OF_FEW_INPUTS = [

@@ -19,10 +19,10 @@ use Rattle.cover.proofs.Lists.{list_any_from, list_any_witness, all_members, mem
 use Rattle.covering.specs.declared.choice.Choice.{Choice}
 use Rattle.pla.specs.Sets.{SetLists}
 use Rattle.minimum.specs.Primes.{primes_of}
-use Rattle.minimum.specs.Points.{function_of, IsWantedPoint, IsDominated, AreColumnsOf}
-use Rattle.minimum.specs.declared.essential_by_neighbours.growth.Side.TheVariants.{Outside}
-use Rattle.minimum.specs.Neighbours.{on_side, IsGrown}
-use Rattle.minimum.specs.Dominating.{primes_outside, IsImplicant}
+use Rattle.minimum.specs.Points.{function_of, IsWantedPoint, AreColumnsOf}
+use Rattle.growth.specs.Dominating.{IsDominated, primes_outside, IsImplicant}
+use Rattle.growth.specs.declared.prime.Side.TheVariants.{Outside}
+use Rattle.growth.specs.Growth.{on_side, IsGrown}
 use Rattle.minimum.specs.declared.as_needed.Known.{Known}
 use Rattle.minimum.specs.AsNeeded.{inside_of, primes_inside, AreOutside, IsKnown}
 use Rattle.minimum.proofs.PickedPoints.{Contains-one}

@@ -2,7 +2,7 @@
 use Rattle.std.proofs.Common.{◌≡◌, ◌≢◌, ℕ, ◌+◌, ◌<◌, ◌≤◌, inl, inr, Bool, true, false, not, ◌&&◌, ◌||◌, List, [], ◌∷◌, ◌++◌, length, take, get_or, set, refl, ap, sym, subst, ◌∙◌, arith, Option, Some, None, IfSome, IfNone, All}
 use Rattle.std.specs.List.{Contains, filter}
 use Rattle.std.specs.List.Sorted.{IsPermutation}
-use Rattle.std.proofs.Math.Bool.{not-not, or-false}
+use Rattle.std.proofs.Math.Bool.{not-not}
 use Rattle.std.proofs.lemmas.Bool.{cases_Bool, cases_lt, false≢true, and_parts, and_from, or_left}
 use Rattle.std.proofs.lemmas.List.{get_or_default, get_or_past, get_or-set_same, length-set, set-set, take_all}
 use Rattle.std.proofs.lemmas.List.Elements.{All-nil, All-cons, All-append, Contains-append_cases, Contains-append_left, Contains-append_right}
@@ -25,11 +25,12 @@ use Rattle.cover.proofs.Inputs.{matches-set_bit, matches-own}
 use Rattle.cover.proofs.Lists.{list_any_witness, all_members}
 use Rattle.cover.proofs.OverRegion.{size_of-is}
 use Rattle.pla.specs.Sets.{SetLists}
-use Rattle.minimum.specs.declared.essential_by_neighbours.growth.Side.TheVariants.{Outside}
+use Rattle.growth.specs.declared.prime.Side.TheVariants.{Outside}
 use Rattle.minimum.specs.Primes.{primes_of, care_on, others, essential_of}
-use Rattle.minimum.specs.Neighbours.{on_side, flip, under, held_by, IsAlone, IsAloneByInputs, has_own, essential_in}
+use Rattle.growth.specs.Growth.{on_side}
+use Rattle.minimum.specs.Neighbours.{flip, under, held_by, IsAlone, IsAloneByInputs, has_own, essential_in}
 use Rattle.minimum.specs.Blocking.{IsSampled, flip_in, under_in, Blocks, AreBlocking, HasCommon}
-use Rattle.minimum.proofs.MorePlaces.{places_pushed, more_places}
+use Rattle.growth.proofs.MorePlaces.{places_pushed}
 use Rattle.minimum.proofs.EssentialByNeighbours.{has_own_from, no_own_from, only_from_alone, alone_from_only}
 
 from_not : (b : Bool) → not b ≡ false → b ≡ true
@@ -119,14 +120,6 @@ other_output d j p off = elim (cases_Bool (holds d (under j p))) [
   | inr out ↦ out
   | inl on ↦ absurd (false≢true (sym off ∙ (and_parts (matches d.symbols p.point) (get_or d.outputs j false) on).1))
 ]
-
--- one more row of a list that is looked at from another place
-module _ (rows : List Cube) (i : ℕ) (row : Cube) (lt : i < length rows) (at : row ≡ get_or rows i row) (p q : Place) (old new : List Cube) (before : places old p ≡ places (take i rows) q) where
-  pub row_added : (held : Bool) → held ≡ holds row q → places new p ≡ (places old p || held) → places new p ≡ places (take (i + 1) rows) q
-  row_added held e is = is ∙ ap (λ b. places old p || b) e ∙ ap (λ b. b || holds row q) before ∙ sym (more_places rows i row lt at q)
-
-  pub row_left : holds row q ≡ false → places old p ≡ places (take (i + 1) rows) q
-  row_left off = before ∙ sym (or-false (places (take i rows) q)) ∙ ap (λ b. places (take i rows) q || b) (sym off) ∙ sym (more_places rows i row lt at q)
 
 -- ---- the blocking list of one step
 

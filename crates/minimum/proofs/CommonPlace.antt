@@ -12,9 +12,9 @@ use Rattle.cover.specs.Cubes.{Cubes}
 use Rattle.cover.specs.Places.{places}
 use Rattle.cover.proofs.Lists.{list_any_from, list_any_witness}
 use Rattle.cover.proofs.Regions.{place_at}
-use Rattle.minimum.specs.Neighbours.{LiesInOneOf}
+use Rattle.growth.specs.Growth.{LiesInOneOf}
 use Rattle.minimum.specs.Blocking.{HasCommon, IsNogood, IsWidening}
-use Rattle.minimum.proofs.MorePlaces.{more_places}
+use Rattle.growth.proofs.MorePlaces.{more_places}
 
 pub common_none : (region : Cube) (lists : List Cubes) (from : ℕ) → length lists ≤ from → list_any (λ b. b) region.outputs ≡ true → HasCommon region lists from
 common_none region lists from past some =

@@ -6,7 +6,7 @@ use Rattle.std.specs.Ordering.{is_eq}
 use Rattle.std.specs.declared.cmp.Ordering.{Ordering}
 use Rattle.std.specs.declared.cmp.Ordering.TheVariants.{Less, Equal, Greater}
 use Rattle.std.proofs.lemmas.Bool.{cases_Bool, cases_eq, cases_lt, false≢true, and_parts, and_from, or_cases, or_left, or_parts, not-true, not_from_false}
-use Rattle.std.proofs.lemmas.List.{get_or-set_same, get_or-set_other, get_or_past, set-get_or, set-set, length-set, length-map, length-replicate, get_or-replicate}
+use Rattle.std.proofs.lemmas.List.{get_or-set_same, get_or-set_other, get_or_past, set-get_or, set-set, length-set, length-map, length-replicate}
 use Rattle.std.proofs.lemmas.List.Elements.{All-append, All-cons, All-nil, Contains-append_cases, Contains-append_left, Contains-append_right}
 use Rattle.std.proofs.lemmas.List.Kept.{IsStrictlySortedBy-filter}
 use Rattle.std.proofs.lemmas.Cmp.{tied_itself}
@@ -32,10 +32,11 @@ use Rattle.cover.proofs.SumOrder.{row_exact}
 use Rattle.pla.specs.Sets.{SetLists}
 use Rattle.minimum.specs.Primes.{primes_of, care_on, others, essential_of}
 use Rattle.minimum.specs.declared.essential_by_neighbours.grown_primes.GrownPrimes.{GrownPrimes}
-use Rattle.minimum.specs.Neighbours.{flip, under, IsAlone, AreNeighbours, has_own, essential_in, IsOwn, LiesInOneOf, HaveSize, AddsPrime, AreGrown, AreFoundIn, AddsEssential}
+use Rattle.minimum.specs.Neighbours.{flip, under, IsAlone, AreNeighbours, has_own, essential_in, IsOwn, HaveSize, AddsPrime, AreGrown, AreFoundIn, AddsEssential}
+use Rattle.growth.specs.Growth.{LiesInOneOf}
 use Rattle.minimum.proofs.BothLists.{primes-together}
-use Rattle.minimum.proofs.MorePlaces.{more_places}
-use Rattle.minimum.proofs.Growth.{same_sizes}
+use Rattle.growth.proofs.MorePlaces.{more_places}
+use Rattle.growth.proofs.GrowthSteps.{none_set, same_sizes}
 
 -- ---- two places as a cube
 
@@ -58,9 +59,6 @@ matches_only (b ∷ bits) [] e = absurd (false≢true e)
 matches_only (b ∷ bits) (x ∷ point) e =
     let parts = and_parts (agrees (literal b) x) (matches (map literal bits) point) e in
     ap₂ (λ y ys. y ∷ ys) (agrees_only b x parts.0) (matches_only bits point parts.1)
-
-none_set : (m k : ℕ) → get_or (replicate m false) k false ≡ false
-none_set m k = elim (cases_lt k m) [ inl lt ↦ get_or-replicate m k false false lt | inr past ↦ get_or_past (replicate m false) k false (omega (arith, length-replicate m false)) ]
 
 set_only : (bs : List Bool) (j k : ℕ) → get_or (set bs j true) k false ≡ true → (k ≡ j) ⊎ (get_or bs k false ≡ true)
 set_only bs j k h = elim (cases_eq k j) [

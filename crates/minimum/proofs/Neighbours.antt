@@ -3,7 +3,7 @@ use Rattle.std.proofs.Common.{◌≡◌, ◌≢◌, ℕ, ◌+◌, ◌<◌, ◌�
 use Rattle.std.specs.List.{list_any}
 use Rattle.std.specs.Option.{is_some}
 use Rattle.std.proofs.lemmas.Bool.{cases_Bool, cases_eq, cases_lt, false≢true, and_parts, and_from, or_cases, or_parts, or_from, not-true, not_from_false}
-use Rattle.std.proofs.lemmas.List.{get_or-set_other, get_or_past}
+use Rattle.std.proofs.lemmas.List.{get_or-set_other, get_or_past, set-get_or}
 use Rattle.cube.specs.declared.symbol.Symbol.{Symbol}
 use Rattle.cube.specs.declared.symbol.Symbol.TheVariants.{Dash, Zero, One}
 use Rattle.cube.specs.Pattern.{agrees, matches}
@@ -12,13 +12,17 @@ use Rattle.cube.specs.Literals.{are_opposite, is_beyond_symbol}
 use Rattle.cube.specs.Sharp.{opposite, minus}
 use Rattle.cube.proofs.HoldsLemmas.{agrees_at-matches}
 use Rattle.cube.proofs.SharpLemmas.{some_true, true_some, get_or-minus}
-use Rattle.cover.specs.Cubes.{AreCubes}
+use Rattle.cover.specs.Cubes.{AreCubes, Cubes}
 use Rattle.cover.specs.Places.{places}
 use Rattle.cover.proofs.Found.{output_of_place}
 use Rattle.cover.proofs.Inputs.{matches-set_bit, matches-own}
 use Rattle.cover.proofs.Regions.{zero_literal, one_literal}
 use Rattle.minimum.specs.Neighbours.{flip, under, held_by, IsAlone, IsAloneByInputs, IsAloneByOutputs, AreNeighbours, AddsNeighbours}
-use Rattle.minimum.proofs.MorePlaces.{more_places}
+use Rattle.growth.specs.declared.prime.Side.{Side}
+use Rattle.growth.specs.declared.prime.Side.TheVariants.{Inside}
+use Rattle.growth.specs.Growth.{on_side, IsBeside, AreNear}
+use Rattle.growth.proofs.MorePlaces.{more_places}
+use Rattle.growth.proofs.Near.{against, near_side}
 
 -- ---- a symbol at a literal
 
@@ -38,13 +42,6 @@ across Dash bit literal a = absurd (literal refl)
 across Zero bit literal a = a
 across One true literal a = refl
 across One false literal a = absurd (false≢true a)
-
-pub against : (own : Symbol) (bit : Bool) → own ≢ Dash → agrees own bit ≡ true → agrees (opposite own) bit ≡ true → ⊥
-against Dash bit literal a b = literal refl
-against Zero true literal a b = false≢true a
-against Zero false literal a b = false≢true b
-against One true literal a b = false≢true b
-against One false literal a b = false≢true a
 
 -- a cube that is not apart from another has an output
 pub met_output : (a b : Cube) → (IsDisjoint (holds a) (holds b) → ⊥) → list_any (λ x. x) a.outputs ≡ true
@@ -250,4 +247,32 @@ module _ (c : Cube) (rows : List Cube) (i : ℕ) (row : Cube) (lt : i < length r
           | inl was ↦ so.some p in_c was old
           | inr out ↦ adds.some p in_c h out here
         ];
+  }
+
+-- ---- of the rows near a prime
+
+pub beside_flip : (c : Cube) (p : Place) (i : ℕ) → holds c p ≡ true → IsBeside c (flip i p)
+beside_flip c p i in_c = record { place = p; held = in_c; input = i; bit = not (get_or p.point i false); same = refl }
+
+pub beside_under : (c : Cube) (p : Place) (j : ℕ) → holds c p ≡ true → IsBeside c (under j p)
+beside_under c p j in_c = record { place = p; held = in_c; input = 0; bit = get_or p.point 0 false; same = sym (set-get_or p.point 0 false) }
+
+module _ (c : Cube) (rows near : Cubes) (are : AreNear c rows near) where
+  pub alone_to_all : (side : Side) (p : Place) → holds c p ≡ true → IsAlone (on_side side near.cubes) c p → IsAlone (on_side side rows.cubes) c p
+  alone_to_all side p in_c alone = record {
+    inputs = λ i lit. sym (near_side c rows near are side (flip i p) (beside_flip c p i in_c)) ∙ alone.inputs i lit;
+    outputs = λ j lt lacks. sym (near_side c rows near are side (under j p) (beside_under c p j in_c)) ∙ alone.outputs j lt lacks;
+  }
+
+  pub alone_to_near : (side : Side) (p : Place) → holds c p ≡ true → IsAlone (on_side side rows.cubes) c p → IsAlone (on_side side near.cubes) c p
+  alone_to_near side p in_c alone = record {
+    inputs = λ i lit. near_side c rows near are side (flip i p) (beside_flip c p i in_c) ∙ alone.inputs i lit;
+    outputs = λ j lt lacks. near_side c rows near are side (under j p) (beside_under c p j in_c) ∙ alone.outputs j lt lacks;
+  }
+
+  pub near_neighbours : (found : List Cube) → AreNeighbours c near.cubes found → AreNeighbours c rows.cubes found
+  near_neighbours found so = record {
+    are_cubes = so.are_cubes;
+    none = λ p in_c h. alone_to_all Inside p in_c (so.none p in_c h);
+    some = λ p in_c h alone. so.some p in_c h (alone_to_near Inside p in_c alone);
   }

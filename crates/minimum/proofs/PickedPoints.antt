@@ -2,20 +2,20 @@
 use Rattle.std.proofs.Common.{◌≡◌, ◌≢◌, ℕ, suc, ◌<◌, Bool, true, false, cond, not, ◌&&◌, List, [], ◌∷◌, ◌++◌, length, map, get_or, All, refl, ap, ap₂, sym, subst, ◌∙◌, arith, inl, inr}
 use Rattle.std.specs.Prelude.{filter}
 use Rattle.std.specs.List.{Contains, range_with_len}
-use Rattle.std.proofs.lemmas.Bool.{false≢true, and_parts, not-true, both_ways}
+use Rattle.std.proofs.lemmas.Bool.{cases_Bool, false≢true, and_parts, not-true, both_ways}
 use Rattle.std.proofs.lemmas.List.{get_or-map}
 use Rattle.std.proofs.lemmas.List.FromFn.{get_or-map-range_with_len}
-use Rattle.std.proofs.lemmas.List.Elements.{All-filter, Contains-append_cases}
+use Rattle.std.proofs.lemmas.List.Elements.{All-filter, Contains-append_cases, Contains-append_left, Contains-append_right, Contains-push_cases}
 use Rattle.cube.specs.Size.{Size}
 use Rattle.cube.specs.declared.symbol.Symbol.{Symbol}
 use Rattle.cube.specs.declared.symbol.Symbol.TheVariants.{Dash, Zero, One}
 use Rattle.cube.specs.Pattern.{agrees, matches}
-use Rattle.cube.specs.Cube.{Cube, Place, holds, SameSize, IsCube, IsPlace, IsSubset}
+use Rattle.cube.specs.Cube.{Cube, Place, holds, SameSize, IsCube, IsPlace, IsSubset, size_of}
 use Rattle.cube.proofs.HoldsLemmas.{pick}
 use Rattle.cube.proofs.Members.{Contains-nil, Contains-cases, Contains-filter, Contains-filter_cases}
 use Rattle.cube.proofs.SharpLemmas.{some_true}
 use Rattle.cube.specs.Sum.{is_subset, complete_sum}
-use Rattle.cube.proofs.SumLemmas.{Contains-complete_sum, IsPlace-from_holds, implied_at}
+use Rattle.cube.proofs.SumLemmas.{Contains-complete_sum, IsPlace-from_holds, IsSubset-from_test, is_subset-from_fact, implied_at}
 use Rattle.cube.proofs.SymbolOrder.{symbols_same, same_symbols_in_sum}
 use Rattle.cover.specs.Cubes.{AreCubes, Cubes}
 use Rattle.cover.specs.Places.{places}
@@ -33,9 +33,42 @@ use Rattle.minimum.specs.Primes.{care_on, primes_of}
 use Rattle.minimum.specs.PrimeRows.{contains_region, has_output, with_output, HasOneOutput}
 use Rattle.minimum.specs.declared.points.source.Source.{Source}
 use Rattle.minimum.specs.declared.points.picked_points.PickedPoints.{PickedPoints}
-use Rattle.minimum.specs.Points.{Function, function_of, function_by, lists_of, source_primes, StandsFor, IsFound, IsPointAt, IsWantedPoint, AreDominating, IsDominated, AreColumnsOf, IsAsGood, holders, IsOnePoint}
-use Rattle.minimum.proofs.Dominating.{dominated_with}
+use Rattle.minimum.specs.Points.{Function, function_of, function_by, lists_of, source_primes, StandsFor, IsFound, IsPointAt, IsWantedPoint, AreDominating, AreColumnsOf, holders, IsOnePoint}
+use Rattle.growth.specs.Dominating.{IsDominated, IsAsGood}
 use Rattle.minimum.proofs.PrimeRows.{spans_holds}
+
+-- ---- a point more, with its columns
+
+module _ (choice : Choice) (points more columns row all : List Cube) (point : Cube) (points_is : more ≡ points ++ point ∷ []) (columns_is : all ≡ columns ++ row) where
+  old_or_new : (x : Cube) → Contains more x → Contains points x ⊎ (point ≡ x)
+  old_or_new x h = elim (Contains-push_cases points point x (subst (λ l. Contains l x) points_is h)) [ inl k ↦ inl k | inr e ↦ inr e ]
+
+  in_row : (c : Cube) → IsDominated choice more row c → IsDominated choice more all c
+  in_row c d = record {
+    column = d.column;
+    member = subst (λ l. Contains l d.column) (sym columns_is) (Contains-append_right columns row d.column d.member);
+    dominates = d.dominates;
+  }
+
+  still : (c : Cube) → (IsSubset (holds point) (holds c) → ⊥) → IsDominated choice points columns c → IsDominated choice more all c
+  still c lacks d = record {
+    column = d.column;
+    member = subst (λ l. Contains l d.column) (sym columns_is) (Contains-append_left columns row d.column d.member);
+    dominates = record {
+      over = λ x h sub. elim (old_or_new x h) [ inl k ↦ d.dominates.over x k sub | inr e ↦ absurd (lacks (subst (λ y. IsSubset (holds y) (holds c)) (sym e) sub)) ];
+      good = d.dominates.good;
+    };
+  }
+
+  -- a cube that contains the new point has a new column, and another one its old column
+  pub dominated_with : (c : Cube) → (IsSubset (holds point) (holds c) → IsDominated choice more row c) → ((x : Cube) → Contains points x → IsSubset (holds x) (holds c) → IsDominated choice points columns c)
+      → (x : Cube) → Contains more x → IsSubset (holds x) (holds c) → IsDominated choice more all c
+  dominated_with c of_new of_old x h sub = elim (cases_Bool (is_subset (size_of point) (holds point) (holds c))) [
+    | inl e ↦ in_row c (of_new (IsSubset-from_test (size_of point) point (holds c) (refl, refl) e))
+    | inr e ↦ (
+        let lacks : IsSubset (holds point) (holds c) → ⊥ = λ inside. both_ways _ e (is_subset-from_fact (size_of point) (holds point) (holds c) inside) in
+        still c lacks (elim (old_or_new x h) [ inl k ↦ of_old x k sub | inr f ↦ absurd (lacks (subst (λ y. IsSubset (holds y) (holds c)) (sym f) sub)) ]))
+  ]
 
 -- ---- one point
 

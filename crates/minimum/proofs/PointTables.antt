@@ -37,7 +37,8 @@ use Rattle.covering.proofs.Compared.{ArePaired, IsNotAfter, not_longer, not_afte
 use Rattle.minimum.specs.Primes.{primes_of, care_on, chosen, others, is_essential, essential_of, exact_of}
 use Rattle.minimum.specs.PrimeRows.{contains_region}
 use Rattle.minimum.specs.PrimeTable.{IsPrimeCover}
-use Rattle.minimum.specs.Points.{Function, function_of, IsWantedPoint, AreDominating, IsUpTo, IsAsGood, IsLeastOfPoints, holders, point_table, PointsAreEnough}
+use Rattle.minimum.specs.Points.{Function, function_of, IsWantedPoint, AreDominating, IsLeastOfPoints, holders, point_table, PointsAreEnough}
+use Rattle.growth.specs.Dominating.{IsUpTo, IsAsGood}
 use Rattle.minimum.proofs.Numbers.{has_member, member_has, holds_at-below, cube_at-member}
 use Rattle.minimum.proofs.PrimeRows.{spans_holds}
 use Rattle.minimum.proofs.PrimeTables.{enough_for, holding_from}

@@ -1,9 +1,9 @@
 -- The table of the primes has the covers by primes.
-use Rattle.std.proofs.Common.{◌≡◌, ℕ, zero, suc, ◌+◌, ◌<◌, ◌≤◌, true, false, not, ◌&&◌, ◌||◌, List, [], ◌∷◌, length, get_or, set, replicate, slice_get, Option, Some, None, refl, ap, sym, subst, ◌∙◌, arith, inl, inr}
+use Rattle.std.proofs.Common.{◌≡◌, ℕ, ◌+◌, ◌<◌, ◌≤◌, true, false, not, ◌&&◌, ◌||◌, List, [], ◌∷◌, length, get_or, set, replicate, slice_get, Option, Some, None, refl, ap, sym, subst, ◌∙◌, arith, inl, inr}
 use Rattle.std.specs.List.{Contains, AllByRecursion, list_any, cons_option, range_with_len}
 use Rattle.std.specs.Option.{unwrap_or}
 use Rattle.std.proofs.lemmas.Bool.{cases_Bool, cases_lt, false≢true, and_parts, and_from, or_left, ltb-true, lt-ltb}
-use Rattle.std.proofs.lemmas.List.{length-set, get_or-set_same, get_or-replicate, length-replicate, get_or_past}
+use Rattle.std.proofs.lemmas.List.{length-set, get_or-set_same, length-replicate}
 use Rattle.std.proofs.lemmas.Option.{unwrap_or-slice_get}
 use Rattle.cube.specs.Size.{Size}
 use Rattle.cube.specs.declared.symbol.Symbol.TheVariants.{Dash}
@@ -119,21 +119,8 @@ module _ (sets : SetLists) (on_cubes : AreCubes sets.size sets.on) where
 
 -- ---- output by output
 
-none_set : (m k : ℕ) → get_or (replicate m false) k false ≡ false
-none_set m k = elim (cases_lt k m) [ inl lt ↦ get_or-replicate m k false false lt | inr past ↦ get_or_past (replicate m false) k false (omega (arith, length-replicate m false)) ]
-
 pub rows_none : (primes on dc : List Cube) → RowsSoFar primes on dc 0 []
 rows_none primes on dc = record { demands = tt; has_rows = λ p low _. absurd (let l = ltb-true p.output 0 low in omega arith) }
-
-pub one_set : (m j : ℕ) → j < m → Contains (set (replicate m false) j true) true
-one_set m j lt = (j, omega (arith, length-set (replicate m false) j true, length-replicate m false), get_or-set_same (replicate m false) j true true (omega (arith, length-replicate m false)))
-
-pub set_one : (m j k : ℕ) → get_or (set (replicate m false) j true) k false ≡ true → k ≡ j
-set_one zero j k h = absurd (false≢true h)
-set_one (suc m) zero zero h = refl
-set_one (suc m) zero (suc k) h = absurd (false≢true (sym (none_set m k) ∙ h))
-set_one (suc m) (suc j) zero h = absurd (false≢true h)
-set_one (suc m) (suc j) (suc k) h = ap suc (set_one m j k h)
 
 module _ (size : Size) (primes on dc : List Cube) (primes_are : AreCubes size primes) (on_are : AreCubes size on) (dc_are : AreCubes size dc) (are_enough : AreEnough primes on dc) where
   abbrev region_of : ℕ → Cube

@@ -4,8 +4,6 @@ pub mod PrimeTable
 pub mod PrimeRows
 pub mod EssentialPrimes
 pub mod Points
-pub mod Dominating
 pub mod AsNeeded
 pub mod Neighbours
 pub mod Blocking
-pub mod RowsByOutput

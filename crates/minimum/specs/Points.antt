@@ -1,20 +1,18 @@
 -- A table of the primes that hold some wanted places.
-use Rattle.std.specs.Prelude.{◌≡◌, ◌≢◌, ℕ, ◌<◌, ◌⊎◌, Bool, true, not, List, [], ◌++◌, Contains, filter, length, map, slice_index_or}
-use Rattle.std.specs.Cmp.Lexicographic.{slice_cmp}
-use Rattle.std.specs.declared.cmp.Ordering.TheVariants.{Greater}
+use Rattle.std.specs.Prelude.{◌≡◌, ◌≢◌, ℕ, ◌<◌, Bool, true, not, List, [], ◌++◌, Contains, filter, length, map, slice_index_or}
 use Rattle.std.specs.List.{range_with_len}
 use Rattle.std.specs.List.Sorted.{IsStrictlySortedBy}
 use Rattle.cube.specs.declared.symbol.Symbol.TheVariants.{Dash}
 use Rattle.cube.specs.Size.{Size}
 use Rattle.cube.specs.Cube.{Cube, Place, holds, literals, IsCube, IsPlace, IsSubset}
-use Rattle.cube.specs.Order.{symbol_cmp, row_cmp}
+use Rattle.cube.specs.Order.{row_cmp}
 use Rattle.cube.specs.Sum.{complete_sum}
 use Rattle.cover.specs.Cubes.{AreCubes, Cubes}
 use Rattle.cover.specs.Places.{places}
 use Rattle.cover.specs.Reduced.{HasSameCubes}
 use Rattle.pla.specs.Sets.{SetLists}
 use Rattle.covering.specs.declared.choice.Choice.{Choice}
-use Rattle.covering.specs.declared.choice.Choice.TheVariants.{First, Literals}
+use Rattle.growth.specs.Dominating.{IsDominated}
 use Rattle.minimum.specs.declared.points.source.Source.{Source}
 use Rattle.minimum.specs.declared.points.source.Source.TheVariants.{Outside, Primes}
 use Rattle.minimum.specs.declared.points.picked_points.PickedPoints.{PickedPoints}
@@ -72,28 +70,6 @@ pub record IsWantedPoint (f : Function) (c : Cube) : Type 0 where
   pub place : Place
   pub at : IsPointAt c place
   pub wanted : f.wanted place ≡ true
-
--- the literals of d come no later than those of c
-abbrev pub IsUpTo : Cube → Cube → Type 0
-IsUpTo c d = slice_cmp symbol_cmp d.symbols c.symbols ≢ Greater
-
--- d is as good as c under a choice: its literals come no later, where literals count with as many
--- of them; or it has fewer
-abbrev pub IsAsGood : Choice → Cube → Cube → Type 0
-IsAsGood First c d = IsUpTo c d
-IsAsGood Literals c d = (literals d < literals c) ⊎ ((literals d ≡ literals c) × IsUpTo c d)
-
--- d dominates c: it contains each of the points that c contains, and is as good
-pub record Dominates (choice : Choice) (points : List Cube) (c d : Cube) : Type 0 where
-  pub over : (x : Cube) → Contains points x → IsSubset (holds x) (holds c)
-      → IsSubset (holds x) (holds d)
-  pub good : IsAsGood choice c d
-
--- a column dominates the cube
-pub record IsDominated (choice : Choice) (points columns : List Cube) (c : Cube) : Type 0 where
-  pub column : Cube
-  pub member : Contains columns column
-  pub dominates : Dominates choice points c column
 
 -- wanted points, and cubes that dominate all primes that contain one of them
 pub record AreDominating (choice : Choice) (f : Function) (points columns : List Cube) : Type 0 where

@@ -36,11 +36,7 @@ ghost use Rattle.minimum.specs.AsNeeded.{inside_of, primes_inside, AreOutside, I
 
 use crate::as_needed::narrowing::Narrowing;
 use crate::as_needed::places_outside::{add_refusals, add_refusals_of_growth, parts_left_out};
-use crate::cubes::are_apart;
 use crate::essential_by_neighbours::find_essential;
-use crate::essential_by_neighbours::reached_outputs::outputs_at;
-use crate::essential_by_neighbours::rows_by_output::RowsByOutput;
-use crate::points::dominating::columns_of_point;
 use crate::points::picked_points::{PickedPoints, push_cube};
 use crate::points::rounds::cover_of_points;
 use crate::points::{is_wanted, point_with};
@@ -48,6 +44,7 @@ use crate::prime_implicants::on_and_dc;
 use cover::{Cover, in_row_order};
 use covering::{Choice, Effort};
 use cube::{Cube, Shape, Symbol};
+use growth::{RowsByOutput, are_apart, columns_of_point, outputs_at};
 use pla::Sets;
 use std::alloc::{AllocError, Global};
 

@@ -11,11 +11,11 @@ ghost use Rattle.minimum.specs.EssentialPrimes.{intersects_cube, is_rival, AreNo
 
 mod candidates;
 
-use crate::cubes::add_copy;
 use crate::essential_primes::candidates::non_candidates;
 use cover::Cover;
 use covering::is_marked;
 use cube::Cube;
+use growth::add_copy;
 use pla::Sets;
 use std::alloc::{AllocError, Global};
 

@@ -18,7 +18,7 @@ ghost use Rattle.minimum.specs.Primes.{exact_of, primes_of};
 use crate::as_needed::exact_as_needed;
 use crate::cubes::cubes_at;
 use crate::points::rounds::exact_by_points;
-use crate::points::source::{Source, large_first};
+use crate::points::source::Source;
 use crate::prime_implicants::{on_and_dc, primes};
 use crate::prime_table::OfPrimes;
 use crate::way_hints::{
@@ -26,6 +26,7 @@ use crate::way_hints::{
 };
 use cover::{Cover, outside};
 use covering::{Choice, Table, least_cover};
+use growth::large_first;
 use pla::{Pla, Sets};
 use std::alloc::{AllocError, Global};
 

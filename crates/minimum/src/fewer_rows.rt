@@ -15,12 +15,11 @@ ghost use Rattle.minimum.specs.SamePlaces.{HasSamePlaces};
 
 use crate::exact_minimum::{exact, exact_of_samples};
 use crate::of_pla::{essential_of_sets, essential_outside, off_alone, primes_outside};
-use crate::points::dominating::rows_around::without_contained;
-use crate::points::source::large_first;
 use crate::prime_implicants::primes;
 use crate::way_hints::uses_points;
 use cover::{Cover, merge_rows};
 use covering::Choice;
+use growth::{large_first, without_contained};
 use pla::Pla;
 use std::alloc::{AllocError, Global};
 

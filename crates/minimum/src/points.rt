@@ -19,14 +19,12 @@ ghost use Rattle.minimum.specs.Primes.{care_on};
 ghost use Rattle.minimum.specs.PrimeRows.{HasOneOutput, with_output};
 ghost use Rattle.minimum.specs.Points.{IsSource, IsOnePoint, function_by, holders, IsFound, lists_of, point_table as point_table_of};
 
-pub(crate) mod dominating;
 pub(crate) mod picked_points;
 pub(crate) mod proposals;
 pub(crate) mod round_hints;
 pub(crate) mod rounds;
 pub(crate) mod source;
 
-use crate::cubes::{are_apart, lies_in_one_of};
 use crate::numbered_cubes::{numbers_by_output, numbers_containing};
 use crate::points::picked_points::{PickedPoints, push_cube};
 use crate::points::source::{Source, columns_for};
@@ -34,6 +32,7 @@ use crate::prime_table::weights;
 use cover::Cover;
 use covering::{Choice, Table, numbers};
 use cube::{Cube, Shape, Symbol};
+use growth::{are_apart, lies_in_one_of};
 use signature_search::Place as ProposedPlace;
 use std::alloc::{AllocError, Global};
 

@@ -9,11 +9,9 @@ ghost use Rattle.cube.specs.Cube.{Cube as Row, HasSize, IsCube, IsDisjoint, IsSu
 ghost use Rattle.cover.specs.Places.{places};
 ghost use Rattle.minimum.specs.AsNeeded.{AreOutside};
 
-use crate::cubes::{add_copy, are_apart};
-use crate::essential_by_neighbours::growth::{Growth, Side, grow};
-use crate::essential_by_neighbours::rows_by_output::RowsByOutput;
 use cover::Cover;
 use cube::{Cube, Symbol};
+use growth::{Growth, RowsByOutput, Side, add_copy, are_apart, grow};
 use std::alloc::{AllocError, Global};
 
 /// What the list leaves out of these cubes: one part of each that it does not hold.

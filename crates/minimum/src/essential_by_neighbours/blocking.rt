@@ -5,8 +5,9 @@
 
 ghost use Rattle.std.specs.Prelude.{◌≡◌, ◌≢◌, ◌<◌, IfOk, slice_index_or};
 ghost use Rattle.cube.specs.Cube.{IsCube};
-ghost use Rattle.minimum.specs.declared.essential_by_neighbours.growth.Side.{Side};
-ghost use Rattle.minimum.specs.Neighbours.{on_side, IsAlone, IsAloneByInputs};
+ghost use Rattle.growth.specs.declared.prime.Side.{Side};
+ghost use Rattle.growth.specs.Growth.{on_side};
+ghost use Rattle.minimum.specs.Neighbours.{IsAlone, IsAloneByInputs};
 ghost use Rattle.minimum.specs.Blocking.{AreBlocking, Blocks, flip_in, under_in};
 
 use crate::cubes::is_same;

@@ -13,12 +13,12 @@ ghost use Rattle.cube.specs.Cube.{HasSize, SameSize, IsSubset, holds, intersecti
 ghost use Rattle.cover.specs.Places.{places};
 ghost use Rattle.minimum.specs.Blocking.{HasCommon, IsNogood, IsWidening};
 
-use crate::cubes::{are_apart, lies_in_one_of};
 use crate::essential_by_neighbours::needed_literals::{
     conflicts_with, keep_conflict, keep_literals,
 };
 use cover::Cover;
 use cube::{Cube, Symbol};
+use growth::{are_apart, lies_in_one_of};
 use std::alloc::{AllocError, Global};
 
 /// The number of the first list, from a number on, in no row of which the region lies; how many

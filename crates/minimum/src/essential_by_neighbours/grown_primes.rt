@@ -5,10 +5,11 @@
 
 ghost use Rattle.std.specs.Prelude.{◌≡◌, ◌⊎◌, [], true, OnOk, All};
 ghost use Rattle.cube.specs.Cube.{SameSize};
-ghost use Rattle.minimum.specs.Neighbours.{LiesInOneOf, AddsPrime};
+ghost use Rattle.growth.specs.Growth.{LiesInOneOf};
+ghost use Rattle.minimum.specs.Neighbours.{AddsPrime};
 
-use crate::cubes::lies_in_one_of;
 use cube::Cube;
+use growth::lies_in_one_of;
 use std::alloc::{AllocError, Global};
 
 /// The primes that were grown so far.

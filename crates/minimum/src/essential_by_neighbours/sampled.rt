@@ -9,17 +9,16 @@ ghost use Rattle.cube.specs.Cube.{IsCube, IsSubset, Place, holds};
 ghost use Rattle.cover.specs.Places.{places};
 ghost use Rattle.pla.specs.Sets.{SetLists};
 ghost use Rattle.minimum.specs.Primes.{primes_of, essential_of};
-ghost use Rattle.minimum.specs.Neighbours.{on_side, IsAlone, HaveSize, AddsEssential};
+ghost use Rattle.growth.specs.Growth.{on_side};
+ghost use Rattle.minimum.specs.Neighbours.{IsAlone, HaveSize, AddsEssential};
 ghost use Rattle.minimum.specs.Blocking.{IsSampled};
 
 use crate::essential_by_neighbours::blocking::blocking_lists;
 use crate::essential_by_neighbours::common_place::has_common;
 use crate::essential_by_neighbours::grown_primes::GrownPrimes;
-use crate::essential_by_neighbours::growth::{Growth, Side, grow};
-use crate::essential_by_neighbours::near_rows::rows_to_ask;
-use crate::essential_by_neighbours::rows_by_output::RowsByOutput;
 use cover::{Cover, in_row_order};
 use cube::Cube;
+use growth::{Growth, RowsByOutput, Side, grow, rows_to_ask};
 use std::alloc::{AllocError, Global};
 
 /// Whether some place of the prime that is in an ON cube is in each of its blocking lists.

@@ -17,7 +17,7 @@ ghost use Rattle.pla.specs.Sets.{SetLists};
 ghost use Rattle.minimum.specs.Points.{AreDominating, function_of, IsLeastOfPoints, IsSource, StandsFor, lists_of};
 ghost use Rattle.minimum.specs.Primes.{care_on, exact_of};
 
-use crate::cubes::{add_copy, cubes_at};
+use crate::cubes::cubes_at;
 use crate::points::picked_points::PickedPoints;
 use crate::points::proposals::{first_places, places_left_out, proposer_of};
 use crate::points::round_hints::{asks_for_least, numbers_among};
@@ -26,6 +26,7 @@ use crate::points::{add_places, point_table};
 use cover::{Cover, in_row_order};
 use covering::{Choice, Effort, least_cover_with_effort, short_cover};
 use cube::Cube;
+use growth::add_copy;
 use std::alloc::{AllocError, Global};
 
 /// A cover of the table of the points by these columns, in row order: the least, after which `effort`

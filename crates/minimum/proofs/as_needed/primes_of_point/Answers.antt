@@ -6,8 +6,7 @@ use Rattle.cover.specs.Cubes.{AreCubes}
 use Rattle.cover.specs.Marks.{cube_at}
 use Rattle.cover.specs.Places.{places}
 use Rattle.cover.proofs.SumRows.{nothing_left}
-use Rattle.minimum.specs.Points.{IsDominated}
-use Rattle.minimum.specs.Dominating.{primes_outside, IsImplicant}
+use Rattle.growth.specs.Dominating.{IsDominated, primes_outside, IsImplicant}
 use Rattle.minimum.proofs.AsNeeded.{have_size, columns_are_primes}
 use Rattle.minimum.proofs.as_needed.primes_of_point.Goals as goal
 

@@ -4,8 +4,9 @@ use Rattle.cube.specs.Cube.{IsCube}
 use Rattle.cube.specs.Sum.{IsMaximal, complete_sum}
 use Rattle.cover.specs.Places.{places}
 use Rattle.minimum.specs.Primes.{care_on}
-use Rattle.minimum.specs.Neighbours.{AreNear, has_own}
-use Rattle.minimum.proofs.Growth.{grown_maximal}
+use Rattle.growth.specs.Growth.{AreNear}
+use Rattle.minimum.specs.Neighbours.{has_own}
+use Rattle.growth.proofs.GrowthSteps.{grown_maximal}
 use Rattle.minimum.proofs.EssentialByNeighbours.{in_rows, adds_none_found, adds_prime}
 use Rattle.minimum.proofs.essential_by_neighbours.add_essential.Goals as goal
 use Rattle.minimum.proofs.essential_by_neighbours.add_essential.Goals.{In_ok-prime}

@@ -6,7 +6,7 @@ use Rattle.rows.specs.Cubes.{Cubes, AreCubes}
 use Rattle.rows.specs.Places.{places, behind}
 use Rattle.rows.proofs.Lists.{sizes_of_cubes}
 use Rattle.cover.proofs.OverRegion.{size_of-is}
-use Rattle.minimum.proofs.Near.{near_neighbours}
+use Rattle.minimum.proofs.Neighbours.{near_neighbours}
 use Rattle.minimum.proofs.EssentialByNeighbours.{essential_answer}
 use Rattle.minimum.proofs.essential_by_neighbours.is_essential.Goals as goal
 

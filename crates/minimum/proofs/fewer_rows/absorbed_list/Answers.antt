@@ -2,7 +2,7 @@ use Rattle.std.proofs.Common.{◌∙◌, ap}
 use Rattle.std.specs.Cmp.{both_ways as same_bool}
 use Rattle.cover.specs.Places.{places}
 use Rattle.minimum.proofs.PrimeSources.{places_same}
-use Rattle.minimum.proofs.RowsAround.{places_grow}
+use Rattle.growth.proofs.RowsAround.{places_grow}
 use Rattle.minimum.proofs.fewer_rows.absorbed_list.Goals as goal
 
 pub returns-clause-places : goal.returns-clause-places

@@ -7,7 +7,7 @@ use Rattle.cube.specs.Size.{Size}
 use Rattle.cube.specs.Cube.{Cube, IsCube}
 use Rattle.cover.proofs.Found.{made_output}
 use Rattle.minimum.specs.PrimeRows.{HasOneOutput}
-use Rattle.minimum.proofs.PrimeTables.{set_one}
+use Rattle.growth.proofs.GrowthSteps.{set_one}
 use Rattle.minimum.proofs.points.point_with.Goals as goal
 
 -- the cube that was made has the size, and one output

@@ -5,7 +5,7 @@ use Rattle.cube.specs.declared.symbol.Symbol.TheVariants.{Dash}
 use Rattle.cube.specs.Cube.{IsCube, size_of}
 use Rattle.cover.proofs.SumSplit.{IsCube-with_symbol}
 use Rattle.minimum.specs.Neighbours.{flip}
-use Rattle.minimum.proofs.Growth.{same_sizes}
+use Rattle.growth.proofs.GrowthSteps.{same_sizes}
 use Rattle.minimum.proofs.Blocking.{leads_none, leads_pushed, leads_on, leads_all, freed_row, same_row, apart_row}
 use Rattle.minimum.proofs.essential_by_neighbours.blocking.blocking_input.Goals as goal
 use Rattle.minimum.proofs.essential_by_neighbours.blocking.blocking_input.Goals.{then-not-is_same+then-not-disjoint+in_ok-with_symbol+in_ok-push, else-not-is_same, else-not-is_same-via-then-not-is_same+else-not-disjoint, else-not-is_same-via-else-not-is_same}

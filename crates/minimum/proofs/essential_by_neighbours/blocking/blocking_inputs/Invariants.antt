@@ -1,7 +1,8 @@
 use Rattle.std.proofs.Common.{◌≡◌, ◌≢◌, ℕ, ◌<◌, false, get_or}
 use Rattle.cube.specs.declared.symbol.Symbol.TheVariants.{Dash}
-use Rattle.minimum.specs.declared.essential_by_neighbours.growth.Side.TheVariants.{Outside}
-use Rattle.minimum.specs.Neighbours.{on_side, flip}
+use Rattle.growth.specs.declared.prime.Side.TheVariants.{Outside}
+use Rattle.growth.specs.Growth.{on_side}
+use Rattle.minimum.specs.Neighbours.{flip}
 use Rattle.minimum.specs.Blocking.{AreBlocking}
 use Rattle.minimum.proofs.essential_by_neighbours.blocking.blocking_inputs.Given as goal
 

@@ -1,8 +1,9 @@
 use Rattle.std.proofs.Common.{◌+◌, arith, ap, sym, subst, ◌∙◌, false}
 use Rattle.std.proofs.lemmas.Option.{get_or_from_slice_get}
 use Rattle.minimum.specs.Blocking.{AreBlocking}
-use Rattle.minimum.specs.declared.essential_by_neighbours.growth.Side.TheVariants.{Outside}
-use Rattle.minimum.specs.Neighbours.{on_side, IsAlone, IsAloneByInputs}
+use Rattle.growth.specs.declared.prime.Side.TheVariants.{Outside}
+use Rattle.growth.specs.Growth.{on_side}
+use Rattle.minimum.specs.Neighbours.{IsAlone, IsAloneByInputs}
 use Rattle.minimum.proofs.Blocking.{OutputsSoFar, blocking_same, outputs_next, outputs_skipped, outputs_all, blocking_sorted}
 use Rattle.minimum.proofs.essential_by_neighbours.blocking.blocking_lists.Goals as goal
 use Rattle.minimum.proofs.essential_by_neighbours.blocking.blocking_lists.Goals.{then-not-output+in_ok-blocking_output+in_ok-push, else-not-output}

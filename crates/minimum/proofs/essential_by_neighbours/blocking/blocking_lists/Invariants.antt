@@ -1,6 +1,7 @@
 use Rattle.std.proofs.Common.{◌≡◌, ℕ, ◌<◌, false, get_or}
-use Rattle.minimum.specs.declared.essential_by_neighbours.growth.Side.TheVariants.{Outside}
-use Rattle.minimum.specs.Neighbours.{on_side, under, IsAloneByInputs}
+use Rattle.growth.specs.declared.prime.Side.TheVariants.{Outside}
+use Rattle.growth.specs.Growth.{on_side}
+use Rattle.minimum.specs.Neighbours.{under, IsAloneByInputs}
 use Rattle.minimum.specs.Blocking.{AreBlocking}
 use Rattle.minimum.proofs.essential_by_neighbours.blocking.blocking_lists.Given as goal
 

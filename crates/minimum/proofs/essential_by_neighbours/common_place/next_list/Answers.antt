@@ -1,5 +1,5 @@
 use Rattle.std.proofs.Common.{subst}
-use Rattle.minimum.specs.Neighbours.{LiesInOneOf}
+use Rattle.growth.specs.Growth.{LiesInOneOf}
 use Rattle.minimum.proofs.CommonPlace.{common_whole}
 use Rattle.minimum.proofs.essential_by_neighbours.common_place.next_list.Goals as goal
 

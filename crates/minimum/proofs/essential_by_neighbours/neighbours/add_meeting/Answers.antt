@@ -5,7 +5,7 @@ use Rattle.cube.specs.Cube.{IsCube, SameSize, size_of}
 use Rattle.cover.specs.Cubes.{AreCubes}
 use Rattle.cover.specs.Places.{places}
 use Rattle.minimum.specs.Neighbours.{held_by}
-use Rattle.minimum.proofs.MorePlaces.{places_pushed}
+use Rattle.growth.proofs.MorePlaces.{places_pushed}
 use Rattle.minimum.proofs.Neighbours.{met_output}
 use Rattle.minimum.proofs.essential_by_neighbours.neighbours.add_meeting.Goals as goal
 

@@ -3,12 +3,12 @@ use Rattle.std.proofs.lemmas.Result.{IfOk-weaker}
 use Rattle.cube.specs.Cube.{IsCube, IsSubset, holds}
 use Rattle.cube.specs.Sum.{IsMaximal}
 use Rattle.cover.specs.Places.{places}
-use Rattle.minimum.specs.declared.essential_by_neighbours.growth.Side.TheVariants.{Outside}
-use Rattle.minimum.specs.Neighbours.{on_side, AreNear}
-use Rattle.minimum.proofs.Growth.{grown_maximal}
+use Rattle.growth.specs.declared.prime.Side.TheVariants.{Outside}
+use Rattle.growth.specs.Growth.{on_side, AreNear}
+use Rattle.growth.proofs.GrowthSteps.{grown_maximal}
 use Rattle.minimum.proofs.EssentialByNeighbours.{adds_none_found, adds_prime, sized_next}
 use Rattle.minimum.proofs.Blocking.{own_answer}
-use Rattle.minimum.proofs.Near.{alone_to_all, alone_to_near}
+use Rattle.minimum.proofs.Neighbours.{alone_to_all, alone_to_near}
 use Rattle.minimum.proofs.essential_by_neighbours.sampled.add_essential.Goals as goal
 use Rattle.minimum.proofs.essential_by_neighbours.sampled.add_essential.Goals.{In_ok-prime}
 

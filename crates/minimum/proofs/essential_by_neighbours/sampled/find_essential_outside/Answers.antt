@@ -8,8 +8,9 @@ use Rattle.cover.specs.Cubes.{Cubes, AreCubes}
 use Rattle.cover.specs.Places.{places}
 use Rattle.cover.specs.Reduced.{HasSameCubes}
 use Rattle.cover.proofs.Lists.{list_any_from}
-use Rattle.minimum.specs.declared.essential_by_neighbours.growth.Side.TheVariants.{Outside}
-use Rattle.minimum.specs.Neighbours.{on_side, AddsEssential, AreFoundIn}
+use Rattle.growth.specs.declared.prime.Side.TheVariants.{Outside}
+use Rattle.growth.specs.Growth.{on_side}
+use Rattle.minimum.specs.Neighbours.{AddsEssential, AreFoundIn}
 use Rattle.minimum.proofs.EssentialByNeighbours.{found_none, found_next, found_all, if_ok_three}
 use Rattle.minimum.proofs.Blocking.{sampled_apart, sampled_essential}
 use Rattle.minimum.proofs.essential_by_neighbours.sampled.find_essential_outside.Goals as goal

@@ -1,8 +1,9 @@
 use Rattle.std.proofs.Common.{take}
 use Rattle.cube.specs.Cube.{IsSubset}
 use Rattle.cover.specs.Places.{places}
-use Rattle.minimum.specs.declared.essential_by_neighbours.growth.Side.TheVariants.{Outside}
-use Rattle.minimum.specs.Neighbours.{on_side, HaveSize, AreFoundIn}
+use Rattle.growth.specs.declared.prime.Side.TheVariants.{Outside}
+use Rattle.growth.specs.Growth.{on_side}
+use Rattle.minimum.specs.Neighbours.{HaveSize, AreFoundIn}
 use Rattle.minimum.proofs.essential_by_neighbours.sampled.find_essential_outside.Given as goal
 
 abbrev pub invariant-loop-cube : goal.invariant-loop-cube

@@ -8,10 +8,11 @@ use Rattle.cover.specs.Cubes.{Cubes}
 use Rattle.cover.specs.Places.{places}
 use Rattle.cover.proofs.Found.{meet_output, apart_from_none, same_from_some, part_from_some}
 use Rattle.cover.proofs.Lists.{list_any_from}
-use Rattle.minimum.specs.declared.essential_by_neighbours.growth.Side.TheVariants.{Outside}
-use Rattle.minimum.specs.Neighbours.{on_side, IsAlone}
+use Rattle.growth.specs.declared.prime.Side.TheVariants.{Outside}
+use Rattle.growth.specs.Growth.{on_side}
+use Rattle.minimum.specs.Neighbours.{IsAlone}
 use Rattle.minimum.specs.Blocking.{AreBlocking, HasCommon}
-use Rattle.minimum.proofs.MorePlaces.{more_places}
+use Rattle.growth.proofs.MorePlaces.{more_places}
 use Rattle.minimum.proofs.Blocking.{lists_fit, own_from_common, common_from_own}
 use Rattle.minimum.proofs.essential_by_neighbours.sampled.has_own_place.Goals as goal
 use Rattle.minimum.proofs.essential_by_neighbours.sampled.has_own_place.Goals.{in-Some+in_ok-has_common+else-branch, in_default}

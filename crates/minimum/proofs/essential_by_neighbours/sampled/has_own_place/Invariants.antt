@@ -1,8 +1,9 @@
 use Rattle.std.proofs.Common.{◌≡◌, true, take}
 use Rattle.cube.specs.Cube.{Place, holds}
 use Rattle.cover.specs.Places.{places}
-use Rattle.minimum.specs.declared.essential_by_neighbours.growth.Side.TheVariants.{Outside}
-use Rattle.minimum.specs.Neighbours.{on_side, IsAlone}
+use Rattle.growth.specs.declared.prime.Side.TheVariants.{Outside}
+use Rattle.growth.specs.Growth.{on_side}
+use Rattle.minimum.specs.Neighbours.{IsAlone}
 use Rattle.minimum.proofs.essential_by_neighbours.sampled.has_own_place.Given as goal
 
 abbrev pub invariant-loop-cube : goal.invariant-loop-cube

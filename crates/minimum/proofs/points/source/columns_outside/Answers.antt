@@ -9,7 +9,7 @@ use Rattle.cover.specs.Contained.{is_within}
 use Rattle.std.proofs.lemmas.Result.{IfOk-weaker}
 use Rattle.std.proofs.lemmas.Option.{IfSome_then}
 use Rattle.covering.specs.declared.choice.Choice.{Choice}
-use Rattle.minimum.proofs.Dominating.{prime_parts}
+use Rattle.growth.proofs.Dominating.{prime_parts}
 use Rattle.std.specs.Prelude.{filter}
 use Rattle.minimum.specs.Points.{AreColumnsOf}
 use Rattle.minimum.proofs.PickedPoints.{columns_of_filter}

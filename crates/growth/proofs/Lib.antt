@@ -1,0 +1,11 @@
+pub mod MorePlaces
+pub mod GrowthSteps
+pub mod FirstPrimes
+pub mod Near
+pub mod Reached
+pub mod Reaching
+pub mod LeftOut
+pub mod Joins
+pub mod Dominating
+pub mod FewestLiterals
+pub mod RowsAround

@@ -1,6 +1,0 @@
-use Rattle.std.proofs.Common.{take}
-use Rattle.minimum.specs.Neighbours.{AreReached}
-use Rattle.minimum.proofs.essential_by_neighbours.reached_outputs.outputs_at.Given as goal
-
-abbrev pub invariant-loop-row : goal.invariant-loop-row
-invariant-loop-row l = AreReached l.fn.region (take l.row-index l.row-items) l.here

@@ -1,6 +1,0 @@
-use Rattle.std.proofs.Common.{◌≡◌, take}
-use Rattle.minimum.specs.RowsByOutput.{with_output}
-use Rattle.minimum.proofs.essential_by_neighbours.rows_by_output.rows_with_output.Given as goal
-
-abbrev pub invariant-loop-row : goal.invariant-loop-row
-invariant-loop-row l = l.found.items ≡ with_output l.j (take l.row-index l.rows)

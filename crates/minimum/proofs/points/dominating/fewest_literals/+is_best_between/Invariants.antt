@@ -1,4 +1,0 @@
-use Rattle.minimum.proofs.points.dominating.fewest_literals.+is_best_between.Given as goal
-
-abbrev pub decreases-is_best_between : goal.decreases-is_best_between
-decreases-is_best_between l = l.depth

@@ -1,4 +1,0 @@
-use Rattle.minimum.proofs.points.dominating.literal_search.LiteralSearch.+visit.Given as goal
-
-abbrev pub decreases-visit : goal.decreases-visit
-decreases-visit l = l.depth

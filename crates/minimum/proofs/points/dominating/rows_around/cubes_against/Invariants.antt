@@ -1,7 +1,0 @@
-use Rattle.std.specs.List.{All}
-use Rattle.cube.specs.Cube.{size_of}
-use Rattle.minimum.specs.Dominating.{IsAgainst}
-use Rattle.minimum.proofs.points.dominating.rows_around.cubes_against.Given as goal
-
-abbrev pub invariant-loop-j : goal.invariant-loop-j
-invariant-loop-j l = All (IsAgainst (size_of l.point) l.point) l.cubes.items
