@@ -30,7 +30,7 @@ use Rattle.minimum.specs.Primes.{primes_of, care_on, others, essential_of}
 use Rattle.growth.specs.Growth.{on_side}
 use Rattle.minimum.specs.Neighbours.{flip, under, held_by, IsAlone, IsAloneByInputs, has_own, essential_in}
 use Rattle.minimum.specs.Blocking.{IsSampled, flip_in, under_in, Blocks, AreBlocking, HasCommon}
-use Rattle.growth.proofs.MorePlaces.{places_pushed}
+use Rattle.growth.proofs.MorePlaces.{places_pushed, row_added, row_left}
 use Rattle.minimum.proofs.EssentialByNeighbours.{has_own_from, no_own_from, only_from_alone, alone_from_only}
 
 from_not : (b : Bool) → not b ≡ false → b ≡ true

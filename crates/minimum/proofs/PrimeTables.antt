@@ -26,6 +26,7 @@ use Rattle.minimum.specs.PrimeTable.{HasPrimeCovers, IsPrimeCover}
 use Rattle.minimum.specs.PrimeRows.{holds_at, AreCandidates, AreEnough, IsSplit, IsHolding, IsDemand, AddsRows, AreRowsOf, RowsSoFar}
 use Rattle.covering.proofs.Sets.{meets_at}
 use Rattle.covering.proofs.Rising.{range_rises, range_has, range_below}
+use Rattle.growth.proofs.GrowthSteps.{set_one}
 use Rattle.minimum.proofs.Numbers.{has_member, member_has, numbered, holds_at-below}
 
 -- ---- the primes are enough

@@ -282,6 +282,11 @@ fn add(list: &mut Cover, cube: &Cube) -> Result<(), AllocError> {
     add_copy(list, cube)
 }
 
+fn append(list: &mut Cover, more: &Cover) -> Result<(), AllocError> {
+    same_shape(list.shape(), more.shape())?;
+    list.append(more)
+}
+
 // Adds what the cube grows to. Fails where the rows near it tell that it is on the other side.
 fn add_grown(
     alloc: Global,
@@ -328,7 +333,7 @@ fn columns(
     let mut made = Cover::new(alloc, off.shape());
     for k in 0..count.min(points.len()) {
         match columns_of_point(alloc, off, points.as_slice(), k, choice, usize::MAX)? {
-            Some(found) => made.append(&found)?,
+            Some(found) => append(&mut made, &found)?,
             None => return Err(AllocError),
         }
     }
