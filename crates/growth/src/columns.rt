@@ -18,11 +18,11 @@ ghost use Rattle.cover.specs.Cubes.{AreCubes};
 ghost use Rattle.cover.specs.Marks.{cube_at};
 ghost use Rattle.growth.specs.Dominating.{IsDominated, primes_outside, IsImplicant, IsBest, AddsColumns, AreCandidates, AreServed};
 
-use crate::cubes::add_copy;
 use crate::columns::best_cube::best_cube;
 use crate::columns::open_points::{holds_one_of, sort_points};
 use crate::columns::refusing_rows::RefusingRows;
 use crate::columns::rows_around::rows_around;
+use crate::cubes::add_copy;
 use cover::{Cover, cubes_containing};
 use covering::{Choice, numbers};
 use cube::Cube;

@@ -14,8 +14,8 @@
 //! are picked where the least cover of the table so far leaves out a place, at first at maximal
 //! signatures (McGeer, Sanghavi, Brayton and Sangiovanni-Vincentelli, ESPRESSO-SIGNATURE, 1993); once
 //! it leaves out none, it is the least cover by primes: the law [`points_are_enough`]. Columns are
-//! grown outside cubes with the places in neither set, or, where these are too many, with those that
-//! turn out to be needed, beside the essential primes. Else all primes are listed: with more than 20
+//! grown (`growth`) outside cubes with the places in neither set, or, where these are too many, with those
+//! that turn out to be needed, beside the essential primes. Else all primes are listed: with more than 20
 //! inputs points are picked by them, and with fewer `Table::build` makes the table.
 //!
 //! The table is one of the covering problem (`covering`), which knows no cubes; what its callers

@@ -11,9 +11,9 @@ ghost use Rattle.growth.specs.declared.prime.Side.TheVariants.{Outside};
 ghost use Rattle.growth.specs.Growth.{on_side, IsFreedAt, IsSettledInput, IsSettledOutput, AreFirst};
 ghost use Rattle.growth.specs.Dominating.{IsBest, IsBestFreed, IsSettledUpTo};
 
-use crate::cubes::are_apart;
 use crate::columns::fewest_literals::fewest_literals;
 use crate::columns::refusing_rows::RefusingRows;
+use crate::cubes::are_apart;
 use cover::Cover;
 use covering::Choice;
 use cube::{Cube, Symbol};
