@@ -256,8 +256,7 @@ fn same_shape(mine: Shape, theirs: Shape) -> Result<(), AllocError>
 }
 
 // Whether the rows hold the cube.
-fn are_holding(alloc: Global, list: &Cover, cube: &Cube) -> Result<bool, AllocError>
-{
+fn are_holding(alloc: Global, list: &Cover, cube: &Cube) -> Result<bool, AllocError> {
     same_shape(list.shape(), cube.shape())?;
     let rows = references_to_cubes(alloc, list.as_slice())?;
     hold_cube(alloc, &rows, cube)
