@@ -226,11 +226,8 @@ pub fn exact_of_pla(alloc: Global, pla: &Pla, choice: Choice) -> Result<Cover, A
 {
     let fewer = with_fewer_rows(alloc, Aim::SomePrimes, pla)?;
     let pla = fewer_rows_or_given(&fewer, pla);
-    if let Some(off) = off_alone(pla)? {
-        if let Some(list) = exact_of_samples(alloc, pla, off, choice)? {
-            return Ok(list);
-        }
+    match off_alone(pla)? {
+        Some(off) => exact_of_samples(alloc, pla, off, choice),
+        None => exact(alloc, &pla::sets(alloc, pla, true, false)?, choice),
     }
-    let sets = pla::sets(alloc, pla, true, false)?;
-    exact(alloc, &sets, choice)
 }
