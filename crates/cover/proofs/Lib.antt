@@ -3,6 +3,7 @@ pub mod MaskedAgreement
 pub mod MergedRows
 pub mod MergedOutputs
 pub mod NotHeld
+pub mod ContainedPlaces
 pub use Rattle.rows.proofs.Inputs
 pub use Rattle.rows.proofs.Lists
 pub use Rattle.rows.proofs.Found

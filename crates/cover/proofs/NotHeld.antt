@@ -11,11 +11,8 @@ use Rattle.cube.proofs.Members.{Contains-filter, Contains-filter_cases}
 use Rattle.cube.proofs.SumLemmas.{IsSubset-from_test}
 use Rattle.rows.specs.Cubes.{AreCubes}
 use Rattle.rows.specs.Places.{places}
+use Rattle.cover.specs.NotHeld.{is_not_held}
 use Rattle.rows.proofs.Lists.{all_members, list_any_from, list_any_witness}
-
--- the row has a place outside the set
-abbrev pub is_not_held : Size → (Place → Bool) → Cube → Bool
-is_not_held size s d = not (is_subset size (holds d) s)
 
 module _ (size : Size) (s : Place → Bool) (cubes rows : List Cube) (cubes_are : AreCubes size cubes) (kept : rows ≡ filter (is_not_held size s) cubes) where
   pub AreCubes-not_held : AreCubes size rows

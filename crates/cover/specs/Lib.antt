@@ -1,5 +1,6 @@
 pub mod Cofactor
 pub mod Merging
+pub mod NotHeld
 pub use Rattle.rows.specs.Cubes
 pub use Rattle.rows.specs.Sizes
 pub use Rattle.rows.specs.Places

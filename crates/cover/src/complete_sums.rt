@@ -6,6 +6,7 @@ ghost use Rattle.rows.specs.Cubes.{AreCubes};
 ghost use Rattle.rows.specs.Places.{places, holds_all};
 ghost use Rattle.rows.specs.Contained.{is_within};
 ghost use Rattle.sums.specs.Containing.{sum_containing as sum_containing_of};
+ghost use Rattle.cover.specs.NotHeld.{is_not_held};
 
 use crate::full_list_hint::may_hold_everything;
 use crate::list::Cover;
@@ -92,33 +93,29 @@ pub fn intersect(list: &Cover, other: &Cover) -> Result<Cover, AllocError>
     Ok(Cover::from_cubes(shape, sum))
 }
 
-/// The rows of the list that are not wholly in the other: those that lie in it have no place in the
-/// difference.
-fn rows_not_held(list: &Cover, other: &Cover) -> Result<Vec<Cube>, AllocError>
-    requires { other.now.size ≡ list.now.size }
-    ensures cubes { IfOk result (λ rows. AreCubes list.now.size rows.items) }
-    ensures places { IfOk result (λ rows. (p : Place)
-        → difference_of (places rows.items) (places other.now.cubes) p
-        ≡ difference_of (places list.now.cubes) (places other.now.cubes) p) }
+/// The rows that are not wholly in the list, in their order.
+fn rows_not_held(rows: &[Cube], list: &Cover) -> Result<Vec<Cube>, AllocError>
+    requires { AreCubes list.now.size rows.now }
+    ensures { IfOk result (λ kept. kept.items
+        ≡ filter (is_not_held list.now.size (places list.now.cubes)) rows.now) }
 {
-    let cubes = list.as_slice();
-    let are_held = other.holds_cubes(cubes)?;
-    let mut rows = Vec::new(list.allocator());
-    for k in 0..cubes.len() {
+    let are_held = list.holds_cubes(rows)?;
+    let mut kept = Vec::new(list.allocator());
+    for k in 0..rows.len() {
         if !are_held[k] {
-            rows.push(cubes[k].try_clone()?)?;
+            kept.push(rows[k].try_clone()?)?;
         }
     }
-    Ok(rows)
+    Ok(kept)
 }
 
 // Of more pairs of rows it is not asked which rows lie in the other list: a question may look at all of
 // its rows, and the sum of so many small rows is made sooner.
 const MOST_PAIRS: usize = 10_000_000;
 
-/// Rows that have the places of the list outside the other: those that are not wholly in it, or all
-/// where there is one at most, since the sum is then found as soon as the question is answered, or
-/// where both lists are long.
+/// Rows that have the places of the list outside the other: those that are not wholly in it, as a
+/// row that is has no such place. All where there is one at most, since the sum is then found as soon
+/// as the question is answered, or where both lists are long.
 fn rows_to_subtract_from(list: &Cover, other: &Cover) -> Result<Vec<Cube>, AllocError>
     requires { other.now.size ≡ list.now.size }
     ensures cubes { IfOk result (λ rows. AreCubes list.now.size rows.items) }
@@ -126,11 +123,11 @@ fn rows_to_subtract_from(list: &Cover, other: &Cover) -> Result<Vec<Cube>, Alloc
         → difference_of (places rows.items) (places other.now.cubes) p
         ≡ difference_of (places list.now.cubes) (places other.now.cubes) p) }
 {
-    if list.len() < 2 || list.len().saturating_mul(other.len()) > MOST_PAIRS {
-        Ok(list.try_clone()?.into_cubes())
-    } else {
-        rows_not_held(list, other)
+    let rows = list.as_slice();
+    if rows.len() < 2 || rows.len().saturating_mul(other.len()) > MOST_PAIRS {
+        return Ok(list.try_clone()?.into_cubes());
     }
+    rows_not_held(rows, other)
 }
 
 /// The complete sum of the places that are in the first list and not in the second, of one shape.

@@ -38,7 +38,7 @@ mod reached_outputs;
 mod rows_by_output;
 
 pub use columns::columns_of_point;
-pub use cubes::{add_copy, are_apart, large_first, lies_in_one_of, without_contained};
+pub use cubes::{add_copy, are_apart, large_first, lies_in_one_of};
 pub use holding::hold_cube;
 pub use near_rows::rows_to_ask;
 pub use prime::{Growth, Side, grow};

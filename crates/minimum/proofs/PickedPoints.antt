@@ -253,7 +253,7 @@ module _ (sets given : SetLists) (source : Source) (on_cubes : AreCubes sets.siz
       let w = list_any_witness (λ c. holds c p) sets.on (care_parts sets p want).0 in
       same.wanted p (IsPlace-from_holds sets.size w.0 p (all_members (IsCube sets.size) sets.on on_cubes w.0 w.1).has_size w.2) ∙ want
 
-  wanted_sets : (p : Place) → care_on given p ≡ true → care_on sets p ≡ true
+  pub wanted_sets : (p : Place) → care_on given p ≡ true → care_on sets p ≡ true
   wanted_sets p want =
       let w = list_any_witness (λ c. holds c p) given.on (care_parts given p want).0 in
       sym (same.wanted p (subst (λ z. IsPlace z p) same.size (IsPlace-from_holds given.size w.0 p (all_members (IsCube given.size) given.on given_on w.0 w.1).has_size w.2))) ∙ want

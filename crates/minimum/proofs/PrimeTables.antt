@@ -47,9 +47,6 @@ enough_for sets primes on dc e is_on is_dc are = enough sets.size primes on dc
     (e ∙ ap (λ l. complete_sum sets.size (λ p. places l p || places sets.dc p)) (sym is_on) ∙ ap (λ l. complete_sum sets.size (λ p. places on p || places l p)) (sym is_dc))
     (subst (AreCubes sets.size) (sym is_on) are)
 
-pub rows_for : (sets : SetLists) (primes on dc : List Cube) (rows : List (List ℕ)) → primes ≡ primes_of sets → on ≡ sets.on → dc ≡ sets.dc → AreRowsOf primes on dc rows → AreRowsOf (primes_of sets) sets.on sets.dc rows
-rows_for sets primes on dc rows e is_on is_dc h = subst (λ l. AreRowsOf (primes_of sets) sets.on l rows) is_dc (subst (λ l. AreRowsOf (primes_of sets) l dc rows) is_on (subst (λ l. AreRowsOf l on dc rows) e h))
-
 -- ---- the places of chosen cubes
 
 pub places_chosen : (cubes : List Cube) (s : List ℕ) (p : Place) → places (chosen cubes s) p ≡ list_any (λ i. holds_at cubes i p) s

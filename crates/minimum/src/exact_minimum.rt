@@ -13,19 +13,21 @@ ghost use Rattle.cover.specs.Places.{places};
 ghost use Rattle.pla.specs.declared.file_type.FileType.{FileType};
 ghost use Rattle.pla.specs.Completed.{sets_of};
 ghost use Rattle.pla.specs.Sets.{SetLists};
-ghost use Rattle.minimum.specs.Primes.{exact_of, primes_of};
+ghost use Rattle.minimum.specs.declared.points.source.Source.{Source};
+ghost use Rattle.minimum.specs.Points.{lists_of, IsSource, StandsFor};
+ghost use Rattle.minimum.specs.Primes.{exact_of};
 
 use crate::as_needed::exact_as_needed;
 use crate::cubes::cubes_at;
 use crate::points::rounds::exact_by_points;
 use crate::points::source::Source;
 use crate::prime_implicants::{on_and_dc, primes};
-use crate::prime_table::OfPrimes;
+use crate::prime_table::table_of_primes;
 use crate::way_hints::{
     budget_outside, uses_outside, uses_places_as_needed, uses_points, uses_points_of_primes,
 };
 use cover::{Cover, outside};
-use covering::{Choice, Table, least_cover};
+use covering::{Choice, least_cover};
 use growth::large_first;
 use pla::{Pla, Sets};
 use std::alloc::{AllocError, Global};
@@ -60,35 +62,52 @@ fn exact_outside(alloc: Global, sets: &Sets, choice: Choice) -> Result<Option<Co
     exact_by_points(alloc, sets.on(), sets.dc(), &source, false, choice)
 }
 
-/// The least cover by primes, from the table of all of them.
+/// The least cover by primes, from the table of all of them; the ON list and the DC list tell which
+/// places are wanted.
 fn exact_by_table(
     alloc: Global,
-    sets: &Sets,
+    on: &Cover,
+    dc: &Cover,
     primes: &Cover,
     choice: Choice,
 ) -> Result<Cover, AllocError>
-    requires { primes.now ≡ record { size = sets.now.size; cubes = primes_of sets.now } }
+    ghost sets: { SetLists }
+    requires dc { dc.now.size ≡ on.now.size }
+    requires primes { IsSource on.now.size (Source.Primes primes.now) }
+    requires same { StandsFor sets (lists_of on.now dc.now) (Source.Primes primes.now) }
     ensures { IfOk result (λ list. list ≡ record
-        { size = sets.now.size; cubes = exact_of choice sets.now }) }
+        { size = on.now.size; cubes = exact_of choice sets }) }
 {
-    let table = Table::build(alloc, primes, sets)?;
+    let table = table_of_primes(alloc, primes, on, dc)?;
     let least = least_cover(&table, choice)?;
     cubes_at(alloc, primes, &least)
 }
 
 /// The least cover by primes, from a list of all of them: by points that are picked by this list, or
-/// where that is of no use or too much, from the table of all.
-fn exact_by_primes(alloc: Global, sets: &Sets, choice: Choice) -> Result<Cover, AllocError>
+/// where that is of no use or too much, from the table of all. With `sampled` all that lies in no
+/// ON cube is a don't-care, or in no prime.
+fn exact_by_primes(
+    alloc: Global,
+    on: &Cover,
+    dc: &Cover,
+    primes: Cover,
+    sampled: bool,
+    choice: Choice,
+) -> Result<Cover, AllocError>
+    ghost sets: { SetLists }
+    requires dc { dc.now.size ≡ on.now.size }
+    requires primes { IsSource on.now.size (Source.Primes primes) }
+    requires same { StandsFor sets (lists_of on.now dc.now) (Source.Primes primes) }
     ensures { IfOk result (λ list. list ≡ record
-        { size = sets.now.size; cubes = exact_of choice sets.now }) }
+        { size = on.now.size; cubes = exact_of choice sets }) }
 {
-    let source = Source::Primes(primes(sets)?);
-    if uses_points_of_primes(sets) {
-        if let Some(list) = exact_by_points(alloc, sets.on(), sets.dc(), &source, false, choice)? {
+    let source = Source::Primes(primes);
+    if uses_points_of_primes(on) {
+        if let Some(list) = exact_by_points(alloc, on, dc, &source, sampled, choice)? {
             return Ok(list);
         }
     }
-    exact_by_table(alloc, sets, source.list(), choice)
+    exact_by_table(alloc, on, dc, source.list(), choice)
 }
 
 /// The least cover by primes: the shortest list of primes that together hold each place of the
@@ -111,33 +130,33 @@ pub fn exact(alloc: Global, sets: &Sets, choice: Choice) -> Result<Cover, AllocE
             return Ok(list);
         }
     }
-    exact_by_primes(alloc, sets, choice)
+    exact_by_primes(alloc, sets.on(), sets.dc(), primes(sets)?, false, choice)
 }
 
-/// The least cover by primes under fr, by points with columns outside `off`, the places that OFF
-/// alone holds, or else by points that are picked by all primes; `None` where both are too much.
+/// The least cover by primes under fr, where OFF alone holds the places of `off`: by points with
+/// columns outside these, or else from a list of all primes. No DC list is needed.
 pub(crate) fn exact_of_samples(
     alloc: Global,
     pla: &Pla,
     off: Cover,
     choice: Choice,
-) -> Result<Option<Cover>, AllocError>
+) -> Result<Cover, AllocError>
     ghost sets: { SetLists }
     requires sets { sets ≡ sets_of pla.now true true }
     requires file_type { pla.now.file_type ≡ FileType.Fr }
     requires size { off.size ≡ pla.now.size }
     requires places { (p : Place) → IsPlace pla.now.size p
         → places off.cubes p ≡ difference_of (places pla.now.off) (places pla.now.on) p }
-    ensures { IfOk result (λ o. IfSome o (λ list. list ≡ record
-        { size = pla.now.size; cubes = exact_of choice sets })) }
+    ensures { IfOk result (λ list. list ≡ record
+        { size = pla.now.size; cubes = exact_of choice sets }) }
 {
     let none = Cover::new(alloc, pla.shape());
     let source = Source::Outside(large_first(off)?);
     if uses_points(pla.shape()) {
         if let Some(list) = exact_by_points(alloc, pla.on(), &none, &source, true, choice)? {
-            return Ok(Some(list));
+            return Ok(list);
         }
     }
-    let all = source.with_all_primes()?;
-    exact_by_points(alloc, pla.on(), &none, &all, true, choice)
+    let primes = source.list().complement()?;
+    exact_by_primes(alloc, pla.on(), &none, primes, true, choice)
 }

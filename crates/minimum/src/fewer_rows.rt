@@ -17,9 +17,8 @@ use crate::exact_minimum::{exact, exact_of_samples};
 use crate::of_pla::{essential_of_sets, essential_outside, off_alone, primes_outside};
 use crate::prime_implicants::primes;
 use crate::way_hints::uses_points;
-use cover::{Cover, merge_rows};
+use cover::{Cover, contain, merge_rows};
 use covering::Choice;
-use growth::{large_first, without_contained};
 use pla::Pla;
 use std::alloc::{AllocError, Global};
 
@@ -91,22 +90,22 @@ fn is_to_be_merged(aim: Aim, list: &Cover) -> bool {
     }
 }
 
-// Of more rows it is not asked which lie in others: each may be compared with all.
-const MOST_ROWS_TO_COMPARE: usize = 5_000;
+// Of more rows it is not asked which lie in others: that may take longer than all else.
+const MOST_ROWS_TO_COMPARE: usize = 20_000;
 
-// The list without the rows that lie in others, those with few literals first; `None` where there is no
-// such row. Of points few lie in others, so they are not looked through.
-fn absorbed_list(alloc: Global, list: &Cover) -> Result<Option<Cover>, AllocError>
+// The list without the rows that lie in others; `None` where there is no such row. Of points few lie
+// in others, so they are not looked through.
+fn without_contained_rows(list: &Cover) -> Result<Option<Cover>, AllocError>
     ensures size { IfOk result (λ found. IfSome found (λ fewer. fewer.size ≡ list.now.size)) }
     ensures places { IfOk result (λ found. IfSome found
         (λ fewer. (p : Place) → places fewer.cubes p ≡ places list.now.cubes p)) }
 {
-    if list.len() > MOST_ROWS_TO_COMPARE || are_nearly_points(list) {
+    let rows = list.as_slice();
+    if rows.len() > MOST_ROWS_TO_COMPARE || are_nearly_points(list) {
         return Ok(None);
     }
-    let sorted = large_first(list.try_clone()?)?;
-    let rest = without_contained(alloc, &sorted)?;
-    if rest.len() >= list.len() {
+    let rest = contain(list)?;
+    if rest.len() >= rows.len() {
         return Ok(None);
     }
     Ok(Some(rest))
@@ -128,28 +127,28 @@ fn fewer_or_given<'a>(fewer: &'a Option<Cover>, given: &'a Cover) -> &'a Cover
 
 // The list with fewer rows: without those that lie in others, and merged if they are to be; `None`
 // where that is the list.
-fn list_of_fewer_rows(alloc: Global, aim: Aim, list: &Cover) -> Result<Option<Cover>, AllocError>
+fn list_of_fewer_rows(aim: Aim, list: &Cover) -> Result<Option<Cover>, AllocError>
     ensures size { IfOk result (λ found. IfSome found (λ fewer. fewer.size ≡ list.now.size)) }
     ensures places { IfOk result (λ found. IfSome found
         (λ fewer. (p : Place) → places fewer.cubes p ≡ places list.now.cubes p)) }
 {
-    let absorbed = absorbed_list(alloc, list)?;
-    let rows = fewer_or_given(&absorbed, list);
+    let fewer = without_contained_rows(list)?;
+    let rows = fewer_or_given(&fewer, list);
     if is_to_be_merged(aim, rows) {
         if let Some(merged) = merge_rows(rows)? {
             return Ok(Some(merged));
         }
     }
-    Ok(absorbed)
+    Ok(fewer)
 }
 
 // The description with lists of fewer rows, or `None` where no list has fewer.
-fn with_fewer_rows(alloc: Global, aim: Aim, pla: &Pla) -> Result<Option<Pla>, AllocError>
+fn with_fewer_rows(aim: Aim, pla: &Pla) -> Result<Option<Pla>, AllocError>
     ensures { IfOk result (λ found. IfSome found (λ fewer. HasSamePlaces pla.now fewer)) }
 {
-    let on = list_of_fewer_rows(alloc, aim, pla.on())?;
-    let dc = list_of_fewer_rows(alloc, aim, pla.dc())?;
-    let off = list_of_fewer_rows(alloc, aim, pla.off())?;
+    let on = list_of_fewer_rows(aim, pla.on())?;
+    let dc = list_of_fewer_rows(aim, pla.dc())?;
+    let off = list_of_fewer_rows(aim, pla.off())?;
     if on.is_none() && dc.is_none() && off.is_none() {
         return Ok(None);
     }
@@ -184,7 +183,7 @@ pub fn primes_of_pla(alloc: Global, pla: &Pla) -> Result<Cover, AllocError>
       cubes = primes_of (sets_of pla.now true true);
     }) }
 {
-    let fewer = with_fewer_rows(alloc, Aim::AllPrimes, pla)?;
+    let fewer = with_fewer_rows(Aim::AllPrimes, pla)?;
     let pla = fewer_rows_or_given(&fewer, pla);
     match off_alone(pla)? {
         Some(off) => primes_outside(&off),
@@ -203,7 +202,7 @@ pub fn essential_of_pla(alloc: Global, pla: &Pla) -> Result<Cover, AllocError>
       cubes = essential_of (sets_of pla.now true true) (primes_of (sets_of pla.now true true));
     }) }
 {
-    let fewer = with_fewer_rows(alloc, Aim::SomePrimes, pla)?;
+    let fewer = with_fewer_rows(Aim::SomePrimes, pla)?;
     let pla = fewer_rows_or_given(&fewer, pla);
     match off_alone(pla)? {
         Some(off) => essential_outside(alloc, pla, &off),
@@ -223,13 +222,10 @@ pub fn exact_of_pla(alloc: Global, pla: &Pla, choice: Choice) -> Result<Cover, A
       cubes = exact_of choice (sets_of pla.now true true);
     }) }
 {
-    let fewer = with_fewer_rows(alloc, Aim::SomePrimes, pla)?;
+    let fewer = with_fewer_rows(Aim::SomePrimes, pla)?;
     let pla = fewer_rows_or_given(&fewer, pla);
-    if let Some(off) = off_alone(pla)? {
-        if let Some(list) = exact_of_samples(alloc, pla, off, choice)? {
-            return Ok(list);
-        }
+    match off_alone(pla)? {
+        Some(off) => exact_of_samples(alloc, pla, off, choice),
+        None => exact(alloc, &pla::sets(alloc, pla, true, false)?, choice),
     }
-    let sets = pla::sets(alloc, pla, true, false)?;
-    exact(alloc, &sets, choice)
 }

@@ -10,6 +10,9 @@ ghost use Rattle.cube.specs.Cube.{literals as literals_of};
 ghost use Rattle.cube.specs.Limits.{IsWithinLimits, format_limits};
 ghost use Rattle.cover.specs.Cubes.{AreCubes};
 ghost use Rattle.covering.specs.Table.{items_of};
+ghost use Rattle.pla.specs.Sets.{SetLists};
+ghost use Rattle.minimum.specs.declared.points.source.Source.{Source};
+ghost use Rattle.minimum.specs.Points.{lists_of, IsSource, StandsFor};
 ghost use Rattle.minimum.specs.Primes.{primes_of};
 ghost use Rattle.minimum.specs.PrimeTable.{HasPrimeColumns, HasPrimeCovers};
 ghost use Rattle.minimum.specs.PrimeRows.{AreEnough, AreRowsOf};
@@ -84,22 +87,40 @@ pub trait OfPrimes: Sized {
         requires { primes.now ≡ record { size = sets.now.size; cubes = primes_of sets.now } };
 }
 
+/// The table of all primes of three sets, by an ON list and a DC list that tell which places are
+/// wanted.
+pub(crate) fn table_of_primes(
+    alloc: Global,
+    primes: &Cover,
+    on: &Cover,
+    dc: &Cover,
+) -> Result<Table, AllocError>
+    ghost sets: { SetLists }
+    requires dc { dc.now.size ≡ on.now.size }
+    requires primes { IsSource on.now.size (Source.Primes primes.now) }
+    requires same { StandsFor sets (lists_of on.now dc.now) (Source.Primes primes.now) }
+    ensures columns { IfOk result (HasPrimeColumns sets) }
+    ensures covers { IfOk result (HasPrimeCovers sets) }
+{
+    let lists = Lists {
+        primes: primes.as_slice(),
+        on: on.as_slice(),
+        dc: dc.as_slice(),
+    };
+    let rows = rows_of(alloc, &lists, primes.shape())?;
+    let weights = weights(alloc, primes)?;
+    match Table::new(alloc, rows, weights)? {
+        Some(table) => Ok(table),
+        None => unreachable!(),
+    }
+}
+
 impl OfPrimes for Table {
     fn build(alloc: Global, primes: &Cover, sets: &Sets) -> Result<Table, AllocError>
         requires { primes.now ≡ record { size = sets.now.size; cubes = primes_of sets.now } }
         ensures columns { IfOk result (HasPrimeColumns sets.now) }
         ensures covers { IfOk result (HasPrimeCovers sets.now) }
     {
-        let lists = Lists {
-            primes: primes.as_slice(),
-            on: sets.on().as_slice(),
-            dc: sets.dc().as_slice(),
-        };
-        let rows = rows_of(alloc, &lists, primes.shape())?;
-        let weights = weights(alloc, primes)?;
-        match Table::new(alloc, rows, weights)? {
-            Some(table) => Ok(table),
-            None => unreachable!(),
-        }
+        table_of_primes(alloc, primes, sets.on(), sets.dc())
     }
 }

@@ -49,8 +49,8 @@ const MOST_ROWS_FOR_POINTS: usize = 50_000;
 /// Whether to pick points by the list of all primes: with more than 20 inputs, unless ON rows are very
 /// many. Else the rows of the table are made from regions, which then takes less time than a look at
 /// all primes for each ON cube.
-pub(crate) fn uses_points_of_primes(sets: &Sets) -> bool {
-    sets.on().shape().inputs() > 20 && sets.on().len() <= MOST_ROWS_FOR_POINTS
+pub(crate) fn uses_points_of_primes(on: &Cover) -> bool {
+    on.shape().inputs() > 20 && on.len() <= MOST_ROWS_FOR_POINTS
 }
 
 /// Whether the two have the same outputs.

@@ -4,12 +4,12 @@ ghost use Rattle.std.specs.Prelude.{◌≡◌, OnOk};
 
 use crate::rules::{Outputs, Rows, Rule, add_rows, has_rows};
 use crate::tables::read;
-use cover::{Cover, in_row_order};
+use cover::{Cover, contain, in_row_order};
 use covering::Choice;
 use cube::{Cube, Shape};
 use growth::{
     Growth, RowsByOutput, Side, add_copy, are_apart, columns_of_point, grow, hold_cube,
-    large_first, lies_in_one_of, outputs_at, rows_to_ask, without_contained,
+    large_first, lies_in_one_of, outputs_at, rows_to_ask,
 };
 use pla::Pla;
 use rows::references_to_cubes;
@@ -390,7 +390,7 @@ fn makes(alloc: Global, case: &Case) -> Result<bool, Fail> {
     let shape = (case.inputs, case.outputs, case.which);
     let pla = read_rows(alloc, case.head, shape, case.rows)?;
     let all = large_first(made(alloc, case, pla.on(), pla.off())?)?;
-    let list = in_row_order(&without_contained(alloc, &all)?)?;
+    let list = in_row_order(&contain(&all)?)?;
     let (which, rule, count) = case.made;
     Ok(has_rows(&list, which, rule, count))
 }
