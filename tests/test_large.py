@@ -275,6 +275,18 @@ class Pieces(Large):
         self.each("joined rings in pieces", (36, 1), rows, listed(joined(least)), ("exact", "exact --literals"))
         self.each("joined rings in pieces", (36, 1), rows, [], ("essen",))
 
+    def test_joined_rings_under_fr(self):
+        """Four rings in pieces, with the sixteen points of no ring as the OFF list: each table of a few primes is made of ON rows alone."""
+        ring, least, chance = ("00-", "-01", "1-1", "11-", "-10", "0-0"), ("-01", "0-0", "11-"), Random(4)
+
+        def joined(cubes):
+            return sorted("---" * k + cube + "---" * (3 - k) for k in range(4) for cube in cubes)
+
+        rows = listed(piece for cube in joined(ring) for piece in pieces(cube, 3, chance))
+        text = pla(12, 1, *chance.sample(rows, len(rows)), *listed(map("".join, product(("011", "100"), repeat=4)), "0"), head=[".type fr"])
+        self.check(*(on_input(f"{command} of joined rings under fr", f"-D{command}", text, printed(12, 1, *listed(joined(due))))
+                     for command, due in (("primes", ring), ("exact", least), ("exact --literals", least), ("essen", ()))))
+
     def test_two_versions(self):
         """What one version has beside the other, whose rows are those of the first in two pieces: nothing, or the one row more."""
         chance = Random(3)

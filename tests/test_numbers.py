@@ -29,7 +29,7 @@ CONSTANTS = {
     "piece": ("crates/pla/specs", "piece_bytes = #"),
     "print buffer": ("crates/pla/src", "const BUFFER_BYTES: usize = #;"),
     "many inputs": ("crates/minimum/src", "fn uses_points(shape: Shape) -> bool { shape.inputs() > #"),
-    "very many inputs": ("crates/minimum/src", "fn uses_points_of_primes(sets: &Sets) -> bool { sets.on().shape().inputs() > #"),
+    "very many inputs": ("crates/minimum/src", "fn uses_points_of_primes(on: &Cover) -> bool { on.shape().inputs() > #"),
     "outside of an output": ("crates/minimum/src", "const MOST_OF_AN_OUTPUT: usize = #;"),
     "outside": ("crates/minimum/src", "const MOST_OUTSIDE: usize = #;"),
     "outside of a row": ("crates/minimum/src", "const MOST_OF_OFF: usize = #;"),
@@ -79,7 +79,7 @@ SENTENCES = (
      "compared rows", "many inputs"),
     ("docs/espresso.1", "So they are with up to # inputs", "many inputs"),
     ("docs/espresso.1", "several outputs and more than # inputs all primes are listed only past", "many inputs"),
-    ("docs/espresso.1", "with more than # inputs, unless rows are very many, or under fr, places", "very many inputs"),
+    ("docs/espresso.1", "with more than # inputs, unless rows are very many, places", "very many inputs"),
     ("docs/espresso.1", "those that take more than # looks at a cube or a picked place (# while none is picked) wait until there are no others, "
      "and none that take more than # are", "few looks", "first looks", "most looks"),
     ("docs/espresso.1", "on the second way # words of cubes for the columns of all rounds", "words as needed"),
