@@ -37,6 +37,14 @@ module _ (d : Description) (alone : List Cube) (is : (p : Place) → IsPlace d.s
   pub primes-outside : complete_sum d.size (λ p. not (places alone p)) ≡ complete_sum d.size (λ p. places d.on p || places (dc_list Fr true d) p)
   primes-outside = complete_sum-agree d.size (λ p. not (places alone p)) (λ p. places d.on p || places (dc_list Fr true d) p) outside_place
 
+-- the same by cubes of the places that neither list holds
+module _ (d : Description) (open' : List Cube) (is : (p : Place) → IsPlace d.size p → places open' p ≡ not (places d.on p || places d.off p)) where
+  pub primes-with_open : complete_sum d.size (places (d.on ++ open')) ≡ complete_sum d.size (λ p. places d.on p || places (dc_list Fr true d) p)
+  primes-with_open = complete_sum-agree d.size (places (d.on ++ open')) (λ p. places d.on p || places (dc_list Fr true d) p)
+      (λ p place.
+      places-append d.on open' p
+      ∙ ap (λ x. places d.on p || x) (is p place ∙ ap not (sym (places-append d.on d.off p)) ∙ sym (places-sum d.size (λ q. not (places (d.on ++ d.off) q)) p place)))
+
 -- ---- the samples alone
 
 -- the lists with what neither of them holds for a DC list

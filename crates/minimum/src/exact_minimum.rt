@@ -19,6 +19,7 @@ ghost use Rattle.minimum.specs.Primes.{exact_of};
 
 use crate::as_needed::exact_as_needed;
 use crate::cubes::cubes_at;
+use crate::of_pla::primes_outside;
 use crate::points::rounds::exact_by_points;
 use crate::points::source::Source;
 use crate::prime_implicants::{on_and_dc, primes};
@@ -157,6 +158,6 @@ pub(crate) fn exact_of_samples(
             return Ok(list);
         }
     }
-    let primes = source.list().complement()?;
+    let primes = primes_outside(pla, source.list())?;
     exact_by_primes(alloc, pla.on(), &none, primes, true, choice)
 }

@@ -186,7 +186,7 @@ pub fn primes_of_pla(alloc: Global, pla: &Pla) -> Result<Cover, AllocError>
     let fewer = with_fewer_rows(Aim::AllPrimes, pla)?;
     let pla = fewer_rows_or_given(&fewer, pla);
     match off_alone(pla)? {
-        Some(off) => primes_outside(&off),
+        Some(off) => primes_outside(pla, &off),
         None => primes(&pla::sets(alloc, pla, true, false)?),
     }
 }

@@ -117,6 +117,24 @@ pub(crate) fn budget_of_off(pla: &Pla) -> Budget {
     }
 }
 
+// To make cubes of the places that neither list holds, at most so many looks at each row are taken for
+// each input and output.
+const MOST_LOOKS_AT_A_ROW: usize = 4;
+
+/// The budget for cubes of the places that neither the ON list nor the OFF list holds: for each output
+/// on average no more than there are ON rows. Of samples there are more.
+pub(crate) fn budget_of_dont_cares(pla: &Pla) -> Budget {
+    let (inputs, outputs) = (pla.shape().inputs(), pla.shape().outputs());
+    let rows = pla.on().len().saturating_add(pla.off().len());
+    Budget {
+        cubes: pla.on().len().saturating_mul(outputs),
+        rows: rows
+            .saturating_mul(outputs)
+            .saturating_mul(inputs)
+            .saturating_mul(MOST_LOOKS_AT_A_ROW),
+    }
+}
+
 /// Whether to find essential primes without a list of all primes. With up to 12 inputs that list is
 /// short, and is made unless rows are few; with one output it is short unless primes are thought
 /// many. It is made too where rows are very many, as growing looks at all rows for each prime that

@@ -9,7 +9,7 @@ pub returns-in-Some : goal.returns-in-Some
 returns-in-Some c =
     let pla = c.fewer_rows_or_given-pla.result.now in
     IfOk-weaker c.primes_outside.result _ _ (λ list h. h ∙ same_primes c.args.pla.now pla c.fewer_rows_or_given-pla.ensures)
-    (c.primes_outside.ensures pla (rw c.in-Some.is at c.in_ok-off.ensures.file_type) (rw c.in-Some.is at c.in_ok-off.ensures.size) (rw c.in-Some.is at c.in_ok-off.ensures.places))
+    c.primes_outside.ensures
 
 pub returns : goal.returns
 returns c =
