@@ -152,7 +152,7 @@ module _ (size : Size) (c : Cube) (cube : IsCube size c) (j : ℕ) (lt : j < siz
       }
 
 -- a cube put together with the cube of all places that have an output
-pub record IsWidened (size : Size) (c : Cube) (j : ℕ) (u wide : Cube) : Type 0 where
+pub record HasOutputAdded (size : Size) (c : Cube) (j : ℕ) (u wide : Cube) : Type 0 where
   pub cube : IsCube size c
   pub below : j < size.outputs
   pub output : u ≡ all_with size j
@@ -160,7 +160,7 @@ pub record IsWidened (size : Size) (c : Cube) (j : ℕ) (u wide : Cube) : Type 0
   pub stacked : (p : Place) → holds wide p ≡ ((matches c.symbols p.point && matches u.symbols p.point)
       && (get_or c.outputs p.output false || get_or u.outputs p.output false))
 
-module _ {size : Size} {c : Cube} {j : ℕ} {u wide : Cube} (w : IsWidened size c j u wide) where
+module _ {size : Size} {c : Cube} {j : ℕ} {u wide : Cube} (w : HasOutputAdded size c j u wide) where
   wide_cube : IsCube size wide
   wide_cube = stacked_cube size c w.cube j w.below u w.output wide w.same w.stacked
 

@@ -1,7 +1,7 @@
 -- The join of two cubes.
-use Rattle.std.proofs.Common.{◌≡◌, ℕ, zero, suc, Bool, true, false, ◌||◌, List, [], ◌∷◌, length, get_or, refl, ap, sym, ◌∙◌, arith, inl, inr}
-use Rattle.std.specs.Simd.Lanes.{zip2}
+use Rattle.std.proofs.Common.{◌≡◌, ℕ, Bool, true, false, ◌||◌, length, get_or, refl, ap, sym, ◌∙◌, inl, inr}
 use Rattle.std.proofs.lemmas.Bool.{cases_Bool, false≢true, or_cases, or_left, or_right, not-true, not_from_false}
+use Rattle.std.proofs.lemmas.Simd.{length-zip2}
 use Rattle.cube.specs.declared.symbol.Symbol.{Symbol}
 use Rattle.cube.specs.declared.symbol.Symbol.TheVariants.{Dash, Zero, One}
 use Rattle.cube.specs.Pattern.{agrees}
@@ -10,22 +10,11 @@ use Rattle.cube.specs.Join.{supercube, supercube_symbol}
 use Rattle.cube.proofs.HoldsLemmas.{IsSubset-from_Covers}
 use Rattle.cube.proofs.JoinLemmas.{agrees-supercube_symbol}
 use Rattle.cube.proofs.SharpLemmas.{some_true, true_some}
+use Rattle.cube.proofs.ZipLemmas.{get_or-zip2_any}
 use Rattle.cover.specs.Cubes.{Cubes}
 use Rattle.cover.specs.Places.{places}
 use Rattle.growth.specs.Dominating.{IsImplicant, NeedsNoJoin}
 use Rattle.growth.proofs.GrowthSteps.{same_sizes, covering}
-
-length-zip2 : {A : Type 0} (f : A → A → A) (xs ys : List A) → length xs ≡ length ys → length (zip2 f xs ys) ≡ length xs
-length-zip2 f [] ys e = refl
-length-zip2 f (x ∷ xs) [] e = absurd (omega (arith, e))
-length-zip2 f (x ∷ xs) (y ∷ ys) e = ap suc (length-zip2 f xs ys (omega (arith, e)))
-
-get_or-zip2 : {A : Type 0} (f : A → A → A) (d : A) (xs ys : List A) (k : ℕ) → f d d ≡ d → length xs ≡ length ys → get_or (zip2 f xs ys) k d ≡ f (get_or xs k d) (get_or ys k d)
-get_or-zip2 f d [] [] k own e = sym own
-get_or-zip2 f d [] (y ∷ ys) k own e = absurd (omega (arith, e))
-get_or-zip2 f d (x ∷ xs) [] k own e = absurd (omega (arith, e))
-get_or-zip2 f d (x ∷ xs) (y ∷ ys) zero own e = refl
-get_or-zip2 f d (x ∷ xs) (y ∷ ys) (suc k) own e = get_or-zip2 f d xs ys k own (omega (arith, e))
 
 -- what agrees with a symbol of two that lie in a third agrees with the third
 joined_symbol : (s t u : Symbol) (bit : Bool) → ((b : Bool) → agrees s b ≡ true → agrees u b ≡ true) → ((b : Bool) → agrees t b ≡ true → agrees u b ≡ true) → agrees (supercube_symbol s t) bit ≡ true → agrees u bit ≡ true
@@ -44,10 +33,10 @@ module _ (off : Cubes) (cube point wide : Cube) (is_cube : IsCube off.size cube)
   same = (is_cube.has_size.0 ∙ sym is_point.has_size.0, is_cube.has_size.1 ∙ sym is_point.has_size.1)
 
   output_of : (k : ℕ) → get_or wide.outputs k false ≡ (get_or cube.outputs k false || get_or point.outputs k false)
-  output_of k = ap (λ c. get_or c.outputs k false) is ∙ get_or-zip2 (λ x y. x || y) false cube.outputs point.outputs k refl same.1
+  output_of k = ap (λ c. get_or c.outputs k false) is ∙ get_or-zip2_any (λ x y. x || y) cube.outputs point.outputs k false false false same.1 refl
 
   symbol_of : (k : ℕ) → get_or wide.symbols k Dash ≡ supercube_symbol (get_or cube.symbols k Dash) (get_or point.symbols k Dash)
-  symbol_of k = ap (λ c. get_or c.symbols k Dash) is ∙ get_or-zip2 supercube_symbol Dash cube.symbols point.symbols k refl same.0
+  symbol_of k = ap (λ c. get_or c.symbols k Dash) is ∙ get_or-zip2_any supercube_symbol cube.symbols point.symbols k Dash Dash Dash same.0 refl
 
   pub wide_cube : IsCube off.size wide
   wide_cube = record {

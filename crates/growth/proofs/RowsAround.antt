@@ -22,7 +22,8 @@ use Rattle.cover.specs.Cubes.{Cubes}
 use Rattle.cover.specs.Contained.{is_within}
 use Rattle.cover.specs.Places.{places}
 use Rattle.cover.specs.Reduced.{HasSameCubes}
-use Rattle.cover.proofs.Lists.{list_any_from, list_any_witness}
+use Rattle.cover.proofs.Lists.{list_any_witness}
+use Rattle.cover.proofs.Reasons.{within_rows}
 use Rattle.covering.specs.declared.choice.Choice.{Choice}
 use Rattle.growth.specs.Dominating.{IsDominated, primes_outside, IsImplicant, IsAgainst, IsWidened, IsAround, HaveSameImplicantsOver}
 use Rattle.growth.proofs.Dominating.{prime_parts}
@@ -140,18 +141,15 @@ widened_by size y row against wide row_is y_is is none e =
 
 -- ---- places of lists
 
-pub in_places : (cubes : List Cube) (c : Cube) → Contains cubes c → IsSubset (holds c) (places cubes)
-in_places cubes c member p h = list_any_from (λ z. holds z p) cubes c member h
-
 pub places_grow : (old new : List Cube) → ((c : Cube) → Contains old c → Contains new c) → IsSubset (places old) (places new)
-places_grow old new kept p h = let w = list_any_witness (λ z. holds z p) old h in in_places new w.0 (kept w.0 w.1) p w.2
+places_grow old new kept p h = let w = list_any_witness (λ z. holds z p) old h in within_rows new w.0 (kept w.0 w.1) p w.2
 
 -- one row more lies in s
 pub over_next : (rows : List Cube) (i : ℕ) (row : Cube) → i < length rows → row ≡ get_or rows i row → (s : Place → Bool) → IsSubset (places (take i rows)) s → IsSubset (holds row) s → IsSubset (places (take (i + 1) rows)) s
 over_next rows i row lt at s before here p h =
     let w = list_any_witness (λ z. holds z p) (take (i + 1) rows) h in
     elim (Contains-push_cases (take i rows) (get_or rows i row) w.0 (subst (λ l. Contains l w.0) (take_more rows i row lt) w.1)) [
-      | inl low ↦ before p (in_places (take i rows) w.0 low p w.2)
+      | inl low ↦ before p (within_rows (take i rows) w.0 low p w.2)
       | inr same ↦ here p (ap (λ z. holds z p) (at ∙ same) ∙ w.2)
     ]
 
@@ -166,11 +164,11 @@ around_next off y rows i row wide old new lt at member widened e so =
     let more : (c : Cube) → Contains old c → Contains new c = λ c h. subst (λ l. Contains l c) (sym e) (Contains-append_left old (wide ∷ []) c h) in
     let last : Contains new wide = subst (λ l. Contains l wide) (sym e) (Contains-append_right old (wide ∷ []) wide (Contains-here wide [])) in
     record {
-      over = over_next rows i row lt at (places new) (λ p h. places_grow old new more p (so.over p h)) (λ p h. in_places new wide last p (widened.over p h));
+      over = over_next rows i row lt at (places new) (λ p h. places_grow old new more p (so.over p h)) (λ p h. within_rows new wide last p (widened.over p h));
       apart = λ d c h within. elim (Contains-push_cases old wide d (subst (λ l. Contains l d) e h)) [
         | inl low ↦ so.apart d c low within
         | inr same ↦ subst (λ z. IsDisjoint (holds z) (holds c)) same
-            (widened.apart c within.is_cube within.over (λ p in_row in_c. avoids_back off c within.within p in_c (in_places off.cubes row member p in_row)))
+            (widened.apart c within.is_cube within.over (λ p in_row in_c. avoids_back off c within.within p in_c (within_rows off.cubes row member p in_row)))
       ];
     }
 

@@ -217,7 +217,9 @@ const LEAST_POINTS_AROUND: usize = 100;
 
 /// Columns that dominate all cubes that meet no cube of the list and contain the point with this
 /// number, whichever of the others they contain; `None` where more than so many of the cubes that
-/// matter, and points, would be looked at.
+/// matter, and points, would be looked at. Each column costs a look at each of the cubes that matter,
+/// and one at each point that may be joined with what it was grown from; where literals count, a search
+/// too.
 ///
 /// # Errors
 ///

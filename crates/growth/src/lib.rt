@@ -13,7 +13,7 @@
 //!   each set of points that such a prime contains one that contains them too, and is as good.
 //!
 //! The others ask whether rows hold a cube, mostly at one look at each ([`hold_cube`]), and which
-//! outputs rows reach in it ([`outputs_at`]); they compare cubes, copy them, and shorten lists.
+//! outputs rows reach in it ([`outputs_at`]); they compare cubes, copy them, and sort lists.
 //!
 //! With two inputs and one output, [`grow`] makes of `11 1` the prime `-1 1`, inside the rows `01 1`
 //! and `1- 1` as well as outside the row `00 1`. Outside that row the columns of the point `11 1`
@@ -23,8 +23,8 @@
 //! for each literal and output, is asked of the rows near the cube, and of these for few outputs. A
 //! column costs a look at each row that matters to its point, and one for each point that it may be
 //! joined with. There may be a column for each set of points, so that the call takes how many looks
-//! there may be. Memory is for copies of the rows near, or of those that matter, and for what is
-//! answered.
+//! there may be. Memory is for references to rows, for copies of the rows near or of those that matter,
+//! for two bits of each of these at each input and one at each output, and for what is answered.
 #![tactic(auto)]
 
 mod columns;

@@ -24,9 +24,9 @@ use std::alloc::{AllocError, Global};
 /// Where implicants lie: inside a list of cubes, or outside it.
 #[derive(Clone, Copy)]
 pub enum Side {
-    /// The list is ON with DC: an implicant lies within it.
+    /// An implicant lies within the rows, as those of ON with DC.
     Inside,
-    /// The list is OFF: an implicant meets no cube of it.
+    /// An implicant meets none of the rows, as those of OFF.
     Outside,
 }
 

@@ -40,7 +40,7 @@ pub(crate) fn part_of(side: Side, cube: &Cube) -> Result<Cube, AllocError>
 }
 
 /// A part of the region with the outputs that are reached there: it is narrowed to each row in turn
-/// that adds an output, and gets the outputs of that row.
+/// that adds an output, and gets the outputs of that row. It costs a look at each row.
 ///
 /// # Errors
 ///

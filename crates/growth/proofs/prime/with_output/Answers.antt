@@ -6,13 +6,13 @@ use Rattle.cube.specs.declared.symbol.Symbol.TheVariants.{Dash}
 use Rattle.cube.specs.Cube.{holds, IsSubset}
 use Rattle.cube.proofs.SharpLemmas.{length-minus}
 use Rattle.growth.specs.Growth.{on_side, near_or}
-use Rattle.growth.proofs.GrowthSteps.{IsWidened, all_with, grows_none, not_apart, rest_output, beside_wide, beside_rest, widened_grows, widened_settles, widened_symbols, unwidened_settles}
+use Rattle.growth.proofs.GrowthSteps.{HasOutputAdded, all_with, grows_none, not_apart, rest_output, beside_wide, beside_rest, widened_grows, widened_settles, widened_symbols, unwidened_settles}
 use Rattle.growth.proofs.Reached.{off_settles}
 use Rattle.growth.proofs.Near.{answer_for_all, near_fewer}
 use Rattle.growth.proofs.prime.with_output.Goals as goal
 use Rattle.growth.proofs.prime.with_output.Goals.{After-is_implicant, In-Some}
 
-widened : (c : In-Some) → IsWidened c.args.rows.now.size c.args.growth.now.cube c.args.j c.in_ok-output.output c.in-Some.wide
+widened : (c : In-Some) → HasOutputAdded c.args.rows.now.size c.args.growth.now.cube c.args.j c.in_ok-output.output c.in-Some.wide
 widened c =
     record {
       cube = c.requires.is_cube;
@@ -22,7 +22,7 @@ widened c =
       stacked = rw c.in-Some.is at c.in_ok-wide.ensures.places;
     }
 
-asked : (c : After-is_implicant) → IsWidened c.args.rows.now.size c.args.growth.now.cube c.args.j c.in_ok-output.output c.in-Some.wide → (b : Bool)
+asked : (c : After-is_implicant) → HasOutputAdded c.args.rows.now.size c.args.growth.now.cube c.args.j c.in_ok-output.output c.in-Some.wide → (b : Bool)
     → IsTrue b ↔ IsSubset (holds c.in_ok-rest.rest) (on_side c.args.side (near_or c.args.rows.now c.args.growth.now.near).cubes) → IsTrue b ↔ IsSubset (holds c.in_ok-rest.rest) (on_side c.args.side c.args.rows.now.cubes)
 asked c w =
     let rows = c.args.rows.now in

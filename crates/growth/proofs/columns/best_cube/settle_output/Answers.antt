@@ -2,11 +2,11 @@ use Rattle.std.proofs.Common.{◌≡◌, ◌∙◌, ◌≤◌, ℕ, false, Some,
 use Rattle.cube.specs.Literals.{is_opposite}
 use Rattle.std.proofs.lemmas.Option.{get_or_from_slice_get}
 use Rattle.growth.proofs.FirstPrimes.{from_none, member_at, output_refused}
-use Rattle.growth.proofs.GrowthSteps.{IsWidened, all_with, in_wide, widened_settles, widened_symbols}
+use Rattle.growth.proofs.GrowthSteps.{HasOutputAdded, all_with, in_wide, widened_settles, widened_symbols}
 use Rattle.growth.proofs.columns.best_cube.settle_output.Goals as goal
 use Rattle.growth.proofs.columns.best_cube.settle_output.Goals.{In-Some-2}
 
-widened : (c : In-Some-2) → IsWidened c.args.off.now.size c.args.cube.now c.args.j c.in_ok-output.output c.in-Some-2.wide
+widened : (c : In-Some-2) → HasOutputAdded c.args.off.now.size c.args.cube.now c.args.j c.in_ok-output.output c.in-Some-2.wide
 widened c =
     record {
       cube = c.requires.cube;

@@ -7,7 +7,7 @@ use Rattle.minimum.proofs.essential_by_neighbours.common_place.part_lies_in_one_
 
 pub returns-in-Some : goal.returns-in-Some
 returns-in-Some c is p both =
-    let w = c.lies_in_one_of.ensures is in
+    let w = c.lies_in_one_of.ensures.0 is in
     let held = part_from_some c.args.region.now c.args.row.now c.in-Some.part c.in_ok-part.field-0 c.in_ok-part.ensures.places c.in-Some.is p in
     list_any_from (λ d. holds d p) c.args.nogoods.now w.0 w.1 (w.2 p (held ∙ both))
 
