@@ -43,7 +43,7 @@ AS_NEEDED = """if !uses_points(sets.on().shape()) {
     has_many_primes(sets)"""
 ALWAYS_AS_NEEDED = [(WAYS, AS_NEEDED, "Ok(uses_points(sets.on().shape()))")]
 NEVER_AS_NEEDED = [(WAYS, AS_NEEDED, "Ok(false)")]
-POINTS_OF_PRIMES = [(WAYS, "on.shape().inputs() > 20", "sets.on().shape().inputs() > 0")]
+POINTS_OF_PRIMES = [(WAYS, "on.shape().inputs() > 20", "on.shape().inputs() > 0")]
 NO_POINTS_OF_PRIMES = [(WAYS, "on.shape().inputs() > 20", "on.shape().inputs() > 2000")]
 SHORT_COVERS = [(ROUND_HINTS, "FEW_LEFT_OUT: usize = 20", "FEW_LEFT_OUT: usize = 0"),
                 (ROUND_HINTS, "MOST_POINTS_FOR_LEAST: usize = 1_200", "MOST_POINTS_FOR_LEAST: usize = 2"),

@@ -276,7 +276,7 @@ class Pieces(Large):
         self.each("joined rings in pieces", (36, 1), rows, [], ("essen",))
 
     def test_joined_rings_under_fr(self):
-        """Four rings in pieces, with the sixteen points of no ring as the OFF list: each table of a few primes is made of ON rows alone."""
+        """Four rings in pieces, with the sixteen points of no ring as the OFF list: the table of all primes is made by the ON rows alone."""
         ring, least, chance = ("00-", "-01", "1-1", "11-", "-10", "0-0"), ("-01", "0-0", "11-"), Random(4)
 
         def joined(cubes):

@@ -130,7 +130,7 @@ UNITS = {"kept numbers": lambda numbers: 3 * 4 * numbers / 2 ** 30}
 
 # The pages of which each number of two digits or more is looked for, and what is measured there, or is no number of the code.
 COVERED = {
-    "docs/espresso.1": ("November 28, 2026", "(166 to 170 rows)", "Sangiovanni-Vincentelli 1993)", ".%D 1984", ".%D 1993"),
+    "docs/espresso.1": ("November 30, 2026", "(166 to 170 rows)", "Sangiovanni-Vincentelli 1993)", ".%D 1984", ".%D 1993"),
     "docs/TRUSTED.md": (),
     "docs/FORMAT.md": (),
     "docs/ARCHITECTURE.md": (),

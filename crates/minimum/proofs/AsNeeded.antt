@@ -1,7 +1,7 @@
 -- Rounds that find places outside as they are needed.
 use Rattle.std.proofs.Common.{◌≡◌, ℕ, zero, suc, ◌+◌, ◌<◌, true, not, ◌||◌, List, [], ◌∷◌, ◌++◌, Result, Ok, Err, OnOk, Option, None, Some, IfSome, IfNone, length, get_or, take, All, ap, sym, subst, ◌∙◌, arith, inl, inr}
 use Rattle.std.specs.List.{Contains, AllZip}
-use Rattle.std.proofs.lemmas.Bool.{cases_Bool, false≢true, not-true, not_from_false, both_ways}
+use Rattle.std.proofs.lemmas.Bool.{cases_Bool, false≢true, not_from_false}
 use Rattle.std.proofs.lemmas.List.{length-append}
 use Rattle.std.proofs.lemmas.List.Elements.{All-more, Contains-append_cases, Contains-append_left}
 use Rattle.std.proofs.lemmas.List.Folds.{list_any-append}
@@ -21,6 +21,7 @@ use Rattle.pla.specs.Sets.{SetLists}
 use Rattle.minimum.specs.Primes.{primes_of}
 use Rattle.minimum.specs.Points.{function_of, IsWantedPoint, AreColumnsOf}
 use Rattle.growth.specs.Dominating.{IsDominated, primes_outside, IsImplicant}
+use Rattle.growth.proofs.Joins.{avoids as avoids_list, avoids_back}
 use Rattle.growth.specs.declared.prime.Side.TheVariants.{Outside}
 use Rattle.growth.specs.Growth.{on_side, IsGrown}
 use Rattle.minimum.specs.declared.as_needed.Known.{Known}
@@ -41,12 +42,6 @@ size_is size c h = λ i. record { inputs = sym h.0 i; outputs = sym h.1 i }
 
 -- ---- cubes with places outside
 
-pub within_from_apart : (rows : List Cube) (c : Cube) → IsDisjoint (holds c) (places rows) → IsSubset (holds c) (λ p. not (places rows p))
-within_from_apart rows c apart p h = elim (cases_Bool (places rows p)) [ inl e ↦ absurd (apart p h e) | inr e ↦ not_from_false (places rows p) e ]
-
-pub apart_from_within : (rows : List Cube) (c : Cube) → IsSubset (holds c) (λ p. not (places rows p)) → IsDisjoint (holds c) (places rows)
-apart_from_within rows c within p h e = both_ways (places rows p) (not-true (places rows p) (within p h)) e
-
 pub outside_none : (all new : Cubes) → new.size ≡ all.size → new.cubes ≡ [] → AreOutside all new
 outside_none all new size e = record { size = size; apart = λ p h. absurd (false≢true (sym (ap (λ l. places l p) e) ∙ h)) }
 
@@ -64,7 +59,7 @@ outside_more all old new cube size cubes apart h = record {
 pub outside_grown : (all old new : Cubes) (part cube : Cube) → IsGrown all.size (on_side Outside all.cubes) part cube all.size.inputs all.size.outputs → IsDisjoint (holds part) (places all.cubes) → new.size ≡ old.size
     → new.cubes ≡ old.cubes ++ cube ∷ [] → AreOutside all old → AreOutside all new
 outside_grown all old new part cube grown apart size cubes h =
-    outside_more all old new cube size cubes (apart_from_within all.cubes cube (grown.grows.within (within_from_apart all.cubes part apart))) h
+    outside_more all old new cube size cubes (avoids_back all cube (grown.grows.within (avoids_list all part apart))) h
 
 pub on_ok_two : {X Y : Type 0} (r : Result X Y) (P Q S : Type 0) → (P → Q → S) → OnOk r P → OnOk r Q → OnOk r S
 on_ok_two (Ok x) P Q S f p q = f p q

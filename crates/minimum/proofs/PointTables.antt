@@ -9,7 +9,7 @@ use Rattle.std.specs.declared.cmp.Ordering.{Ordering}
 use Rattle.std.specs.declared.cmp.Ordering.TheVariants.{Less, Equal, Greater}
 use Rattle.std.proofs.lemmas.Bool.{cases_Bool, cases_lt, cases_order, and_parts, both_ways, true≢false}
 use Rattle.std.proofs.lemmas.Cmp.{tied_itself}
-use Rattle.std.proofs.lemmas.List.{length-map, get_or_default}
+use Rattle.std.proofs.lemmas.List.{length-map}
 use Rattle.std.proofs.lemmas.List.Elements.{Contains-append_left, Contains-append_cases}
 use Rattle.std.proofs.lemmas.Option.{slice_get-get_or, slice_get_within, get_or_from_slice_get}
 use Rattle.cube.specs.Cube.{Cube, holds, literals, intersection, IsSubset, size_of}
@@ -39,9 +39,10 @@ use Rattle.minimum.specs.PrimeRows.{contains_region}
 use Rattle.minimum.specs.PrimeTable.{IsPrimeCover}
 use Rattle.minimum.specs.Points.{Function, function_of, IsWantedPoint, AreDominating, IsLeastOfPoints, holders, point_table, PointsAreEnough}
 use Rattle.growth.specs.Dominating.{IsUpTo, IsAsGood}
+use Rattle.growth.proofs.Dominating.{cube_at-member as member_at}
 use Rattle.minimum.proofs.Numbers.{has_member, member_has, holds_at-below, cube_at-member}
 use Rattle.minimum.proofs.PrimeRows.{spans_holds}
-use Rattle.minimum.proofs.PrimeTables.{enough_for, holding_from}
+use Rattle.minimum.proofs.PrimeTables.{enough, holding_from}
 use Rattle.minimum.proofs.LeastPrimes.{least_by_first}
 
 -- ---- a part of a list that rises, by the numbers of its cubes
@@ -139,9 +140,6 @@ chosen_member cs (x ∷ xs) c h = go (slice_get cs x) refl h (chosen_member cs x
       | inl f ↦ subst (Contains cs) f (x, slice_get_within cs x d e, get_or_from_slice_get cs x d d e)
       | inr later ↦ more later
     ]
-
-member_at : (cs : List Cube) (c : Cube) (k : Contains cs c) → cube_at cs k.0 ≡ c
-member_at cs c k = get_or_default cs k.0 (record { symbols = []; outputs = [] }) c k.1 ∙ k.2
 
 numbers_rise : (ds : List Cube) (i j : ℕ) → IsStrictlySortedBy row_cmp ds → i < j → j < length ds → row_cmp (cube_at ds i) (cube_at ds j) ≡ Less
 numbers_rise [] i j r h k = absurd (omega arith)
@@ -295,7 +293,7 @@ module _ (choice : Choice) (sets : SetLists) (points columns : List Cube) (on_cu
   some_holder : (x : Cube) → Contains points x → holders columns x ≢ []
   some_holder x there e =
       let w = h.wanted x there in
-      let i = enough_for sets primes sets.on sets.dc refl refl refl on_cubes w.place w.wanted in
+      let i = enough sets.size primes sets.on sets.dc refl on_cubes w.place w.wanted in
       let c = cube_at primes i.0 in
       let sub = contained x c w i.1 in
       let d = h.dominated x c there (cube_at-member primes i.0 (holds_at-below primes i.0 w.place i.1)) sub in

@@ -72,7 +72,7 @@ listed_primes on dc = record { size = on.size; cubes = primes_of (lists_of on dc
 pub same_primes : (sets : SetLists) (on dc : Cubes) → on ≡ record { size = sets.size; cubes = sets.on } → dc ≡ record { size = sets.size; cubes = sets.dc } → cubes_of sets.size (primes_of sets) ≡ listed_primes on dc
 same_primes sets on dc e f = sym (by_lists sets on dc e f (λ size on dc. cubes_of size (primes_of (record { size = size; on = on; dc = dc; off = [] }))))
 
--- so they are for the lists alone
+-- a source that stands for three sets stands for their ON list and DC list alone
 pub stands_given : (sets : SetLists) (on dc : Cubes) (source : Source) → on ≡ record { size = sets.size; cubes = sets.on } → dc ≡ record { size = sets.size; cubes = sets.dc } → StandsFor sets sets source → StandsFor sets (lists_of on dc) source
 stands_given sets on dc source e f same = record {
   size = ap (λ (l : Cubes). l.size) e;

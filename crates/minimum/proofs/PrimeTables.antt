@@ -41,12 +41,6 @@ enough size primes on dc e are p want =
     (λ q h. or_left (places on q) (places dc q) (list_any_from (λ c. holds c q) on w.0 w.1 h)) in
     numbered primes p (list_any_from (λ c. holds c p) primes over.0 (subst (λ l. Contains l over.0) (sym e) over.1) (over.2 p w.2))
 
--- the same of lists that are those of the sets
-pub enough_for : (sets : SetLists) (primes on dc : List Cube) → primes ≡ primes_of sets → on ≡ sets.on → dc ≡ sets.dc → AreCubes sets.size sets.on → AreEnough primes on dc
-enough_for sets primes on dc e is_on is_dc are = enough sets.size primes on dc
-    (e ∙ ap (λ l. complete_sum sets.size (λ p. places l p || places sets.dc p)) (sym is_on) ∙ ap (λ l. complete_sum sets.size (λ p. places on p || places l p)) (sym is_dc))
-    (subst (AreCubes sets.size) (sym is_on) are)
-
 -- ---- the places of chosen cubes
 
 pub places_chosen : (cubes : List Cube) (s : List ℕ) (p : Place) → places (chosen cubes s) p ≡ list_any (λ i. holds_at cubes i p) s

@@ -117,7 +117,7 @@ fn exact_by_primes(
 ///
 /// With more than 12 inputs it mostly lists no primes, but makes columns for some picked points: for
 /// each about as many as there are sets of points that primes contain together with it. Else its
-/// cost is that of [`primes`], with few inputs that of [`Table::build`], and then that of
+/// cost is that of [`primes`], with few inputs that of the table of all primes, and then that of
 /// [`least_cover`], whose number of branches has no small bound.
 pub fn exact(alloc: Global, sets: &Sets, choice: Choice) -> Result<Cover, AllocError>
     ensures { IfOk result (λ list. list ≡ record

@@ -16,7 +16,7 @@
 //! it leaves out none, it is the least cover by primes: the law [`points_are_enough`]. Columns are
 //! grown (`growth`) outside cubes with the places in neither set, or, where these are too many, with those
 //! that turn out to be needed, beside the essential primes. Else all primes are listed: with more than 20
-//! inputs points are picked by them, and with fewer `Table::build` makes the table.
+//! inputs points are picked by them, and with fewer the table has rows from regions.
 //!
 //! The table is one of the covering problem (`covering`), which knows no cubes; what its callers
 //! need is passed on here.

@@ -75,7 +75,8 @@ fn rows_of(alloc: Global, lists: &Lists, shape: Shape) -> Result<Vec<Vec<usize>>
     Ok(replace(&mut known.rows, Vec::new(alloc)))
 }
 
-/// What is made of all primes: `Table::build` is called through it, since a table knows no cubes.
+/// What is made of all primes, for callers who have them: a table knows no cubes, so `Table::build` is
+/// called through this.
 pub trait OfPrimes: Sized {
     /// The table of the primes, as [`crate::primes`] answers them: a column for each, none taken
     /// and all live, weighed by its literals. Its covers are the lists of primes that together hold
