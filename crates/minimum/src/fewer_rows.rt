@@ -91,7 +91,7 @@ fn is_to_be_merged(aim: Aim, list: &Cover) -> bool {
 }
 
 // Of more rows it is not asked which lie in others: that may take longer than all else.
-const MOST_ROWS_TO_COMPARE: usize = 20_000;
+const MOST_ROWS_TO_COMPARE: usize = 5_000;
 
 // The list without the rows that lie in others; `None` where there is no such row. Of points few lie
 // in others, so they are not looked through.
