@@ -1,4 +1,4 @@
-//! Cutoffs, the scaled costs of columns under a bound, and the columns that its gap leaves. The weights
+//! Cutoffs, scaled costs (`one` a column, `each` a unit of its cost), columns that a gap leaves. The weights
 //! of rows come from `warm_start`, whose steps are in `heuristics`; here and in `lagrangian` they are
 //! checked.
 

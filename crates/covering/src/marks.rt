@@ -1,4 +1,4 @@
-//! Marks of columns and of rows, and lists of those that have one.
+//! Marks of columns and of rows, their complement, and lists of those that have one.
 
 ghost use Rattle.std.specs.Prelude.{◌≡◌, ◌<◌, ◌&&◌, ◌||◌, nat_lt, ℕ, IfOk, filter, map, not, ◌==◌, true, false, ◌*◌, ◌-◌, Vec, replicate};
 ghost use Rattle.std.specs.List.{list_all, range_with_len};

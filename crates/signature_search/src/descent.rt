@@ -3,7 +3,7 @@
 //!
 //! The smaller the cube, the likelier its signature cube has a place of its own, and that of a
 //! point has one always. So the literals that part the two cubes are put in an order, those of
-//! short rows first, and the least number of them that will do is found by binary search.
+//! short rows first (an input weighs its shares of rows); how many will do is found by binary search.
 
 use crate::bits::{Literals, bit_count, has_bit, has_literal_at, literal_at, put_literal, row_at};
 use crate::blocking_rows::{BlockingRows, Group};

@@ -8,7 +8,7 @@
 //! The *distance* of a row from the region is the number of inputs at which they have opposite
 //! literals, and one more if they share no output. A row at distance 1 leaves one piece of a cube,
 //! with the opposite of its literal. Such rows come first: then one cube is left, and the rows that
-//! do not meet it need no cut.
+//! do not meet it need no cut. Of the pieces that are left at the end those in no larger one are kept.
 ghost use Rattle.std.specs.Prelude.{◌≡◌, false, All, IfOk, IfSome, not, filter};
 ghost use Rattle.std.specs.List.{Contains};
 ghost use Rattle.cube.specs.Size.{Size};

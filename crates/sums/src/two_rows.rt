@@ -2,7 +2,7 @@
 //!
 //! Functions of several outputs, such as products of numbers, come to such rows more often than to
 //! any other list. The sum has the two rows and their consensus, in row order, without a row that
-//! lies in the consensus. The consensus most often comes first, so the rows are put in after it.
+//! lies in the consensus. That mostly comes first, so each row is inserted after it, if not there yet.
 ghost use Rattle.std.specs.Prelude.{◌≡◌, ◌<◌, ◌∷◌, [], IfOk, IfSome, All, cond, slice_index_or};
 ghost use Rattle.cube.specs.Size.{Size};
 ghost use Rattle.cube.specs.Cube.{IsCube, SameSize};
