@@ -135,7 +135,7 @@ pub fn exact(alloc: Global, sets: &Sets, choice: Choice) -> Result<Cover, AllocE
 }
 
 /// The least cover by primes under fr, where OFF alone holds the places of `off`: by points with
-/// columns outside these, or else from a list of all primes. No DC list is needed.
+/// columns outside these, or else from a list of all primes.
 pub(crate) fn exact_of_samples(
     alloc: Global,
     pla: &Pla,

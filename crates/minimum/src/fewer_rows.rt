@@ -171,8 +171,8 @@ fn fewer_rows_or_given<'a>(fewer: &'a Option<Pla>, given: &'a Pla) -> &'a Pla
 
 /// The primes of the description's sets, in row order.
 ///
-/// Under fr no DC list is made, unless taking ON from OFF spends its budget: the primes are the
-/// complete sum of the places outside those that OFF alone holds.
+/// Under fr a DC list is made only where it is short, or where taking ON from OFF spends its budget:
+/// else the primes are made of the places outside those that OFF alone holds.
 ///
 /// # Errors
 ///
@@ -210,8 +210,8 @@ pub fn essential_of_pla(alloc: Global, pla: &Pla) -> Result<Cover, AllocError>
     }
 }
 
-/// The least cover by primes of the description's sets. Under fr no DC list is made, unless taking
-/// ON from OFF spends its budget.
+/// The least cover by primes of the description's sets. Under fr a DC list is made only where it is
+/// short, or where taking ON from OFF spends its budget.
 ///
 /// # Errors
 ///
