@@ -9,8 +9,8 @@ from itertools import product
 
 from faults import Fault, answer_under
 from support import Case, ProgramTest, answer_in, folder_of, on_input, pla, printed
-from test_large import by_count, listed, marked, points
-from worked import EQUAL, PARTITION, TAUTOLOGY
+from test_large import by_count, listed, marked, points, shuffled
+from worked import EQUAL, NO_TAUTOLOGY, PARTITION, TAUTOLOGY
 
 TOP = os.path.dirname(os.path.dirname(os.path.abspath(__file__)))
 sys.path.append(os.path.join(TOP, "bench"))
@@ -135,6 +135,35 @@ class Time(ProgramTest):
                                    *(f"{cube} {marked(4, held, '0', '~')}" for cube, held in off), head=[".type fr"])),
                   Case("sharp", "-Dsharp a b", {"a": pla(15, 4, "-" * 15 + " 1111"), "b": text},
                        printed(15, 4, *(f"{cube} {marked(4, held)}" for cube, held in off))))
+
+    def test_a_chain_of_the_most_inputs_and_outputs(self):
+        """One literal after the other follows, for all outputs at once, where searches for an output each would read half a
+        million literals, a thousand times."""
+        rows, whole = chain(1024, 1024, 0), "-" * 1024 + " " + "1" * 1024
+        text = pla(1024, 1024, *rows)
+        self.soon(
+            on_input("tautology", "-Dtautology", text, TAUTOLOGY),
+            on_input("tautology, shuffled", "-Dtautology", pla(1024, 1024, *shuffled(rows)), TAUTOLOGY),
+            on_input("a row too few", "-Dtautology", pla(1024, 1024, *rows[:-1]), NO_TAUTOLOGY, status=1),
+            on_input("essen", "-Dessen", text, printed(1024, 1024, whole)))
+
+    def test_chains_side_by_side(self):
+        """Each has inputs and outputs of its own."""
+        rows, free, none = map(str.split, chain(512, 512, 0)), "-" * 512, "0" * 512
+        both = [side for cube, held in rows for side in (f"{cube}{free} {held}{none}", f"{free}{cube} {none}{held}")]
+        self.soon(on_input("tautology", "-Dtautology", pla(1024, 1024, *both), TAUTOLOGY),
+                  on_input("a row too few", "-Dtautology", pla(1024, 1024, *both[:-1]), NO_TAUTOLOGY, status=1))
+
+    def test_many_questions_about_a_chain(self):
+        """A search goes through the chain once, where splits would do so for each."""
+        halves = [f"{'-' * i}{bit}{'-' * (1023 - i)} {'1' * 8}" for i in range(1023, 123, -3) for bit in "01"]
+        self.soon(Case("verify", "-Dverify a b", {"a": pla(1024, 8, *chain(1024, 8, 0)), "b": pla(1024, 8, *halves)}, EQUAL))
+
+    def test_a_chain_of_few_outputs(self):
+        """Each search would take half a second."""
+        text = pla(1024, 32, *chain(1024, 32, 0))
+        self.soon(on_input("tautology", "-Dtautology", text, TAUTOLOGY),
+                  on_input("essen", "-Dessen", text, printed(1024, 32, "-" * 1024 + " " + "1" * 32)))
 
     def test_a_selector(self):
         """64 words and six inputs that pick one."""

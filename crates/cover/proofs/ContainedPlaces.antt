@@ -1,9 +1,9 @@
 -- A list without its contained cubes holds the places of the list.
-use Rattle.std.proofs.Common.{◌≡◌, ◌⊎◌, Bool, true, false, not, ◌&&◌, ◌||◌, cond, List, [], ◌∷◌, ◌++◌, inl, inr, refl, ap, sym, subst, ◌∙◌}
+use Rattle.std.proofs.Common.{◌≡◌, ◌⊎◌, true, not, ◌&&◌, cond, List, [], ◌∷◌, ◌++◌, inl, inr, sym, subst, ◌∙◌}
 use Rattle.std.specs.Cmp.{both_ways as same_bool}
 use Rattle.std.specs.List.{Contains, list_any}
 use Rattle.std.proofs.lemmas.Bool.{cases_Bool, and_parts, or_cases, false≢true, not-true}
-use Rattle.std.proofs.lemmas.List.Elements.{Contains-append_left, Contains-append_right, Contains-append_cases, Contains-push, Contains-push_cases}
+use Rattle.std.proofs.lemmas.List.Elements.{Contains-append_left, Contains-append_right, Contains-append_cases, Contains-push_cases}
 use Rattle.cube.specs.Size.{Size}
 use Rattle.cube.specs.Cube.{Cube, Place, holds, IsCube, IsSubset}
 use Rattle.cube.proofs.Members.{Contains-here, Contains-there, Contains-cases, Contains-nil}

@@ -1,4 +1,6 @@
-//! Complete sums of covers: `sums` makes them.
+//! Complete sums of covers, which `sums` makes: of a list, of the places outside it (`complement`), of
+//! those in two lists (`intersect`) or in the first alone (`difference`). Also the cubes that contain a
+//! region, of a list (`cubes_containing`) or of the sum outside one (`sum_containing`).
 ghost use Rattle.std.specs.Prelude.{◌≡◌, ◌<◌, true, IfOk, not, IfSome, filter};
 ghost use Rattle.cube.specs.Cube.{intersection, difference as difference_of, HasSize, Place};
 ghost use Rattle.cube.specs.Sum.{complete_sum as complete_sum_of};

@@ -1,4 +1,4 @@
-//! A list without its contained cubes.
+//! A list without its contained cubes (`contain`).
 //!
 //! The indices of the cubes are split three ways by the symbol at an input: a cube with `0` there
 //! lies only in cubes with `0` or `-`, one with `1` only in those with `1` or `-`, and one with `-`

@@ -1,4 +1,4 @@
-//! A list of cubes of one shape.
+//! A list of cubes of one shape ([`Cover`]), and its cubes in row order.
 ghost use Rattle.std.specs.Prelude.{◌≡◌, ◌<◌, ◌++◌, ◌∷◌, [], IfOk, OnOk, All, length, ◌==◌, slice_get, slice_set, option_copied, OnErr, IfErr, IfSome};
 ghost use Rattle.rows.specs.Reduced.{HasSameCubes};
 ghost use Rattle.cube.specs.Order.{row_cmp as row_order};

@@ -1,16 +1,19 @@
 -- A table in numbers of its own: its live columns, in their order.
 use Rattle.std.proofs.Common.{◌≡◌, ℕ, zero, suc, ◌+◌, ◌<◌, ◌≤◌, ◌⊎◌, inl, inr, true, List, [], ◌∷◌, length, map, slice_index_or, refl, sym, ap, subst, ◌∙◌, arith}
-use Rattle.std.specs.Prelude.{filter, Option, Some, None, MatchOption, IfSome}
+use Rattle.std.specs.Prelude.{◌-◌, filter, Option, Some, None, MatchOption, IfSome}
+use Rattle.std.specs.Option.{option_map}
 use Rattle.std.specs.List.{AllByRecursion, range_with_len}
 use Rattle.std.specs.Cmp.{both_ways as same_bool}
 use Rattle.std.proofs.lemmas.Bool.{cases_order, cases_Bool, or_cases, or_left, or_right, both_ways, true≢false}
 use Rattle.std.proofs.lemmas.List.{length-map}
+use Rattle.std.proofs.lemmas.List.FromFn.{length-range_with_len}
 use Rattle.covering.specs.declared.choice.Choice.{Choice}
 use Rattle.covering.specs.declared.choice.Choice.TheVariants.{First, Literals}
 use Rattle.covering.specs.Table.{Table, has, RisesFrom, IsTable, AreRows, fresh}
 use Rattle.covering.specs.Cover.{meets, IsCover, counted, sum_over, Precedes, IsLeast}
 use Rattle.covering.specs.Choices.{union_of}
-use Rattle.covering.specs.Parts.{IsRenumbered, pick}
+use Rattle.covering.specs.Search.{Answers}
+use Rattle.covering.specs.Parts.{IsRenumbered, pick, in_numbers_of}
 use Rattle.covering.proofs.Sets.{has_here, has_later, has_cases, rises_above, filter_parts, filter_keeps, filter_rises, meets_at, meets_from, first_by_sets}
 use Rattle.covering.proofs.Subsets.{same_list, minus, minus_only, minus_lacks, minus_keeps, minus_length, minus_sum, union_rises, union_left, union_right, union_only}
 use Rattle.covering.proofs.Covers.{rows_mapped}
@@ -213,10 +216,27 @@ module _ (t : Table) (w : IsTable t) (rows : List (List ℕ)) (weights : List �
   back_least : (choice : Choice) (s : List ℕ) → IsLeast choice (fresh rows weights) s → IsLeast choice t (union_of t.taken (back s))
   back_least choice s h = record { cover = back_cover s h.cover; first = λ x g. back_first choice s x h.cover g (h.first (forth x) (forth_cover x g)) }
 
+  -- answers in the numbers of the second table are answers in those of the first
+  back_answers : (choice : Choice) (k v : ℕ) (o : Option (List ℕ)) → length t.taken ≤ k → sum_over (counted choice t.weights) t.taken ≤ v
+      → Answers choice (fresh rows weights) (k - length t.taken) (v - sum_over (counted choice t.weights) t.taken) o → Answers choice t k v (option_map (in_numbers_of t) o)
+  back_answers choice k v None fits counts none = λ x h.
+      let l = long_x choice (forth x) x (forth_cover x h) h in
+      let m = sum_x choice (forth x) x (forth_cover x h) h in
+      elim (none (forth x) (forth_cover x h)) [ inl a ↦ inl (omega arith) | inr a ↦ inr (omega arith) ]
+  back_answers choice k v (Some s) fits counts a =
+      let h = back_cover s a.cover in
+      let l = long_s choice s (in_numbers_of t s) a.cover h in
+      let m = sum_s choice s (in_numbers_of t s) a.cover h in
+      let f = a.fits in
+      let c = a.counts in
+      record { cover = h; fits = omega arith; counts = omega arith }
+
 pub renumbered : (t : Table) → IsTable t → (rows : List (List ℕ)) (weights : List ℕ) → map (map (pick t.live)) rows ≡ t.rows → weights ≡ map (λ c. slice_index_or t.weights c 0) t.live
     → (o : Option Table) → MatchOption o (AreRows (length weights) rows → ⊥) (λ u. AreRows (length weights) rows × (u ≡ fresh rows weights)) → IfSome o (IsRenumbered t)
 renumbered t w rows weights same_rows same_weights None h = tt
 renumbered t w rows weights same_rows same_weights (Some u) h = record {
   least = λ choice s l. back_least t w rows weights same_rows h.0 same_weights choice s (subst (λ g. IsLeast choice g s) h.1 l);
+  answers = λ choice k v o fits counts a. back_answers t w rows weights same_rows h.0 same_weights choice k v o fits counts (subst (λ g. Answers choice g (k - length t.taken) (v - sum_over (counted choice t.weights) t.taken) o) h.1 a);
   as_many = ap (λ (g : Table). length g.rows) h.1 ∙ sym (length-map rows (map (pick t.live))) ∙ ap length same_rows;
+  as_wide = ap (λ (g : Table). length g.live) h.1 ∙ length-range_with_len 0 (length weights) ∙ ap length same_weights ∙ length-map t.live (λ c. slice_index_or t.weights c 0);
 }

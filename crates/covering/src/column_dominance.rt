@@ -76,7 +76,13 @@ pub(crate) enum Preference {
 }
 
 /// Whether `b` may replace `a`.
-fn may_replace(preference: Preference, choice: Choice, literals: &[u32], b: usize, a: usize) -> bool
+pub(crate) fn may_replace(
+    preference: Preference,
+    choice: Choice,
+    literals: &[u32],
+    b: usize,
+    a: usize,
+) -> bool
     ensures { result ≡ is_preferred preference (counted choice literals.now) b a }
 {
     let first = cost(choice, literals, b);
@@ -213,17 +219,27 @@ fn dominance_by_kept(
         (is_preferred preference (counted choice literals.now)) live.now (items_of transpose.now)
         v.items) }
 {
-    let order = by_falling_rows(alloc, preference, choice, literals, live, transpose)?;
-    let mut kept = KeptColumns::new(alloc, rows.len())?;
+    let order = by_falling_rows(
+        alloc, preference, choice, literals, live, transpose, signatures,
+    )?;
+    let mut kept = KeptColumns::new(
+        alloc,
+        preference,
+        choice,
+        literals,
+        rows.len(),
+        transpose,
+        signatures,
+    )?;
     let mut keep = marks_of(alloc, live, transpose.len())?;
     for column in &order {
-        let among = kept.candidates(entry(transpose, *column));
+        let among = kept.candidates(*column)?;
         if any_dominates(
             preference, choice, literals, transpose, &keep, signatures, *column, among,
         ) {
             unmark(&mut keep, *column);
         } else {
-            kept.add(choice, literals, *column, entry(transpose, *column))?;
+            kept.add(*column)?;
         }
     }
     Ok(keep)

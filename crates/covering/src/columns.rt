@@ -1,4 +1,5 @@
-//! Lists of columns, most of them rising: what they have, and lists made of them.
+//! Lists of columns, most of them rising: whether one has a column, meets a row or each row of a table,
+//! or lies in another list; and copies, unions and ranges of them.
 
 ghost use Rattle.std.specs.Prelude.{◌≡◌, ◌<◌, ℕ, true, IfOk, IfSome};
 ghost use Rattle.std.specs.List.{list_all, range_with_len};

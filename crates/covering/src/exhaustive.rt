@@ -1,4 +1,4 @@
-//! The exhaustive search: every choice of live columns, in rising size.
+//! The exhaustive search (`least_cover_plain`): every choice of live columns, in rising size.
 
 ghost use Rattle.std.specs.Prelude.{◌≡◌, ◌<◌, ◌^◌, [], IfOk, option_map, length, Some, None};
 ghost use Rattle.std.specs.List.{list_all};

@@ -28,7 +28,13 @@ impl Table {
             return Ok(None);
         };
         let cutoff = Cutoff { columns, cost };
-        let fewer = self.find_or_refute(alloc, Choice::Literals, cutoff, warm_start, UNLIMITED)?;
+        let fewer = self.find_or_refute_for_length(
+            alloc,
+            Choice::Literals,
+            cutoff,
+            warm_start,
+            UNLIMITED,
+        )?;
         Ok(fewer)
     }
 

@@ -1,4 +1,5 @@
-//! Laws of the definitions, as contracts.
+//! Laws of the definitions, as contracts: there is one least cover, weights of rows bound covers, and the
+//! least number in which two rising lists of one length differ decides which is first.
 
 ghost use Rattle.covering.specs.Lagrange.{LagrangianHolds};
 ghost use Rattle.covering.specs.Laws.{LeastDifferenceDecides, LeastIsUnique};

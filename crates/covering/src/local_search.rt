@@ -1,4 +1,5 @@
-//! Covers within a cutoff that a local search finds.
+//! Covers within a cutoff that a local search finds. (The search itself is `local_search` of
+//! `heuristics`, in its `swaps`.)
 //!
 //! The columns that a local search answers are a hint. With the taken ones they are an answer if
 //! they are a cover and within the cutoff, which is tested; if not, there may still be another one.

@@ -1,4 +1,6 @@
-//! Marks of columns and of rows, their complement, and lists of those that have one.
+//! Marks of columns and of rows: how they are set, taken, complemented and tested; and what they leave of
+//! lists and tables: the marked columns or rows, and the rows whose columns are all marked
+//! (`untouched_rows`).
 
 ghost use Rattle.std.specs.Prelude.{◌≡◌, ◌<◌, ◌&&◌, ◌||◌, nat_lt, ℕ, IfOk, filter, map, not, ◌==◌, true, false, ◌*◌, ◌-◌, Vec, replicate};
 ghost use Rattle.std.specs.List.{list_all, range_with_len};

@@ -1,4 +1,6 @@
-//! The reductions of a table, in passes over all rows or all columns until none changes it.
+//! The reductions of a table, in passes over all rows or all columns until none changes it: `reduce` for
+//! callers, `cyclic_core` before the least cover is looked for, and `reduce_weakly` in a search. Essential
+//! columns are taken here; `row_dominance` and `column_dominance` have the other passes.
 //!
 //! The rows of each column are listed first (the transpose). A row that has all columns of another
 //! is among the rows of that row's rarest column; a column that is in all rows of another is in

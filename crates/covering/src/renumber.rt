@@ -1,4 +1,4 @@
-//! A table with its live columns renumbered.
+//! A table with its live columns renumbered, and its covers in the old numbers.
 //!
 //! Once the live columns are numbered in their order, what is done for each column is done for
 //! these alone. The least cover in the new numbers stands for the least cover, since the order of

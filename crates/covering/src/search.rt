@@ -6,7 +6,9 @@
 //! that cost no less, and by weights of its rows (the dual bound): if the weights are more than the
 //! cutoff there is no cover within it, and a column with more slack than the remaining gap is in
 //! none. Any cover within the cutoff is a right answer, so any order of branches serves. A search that
-//! looked at many tables is begun anew, with its tables bounded by their linear relaxation.
+//! looked at many tables is begun anew, with its tables bounded by their linear relaxation: for the
+//! length and the fewest literals (`find_or_refute_for_length`), and for the order
+//! (`find_or_refute_for_order`) with literals, else only where the length wanted it.
 
 ghost use Rattle.std.specs.Prelude.{◌≡◌, ◌≤◌, ◌-◌, ℕ, [], IfOk, MatchOption, MatchBool, length, true, false};
 ghost use Rattle.covering.specs.Table.{IsTable, has};
@@ -40,6 +42,9 @@ const MOST_STEPS_NEAR: usize = 1_000;
 
 /// A local search in the reduced table takes twelve steps a row, and no more than so many.
 const MOST_STEPS_REDUCED: usize = 5_000;
+
+/// A table is wide if it has more live columns than this many times its rows.
+const WIDE: usize = 16;
 
 /// How many steps a local search near the last cover takes in a table of so many rows.
 fn steps_near(rows: usize) -> usize {
@@ -246,9 +251,27 @@ impl Table {
         Ok(self.keep_marked(&keep))
     }
 
+    /// What `drop_by_bound` gives, if columns are so many beside the rows that column dominance is dear;
+    /// else the table as it is.
+    fn drop_by_bound_if_wide(
+        self,
+        alloc: Global,
+        choice: Choice,
+        cutoff: Cutoff,
+        warm_start: &mut WarmStart,
+    ) -> Result<Option<Table>, AllocError>
+        ensures { IfOk result (λ o. MatchOption o (NoneWithin choice self cutoff.columns
+            cutoff.cost) (IsPruned choice cutoff.columns cutoff.cost self)) }
+    {
+        if self.live_columns().len() / WIDE <= self.row_lists().len() {
+            return Ok(Some(self));
+        }
+        self.drop_by_bound(alloc, choice, cutoff, warm_start)
+    }
+
     /// The table as far as a search within the cutoff has to look at it, after the passes that are
-    /// due and the bound by row weights; `None` if these show that there is no such cover. The
-    /// lists are memory for the rows of each column.
+    /// due and the bound by row weights, with which a wide table begins; `None` if these show that
+    /// there is no such cover. The lists are memory for the rows of each column.
     fn prune(
         self,
         alloc: Global,
@@ -261,7 +284,10 @@ impl Table {
         ensures { IfOk result (λ o. MatchOption o (NoneWithin choice self cutoff.columns
             cutoff.cost) (IsPruned choice cutoff.columns cutoff.cost self)) }
     {
-        let mut table = self.reduce_weakly(alloc, choice, due, lists)?;
+        let Some(bounded) = self.drop_by_bound_if_wide(alloc, choice, cutoff, warm_start)? else {
+            return Ok(None);
+        };
+        let mut table = bounded.reduce_weakly(alloc, choice, due, lists)?;
         loop {
             let live = table.live_columns().len();
             let Some(next) = table.drop_by_bound(alloc, choice, cutoff, warm_start)? else {
@@ -275,6 +301,11 @@ impl Table {
                 return Ok(Some(table));
             }
         }
+    }
+
+    /// Whether the live columns are a quarter of all, or fewer.
+    fn has_few_live_columns(&self) -> bool {
+        self.live_columns().len() <= self.columns() / 4
     }
 
     /// A live column to branch on: one that the linear relaxation tells, or the likeliest one of a
@@ -330,11 +361,54 @@ impl Table {
         own.take_relaxation(warm_start);
         let found = match self.prune(alloc, choice, cutoff, due, &mut own, lists)? {
             None => Ok(None),
-            Some(table) => table.branch(alloc, choice, cutoff, &mut own, tables_left, lists),
+            Some(table) => table.branch_in_fewer_columns(
+                alloc,
+                choice,
+                cutoff,
+                &mut own,
+                tables_left,
+                lists,
+            ),
         };
         warm_start.learn(&own);
         warm_start.take_relaxation(&mut own);
         found
+    }
+
+    /// What is answered by `branch`, in a renumbered table if few columns are live, so that what is done
+    /// for each column is done for these alone. A linear relaxation knows columns by their numbers:
+    /// where there is one they are kept.
+    #[cycle(search)]
+    fn branch_in_fewer_columns(
+        &self,
+        alloc: Global,
+        choice: Choice,
+        cutoff: Cutoff,
+        warm_start: &mut WarmStart,
+        tables_left: &mut u64,
+        lists: &mut Vec<Vec<usize>>,
+    ) -> Result<Option<Vec<usize>>, Stop>
+        ensures { IfOk result (AnswersWithin choice self.now cutoff) }
+    {
+        if self.is_over_cutoff(choice, cutoff) {
+            return Ok(None);
+        }
+        if warm_start.is_relaxing() || !self.has_few_live_columns() {
+            return self.branch(alloc, choice, cutoff, warm_start, tables_left, lists);
+        }
+        let Some(table) = self.renumber(alloc)? else {
+            return self.branch(alloc, choice, cutoff, warm_start, tables_left, lists);
+        };
+        let (rows, live) = (self.row_lists(), self.live_columns());
+        let mut own = warm_start.renumber(alloc, rows, live, self.columns(), table.row_lists())?;
+        let rest = self.remaining_cutoff(choice, cutoff);
+        let mut own_lists = Vec::new(alloc);
+        let found = table.branch(alloc, choice, rest, &mut own, tables_left, &mut own_lists);
+        warm_start.learn(&own);
+        match found? {
+            None => Ok(None),
+            Some(numbers) => Ok(Some(self.cover_of_numbers(alloc, &numbers)?)),
+        }
     }
 
     /// A cover within the cutoff, or none if there is none: branches on a live column, which is
@@ -393,13 +467,13 @@ impl Table {
     }
 
     /// How many tables a search looks at before it is begun anew with the linear relaxation: all it
-    /// needs if columns have different costs, or if the table is too large for the relaxation.
+    /// needs if the table is too large for the relaxation.
     fn quick_tables(&self, choice: Choice, warm_start: &WarmStart) -> u64 {
+        let rows = self.row_lists().len();
+        let columns = self.live_columns().len();
         match choice {
-            Choice::First => {
-                warm_start.quick_tables(self.row_lists().len(), self.live_columns().len())
-            }
-            Choice::Literals => UNLIMITED,
+            Choice::First => warm_start.quick_tables(rows, columns),
+            Choice::Literals => warm_start.quick_tables_by_cost(rows, columns),
         }
     }
 
@@ -531,9 +605,9 @@ impl Table {
         )
     }
 
-    /// A cover within the cutoff, or none if there is none, as the length is found: if a search does not
-    /// end soon, it is begun anew with the linear relaxation, and branches into no more than
-    /// `most_tables` tables.
+    /// A cover within the cutoff, or none if there is none, as the length and the fewest literals are
+    /// found: if a search does not end soon, it is begun anew with the linear relaxation, and branches
+    /// into no more than `most_tables` tables.
     pub(crate) fn find_or_refute_for_length(
         &self,
         alloc: Global,
@@ -553,8 +627,8 @@ impl Table {
         copy.find_or_refute_with_relaxation(alloc, choice, cutoff, warm_start, most_tables)
     }
 
-    /// A cover within the cutoff, or none if there is none, as columns are decided in order: with the
-    /// linear relaxation only if the length wanted it.
+    /// A cover within the cutoff, or none if there is none, as columns are decided in order: where they
+    /// cost the same, with the linear relaxation only if the length wanted it.
     pub(crate) fn find_or_refute_for_order(
         &self,
         alloc: Global,
@@ -565,7 +639,11 @@ impl Table {
     ) -> Result<Option<Vec<usize>>, Stop>
         ensures { IfOk result (AnswersWithin choice self.now cutoff) }
     {
-        if warm_start.is_hard() {
+        let may_relax = match choice {
+            Choice::First => warm_start.is_hard(),
+            Choice::Literals => true,
+        };
+        if may_relax {
             return self.find_or_refute_for_length(alloc, choice, cutoff, warm_start, most_tables);
         }
         self.find_or_refute(alloc, choice, cutoff, warm_start, most_tables)
@@ -618,7 +696,7 @@ impl Table {
             return Ok(Some(cover));
         }
         let mut tables_left = most_tables;
-        table.branch(
+        table.branch_in_fewer_columns(
             alloc,
             choice,
             cutoff,

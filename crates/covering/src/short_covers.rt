@@ -1,4 +1,5 @@
-//! A short cover, soon.
+//! A short cover, soon (`short_cover`), for a table that will have more rows: the table is reduced, and
+//! then looked at by `Table::short_cover`, which stands in `shortest`.
 
 ghost use Rattle.std.specs.Prelude.{IfOk};
 ghost use Rattle.covering.specs.Cover.{IsCover};

@@ -1,4 +1,7 @@
 //! A cover of the least length: shorter ones are asked for until there is none.
+//!
+//! It begins with a cover that is likely short (`Table::short_cover`): after a greedy one, row weights tell
+//! a bound on the length, at which a local search ends early.
 
 ghost use Rattle.std.specs.Prelude.{IfOk};
 ghost use Rattle.covering.specs.Cover.{IsCover};

@@ -1,4 +1,4 @@
-//! The covering table.
+//! The covering table: how it is made of rows, which are tested, its parts, and copies.
 
 ghost use Rattle.std.specs.Prelude.{◌≡◌, ◌<◌, IfOk, MatchOption, length};
 ghost use Rattle.std.specs.List.{list_all};

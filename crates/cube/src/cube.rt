@@ -1,4 +1,5 @@
-//! A cube, kept in words.
+//! A cube, kept in words: how it is made and printed, and its operations on places. (`literals` has those
+//! that find and count literals.)
 ghost use Rattle.std.specs.Prelude.{◌≡◌, ℕ, ◌+◌, ◌-◌, ◌*◌, max, ◌<◌, ◌≤◌, ◌↔◌, IsTrue, IsOk, IsSome, IsNone, IfOk, IfSome, IfNone, OnOk, MatchOption, if◌then◌else◌, ◌++◌, length, map, take, drop, slice_get, slice_index_or, Some, Contains, true, false, List, Bool, ◌&&◌, ◌||◌};
 ghost use Rattle.cube.specs.Cube.{HasSize, IsCube, SameSize, IsSubset, IsDisjoint, Place, holds, intersection, difference, word_count, size_of, with_symbol as cube_with_symbol, IsUniversal, IsPlace};
 ghost use Rattle.cube.specs.Pattern.{matches};

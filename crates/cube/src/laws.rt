@@ -1,4 +1,5 @@
-//! Laws of the definitions, each as the contract of a function that does nothing.
+//! Laws of the definitions, each as the contract of a function that does nothing: what a complete sum is,
+//! that cubes with the same places are equal, and what the limits are.
 ghost use Rattle.std.specs.Prelude.{◌≡◌};
 ghost use Rattle.cube.specs.Laws.{CompleteSumIsMaximalCubes, MaximalCubesAreCompleteSum, CubesDifferInPlaces};
 ghost use Rattle.cube.specs.Limits.{format_limits};

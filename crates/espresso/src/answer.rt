@@ -1,4 +1,5 @@
-//! What each command answers on the descriptions of its files.
+//! What each command answers on the descriptions of its files, and the whole of `tautology`; `check` and
+//! `verify` have modules of their own.
 ghost use Rattle.std.specs.Prelude.{Option};
 ghost use Rattle.espresso.specs.Answer.{answer_of};
 ghost use Rattle.espresso.specs.Run.{Intake, trace};

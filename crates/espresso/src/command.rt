@@ -1,4 +1,5 @@
-//! What a command line can ask for.
+//! What a command line can ask for: the commands with their names, how many files and which options each
+//! takes, and the words that options take.
 ghost use Rattle.std.specs.Prelude.{◌≡◌};
 ghost use Rattle.espresso.specs.Words.{allows, command_named, eat_named, takes_two, type_named};
 

@@ -1,4 +1,4 @@
-//! Laws of the definitions.
+//! A law of the definitions: what calls promise one by one is together what the tool answers.
 ghost use Rattle.std.specs.Prelude.{◌≡◌, List, Some, None};
 ghost use Rattle.espresso.specs.Tool.{File, outcome_of, refusal_of, tool};
 ghost use Rattle.espresso.specs.Words.{Request, Text, line_of};

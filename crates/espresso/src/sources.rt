@@ -1,4 +1,4 @@
-//! Where the words and the bytes of a run come from.
+//! Where the words and the bytes of a run come from, and the names of sources in messages.
 ghost use Rattle.std.specs.IoError.{error_kind};
 ghost use Rattle.std.specs.Prelude.{◌≡◌, ◌≢◌, Err, IfErr, IfOk, List, Option, drop, map, string_bytes, ℕ, ⊤};
 ghost use Rattle.espresso.specs.Run.{name_of};

@@ -39,22 +39,27 @@ count_next p x xs = elim (cases_Bool (p x)) [
   | inr e ↦ inr (e, count_step p x xs ∙ ap (λ b. cond b (1 + count_by p xs) (count_by p xs)) e)
 ]
 
+-- an element that passes if another does adds as much
+count_ahead : {X : Type 0} (p : X → Bool) (x y : X) (xs ys : List X) → (p x ≡ true → p y ≡ true) → count_by p (x ∷ xs) + count_by p ys ≤ count_by p (y ∷ ys) + count_by p xs
+count_ahead p x y xs ys h = elim (count_next p x xs) [
+  | inl one ↦ elim (count_next p y ys) [
+    | inl two ↦ (let a = one.1 in let b = two.1 in omega (arith, a, b))
+    | inr two ↦ absurd (false≢true (sym two.0 ∙ h one.0))
+  ]
+  | inr one ↦ elim (count_next p y ys) [
+    | inl two ↦ (let a = one.1 in let b = two.1 in omega (arith, a, b))
+    | inr two ↦ (let a = one.1 in let b = two.1 in omega (arith, a, b))
+  ]
+]
+
 -- where each that passes in one list passes in another, as many do, and more if one passes there alone
 pub count_all : {X : Type 0} (p : X → Bool) (d : X) (xs ys : List X) → length ys ≡ length xs → ((k : ℕ) → p (get_or xs k d) ≡ true → p (get_or ys k d) ≡ true) → count_by p xs ≤ count_by p ys
 count_all p d [] ys e h = omega arith
 count_all p d (x ∷ xs) [] e h = absurd (omega (arith, e))
 count_all p d (x ∷ xs) (y ∷ ys) e h =
     let more = count_all p d xs ys (omega (arith, e)) (λ k. h (suc k)) in
-    elim (count_next p x xs) [
-      | inl one ↦ elim (count_next p y ys) [
-        | inl two ↦ (let a = one.1 in let b = two.1 in omega (arith, a, b, more))
-        | inr two ↦ absurd (false≢true (sym two.0 ∙ h 0 one.0))
-      ]
-      | inr one ↦ elim (count_next p y ys) [
-        | inl two ↦ (let a = one.1 in let b = two.1 in omega (arith, a, b, more))
-        | inr two ↦ (let a = one.1 in let b = two.1 in omega (arith, a, b, more))
-      ]
-    ]
+    let step = count_ahead p x y xs ys (h 0) in
+    omega (arith, more, step)
 
 pub count_alone : {X : Type 0} (p : X → Bool) (d : X) (xs ys : List X) (k : ℕ) → length ys ≡ length xs → k < length xs → ((j : ℕ) → p (get_or xs j d) ≡ true → p (get_or ys j d) ≡ true) → p (get_or xs k d) ≡ false → p (get_or ys k d) ≡ true
     → count_by p xs < count_by p ys
@@ -71,16 +76,8 @@ count_alone p d (x ∷ xs) (y ∷ ys) zero e lt h off on =
     ]
 count_alone p d (x ∷ xs) (y ∷ ys) (suc k) e lt h off on =
     let more = count_alone p d xs ys k (omega (arith, e)) (omega (arith, lt)) (λ j. h (suc j)) off on in
-    elim (count_next p x xs) [
-      | inl one ↦ elim (count_next p y ys) [
-        | inl two ↦ (let a = one.1 in let b = two.1 in omega (arith, a, b, more))
-        | inr two ↦ absurd (false≢true (sym two.0 ∙ h 0 one.0))
-      ]
-      | inr one ↦ elim (count_next p y ys) [
-        | inl two ↦ (let a = one.1 in let b = two.1 in omega (arith, a, b, more))
-        | inr two ↦ (let a = one.1 in let b = two.1 in omega (arith, a, b, more))
-      ]
-    ]
+    let step = count_ahead p x y xs ys (h 0) in
+    omega (arith, more, step)
 
 -- ---- symbols
 

@@ -25,9 +25,9 @@ use Rattle.cover.proofs.Lists.{list_any_from}
 use Rattle.covering.specs.declared.choice.Choice.{Choice}
 use Rattle.covering.specs.declared.choice.Choice.TheVariants.{First, Literals}
 use Rattle.growth.specs.declared.prime.Side.TheVariants.{Outside}
-use Rattle.growth.specs.Growth.{on_side, Grows, IsGrown, IsSettledInput, IsSettledOutput, IsFreedAt, IsFirstInput, IsFreed, AreFirst}
-use Rattle.growth.specs.Dominating.{IsUpTo, IsAsGood, IsImplicant, IsBest, IsBestFreed, IsSettledUpTo}
-use Rattle.growth.proofs.GrowthSteps.{same_sizes, covering, settled_input_more, settled_output_more, grows_none, freed_grows, refused_settles, grown_maximal}
+use Rattle.growth.specs.Growth.{on_side, Grows, IsSettledUpTo, IsSettledInput, IsSettledOutput, IsFreedAt, IsFirstInput, IsFreed, AreFirst}
+use Rattle.growth.specs.Dominating.{IsUpTo, IsAsGood, IsImplicant, IsBest, IsBestFreed}
+use Rattle.growth.proofs.GrowthSteps.{same_sizes, covering, settled_input_more, grows_none, freed_grows, refused_settles, settled_maximal}
 
 -- ---- one literal after the other
 
@@ -138,44 +138,11 @@ first_of_all size s e q c cube q_cube over first c_cube within above =
       | inr less ↦ λ after. cc
     ]
 
--- ---- what is settled
-
-pub settled_none : (size : Size) (s : Place → Bool) (c : Cube) → IsCube size c → IsSettledUpTo size s c c 0 0
-settled_none size s c cube = record {
-  is_cube = cube;
-  over = λ p h. h;
-  inputs = λ k lt. absurd (omega (arith, lt));
-  outputs = λ k lt. absurd (omega (arith, lt));
-}
-
 pub freed_grows_all : (size : Size) (mid new : Cube) (i : ℕ) → IsCube size mid → i < size.inputs → IsFreedAt i mid new → Grows size (λ p. true) mid new
 freed_grows_all size mid new i cube lt step = elim step [
   | inl e ↦ subst (Grows size (λ p. true) mid) (sym e) (grows_none size (λ p. true) mid cube)
   | inr e ↦ freed_grows size (λ p. true) mid cube i (let long = cube.has_size.0 in omega (arith, long, lt)) new (with_symbol mid i (opposite (get_or mid.symbols i Dash))) e refl (λ p h. refl)
 ]
-
-module _ (size : Size) (s : Place → Bool) (old mid new : Cube) (n m : ℕ) (so : IsSettledUpTo size s old mid n m) (cube : IsCube size new) (over : IsSubset (holds mid) (holds new)) where
-  pub settled_input : IsSettledInput size s new n → IsSettledUpTo size s old new (n + 1) m
-  settled_input here = record {
-    is_cube = cube;
-    over = λ p h. over p (so.over p h);
-    inputs = λ k lt. elim (cases_lt k n) [
-      | inl low ↦ settled_input_more size s mid new so.is_cube cube over k (so.inputs k low)
-      | inr high ↦ (let at : n ≡ k = omega (arith, lt, high) in subst (IsSettledInput size s new) at here)
-    ];
-    outputs = λ k lt. settled_output_more size s mid new so.is_cube cube over k (so.outputs k lt);
-  }
-
-  pub settled_output : IsSettledOutput size s new m → IsSettledUpTo size s old new n (m + 1)
-  settled_output here = record {
-    is_cube = cube;
-    over = λ p h. over p (so.over p h);
-    inputs = λ k lt. settled_input_more size s mid new so.is_cube cube over k (so.inputs k lt);
-    outputs = λ k lt. elim (cases_lt k m) [
-      | inl low ↦ settled_output_more size s mid new so.is_cube cube over k (so.outputs k low)
-      | inr high ↦ (let at : m ≡ k = omega (arith, lt, high) in subst (IsSettledOutput size s new) at here)
-    ];
-  }
 
 -- ---- rows that refuse a step
 
@@ -263,14 +230,14 @@ best_of_freed choice off cube freed grown best outputs same within =
     let s = on_side Outside off.cubes in
     let inputs = best.settled in
     let over : IsSubset (holds cube) (holds grown) = λ p h. outputs.over p (inputs.over p h) in
-    let grows : IsGrown off.size s cube grown off.size.inputs off.size.outputs = record {
-      grows = record { is_cube = outputs.is_cube; over = over; within = λ _. within };
-      inputs = λ k lt. settled_input_more off.size s freed grown inputs.is_cube outputs.is_cube outputs.over k (inputs.inputs k lt);
-      outputs = outputs.outputs;
-    } in
     record {
       is_cube = outputs.is_cube;
-      prime = (Contains-complete_sum off.size (λ p. not (places off.cubes p)) grown).1 (grown_maximal off.size s cube grown grows (λ p h. within p (over p h)));
+      prime = (Contains-complete_sum off.size (λ p. not (places off.cubes p)) grown).1 (settled_maximal off.size s cube grown (record {
+        is_cube = outputs.is_cube;
+        over = over;
+        inputs = λ k lt. settled_input_more off.size s freed grown inputs.is_cube outputs.is_cube outputs.over k (inputs.inputs k lt);
+        outputs = outputs.outputs;
+      }) within);
       over = over;
       good = λ c c_cube c_within above. as_good_by_symbols choice c freed grown same (best.good c c_cube c_within above);
     }

@@ -1,5 +1,5 @@
 -- Steps of a cube's growth, and that the grown cube is one of the largest.
-use Rattle.std.proofs.Common.{◌≡◌, ℕ, zero, suc, ◌+◌, ◌<◌, ◌⊎◌, inl, inr, Bool, true, false, not, ◌&&◌, ◌||◌, List, [], ◌∷◌, length, map, replicate, get_or, set, refl, ap, sym, subst, ◌∙◌, arith, ◌↔◌, IsTrue}
+use Rattle.std.proofs.Common.{◌≡◌, ℕ, zero, suc, ◌+◌, ◌<◌, ◌⊎◌, inl, inr, Bool, true, false, not, ◌&&◌, ◌||◌, List, length, map, replicate, get_or, set, refl, ap, sym, subst, ◌∙◌, arith, ◌↔◌, IsTrue}
 use Rattle.std.specs.List.{list_any}
 use Rattle.std.proofs.lemmas.Bool.{cases_Bool, cases_eq, cases_lt, false≢true, and_parts, and_from, or_cases, or_left, or_right, not_from_false}
 use Rattle.std.proofs.lemmas.List.{get_or-set_same, get_or-set_other, get_or_past, set-get_or, get_or-replicate, length-replicate}
@@ -13,13 +13,14 @@ use Rattle.cube.specs.Sum.{is_subset, IsMaximal}
 use Rattle.cube.proofs.HoldsLemmas.{Covers, Covers-from_IsSubset, IsSubset-from_Covers, pick, length-matches, matches-map_pick}
 use Rattle.cube.proofs.SharpLemmas.{some_true, true_some, get_or-minus}
 use Rattle.cover.specs.Places.{places}
-use Rattle.cover.proofs.Everywhere.{is_subset-iff}
+use Rattle.cover.proofs.Everywhere.{is_subset-iff, holds_universal}
 use Rattle.cover.proofs.Found.{output_of_place}
 use Rattle.cover.proofs.Inputs.{matches-set_symbol, matches-own}
+use Rattle.cover.proofs.SumApart.{dash_above}
 use Rattle.cover.proofs.SumSplit.{IsCube-with_symbol, same_cube}
 use Rattle.growth.specs.declared.prime.Side.{Side}
 use Rattle.growth.specs.declared.prime.Side.TheVariants.{Inside}
-use Rattle.growth.specs.Growth.{on_side, Grows, IsGrown, IsSettledInput, IsSettledOutput, IsBeside}
+use Rattle.growth.specs.Growth.{on_side, Grows, IsGrown, IsSettledUpTo, IsSettledInput, IsSettledOutput, IsBeside}
 
 -- ---- cubes that contain each other
 
@@ -29,18 +30,13 @@ same_sizes size c d one other = (other.has_size.0 ∙ sym one.has_size.0, other.
 pub covering : (size : Size) (c d : Cube) → IsCube size c → IsCube size d → IsSubset (holds c) (holds d) → Covers d c
 covering size c d one other sub = let w = some_true c.outputs one.some_output in Covers-from_IsSubset d c (same_sizes size c d one other) w.0 w.1 sub
 
-dash_from : (t : Symbol) → ((bit : Bool) → agrees t bit ≡ true) → t ≡ Dash
-dash_from Dash h = refl
-dash_from Zero h = absurd (false≢true (h true))
-dash_from One h = absurd (false≢true (h false))
-
 -- ---- what was settled stays so
 
 module _ (size : Size) (s : Place → Bool) (c d : Cube) (one : IsCube size c) (other : IsCube size d) (sub : IsSubset (holds c) (holds d)) where
   pub settled_input_more : (k : ℕ) → IsSettledInput size s c k → IsSettledInput size s d k
   settled_input_more k settled e e_cube above within dash =
       let was : get_or c.symbols k Dash ≡ Dash = settled e e_cube (λ p h. above p (sub p h)) within dash in
-      dash_from (get_or d.symbols k Dash) (λ bit. (covering size c d one other sub).inputs k bit (ap (λ t. agrees t bit) was))
+      dash_above (get_or d.symbols k Dash) (λ bit. (covering size c d one other sub).inputs k bit (ap (λ t. agrees t bit) was))
 
   pub settled_output_more : (k : ℕ) → IsSettledOutput size s c k → IsSettledOutput size s d k
   settled_output_more k settled e e_cube above within on = (covering size c d one other sub).outputs k (settled e e_cube (λ p h. above p (sub p h)) within on)
@@ -119,19 +115,16 @@ set_one (suc m) zero (suc k) h = absurd (false≢true (sym (none_set m k) ∙ h)
 set_one (suc m) (suc j) zero h = absurd (false≢true h)
 set_one (suc m) (suc j) (suc k) h = ap suc (set_one m j k h)
 
-pub dashes_match : (n : ℕ) (point : List Bool) → length point ≡ n → matches (replicate n Dash) point ≡ true
-dashes_match zero [] e = refl
-dashes_match zero (b ∷ bs) e = absurd (omega arith)
-dashes_match (suc n) [] e = absurd (omega arith)
-dashes_match (suc n) (b ∷ bs) e = dashes_match n bs (omega arith)
-
 -- the cube of all places that have the output
 abbrev pub all_with : Size → ℕ → Cube
 all_with size j = record { symbols = replicate size.inputs Dash; outputs = set (replicate size.outputs false) j true }
 
 module _ (size : Size) (c : Cube) (cube : IsCube size c) (j : ℕ) (lt : j < size.outputs) (u : Cube) (is : u ≡ all_with size j) where
   u_matches : (point : List Bool) → matches c.symbols point ≡ true → matches u.symbols point ≡ true
-  u_matches point h = ap (λ k. matches k.symbols point) is ∙ dashes_match size.inputs point (length-matches c.symbols point h ∙ cube.has_size.0)
+  u_matches point h =
+      let p : Place = record { point = point; output = j } in
+      ap (λ k. matches k.symbols point) is
+      ∙ (and_parts (matches (replicate size.inputs Dash) point) (get_or (replicate size.outputs true) j false) (holds_universal size p (length-matches c.symbols point h ∙ cube.has_size.0) lt)).0
 
   u_output : get_or u.outputs j false ≡ true
   u_output = ap (λ k. get_or k.outputs j false) is ∙ get_or-set_same (replicate size.outputs false) j true false (omega (arith, length-replicate size.outputs false))
@@ -274,31 +267,45 @@ grows_both size s old mid new so step = record {
   within = λ h. step.within (so.within h);
 }
 
-module _ (size : Size) (s : Place → Bool) (old mid new : Cube) (n m : ℕ) (so : IsGrown size s old mid n m) (step : Grows size s mid new) where
-  both : Grows size s old new
-  both = grows_both size s old mid new so.grows step
+pub settled_none : (size : Size) (s : Place → Bool) (c : Cube) → IsCube size c → IsSettledUpTo size s c c 0 0
+settled_none size s c cube = record {
+  is_cube = cube;
+  over = λ p h. h;
+  inputs = λ k lt. absurd (omega (arith, lt));
+  outputs = λ k lt. absurd (omega (arith, lt));
+}
 
-  pub grown_input : IsSettledInput size s new n → IsGrown size s old new (n + 1) m
-  grown_input here = record {
-    grows = both;
+module _ (size : Size) (s : Place → Bool) (old mid new : Cube) (n m : ℕ) (so : IsSettledUpTo size s old mid n m) (cube : IsCube size new) (over : IsSubset (holds mid) (holds new)) where
+  pub settled_input : IsSettledInput size s new n → IsSettledUpTo size s old new (n + 1) m
+  settled_input here = record {
+    is_cube = cube;
+    over = λ p h. over p (so.over p h);
     inputs = λ k lt. elim (cases_lt k n) [
-      | inl low ↦ settled_input_more size s mid new so.grows.is_cube step.is_cube step.over k (so.inputs k low)
+      | inl low ↦ settled_input_more size s mid new so.is_cube cube over k (so.inputs k low)
       | inr high ↦ (let at : n ≡ k = omega (arith, lt, high) in subst (IsSettledInput size s new) at here)
     ];
-    outputs = λ k lt. settled_output_more size s mid new so.grows.is_cube step.is_cube step.over k (so.outputs k lt);
+    outputs = λ k lt. settled_output_more size s mid new so.is_cube cube over k (so.outputs k lt);
   }
 
-  pub grown_output : IsSettledOutput size s new m → IsGrown size s old new n (m + 1)
-  grown_output here = record {
-    grows = both;
-    inputs = λ k lt. settled_input_more size s mid new so.grows.is_cube step.is_cube step.over k (so.inputs k lt);
+  pub settled_output : IsSettledOutput size s new m → IsSettledUpTo size s old new n (m + 1)
+  settled_output here = record {
+    is_cube = cube;
+    over = λ p h. over p (so.over p h);
+    inputs = λ k lt. settled_input_more size s mid new so.is_cube cube over k (so.inputs k lt);
     outputs = λ k lt. elim (cases_lt k m) [
-      | inl low ↦ settled_output_more size s mid new so.grows.is_cube step.is_cube step.over k (so.outputs k low)
+      | inl low ↦ settled_output_more size s mid new so.is_cube cube over k (so.outputs k low)
       | inr high ↦ (let at : m ≡ k = omega (arith, lt, high) in subst (IsSettledOutput size s new) at here)
     ];
   }
 
--- ---- the grown cube
+module _ (size : Size) (s : Place → Bool) (old mid new : Cube) (n m : ℕ) (so : IsGrown size s old mid n m) (step : Grows size s mid new) where
+  pub grown_input : IsSettledInput size s new n → IsGrown size s old new (n + 1) m
+  grown_input here = record { settled = settled_input size s old mid new n m so.settled step.is_cube step.over here; within = λ h. step.within (so.within h) }
+
+  pub grown_output : IsSettledOutput size s new m → IsGrown size s old new n (m + 1)
+  grown_output here = record { settled = settled_output size s old mid new n m so.settled step.is_cube step.over here; within = λ h. step.within (so.within h) }
+
+-- ---- the cube that is settled everywhere
 
 same_literal : (inner outer : Symbol) (bit : Bool) → ((b : Bool) → agrees inner b ≡ true → agrees outer b ≡ true) → (outer ≡ Dash → inner ≡ Dash) → agrees outer bit ≡ true → agrees inner bit ≡ true
 same_literal Dash outer bit below none ok = refl
@@ -308,21 +315,22 @@ same_literal Zero One bit below none ok = absurd (false≢true (below false refl
 same_literal One Zero bit below none ok = absurd (false≢true (below true refl))
 same_literal One One bit below none ok = ok
 
-pub grown_maximal : (size : Size) (s : Place → Bool) (old new : Cube) → IsGrown size s old new size.inputs size.outputs → IsSubset (holds old) s → IsMaximal size s new
-grown_maximal size s old new grown within = record {
-  is_cube = grown.grows.is_cube;
-  within = grown.grows.within within;
-  largest = λ d d_cube in_s above.
-      let cube = grown.grows.is_cube in
-      let over = covering size new d cube d_cube above in
-      IsSubset-from_Covers new d (same_sizes size d new d_cube cube) (record {
-        inputs = λ k bit ok. elim (cases_lt k size.inputs) [
-          | inl lt ↦ same_literal (get_or new.symbols k Dash) (get_or d.symbols k Dash) bit (over.inputs k) (grown.inputs k lt d d_cube above in_s) ok
-          | inr past ↦ ap (λ t. agrees t bit) (get_or_past new.symbols k Dash (omega (arith, cube.has_size.0, past)))
-        ];
-        outputs = λ k on. elim (cases_lt k size.outputs) [
-          | inl lt ↦ grown.outputs k lt d d_cube above in_s on
-          | inr past ↦ absurd (false≢true (sym (get_or_past d.outputs k false (omega (arith, d_cube.has_size.1, past))) ∙ on))
-        ];
-      });
-}
+pub settled_maximal : (size : Size) (s : Place → Bool) (old new : Cube) → IsSettledUpTo size s old new size.inputs size.outputs → IsSubset (holds new) s → IsMaximal size s new
+settled_maximal size s old new settled within =
+    let cube = settled.is_cube in
+    record {
+      is_cube = cube;
+      within = within;
+      largest = λ d d_cube in_s above.
+          let over = covering size new d cube d_cube above in
+          IsSubset-from_Covers new d (same_sizes size d new d_cube cube) (record {
+            inputs = λ k bit ok. elim (cases_lt k size.inputs) [
+              | inl lt ↦ same_literal (get_or new.symbols k Dash) (get_or d.symbols k Dash) bit (over.inputs k) (settled.inputs k lt d d_cube above in_s) ok
+              | inr past ↦ ap (λ t. agrees t bit) (get_or_past new.symbols k Dash (omega (arith, cube.has_size.0, past)))
+            ];
+            outputs = λ k on. elim (cases_lt k size.outputs) [
+              | inl lt ↦ settled.outputs k lt d d_cube above in_s on
+              | inr past ↦ absurd (false≢true (sym (get_or_past d.outputs k false (omega (arith, d_cube.has_size.1, past))) ∙ on))
+            ];
+          });
+    }

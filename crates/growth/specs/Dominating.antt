@@ -1,10 +1,10 @@
 -- Columns that dominate the cubes that contain some points and meet no cube of a list.
-use Rattle.std.specs.Prelude.{◌≡◌, ℕ, ◌≢◌, ◌<◌, ◌≤◌, ◌⊎◌, ◌↔◌, Bool, not, List, length, take, drop, slice_index_or, Contains, All}
+use Rattle.std.specs.Prelude.{◌≡◌, ℕ, ◌≢◌, ◌<◌, ◌≤◌, ◌⊎◌, ◌↔◌, not, List, length, take, drop, slice_index_or, Contains, All}
 use Rattle.std.specs.Cmp.Lexicographic.{slice_cmp}
 use Rattle.std.specs.declared.cmp.Ordering.TheVariants.{Greater}
 use Rattle.cube.specs.declared.symbol.Symbol.TheVariants.{Dash}
 use Rattle.cube.specs.Size.{Size}
-use Rattle.cube.specs.Cube.{Cube, Place, holds, literals, IsCube, IsSubset, IsDisjoint}
+use Rattle.cube.specs.Cube.{Cube, holds, literals, IsCube, IsSubset, IsDisjoint}
 use Rattle.cube.specs.Order.{symbol_cmp}
 use Rattle.cube.specs.Sharp.{opposite}
 use Rattle.cube.specs.Sum.{complete_sum}
@@ -14,7 +14,7 @@ use Rattle.cover.specs.Places.{places}
 use Rattle.covering.specs.declared.choice.Choice.{Choice}
 use Rattle.covering.specs.declared.choice.Choice.TheVariants.{First, Literals}
 use Rattle.growth.specs.declared.prime.Side.TheVariants.{Outside}
-use Rattle.growth.specs.Growth.{on_side, IsSettledInput, IsSettledOutput}
+use Rattle.growth.specs.Growth.{on_side, IsSettledUpTo}
 use Rattle.growth.specs.declared.columns.open_points.OpenPoints.{OpenPoints}
 
 -- the literals of d come no later than those of c
@@ -84,13 +84,6 @@ pub record IsBest (choice : Choice) (off : Cubes) (cube best : Cube) : Type 0 wh
   pub over : IsSubset (holds cube) (holds best)
   pub good : (c : Cube) → IsCube off.size c → IsImplicant off c → IsSubset (holds cube) (holds c)
       → IsAsGood choice c best
-
--- a cube that contains another, at the first n inputs and m outputs as large as can be
-pub record IsSettledUpTo (size : Size) (s : Place → Bool) (old new : Cube) (n m : ℕ) : Type 0 where
-  pub is_cube : IsCube size new
-  pub over : IsSubset (holds old) (holds new)
-  pub inputs : (k : ℕ) → k < n → IsSettledInput size s new k
-  pub outputs : (k : ℕ) → k < m → IsSettledOutput size s new k
 
 -- a cube that is settled at the inputs, and as good as each implicant that contains the first
 pub record IsBestFreed (choice : Choice) (off : Cubes) (cube freed : Cube) : Type 0 where

@@ -34,11 +34,17 @@ pub record Grows (size : Size) (s : Place → Bool) (old new : Cube) : Type 0 wh
   pub over : IsSubset (holds old) (holds new)
   pub within : IsSubset (holds old) s → IsSubset (holds new) s
 
--- such a cube, at the first n inputs and m outputs as large as can be
-pub record IsGrown (size : Size) (s : Place → Bool) (old new : Cube) (n m : ℕ) : Type 0 where
-  pub grows : Grows size s old new
+-- a cube that contains another, at the first n inputs and m outputs as large as can be within s
+pub record IsSettledUpTo (size : Size) (s : Place → Bool) (old new : Cube) (n m : ℕ) : Type 0 where
+  pub is_cube : IsCube size new
+  pub over : IsSubset (holds old) (holds new)
   pub inputs : (k : ℕ) → k < n → IsSettledInput size s new k
   pub outputs : (k : ℕ) → k < m → IsSettledOutput size s new k
+
+-- such a cube that lies within s if the other does
+pub record IsGrown (size : Size) (s : Place → Bool) (old new : Cube) (n m : ℕ) : Type 0 where
+  pub settled : IsSettledUpTo size s old new n m
+  pub within : IsSubset (holds old) s → IsSubset (holds new) s
 
 -- the cube, maybe with a dash at the input
 abbrev pub IsFreedAt : ℕ → Cube → Cube → Type 0

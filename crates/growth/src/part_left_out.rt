@@ -1,4 +1,5 @@
-//! Whether rows are seen to leave out a part of a region.
+//! Whether rows are seen to leave out a part of a region. This may not decide; `part_left_out` of `regions`
+//! always does, and gives the part.
 //!
 //! Most rows have no place of a region, or a few of its places. So the region is narrowed row by
 //! row, at one look at each: a row that meets what is left loses it by the opposite of one of its

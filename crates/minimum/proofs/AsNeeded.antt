@@ -59,7 +59,7 @@ outside_more all old new cube size cubes apart h = record {
 pub outside_grown : (all old new : Cubes) (part cube : Cube) → IsGrown all.size (on_side Outside all.cubes) part cube all.size.inputs all.size.outputs → IsDisjoint (holds part) (places all.cubes) → new.size ≡ old.size
     → new.cubes ≡ old.cubes ++ cube ∷ [] → AreOutside all old → AreOutside all new
 outside_grown all old new part cube grown apart size cubes h =
-    outside_more all old new cube size cubes (avoids_back all cube (grown.grows.within (avoids_list all part apart))) h
+    outside_more all old new cube size cubes (avoids_back all cube (grown.within (avoids_list all part apart))) h
 
 pub on_ok_two : {X Y : Type 0} (r : Result X Y) (P Q S : Type 0) → (P → Q → S) → OnOk r P → OnOk r Q → OnOk r S
 on_ok_two (Ok x) P Q S f p q = f p q

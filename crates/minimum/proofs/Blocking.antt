@@ -3,7 +3,7 @@ use Rattle.std.proofs.Common.{◌≡◌, ◌≢◌, ℕ, ◌+◌, ◌<◌, ◌�
 use Rattle.std.specs.List.{Contains, filter}
 use Rattle.std.specs.List.Sorted.{IsPermutation}
 use Rattle.std.proofs.Math.Bool.{not-not}
-use Rattle.std.proofs.lemmas.Bool.{cases_Bool, cases_lt, false≢true, and_parts, and_from, or_left}
+use Rattle.std.proofs.lemmas.Bool.{cases_Bool, cases_lt, false≢true, and_parts, and_from, not-false, or_left}
 use Rattle.std.proofs.lemmas.List.{get_or_default, get_or_past, get_or-set_same, length-set, set-set, take_all}
 use Rattle.std.proofs.lemmas.List.Elements.{All-nil, All-cons, All-append, Contains-append_cases, Contains-append_left, Contains-append_right}
 use Rattle.std.proofs.lemmas.List.Kept.{IsStrictlySortedBy-filter}
@@ -20,6 +20,7 @@ use Rattle.cube.proofs.Members.{Contains-here, Contains-nil, Contains-cases, Con
 use Rattle.cube.proofs.SumLemmas.{IsPlace-from_holds, is_subset-from_fact, implied_at, row_asymmetric, Contains-complete_sum, complete_sum-from_members, sorted-complete_sum}
 use Rattle.cover.specs.Cubes.{Cubes, AreCubes}
 use Rattle.cover.specs.Places.{places}
+use Rattle.cover.specs.Marks.{is_symbol}
 use Rattle.cover.proofs.Everywhere.{same_test}
 use Rattle.cover.proofs.Inputs.{matches-set_bit, matches-own}
 use Rattle.cover.proofs.Lists.{list_any_witness, all_members}
@@ -33,9 +34,14 @@ use Rattle.minimum.specs.Blocking.{IsSampled, flip_in, under_in, Blocks, AreBloc
 use Rattle.growth.proofs.MorePlaces.{places_pushed, row_added, row_left}
 use Rattle.minimum.proofs.EssentialByNeighbours.{has_own_from, no_own_from, only_from_alone, alone_from_only}
 
-from_not : (b : Bool) → not b ≡ false → b ≡ true
-from_not true e = refl
-from_not false e = sym e
+-- symbols that do not compare as equal differ
+pub symbols_apart : (s t : Symbol) → is_symbol s t ≡ false → s ≡ t → ⊥
+symbols_apart s t off e = false≢true (sym off ∙ ap (is_symbol s) (sym e) ∙ own s)
+  where
+    own : (s : Symbol) → is_symbol s s ≡ true
+    own Dash = refl
+    own Zero = refl
+    own One = refl
 
 -- ---- a row put back by one step
 
@@ -205,7 +211,7 @@ module _ (size : Size) (off : List Cube) (c : Cube) (cube : IsCube size c) (list
         | inr high ↦ (let at : i ≡ k = omega (arith, lt, high) in subst (λ n. on_side Outside off (flip n p) ≡ false) at (ap not test))
       ])
       (λ p a k lt lit. a k (omega (arith, lt)) lit)
-      (λ p a. from_not (flip_in off i p) (a i (omega arith) literal))
+      (λ p a. not-false (flip_in off i p) (a i (omega arith) literal))
 
   pub inputs_skipped : (i : ℕ) → AreBlocking size c lists (AloneSoFar off c i) → get_or c.symbols i Dash ≡ Dash → AreBlocking size c lists (AloneSoFar off c (i + 1))
   inputs_skipped i so dash = blocking_same size c lists (AloneSoFar off c i) (AloneSoFar off c (i + 1)) so
@@ -234,7 +240,7 @@ module _ (size : Size) (off : List Cube) (c : Cube) (cube : IsCube size c) (list
         ],
       ))
       (λ p a. (a.0, λ k lt lack. a.1 k (omega (arith, lt)) lack))
-      (λ p a. from_not (under_in off j p) (a.1 j (omega arith) lacks))
+      (λ p a. not-false (under_in off j p) (a.1 j (omega arith) lacks))
 
   pub outputs_skipped : (j : ℕ) → AreBlocking size c lists (OutputsSoFar off c j) → get_or c.outputs j false ≡ true → AreBlocking size c lists (OutputsSoFar off c (j + 1))
   outputs_skipped j so has = blocking_same size c lists (OutputsSoFar off c j) (OutputsSoFar off c (j + 1)) so

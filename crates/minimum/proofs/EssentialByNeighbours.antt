@@ -3,8 +3,6 @@ use Rattle.std.proofs.Common.{◌≡◌, ◌≢◌, ℕ, ◌+◌, ◌<◌, ◌�
 use Rattle.std.specs.List.{Contains, filter, list_all}
 use Rattle.std.specs.List.Sorted.{IsStrictlySortedBy}
 use Rattle.std.specs.Ordering.{is_eq}
-use Rattle.std.specs.declared.cmp.Ordering.{Ordering}
-use Rattle.std.specs.declared.cmp.Ordering.TheVariants.{Less, Equal, Greater}
 use Rattle.std.proofs.lemmas.Bool.{cases_Bool, cases_eq, cases_lt, false≢true, and_parts, and_from, or_cases, or_left, or_parts, not-true, not_from_false}
 use Rattle.std.proofs.lemmas.List.{get_or-set_same, get_or-set_other, get_or_past, set-get_or, set-set, length-set, length-map, length-replicate}
 use Rattle.std.proofs.lemmas.List.Elements.{All-append, All-cons, All-nil, Contains-append_cases, Contains-append_left, Contains-append_right}
@@ -28,13 +26,13 @@ use Rattle.cover.specs.Reduced.{HasSameCubes}
 use Rattle.cover.proofs.Inputs.{matches-set_bit, matches-own}
 use Rattle.cover.proofs.Lists.{list_any_from, list_any_witness, members_all}
 use Rattle.cover.proofs.SumMeets.{places-append}
-use Rattle.cover.proofs.SumOrder.{row_exact}
 use Rattle.pla.specs.Sets.{SetLists}
 use Rattle.minimum.specs.Primes.{primes_of, care_on, others, essential_of}
 use Rattle.minimum.specs.declared.essential_by_neighbours.grown_primes.GrownPrimes.{GrownPrimes}
 use Rattle.minimum.specs.Neighbours.{flip, under, IsAlone, AreNeighbours, has_own, essential_in, IsOwn, HaveSize, AddsPrime, AreGrown, AreFoundIn, AddsEssential}
 use Rattle.growth.specs.Growth.{LiesInOneOf}
 use Rattle.minimum.proofs.BothLists.{primes-together}
+use Rattle.minimum.proofs.EssentialPrimes.{equal_from}
 use Rattle.growth.proofs.MorePlaces.{more_places}
 use Rattle.growth.proofs.GrowthSteps.{none_set, same_sizes}
 
@@ -229,14 +227,6 @@ module _ (size : Size) (s : Place → Bool) (c : Cube) (prime : IsMaximal size s
       }
 
 -- ---- primes with a place of their own
-
-equal_from : (c d : Cube) → is_eq (row_cmp d c) ≡ true → d ≡ c
-equal_from c d e = row_exact d c (go (row_cmp d c) e)
-  where
-    go : (o : Ordering) → is_eq o ≡ true → o ≡ Equal
-    go Less h = absurd (false≢true h)
-    go Equal h = refl
-    go Greater h = absurd (false≢true h)
 
 module _ (size : Size) (s wanted : Place → Bool) (c : Cube) where
   abbrev primes : List Cube

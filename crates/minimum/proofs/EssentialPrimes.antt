@@ -1,7 +1,9 @@
 -- Whether other primes and the DC-set hold a prime.
-use Rattle.std.proofs.Common.{◌≡◌, Bool, true, not, ◌||◌, List, ◌++◌, ap, sym, ◌∙◌, inl, inr, ◌↔◌, IsTrue}
+use Rattle.std.proofs.Common.{◌≡◌, Bool, true, not, ◌||◌, List, ◌++◌, refl, ap, sym, ◌∙◌, inl, inr, ◌↔◌, IsTrue}
 use Rattle.std.specs.List.{Contains, filter}
 use Rattle.std.specs.Ordering.{is_eq}
+use Rattle.std.specs.declared.cmp.Ordering.{Ordering}
+use Rattle.std.specs.declared.cmp.Ordering.TheVariants.{Less, Equal, Greater}
 use Rattle.std.proofs.lemmas.Bool.{cases_Bool, false≢true, and_parts, and_from, or_cases, not-true, not_from_false}
 use Rattle.std.proofs.lemmas.List.Elements.{Contains-append_cases, Contains-append_left, Contains-append_right}
 use Rattle.cube.specs.Cube.{Cube, Place, holds, intersection, SameSize, IsCube, IsSubset, IsDisjoint, size_of}
@@ -14,9 +16,19 @@ use Rattle.cover.specs.Places.{places, is_disjoint}
 use Rattle.cover.proofs.Lists.{list_any_from, list_any_witness, all_members, members_all}
 use Rattle.cover.proofs.Meeting.{IsDisjoint-from_test, is_disjoint-from_answer}
 use Rattle.cover.proofs.Everywhere.{same_test}
+use Rattle.cover.proofs.SumOrder.{row_exact}
 use Rattle.pla.specs.Sets.{SetLists}
 use Rattle.minimum.specs.Primes.{care_on, others, is_essential}
 use Rattle.minimum.specs.EssentialPrimes.{intersects_cube, is_rival}
+
+-- cubes that compare as equal are equal
+pub equal_from : (c d : Cube) → is_eq (row_cmp d c) ≡ true → d ≡ c
+equal_from c d e = row_exact d c (go (row_cmp d c) e)
+  where
+    go : (o : Ordering) → is_eq o ≡ true → o ≡ Equal
+    go Less h = absurd (false≢true h)
+    go Equal h = refl
+    go Greater h = absurd (false≢true h)
 
 -- ---- the cubes that have a place of a prime
 

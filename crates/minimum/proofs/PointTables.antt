@@ -5,8 +5,7 @@ use Rattle.std.specs.List.{Contains, AllByRecursion, list_any, cons_option, rang
 use Rattle.std.specs.List.Sorted.{IsStrictlySortedBy}
 use Rattle.std.specs.Ordering.{is_eq}
 use Rattle.std.specs.Cmp.Lexicographic.{slice_cmp}
-use Rattle.std.specs.declared.cmp.Ordering.{Ordering}
-use Rattle.std.specs.declared.cmp.Ordering.TheVariants.{Less, Equal, Greater}
+use Rattle.std.specs.declared.cmp.Ordering.TheVariants.{Less}
 use Rattle.std.proofs.lemmas.Bool.{cases_Bool, cases_lt, cases_order, and_parts, both_ways, true≢false}
 use Rattle.std.proofs.lemmas.Cmp.{tied_itself}
 use Rattle.std.proofs.lemmas.List.{length-map}
@@ -22,7 +21,7 @@ use Rattle.cover.specs.Places.{places}
 use Rattle.cover.specs.Marks.{cube_at}
 use Rattle.cover.specs.Reduced.{HasSameCubes}
 use Rattle.cover.proofs.Lists.{list_any_from, list_any_witness}
-use Rattle.cover.proofs.SumOrder.{row_exact, rising-cons, rising-head, rising-tail, rising-nil}
+use Rattle.cover.proofs.SumOrder.{row_irreflexive, rising-cons, rising-head, rising-tail, rising-nil}
 use Rattle.pla.specs.Sets.{SetLists}
 use Rattle.covering.specs.declared.choice.Choice.{Choice}
 use Rattle.covering.specs.declared.choice.Choice.TheVariants.{First, Literals}
@@ -42,6 +41,7 @@ use Rattle.growth.specs.Dominating.{IsUpTo, IsAsGood}
 use Rattle.growth.proofs.Dominating.{cube_at-member as member_at}
 use Rattle.minimum.proofs.Numbers.{has_member, member_has, holds_at-below, cube_at-member}
 use Rattle.minimum.proofs.PrimeRows.{spans_holds}
+use Rattle.minimum.proofs.EssentialPrimes.{equal_from}
 use Rattle.minimum.proofs.PrimeTables.{enough, holding_from}
 use Rattle.minimum.proofs.LeastPrimes.{least_by_first}
 
@@ -63,9 +63,6 @@ pub record ByNumbers (cs ds : List Cube) (live : List ℕ) : Type 0 where
   pub below : (n : ℕ) → has n live ≡ true → n < length ds
   pub cubes : map (cube_at ds) live ≡ cs
 
-not_below_itself : (c : Cube) → row_cmp c c ≡ Less → ⊥
-not_below_itself c h = row_asymmetric c c h h
-
 by_numbers : (ds cs : List Cube) → IsStrictlySortedBy row_cmp ds → IsStrictlySortedBy row_cmp cs → ((c : Cube) → Contains cs c → Contains ds c) → (live : List ℕ) × ByNumbers cs ds live
 by_numbers [] [] r q sub = ([], record { rises = tt; below = λ n h. absurd (true≢false (sym h)); cubes = refl })
 by_numbers [] (c ∷ cs) r q sub = absurd (Contains-nil c (sub c (Contains-here c cs)))
@@ -73,7 +70,7 @@ by_numbers (d ∷ ds) [] r q sub = ([], record { rises = tt; below = λ n h. abs
 by_numbers (d ∷ ds) (c ∷ cs) r q sub = elim (Contains-cases d ds c (sub c (Contains-here c cs))) [
   | inl e ↦ (
       let rest = by_numbers ds cs (rising-tail d ds r) (rising-tail c cs q) (λ x h. elim (Contains-cases d ds x (sub x (Contains-there c cs x h))) [
-        | inl f ↦ absurd (not_below_itself c (subst (λ y. row_cmp c y ≡ Less) (sym f ∙ e) (rising-head c cs x q h)))
+        | inl f ↦ absurd (row_irreflexive c (subst (λ y. row_cmp c y ≡ Less) (sym f ∙ e) (rising-head c cs x q h)))
         | inr m ↦ m
       ]) in (
         0 ∷ map suc rest.0,
@@ -87,7 +84,7 @@ by_numbers (d ∷ ds) (c ∷ cs) r q sub = elim (Contains-cases d ds c (sub c (C
       let less = rising-head d ds c r there in
       let rest = by_numbers ds (c ∷ cs) (rising-tail d ds r) q (λ x h. elim (Contains-cases d ds x (sub x h)) [
         | inl f ↦ absurd (elim (Contains-cases c cs x h) [
-          | inl g ↦ not_below_itself d (subst (λ y. row_cmp d y ≡ Less) (g ∙ sym f) less)
+          | inl g ↦ row_irreflexive d (subst (λ y. row_cmp d y ≡ Less) (g ∙ sym f) less)
           | inr g ↦ row_asymmetric d c less (subst (λ y. row_cmp c y ≡ Less) (sym f) (rising-head c cs x q g))
         ])
         | inr m ↦ m
@@ -109,8 +106,8 @@ by_numbers (d ∷ ds) (c ∷ cs) r q sub = elim (Contains-cases d ds c (sub c (C
 one_number : (ds : List Cube) (i j : ℕ) → IsStrictlySortedBy row_cmp ds → i < length ds → j < length ds → cube_at ds i ≡ cube_at ds j → i ≡ j
 one_number [] i j r h k e = absurd (omega arith)
 one_number (d ∷ ds) zero zero r h k e = refl
-one_number (d ∷ ds) zero (suc j) r h k e = absurd (not_below_itself d (subst (λ y. row_cmp d y ≡ Less) (sym e) (rising-head d ds (cube_at ds j) r (cube_at-member ds j (omega arith)))))
-one_number (d ∷ ds) (suc i) zero r h k e = absurd (not_below_itself d (subst (λ y. row_cmp d y ≡ Less) e (rising-head d ds (cube_at ds i) r (cube_at-member ds i (omega arith)))))
+one_number (d ∷ ds) zero (suc j) r h k e = absurd (row_irreflexive d (subst (λ y. row_cmp d y ≡ Less) (sym e) (rising-head d ds (cube_at ds j) r (cube_at-member ds j (omega arith)))))
+one_number (d ∷ ds) (suc i) zero r h k e = absurd (row_irreflexive d (subst (λ y. row_cmp d y ≡ Less) e (rising-head d ds (cube_at ds i) r (cube_at-member ds i (omega arith)))))
 one_number (d ∷ ds) (suc i) (suc j) r h k e = ap suc (one_number ds i j (rising-tail d ds r) (omega arith) (omega arith) e)
 
 -- ---- cubes by their numbers
@@ -180,7 +177,7 @@ symbols_rise ds i j r apart lt lj =
     let c = cube_at ds i in
     let d = cube_at ds j in
     elim (row_by_symbols c d less) [
-      | inl same ↦ absurd (not_below_itself c (subst (λ z. row_cmp c z ≡ Less) (sym (apart c d (cube_at-member ds i (omega arith)) (cube_at-member ds j lj) same)) less))
+      | inl same ↦ absurd (row_irreflexive c (subst (λ z. row_cmp c z ≡ Less) (sym (apart c d (cube_at-member ds i (omega arith)) (cube_at-member ds j lj) same)) less))
       | inr e ↦ e
     ]
 
@@ -385,11 +382,6 @@ module _ (choice : Choice) (sets : SetLists) (points columns : List Cube) (on_cu
 
 -- ---- essential primes
 
-eq_from : (o : Ordering) → is_eq o ≡ true → o ≡ Equal
-eq_from Less e = cc
-eq_from Equal e = refl
-eq_from Greater e = cc
-
 -- each essential prime is in every cover by primes
 module _ (sets : SetLists) (on_cubes : AreCubes sets.size sets.on) (x : List ℕ) (cover : IsPrimeCover sets x) where
   pub essential_there : (n : ℕ) → n < length (primes_of sets) → is_essential sets (primes_of sets) (cube_at (primes_of sets) n) ≡ true → has n x ≡ true
@@ -404,7 +396,7 @@ module _ (sets : SetLists) (on_cubes : AreCubes sets.size sets.on) (x : List ℕ
         let differs : not (is_eq (row_cmp (cube_at primes i.0) c)) ≡ true = elim (cases_Bool (is_eq (row_cmp (cube_at primes i.0) c))) [
           | inr f ↦ ap not f
           | inl f ↦ (
-              let same = one_number primes i.0 n (sorted-complete_sum sets.size (λ q. places sets.on q || places sets.dc q)) li lt (row_exact (cube_at primes i.0) c (eq_from (row_cmp (cube_at primes i.0) c) f)) in
+              let same = one_number primes i.0 n (sorted-complete_sum sets.size (λ q. places sets.on q || places sets.dc q)) li lt (equal_from c (cube_at primes i.0) f) in
               absurd (both_ways _ e (subst (λ m. has m x ≡ true) same i.1)))
         ] in
         list_any_from (λ d. holds d p) (others c primes) (cube_at primes i.0) (Contains-filter (λ d. not (is_eq (row_cmp d c))) primes (cube_at primes i.0) (cube_at-member primes i.0 li) differs) i.2) in
@@ -460,7 +452,7 @@ module _ (choice : Choice) (sets : SetLists) (essential points list answer : Lis
   essential_from : (n : ℕ) → in_essential n ≡ true → Contains essential (cube_at all_primes n)
   essential_from n e =
       let w = list_any_witness (λ c. is_eq (row_cmp c (cube_at all_primes n))) essential e in
-      subst (Contains essential) (row_exact w.0 (cube_at all_primes n) (eq_from (row_cmp w.0 (cube_at all_primes n)) w.2)) w.1
+      subst (Contains essential) (equal_from (cube_at all_primes n) w.0 w.2) w.1
 
   essential_to : (n : ℕ) → Contains essential (cube_at all_primes n) → in_essential n ≡ true
   essential_to n h = list_any_from (λ c. is_eq (row_cmp c (cube_at all_primes n))) essential (cube_at all_primes n) h (ap is_eq (tied_itself row_total (cube_at all_primes n)))

@@ -35,8 +35,8 @@ places_same xs ys same p = elim (cases_Bool (places xs p)) [
 ]
 
 module _ (sets : SetLists) (off : Cubes) (e : off.size ≡ sets.size) where
-  pub primes_outside : IsSource sets.size (Outside off)
-  primes_outside = record {
+  pub source_outside : IsSource sets.size (Outside off)
+  source_outside = record {
     sized = e;
     cubes = λ c h. subst (λ z. IsCube z c) e ((Contains-complete_sum off.size (λ p. not (places off.cubes p)) c).0 h).is_cube;
   }
@@ -52,8 +52,8 @@ module _ (sets : SetLists) (off : Cubes) (e : off.size ≡ sets.size) where
   }
 
 module _ (sets : SetLists) (list : Cubes) (e : list ≡ record { size = sets.size; cubes = primes_of sets }) where
-  pub primes_among : IsSource sets.size (Primes list)
-  primes_among = record {
+  pub source_among : IsSource sets.size (Primes list)
+  source_among = record {
     sized = ap (λ (l : Cubes). l.size) e;
     cubes = λ c h. ((Contains-complete_sum sets.size (λ p. places sets.on p || places sets.dc p) c).0 (subst (λ l. Contains l c) (ap (λ (l : Cubes). l.cubes) e) h)).is_cube;
   }

@@ -35,7 +35,7 @@ ghost use Rattle.minimum.specs.Points.{AreColumnsOf, IsOnePoint};
 ghost use Rattle.minimum.specs.AsNeeded.{inside_of, primes_inside, AreOutside, IsKnown};
 
 use crate::as_needed::narrowing::Narrowing;
-use crate::as_needed::places_outside::{add_refusals, add_refusals_of_growth, parts_left_out};
+use crate::as_needed::places_outside::{add_refusals, add_refusals_of_growth, parts_not_held};
 use crate::essential_by_neighbours::find_essential;
 use crate::points::picked_points::{PickedPoints, push_cube};
 use crate::points::rounds::cover_of_points;
@@ -143,7 +143,7 @@ fn primes_of_point(
         let of_a_column = outside.len().saturating_add(points.len());
         *looks = looks.saturating_sub(columns.len().saturating_mul(of_a_column));
         let row = in_row_order(&columns)?;
-        let refused = parts_left_out(alloc, all.list(), row.as_slice())?;
+        let refused = parts_not_held(alloc, all.list(), row.as_slice())?;
         if refused.is_empty() {
             return Ok(Some(row));
         }
@@ -271,7 +271,7 @@ fn wanted_left_out(alloc: Global, sets: &Sets, list: &Cover) -> Result<Vec<Cube>
 {
     let mut held = list.try_clone()?;
     held.append(sets.dc())?;
-    parts_left_out(alloc, &held, sets.on().as_slice())
+    parts_not_held(alloc, &held, sets.on().as_slice())
 }
 
 /// The cubes of the one list and then those of the other.

@@ -1,19 +1,11 @@
-//! Symbols that are compared, and copies of the cubes with some numbers.
+//! Copies of those cubes of a list that have some numbers.
 
-ghost use Rattle.std.specs.Prelude.{◌≡◌, ◌↔◌, IsTrue, IfOk};
+ghost use Rattle.std.specs.Prelude.{◌≡◌, IfOk};
 ghost use Rattle.minimum.specs.Primes.{chosen};
 
 use cover::Cover;
-use cube::Symbol;
 use growth::add_copy;
 use std::alloc::{AllocError, Global};
-
-/// Whether the two symbols are equal.
-pub(crate) fn is_same(one: Symbol, other: Symbol) -> bool
-    ensures { IsTrue result ↔ one ≡ other }
-{
-    one == other
-}
 
 /// Copies of the list's cubes with these numbers, in the order of the numbers; a number past the
 /// end adds none.

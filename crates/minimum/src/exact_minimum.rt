@@ -19,7 +19,7 @@ ghost use Rattle.minimum.specs.Primes.{exact_of};
 
 use crate::as_needed::exact_as_needed;
 use crate::cubes::cubes_at;
-use crate::of_pla::primes_outside;
+use crate::of_pla::primes_under_fr;
 use crate::points::rounds::exact_by_points;
 use crate::points::source::Source;
 use crate::prime_implicants::{on_and_dc, primes};
@@ -158,6 +158,6 @@ pub(crate) fn exact_of_samples(
             return Ok(list);
         }
     }
-    let primes = primes_outside(pla, source.list())?;
+    let primes = primes_under_fr(pla, source.list())?;
     exact_by_primes(alloc, pla.on(), &none, primes, true, choice)
 }

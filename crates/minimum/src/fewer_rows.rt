@@ -1,4 +1,5 @@
-//! The answers for a description, of which lists are taken with fewer rows.
+//! The answers for a description (`primes_of_pla`, `essential_of_pla`, `exact_of_pla`): `primes`, `essen` and
+//! `exact` begin here. Lists with fewer rows are taken, and then the steps in `of_pla` and `exact_minimum`.
 //!
 //! What is asked depends on places alone, and not on the rows that give them. A table of truth, with
 //! a row for each point, takes far longer than the same places in few rows. Its primes do not: the
@@ -14,7 +15,7 @@ ghost use Rattle.minimum.specs.Primes.{essential_of, exact_of, primes_of};
 ghost use Rattle.minimum.specs.SamePlaces.{HasSamePlaces};
 
 use crate::exact_minimum::{exact, exact_of_samples};
-use crate::of_pla::{essential_of_sets, essential_outside, off_alone, primes_outside};
+use crate::of_pla::{essential_of_sets, essential_outside, off_alone, primes_under_fr};
 use crate::prime_implicants::primes;
 use crate::way_hints::uses_points;
 use cover::{Cover, contain, merge_rows};
@@ -186,7 +187,7 @@ pub fn primes_of_pla(alloc: Global, pla: &Pla) -> Result<Cover, AllocError>
     let fewer = with_fewer_rows(Aim::AllPrimes, pla)?;
     let pla = fewer_rows_or_given(&fewer, pla);
     match off_alone(pla)? {
-        Some(off) => primes_outside(pla, &off),
+        Some(off) => primes_under_fr(pla, &off),
         None => primes(&pla::sets(alloc, pla, true, false)?),
     }
 }

@@ -1,4 +1,4 @@
-//! A law of the definitions, as a contract.
+//! A law of the definitions, as a contract: when the least cover of a table of points is that by primes.
 
 ghost use Rattle.minimum.specs.Points.{PointsAreEnough};
 

@@ -1,4 +1,6 @@
-//! Steps to the answers for a description, whose lists are made as far as they are needed.
+//! Steps to the answers for a description, whose lists are made as far as they are needed: cubes with the
+//! places of OFF alone under fr, primes outside them, essential primes. (`primes_of_pla` and its like, which
+//! take these steps, stand in `fewer_rows`.)
 
 ghost use Rattle.std.specs.Prelude.{◌≡◌, ◌||◌, IfOk, IfSome, not, true};
 ghost use Rattle.cube.specs.Cube.{IsPlace, Place, difference as difference_of};
@@ -43,7 +45,7 @@ fn few_dont_cares(pla: &Pla) -> Result<Option<Cover>, AllocError>
 // neither list holds, where that is few cubes, or else of all places outside. In machines few codes
 // are no state, and the former is made in a tenth of the time of the latter; of samples nearly all
 // places are don't-cares.
-pub(crate) fn primes_outside(pla: &Pla, off: &Cover) -> Result<Cover, AllocError>
+pub(crate) fn primes_under_fr(pla: &Pla, off: &Cover) -> Result<Cover, AllocError>
     requires file_type { pla.now.file_type ≡ FileType.Fr }
     requires size { off.now.size ≡ pla.now.size }
     requires places { (p : Place) → IsPlace pla.now.size p

@@ -7,7 +7,9 @@
 //! There may be few such columns where the function has far too many primes to list, and where a
 //! point has.
 //!
-//! Which points are picked is a hint, and each is looked at before it is taken.
+//! Which points are picked is a hint, and each is looked at before it is taken. Here points are added with
+//! their columns, and the table is made; `rounds` has the rounds, and `source` tells where columns come
+//! from.
 
 ghost use Rattle.std.specs.Prelude.{◌≡◌, ◌≢◌, true, IfOk, IfSome, OnOk, All, length, map};
 ghost use Rattle.std.specs.List.{Contains, range_with_len};

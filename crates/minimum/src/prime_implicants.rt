@@ -1,4 +1,4 @@
-//! All primes of a function: the complete sum of its ON-set and DC-set together.
+//! All primes of a function: the complete sum of its ON-set and DC-set together, and the list of both.
 
 ghost use Rattle.std.specs.Prelude.{◌≡◌, ◌++◌, IfOk};
 ghost use Rattle.minimum.specs.Primes.{primes_of};

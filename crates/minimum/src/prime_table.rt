@@ -39,7 +39,7 @@ fn weight(cube: &Cube) -> u32
     cube.literals() as u32
 }
 
-/// The numbers of literals of the list's cubes.
+/// Each cube's number of literals: the weight of its column.
 pub(crate) fn weights(alloc: Global, list: &Cover) -> Result<Vec<u32>, AllocError>
     requires { IsWithinLimits format_limits list.now.size }
     ensures { IfOk result (λ v. v.items ≡ map literals_of list.now.cubes) }

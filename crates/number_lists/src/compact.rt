@@ -1,4 +1,6 @@
-//! A table with its live columns renumbered.
+//! A covering table for hints: its live columns renumbered, with what each costs; also the unit in which
+//! weights of rows are whole numbers (`UNIT`). (`renumber` of `covering` makes such a table for the least
+//! cover.)
 
 use crate::lists::Lists;
 use crate::numbers::{at, small};

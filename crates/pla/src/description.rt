@@ -1,4 +1,4 @@
-//! What a file says, once it is read.
+//! What a file says, once it is read ([`Pla`]).
 ghost use Rattle.std.specs.Prelude.{◌≡◌, None};
 ghost use Rattle.pla.specs.Names.{lent_names, owned_names};
 

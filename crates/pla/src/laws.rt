@@ -1,4 +1,5 @@
-//! Laws of the definitions, each as the contract of a function that does nothing.
+//! Laws of the definitions, each as the contract of a function that does nothing: what files are under wider
+//! limits, and that a printed text is read back.
 ghost use Rattle.pla.specs.WiderLimits.{WiderLimitsReadAlike, OlderLimitsReadAlike};
 ghost use Rattle.pla.specs.ReadBack.{TextsAreReadBack, FaultlessAreReadable, EchoesAreReadBack};
 

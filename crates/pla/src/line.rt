@@ -1,4 +1,4 @@
-//! What a line holds.
+//! What a line holds: its words, its keyword, a number, and its code, which is what stands before a comment.
 ghost use Rattle.std.specs.Prelude.{◌≡◌, [], slice_index_or, ◌<◌, ◌^◌, IfOk, position, ◌==◌, not, filter, bytes_eq};
 ghost use Rattle.std.specs.List.{list_any};
 ghost use Rattle.pla.specs.Lines.{is_blank, is_row_blank, is_keyword_line, words, is_empty, row_code, keyword_code, keyword};

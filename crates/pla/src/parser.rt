@@ -1,4 +1,4 @@
-//! A file, line by line.
+//! What the lines of a file have given so far; each is taken as a keyword line or a row line.
 ghost use Rattle.std.specs.Prelude.{◌≡◌, ◌+◌, ◌<◌, ◌≤◌, ◌++◌, ◌∷◌, [], List, ℕ, Some, None, true, false, option_map, IfErr, MatchResult, OnOk};
 ghost use Rattle.std.specs.Option.{option_or};
 ghost use Rattle.cube.specs.Limits.{format_limits};

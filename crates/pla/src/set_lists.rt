@@ -1,4 +1,5 @@
-//! The ON-set, the DC-set and the OFF-set as lists of cubes.
+//! The ON-set, the DC-set and the OFF-set as lists of cubes ([`Sets`]), which `completed` makes of a
+//! description.
 ghost use Rattle.std.specs.Prelude.{◌≡◌};
 ghost use Rattle.pla.specs.Sets.{lists_of};
 

@@ -4,3 +4,4 @@ pub mod LeftOut
 pub mod EqualRows
 pub mod Relations
 pub mod MeetsWithin
+pub mod OutputParts

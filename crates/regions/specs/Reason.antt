@@ -33,6 +33,14 @@ Joins region one other None = ⊥
 Joins region one other (Some c) =
     SameSize c region × (IsSubset (holds region) (holds c) × IsSubset (holds c) (λ p. holds one p || holds other p))
 
+-- two parts of a region that hold all of its places
+pub record HasParts (region part rest : Cube) : Type 0 where
+  pub part_size : SameSize part region
+  pub part_within : IsSubset (holds part) (holds region)
+  pub rest_size : SameSize rest region
+  pub rest_within : IsSubset (holds rest) (holds region)
+  pub whole : IsSubset (holds region) (λ p. holds part p || holds rest p)
+
 -- each of the references is to one of the rows
 abbrev pub AreAmong : List (Bor Cube) → List (Bor Cube) → Type 0
 AreAmong some rows = (d : Cube) → Contains (behind some) d → Contains (behind rows) d

@@ -13,11 +13,12 @@
 //! Each question looks at the rows once. The halves of a region look first at the rows alone that
 //! had fewest open literals in it, and at all rows that meet the region once those have more.
 //!
-//! Splits may look at a limited number of rows. Once that is spent,
-//! `part_left_out_by_splits_or_search` asks a search that learns (`learned`).
+//! Splits may look at a limited number of rows. Once that is spent they may begin again, part by part
+//! (`output_parts`); then `part_left_out_by_splits_or_search` asks a search that learns (`learned`).
 pub(crate) mod learned;
 pub(crate) mod nearest_first;
 pub(crate) mod nearest_rows;
+pub(crate) mod output_parts;
 pub(crate) mod passes;
 pub(crate) mod step_hint;
 
@@ -30,6 +31,7 @@ ghost use Rattle.regions.specs.LeftOut.{LeavesOut};
 ghost use Rattle.regions.specs.Reason.{IsReason, Joins, IsClosed, Leads, Share, Shows, AreAmong, AreRowsWithNear, AreLearned};
 
 use crate::region::learned::{Learned, Shown, shown_by_search};
+use crate::region::output_parts::parts_by_widest_row;
 use crate::region::step_hint::{Hint, next_step_hint};
 use cube::{Cube, Symbol};
 use rows::{count_open_literals, opposite};
@@ -456,6 +458,32 @@ impl Splits {
             Err(Stop::Memory) => Err(AllocError),
         }
     }
+
+    // What the splits show of the region, part by part: each has the outputs that a row shares with
+    // what is left.
+    fn show_part_by_part(
+        &mut self,
+        rows: &[&Cube],
+        near: &[&Cube],
+        bound: u32,
+        region: &Cube,
+    ) -> Result<Shown, AllocError>
+        requires { AreRowsWithNear region.now rows.now near.now }
+        ensures { IfOk result (Shows region.now rows.now) }
+    {
+        let mut left = region.try_clone()?;
+        for _ in 0..region.shape().outputs() {
+            let Some((part, rest)) = parts_by_widest_row(rows, &left)? else {
+                break;
+            };
+            match self.show(rows, near, bound, &part)? {
+                Shown::Held => left = rest,
+                Shown::LeftOut(found) => return Ok(Shown::LeftOut(found)),
+                Shown::Nothing => return Ok(Shown::Nothing),
+            }
+        }
+        self.show(rows, near, bound, &left)
+    }
 }
 
 /// A part of the region of which the rows hold no place, or `None` if they hold the region.
@@ -491,13 +519,60 @@ pub(crate) fn holds_by_splits(
     }
 }
 
+// What splits show of the region in a second try, if `learned` lets them look at any rows.
+fn shown_in_second_try(
+    alloc: Global,
+    rows: &[&Cube],
+    near: &[&Cube],
+    bound: u32,
+    region: &Cube,
+    learned: &mut Learned,
+) -> Result<Shown, AllocError>
+    requires { AreRowsWithNear region.now rows.now near.now }
+    ensures known { OnOk result (learned.new.known ≡ learned.old.known) }
+    ensures shown { IfOk result (Shows region.now rows.now) }
+{
+    let rows_left = learned.rows_for_second_try(rows, region);
+    if rows_left == 0 {
+        return Ok(Shown::Nothing);
+    }
+    let mut splits = Splits::limited_to(alloc, rows_left);
+    let shown = splits.show_part_by_part(rows, near, bound, region);
+    learned.note_second_try(rows_left.saturating_sub(splits.rows_left));
+    shown
+}
+
+// What splits show of the region within the rows that `learned` lets them look at, in two tries.
+fn shown_by_splits(
+    alloc: Global,
+    rows: &[&Cube],
+    near: &[&Cube],
+    bound: u32,
+    region: &Cube,
+    learned: &mut Learned,
+) -> Result<Shown, AllocError>
+    requires { AreRowsWithNear region.now rows.now near.now }
+    ensures known { OnOk result (learned.new.known ≡ learned.old.known) }
+    ensures shown { IfOk result (Shows region.now rows.now) }
+{
+    learned.raise_rows_left(rows);
+    let mut splits = Splits::limited_to(alloc, learned.rows_left);
+    let shown = splits.show(rows, near, bound, region);
+    learned.rows_left = splits.rows_left;
+    match shown? {
+        Shown::Nothing => shown_in_second_try(alloc, rows, near, bound, region, learned),
+        found => Ok(found),
+    }
+}
+
 /// A part of the region of which the rows hold no place, or `None` if they hold the region. The
 /// rows `near` are looked at alone while one of them has at most `bound` open literals.
 ///
 /// Most questions are answered by splits. How many rows these may still look at is kept in
 /// `learned`: each question about the rows adds some, and takes those that its splits look at. Once
-/// that is spent, a search is asked, and what it learns of the rows is kept. If it finds no answer
-/// within its limits, or one that fails the check, splits begin again without limit.
+/// that is spent, they begin again part by part, if searches would read much more. Then a search is
+/// asked, and what it learns of the rows is kept. If it finds no answer within its limits, or one
+/// that fails the check, splits begin again without limit.
 pub(crate) fn part_left_out_by_splits_or_search(
     alloc: Global,
     rows: &[&Cube],
@@ -511,11 +586,7 @@ pub(crate) fn part_left_out_by_splits_or_search(
     ensures known { OnOk result (AreLearned region.now rows.now learned.new.known.items) }
     ensures part { IfOk result (LeavesOut (size_of region.now) (behind rows.now) region.now) }
 {
-    learned.raise_rows_left(rows);
-    let mut splits = Splits::limited_to(alloc, learned.rows_left);
-    let shown = splits.show(rows, near, bound, region);
-    learned.rows_left = splits.rows_left;
-    match shown? {
+    match shown_by_splits(alloc, rows, near, bound, region, learned)? {
         Shown::Held => return Ok(None),
         Shown::LeftOut(part) => return Ok(Some(part)),
         Shown::Nothing => (),

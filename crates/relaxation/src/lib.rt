@@ -5,7 +5,8 @@
 //!
 //! - [`Relaxation::new`] makes the relaxation of the first table of a search. Later tables are the first
 //!   one with some columns fixed.
-//! - [`Relaxation::multipliers`] solves that of a table, and gives weights of its rows.
+//! - [`Relaxation::multipliers`] solves that of a table, and gives weights of its rows. Where columns have
+//!   different costs it limits their number as well.
 //! - [`Relaxation::branching_column`] names a column to branch on. [`Relaxation::branch`] keeps the place
 //!   of a branch, and [`Relaxation::go_back`] returns to it.
 //!   What branches gained ([`PseudoCosts`]) passes to the relaxation of the next search.

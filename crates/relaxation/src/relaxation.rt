@@ -7,11 +7,12 @@
 use crate::floats::{add_float, float, put_float};
 use crate::reliability::PseudoCosts;
 use crate::simplex::{Basis, End, NONE, Simplex};
+use heuristics::{Goal, Multipliers};
 use number_lists::{Compact, Lists, UNIT, flag, is_live_part_of, mark, marked, number, set};
 use std::alloc::{AllocError, Global};
-use std::num::{nearest_i64_to_f64, saturating_f64_to_u64};
+use std::num::{nearest_i64_to_f64, nearest_u64_to_f64, saturating_f64_to_u64};
 
-/// The most rows.
+/// The most rows, beside the limit.
 const MOST_ROWS: usize = 2_500;
 
 /// The most columns.
@@ -22,6 +23,9 @@ const MOST_STEPS: u32 = 5_000;
 
 /// How far past the goal an objective shows that no cover reaches it.
 pub(crate) const MARGIN: f64 = 1e-3;
+
+/// The multiplier of a column, in whole numbers, is at most about this: it is of 32 bits.
+const MOST_COLUMN: f64 = 4294967295.0;
 
 /// A weight of a row that is not in the table is handed over only if it is more than this, which in whole
 /// numbers is less than one.
@@ -172,11 +176,21 @@ fn first_inside(rows: &[Vec<usize>], marks: &[bool]) -> usize {
     rows.len()
 }
 
-/// The weights times `UNIT`, rounded down to whole numbers.
-fn whole(alloc: Global, weights: &[f64]) -> Result<Vec<u64>, AllocError> {
+/// What one counts in whole numbers: `UNIT`, or less where this number of them would not fit into 32
+/// bits.
+fn unit_for(most: f64) -> u32 {
+    let unit = nearest_i64_to_f64(UNIT).min(MOST_COLUMN / (most + 1.0));
+    u32::try_from(saturating_f64_to_u64(unit))
+        .unwrap_or(u32::MAX)
+        .max(1)
+}
+
+/// The weights times `unit`, rounded down to whole numbers.
+fn whole(alloc: Global, weights: &[f64], unit: u32) -> Result<Vec<u64>, AllocError> {
+    let factor = nearest_u64_to_f64(u64::from(unit));
     let mut numbers = Vec::with_capacity(alloc, weights.len())?;
     for weight in weights {
-        numbers.push(saturating_f64_to_u64(*weight * nearest_i64_to_f64(UNIT)))?;
+        numbers.push(saturating_f64_to_u64(*weight * factor))?;
     }
     Ok(numbers)
 }
@@ -192,8 +206,11 @@ impl Relaxation {
         columns: usize,
         gains: PseudoCosts,
     ) -> Result<Relaxation, AllocError> {
+        let simplex = Simplex::new(alloc, table)?;
+        let no_costs = vec![in alloc; 0.0; live.len()]?;
         Ok(Relaxation {
-            simplex: Simplex::new(alloc, table)?,
+            saved: Basis::new(alloc, simplex.row_count(), &no_costs)?,
+            simplex,
             columns: live.to_vec(alloc)?,
             indices: indices_of(alloc, live, columns)?,
             rows: Lists::of(alloc, rows)?,
@@ -201,7 +218,6 @@ impl Relaxation {
             taken: vec![in alloc; false; columns]?,
             gains,
             branched: None,
-            saved: Basis::new(alloc, rows.len(), &vec![in alloc; 0.0; live.len()]?)?,
             end: End::Spent,
             cutoff: 0.0,
         })
@@ -240,28 +256,36 @@ impl Relaxation {
     }
 
     /// Fixes the columns that are not live, at 1 if they are taken and else at 0, and frees the
-    /// others; answers how many are taken.
-    fn fix_columns(&mut self) -> i64 {
+    /// others; answers how many are taken, and what these cost.
+    fn fix_columns(&mut self) -> (i64, f64) {
         let mut ones: i64 = 0;
+        let mut cost = 0.0;
         for index in 0..self.columns.len() {
             let column = number(&self.columns, index);
             if flag(&self.live, column) {
                 self.simplex.set_bounds(index, 0.0, 1.0);
             } else if flag(&self.taken, column) {
                 ones = ones.saturating_add(1);
+                cost += self.simplex.cost(index);
                 self.simplex.set_bounds(index, 1.0, 1.0);
             } else {
                 self.simplex.set_bounds(index, 0.0, 0.0);
             }
         }
-        ones
+        (ones, cost)
     }
 
     /// Solves the relaxation of the present table, or stops where its objective shows that no cover
-    /// has at most `goal` columns beside the taken ones; notes how the steps ended.
-    pub(crate) fn solve(&mut self, alloc: Global, goal: i64) -> Result<(), AllocError> {
-        let ones = self.fix_columns();
-        self.cutoff = nearest_i64_to_f64(goal.saturating_add(ones)) + MARGIN;
+    /// reaches the goal beside the taken columns; notes how the steps ended.
+    pub(crate) fn solve(&mut self, alloc: Global, goal: Goal) -> Result<(), AllocError> {
+        let (ones, cost) = self.fix_columns();
+        let most = nearest_i64_to_f64(goal.columns.saturating_add(ones));
+        self.cutoff = if self.simplex.is_limited() {
+            self.simplex.set_most(most);
+            nearest_i64_to_f64(goal.cost) + cost + MARGIN
+        } else {
+            most + MARGIN
+        };
         self.simplex.list_open(alloc)?;
         self.simplex.settle();
         self.end = self.simplex.optimize(alloc, self.cutoff, MOST_STEPS)?;
@@ -296,17 +320,16 @@ impl Relaxation {
         Ok(origins)
     }
 
-    /// The weights of the rows of the table with these live and taken columns, in whole numbers,
-    /// where a column costs `UNIT`: those of the relaxation, solved until its objective is past
-    /// `goal` more columns. Notes what the last branch gained.
+    /// The multipliers of the table with these live and taken columns: those of the relaxation, solved
+    /// until its objective is past the goal. Notes what the last branch gained.
     pub fn multipliers(
         &mut self,
         alloc: Global,
         rows: &[Vec<usize>],
         live: &[usize],
         taken: &[usize],
-        goal: i64,
-    ) -> Result<Vec<u64>, AllocError> {
+        goal: Goal,
+    ) -> Result<Multipliers, AllocError> {
         self.look_at(alloc, live, taken)?;
         let origins = self.first_rows(alloc, rows)?;
         let used = marked(alloc, &origins, self.rows.len())?;
@@ -315,7 +338,28 @@ impl Relaxation {
         self.note_gain();
         let mut weights = self.own_weights(alloc, &origins)?;
         self.hand_over(alloc, rows, &used, &mut weights)?;
-        whole(alloc, &weights)
+        self.in_whole_numbers(alloc, &weights)
+    }
+
+    /// These weights of rows with the parts of a column's cost, in whole numbers: where columns cost the
+    /// same that is `UNIT`, and else a number for each unit of its cost beside the weight of the limit.
+    fn in_whole_numbers(&self, alloc: Global, weights: &[f64]) -> Result<Multipliers, AllocError> {
+        let more = self.simplex.limit_weight(self.end);
+        let unit = unit_for(more);
+        let weights = whole(alloc, weights, unit)?;
+        if !self.simplex.is_limited() {
+            return Ok(Multipliers {
+                weights,
+                column: unit,
+                cost: 0,
+            });
+        }
+        let column = saturating_f64_to_u64(more * nearest_u64_to_f64(u64::from(unit)));
+        Ok(Multipliers {
+            weights,
+            column: u32::try_from(column).unwrap_or(u32::MAX),
+            cost: unit,
+        })
     }
 
     /// The weights of these rows of the first table, at least 0; 0 for `NONE`.

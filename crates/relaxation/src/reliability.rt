@@ -9,6 +9,7 @@
 use crate::floats::{add_float, float};
 use crate::relaxation::{MARGIN, Relaxation};
 use crate::simplex::{End, NONE};
+use heuristics::Goal;
 use number_lists::{add_to, number};
 use std::alloc::{AllocError, Global};
 use std::num::{nearest_u64_to_f64, saturating_f64_to_u64};
@@ -152,13 +153,13 @@ enum Look {
 
 impl Relaxation {
     /// A live column to branch on, if one can be told, in the table with these live and taken
-    /// columns, where a cover may have `goal` more columns.
+    /// columns, where a cover may have no more than the goal beside these.
     pub fn branching_column(
         &mut self,
         alloc: Global,
         live: &[usize],
         taken: &[usize],
-        goal: i64,
+        goal: Goal,
     ) -> Result<Option<usize>, AllocError> {
         self.look_at(alloc, live, taken)?;
         self.solve(alloc, goal)?;

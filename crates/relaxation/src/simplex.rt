@@ -8,6 +8,9 @@
 //! Pivot selection methods of the Devex LP code, 1973) names the variable that enters. Costs are
 //! perturbed downwards a little against ties, so that weights stay within the true costs.
 //!
+//! Where columns have different costs, one more row, the limit, says how many there are at most: each
+//! column counts -1 there, and the row wants at least minus that number.
+//!
 //! The inverse is kept entry by entry, and computed anew from time to time. Its rows for surpluses of
 //! rows that are not looked at now, the inactive ones, are not kept up, and computed when they are
 //! active again.
@@ -21,9 +24,9 @@ mod pricing;
 
 use crate::floats::{add_float, float, put_float};
 pub(crate) use basis::{Basis, NONE};
-use number_lists::{Compact, Lists, SEED, flag, mark, next_random, number};
+use number_lists::{Compact, Lists, SEED, at, flag, mark, next_random, number, small};
 use std::alloc::{AllocError, Global};
-use std::num::nearest_u64_to_f64;
+use std::num::{nearest_i64_to_f64, nearest_u64_to_f64};
 
 /// By how much a value may be outside its bounds: far above what sums of figures of about one are wrong
 /// by, and far below what a bound that is off by one shows.
@@ -36,8 +39,8 @@ const DUAL_FEASIBLE: f64 = 1e-9;
 /// A smaller reduced cost becomes 0, so that errors do not add up.
 const NO_COST: f64 = 1e-10;
 
-/// The part of a column's cost by which it is perturbed, at most: against ties, and so little that the
-/// bound of a cover of a hundred columns loses a hundredth.
+/// By how much a column's cost is perturbed, at most: against ties, and so little that the bound of a
+/// cover of a hundred columns loses a hundredth.
 const PERTURBATION: f64 = 1e-4;
 
 /// How many numbers of 53 bits there are; a figure holds each of them exactly.
@@ -85,8 +88,12 @@ struct Candidate {
 pub(crate) struct Simplex {
     /// The columns of each row.
     rows: Lists,
-    /// The rows of each column.
+    /// The rows of each column, without the limit.
     column_rows: Lists,
+    /// The limit, or `NONE` where columns cost the same.
+    limit: usize,
+    /// How many columns there are at most, where there is a limit.
+    most: f64,
     /// What each column costs, perturbed.
     costs: Vec<f64>,
     /// The least value of each column.
@@ -123,6 +130,8 @@ impl Drop for Simplex {
         let Simplex {
             rows: _,
             column_rows: _,
+            limit: _,
+            most: _,
             costs: _,
             lower: _,
             upper: _,
@@ -152,33 +161,59 @@ enum Step {
     Ended(End),
 }
 
-/// The costs of columns that each cost one, perturbed downwards by at most a ten thousandth.
-fn perturbed_costs(alloc: Global, columns: usize) -> Result<Vec<f64>, AllocError> {
+/// The cost of a column: one where all cost the same.
+fn cost_of(table: &Compact, uneven: bool, column: usize) -> f64 {
+    if uneven {
+        nearest_i64_to_f64(at(&table.costs, column))
+    } else {
+        1.0
+    }
+}
+
+/// The costs of columns, perturbed downwards by at most a ten thousandth.
+fn perturbed_costs(alloc: Global, table: &Compact) -> Result<Vec<f64>, AllocError> {
+    let uneven = table.is_uneven();
+    let columns = table.column_rows.len();
     let mut costs = Vec::with_capacity(alloc, columns)?;
     let mut seed = SEED;
-    for _ in 0..columns {
+    for column in 0..columns {
         seed = next_random(seed);
         let part = nearest_u64_to_f64(seed >> 11) / RANDOM_RANGE;
-        costs.push(1.0 - PERTURBATION * (0.5 + 0.5 * part))?;
+        let perturbation = PERTURBATION * (0.5 + 0.5 * part);
+        costs.push(cost_of(table, uneven, column) - perturbation)?;
     }
     Ok(costs)
 }
 
+/// The rows of the table, and after them the limit if there is one: a row of all columns.
+fn rows_and_limit(alloc: Global, table: &Compact, limited: bool) -> Result<Lists, AllocError> {
+    let mut rows = Lists::new(alloc);
+    rows.extend_from(&table.rows)?;
+    if limited {
+        for column in 0..table.column_rows.len() {
+            rows.push(small(column))?;
+        }
+        rows.end()?;
+    }
+    Ok(rows)
+}
+
 impl Simplex {
-    /// The relaxation of the table, each of whose columns costs one. None of them is fixed, all are
-    /// at 0, and all rows are active.
+    /// The relaxation of the table. No column is fixed, all are at 0, and all rows are active.
     pub(crate) fn new(alloc: Global, table: &Compact) -> Result<Simplex, AllocError> {
-        let rows = table.rows.len();
+        let limited = table.is_uneven();
+        let all_rows = rows_and_limit(alloc, table, limited)?;
+        let rows = all_rows.len();
         let columns = table.column_rows.len();
-        let costs = perturbed_costs(alloc, columns)?;
+        let costs = perturbed_costs(alloc, table)?;
         let basis = Basis::new(alloc, rows, &costs)?;
-        let mut all_rows = Lists::new(alloc);
-        all_rows.extend_from(&table.rows)?;
         let mut column_rows = Lists::new(alloc);
         column_rows.extend_from(&table.column_rows)?;
         Ok(Simplex {
             rows: all_rows,
             column_rows,
+            limit: if limited { table.rows.len() } else { NONE },
+            most: 0.0,
             costs,
             lower: vec![in alloc; 0.0; columns]?,
             upper: vec![in alloc; 1.0; columns]?,
@@ -196,7 +231,27 @@ impl Simplex {
         })
     }
 
-    /// How many rows there are.
+    /// Whether the number of columns is limited, as it is where they have different costs.
+    pub(crate) fn is_limited(&self) -> bool {
+        self.limit != NONE
+    }
+
+    /// Sets how many columns there are at most, where there is a limit.
+    pub(crate) fn set_most(&mut self, most: f64) {
+        self.most = most;
+    }
+
+    /// What a column costs, perturbed.
+    pub(crate) fn cost(&self, column: usize) -> f64 {
+        float(&self.costs, column)
+    }
+
+    /// What a column counts in a row that has it.
+    fn entry(&self, row: usize) -> f64 {
+        if row == self.limit { -1.0 } else { 1.0 }
+    }
+
+    /// How many rows there are, with the limit.
     pub(crate) fn row_count(&self) -> usize {
         self.rows.len()
     }
@@ -233,6 +288,12 @@ impl Simplex {
             End::Infeasible => &self.ray,
             _ => &self.basis.weights,
         }
+    }
+
+    /// The weight of the limit, by which each column costs more, after steps that ended so; 0
+    /// where there is none.
+    pub(crate) fn limit_weight(&self, end: End) -> f64 {
+        float(self.weights(end), self.limit).max(0.0)
     }
 
     /// Copies the basis.
@@ -347,8 +408,7 @@ impl Simplex {
             self.fill_ray(position, sign, bound, cutoff);
             return Ok(Step::Ended(End::Infeasible));
         };
-        self.basis
-            .fill_entering(&self.column_rows, entering.variable, &mut self.entering);
+        self.fill_entering(entering.variable);
         let pivot = float(&self.entering, position);
         let error = (pivot - entering.entry).abs();
         if pivot.abs() < LEAST_PIVOT || error > PIVOT_ERROR * (1.0 + pivot.abs()) {
@@ -357,6 +417,16 @@ impl Simplex {
         }
         self.exchange(position, bound, entering.variable, pivot)?;
         Ok(Step::Pivoted)
+    }
+
+    /// Fills in the column of the tableau of a variable.
+    fn fill_entering(&mut self, variable: usize) {
+        self.basis
+            .fill_entering(&self.column_rows, variable, &mut self.entering);
+        if self.basis.row_of(variable).is_none() {
+            self.basis
+                .add_inverse_column(self.limit, -1.0, &mut self.entering);
+        }
     }
 
     /// Lets the variable at the position leave for its bound, and another one enter.

@@ -1,4 +1,5 @@
-//! Copies of lists, references to their cubes, and whether a row meets a cube of one.
+//! Copies of lists, references to their cubes, and whether a row meets a cube of a list (`any_meets`) or
+//! none (`is_disjoint_from_all`).
 ghost use Rattle.std.specs.Prelude.{◌↔◌, ◌<◌, IsTrue, IfOk, All, ◌≡◌, ◌++◌, false};
 ghost use Rattle.cube.specs.Cube.{SameSize, IsDisjoint, holds};
 ghost use Rattle.rows.specs.Places.{places, behind};

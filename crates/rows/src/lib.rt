@@ -7,9 +7,10 @@
 //! - [`meets_by_pairs`], the meets of the rows of two lists;
 //! - [`rows_with_symbol`] and [`rows_with_compatible_symbol`], the rows by their symbol at an input.
 //!
-//! The others copy lists, make references to their rows, test symbols and outputs, count literals
-//! ([`LiteralCounts`]) and hash rows. Lists of the program's own have a shape, and are covers, in
-//! the crate `cover`; `regions` asks what a list holds, and `sums` makes complete sums.
+//! The others copy lists or put one behind another, make references to their rows, test symbols and
+//! outputs, count literals ([`LiteralCounts`]), find those that are open in a region, and hash rows.
+//! Lists of the program's own have a shape, and are covers, in the crate `cover`; `regions` asks what
+//! a list holds, and `sums` makes complete sums.
 //!
 //! With two inputs and one output, [`sort_rows`] makes of `1- 1`, `0- 1` and `1- 1` the rows `0- 1`
 //! and `1- 1`; their meets with `-1 1` are `01 1` and `11 1`; and of the two rows `1- 1` alone has

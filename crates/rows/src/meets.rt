@@ -1,4 +1,4 @@
-//! The meets of two lists, pair by pair.
+//! The meets of two lists, pair by pair. (`meets` of `sums` mostly looks at fewer.)
 ghost use Rattle.std.specs.Prelude.{◌≡◌, List, ◌++◌, ◌∷◌, [], IfOk, OnOk, All};
 ghost use Rattle.cube.specs.Size.{Size};
 ghost use Rattle.cube.specs.Cube.{SameSize, IsCube, Cube as Row};

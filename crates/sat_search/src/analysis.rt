@@ -1,5 +1,7 @@
 //! Analysis of conflicts: from a clause that is false, the clause at the first unique implication
-//! point (UIP) of the current decision level (Marques-Silva and Sakallah 1996).
+//! point (UIP) of the current decision level (Marques-Silva and Sakallah 1996). Of the new
+//! clause, and of those that have a part in the conflict, it notes at how many levels their literals were
+//! set: the distance by which `clauses` drops them.
 
 use crate::assignment::Assignment;
 use crate::clauses::Clauses;

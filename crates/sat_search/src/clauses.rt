@@ -3,7 +3,7 @@
 //! A clause is never taken out, as the learned ones are the proof: one that is dropped is no longer
 //! watched. Clauses whose literals were set at many levels are dropped first: their literal block
 //! distance is large (Audemard and Simon, Predicting learnt clauses quality in modern SAT solvers,
-//! 2009).
+//! 2009). `analysis` counts these levels.
 
 use crate::lists::Lists;
 use crate::numbers::{NONE, at, put, saturating_u32};
@@ -114,7 +114,7 @@ impl Clauses {
         at(&self.arena, offset)
     }
 
-    /// The offset of a clause.
+    /// The offset of a clause: that of its number, two before its literals.
     pub(crate) fn offset_of(&self, clause: u32) -> u32 {
         self.literals_begin(clause).saturating_sub(2)
     }

@@ -1,4 +1,4 @@
-//! Lists of numbers, in one piece of memory.
+//! Lists of numbers, in one piece of memory. (This crate uses no other, so it has its own.)
 
 use crate::numbers::{at, saturating_u32};
 use std::alloc::{AllocError, Global};

@@ -1,4 +1,4 @@
-//! Reads and writes at indices that may be out of range.
+//! Reads and writes at indices that may be out of range: 32-bit numbers, of which [`NONE`] is none.
 
 /// No number.
 pub(crate) const NONE: u32 = u32::MAX;

@@ -1,4 +1,4 @@
-//! What proposes places of a function.
+//! What proposes places of a function: the calls of this crate.
 
 use crate::function::Function;
 use crate::prime_list::PrimeList;

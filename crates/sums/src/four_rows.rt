@@ -1,5 +1,5 @@
 //! The complete sum of four rows with the four pairs of literals at two inputs: an end of the
-//! recursion.
+//! recursion, which asks for it and for that of two rows together (`sum_of_few_rows`).
 //!
 //! At the first of the two inputs each cofactor is two rows with opposite literals at the other,
 //! and so is the consensus, as far as the rows meet. Products of numbers come to such rows often.

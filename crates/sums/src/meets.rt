@@ -1,4 +1,4 @@
-//! The meets of two lists.
+//! The meets of two lists, mostly without a look at each pair.
 //!
 //! Of rows in row order with equal symbols at the inputs before one, those with `-`, with `0` and
 //! with `1` there stand one after the other. So both lists are cut in three at input after input,

@@ -34,6 +34,26 @@ fn matching_row(rows: &Lists, row: &[usize], live: &[bool], from: usize) -> usiz
     rows.len()
 }
 
+/// The entries at these places; 0 past the end.
+fn entries_at(alloc: Global, numbers: &[i64], places: &[usize]) -> Result<Vec<i64>, AllocError> {
+    let mut entries = Vec::with_capacity(alloc, places.len())?;
+    for place in places {
+        entries.push(at(numbers, *place))?;
+    }
+    Ok(entries)
+}
+
+/// The index in `live`, whose columns rise, of each of the columns that is there.
+fn indices_of(alloc: Global, live: &[usize], columns: &[usize]) -> Result<Vec<usize>, AllocError> {
+    let mut indices = Vec::new(alloc);
+    for column in columns {
+        if let Ok(index) = live.binary_search(column) {
+            indices.push(index)?;
+        }
+    }
+    Ok(indices)
+}
+
 /// The most rows that a column of the row is in; at least 1.
 fn most_rows(table: &Compact, row: usize) -> i64 {
     let mut most: usize = 1;
@@ -63,6 +83,15 @@ const QUICK_TABLES: u64 = 200;
 
 /// and at so many once another one was.
 const QUICK_TABLES_ONCE_HARD: u64 = 20;
+
+/// Where columns have different costs it looks at so many,
+const QUICK_TABLES_BY_COST: u64 = 100;
+
+/// and at so many once another search was hard;
+const QUICK_TABLES_BY_COST_ONCE_HARD: u64 = 40;
+
+/// but at no fewer than the square of the number of rows, divided by this.
+const SQUARE_OF_ROWS: u64 = 4_000;
 
 /// What a search remembers from table to table, and how much work it did.
 pub struct WarmStart {
@@ -190,6 +219,33 @@ impl WarmStart {
         Ok(copy)
     }
 
+    /// A copy for a branch in a table whose columns are renumbered, each of the live ones by its index in
+    /// `live`: `rows` are the rows of the table before, and `renumbered` the same with the new numbers.
+    /// `columns` is above all columns of the table before.
+    pub fn renumber(
+        &self,
+        alloc: Global,
+        rows: &[Vec<usize>],
+        live: &[usize],
+        columns: usize,
+        renumbered: &[Vec<usize>],
+    ) -> Result<WarmStart, AllocError> {
+        let mut copy = WarmStart::new(alloc, self.effort);
+        copy.column = self.column;
+        copy.missing = self.missing;
+        copy.hard = self.hard;
+        copy.weights.extend_from_slice(&self.weights)?;
+        if !self.is_new() {
+            let numbers = self.row_ids(alloc, rows, live, columns)?;
+            copy.keep_weights(&numbers, &self.weights_of(alloc, &numbers)?)?;
+            copy.rows = Lists::of(alloc, renumbered)?;
+            copy.numbers = numbers;
+        }
+        copy.likely = entries_at(alloc, &self.likely, live)?;
+        copy.hint = indices_of(alloc, live, &self.hint)?;
+        Ok(copy)
+    }
+
     /// Takes over what a branch or a question has learned, which started with a copy: the weights
     /// of the rows that are known here, the multiplier of a column, the work, and whether it was
     /// hard.
@@ -219,8 +275,22 @@ impl WarmStart {
         }
     }
 
+    /// The same where columns have different costs. The relaxation then bounds far better than
+    /// subgradient steps do, but the more rows there are the longer it takes.
+    pub fn quick_tables_by_cost(&self, rows: usize, columns: usize) -> u64 {
+        if !is_small_enough(rows, columns) {
+            return u64::MAX;
+        }
+        let least = if self.hard {
+            QUICK_TABLES_BY_COST_ONCE_HARD
+        } else {
+            QUICK_TABLES_BY_COST
+        };
+        least.max(rows.saturating_mul(rows) as u64 / SQUARE_OF_ROWS)
+    }
+
     /// From now on tables are bounded by their linear relaxation, and `is_hard` is `true`. This is
-    /// the first, each column of which costs one; the arguments are those of `multipliers`.
+    /// the first; the arguments are those of `multipliers`.
     pub fn relax(
         &mut self,
         alloc: Global,
@@ -246,6 +316,11 @@ impl WarmStart {
         }
     }
 
+    /// Whether tables are bounded by their linear relaxation.
+    pub fn is_relaxing(&self) -> bool {
+        self.relaxation.is_some()
+    }
+
     /// Takes over what branches gained. It is handed from question to question of one table, whose
     /// columns keep their numbers, and is not copied.
     pub fn take_gains(&mut self, from: &mut WarmStart) {
@@ -268,7 +343,7 @@ impl WarmStart {
     ) -> Result<Option<usize>, AllocError> {
         match &mut self.relaxation {
             None => Ok(None),
-            Some(relaxation) => relaxation.branching_column(alloc, live, taken, goal.columns),
+            Some(relaxation) => relaxation.branching_column(alloc, live, taken, goal),
         }
     }
 
@@ -426,11 +501,7 @@ impl WarmStart {
     ) -> Result<Multipliers, AllocError> {
         self.effort.rounds = self.effort.rounds.saturating_add(1);
         if let Some(relaxation) = &mut self.relaxation {
-            return Ok(Multipliers {
-                weights: relaxation.multipliers(alloc, rows, live, taken, goal.columns)?,
-                column: u32::try_from(UNIT).unwrap_or(u32::MAX),
-                cost: 0,
-            });
+            return relaxation.multipliers(alloc, rows, live, taken, goal);
         }
         let numbers = self.row_ids(alloc, rows, live, columns)?;
         let mut ascent = self.ascent(alloc, table, &numbers)?;

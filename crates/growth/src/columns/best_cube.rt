@@ -8,8 +8,8 @@
 ghost use Rattle.std.specs.Prelude.{◌≡◌, ◌<◌, true, IfOk, IfSome, OnOk};
 ghost use Rattle.cube.specs.Cube.{IsCube, IsSubset, holds};
 ghost use Rattle.growth.specs.declared.prime.Side.TheVariants.{Outside};
-ghost use Rattle.growth.specs.Growth.{on_side, IsFreedAt, IsSettledInput, IsSettledOutput, AreFirst};
-ghost use Rattle.growth.specs.Dominating.{IsBest, IsBestFreed, IsSettledUpTo};
+ghost use Rattle.growth.specs.Growth.{on_side, IsFreedAt, IsSettledInput, IsSettledOutput, IsSettledUpTo, AreFirst};
+ghost use Rattle.growth.specs.Dominating.{IsBest, IsBestFreed};
 
 use crate::columns::fewest_literals::fewest_literals;
 use crate::columns::refusing_rows::RefusingRows;

@@ -30,7 +30,7 @@ fn opposite_symbols(alloc: Global, cube: &Cube) -> Result<Vec<Symbol>, AllocErro
 }
 
 /// The cube with these symbols, and one output.
-fn cube_of_output(
+fn cube_with_symbols(
     alloc: Global,
     shape: Shape,
     symbols: &[Symbol],
@@ -57,7 +57,7 @@ fn cubes_against(alloc: Global, point: &Cube) -> Result<Vec<Cube>, AllocError>
     let symbols = opposite_symbols(alloc, point)?;
     let mut cubes = Vec::new(alloc);
     for j in 0..shape.outputs() {
-        cubes.push(cube_of_output(alloc, shape, &symbols, j)?)?;
+        cubes.push(cube_with_symbols(alloc, shape, &symbols, j)?)?;
     }
     Ok(cubes)
 }

@@ -14,8 +14,9 @@ use cube::{Cube, Symbol};
 use growth::{Growth, RowsByOutput, Side, add_copy, are_apart, grow};
 use std::alloc::{AllocError, Global};
 
-/// What the list leaves out of these cubes: one part of each that it does not hold.
-pub(crate) fn parts_left_out(
+/// What the list leaves out of these cubes: one part of each that it does not hold, and nothing for one
+/// that it holds, where [`Cover::parts_left_out`] has a `None`.
+pub(crate) fn parts_not_held(
     alloc: Global,
     list: &Cover,
     cubes: &[Cube],

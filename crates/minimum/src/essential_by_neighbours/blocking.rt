@@ -10,10 +10,10 @@ ghost use Rattle.growth.specs.Growth.{on_side};
 ghost use Rattle.minimum.specs.Neighbours.{IsAlone, IsAloneByInputs};
 ghost use Rattle.minimum.specs.Blocking.{AreBlocking, Blocks, flip_in, under_in};
 
-use crate::cubes::is_same;
 use crate::essential_by_neighbours::neighbours::add_meeting;
 use cover::Cover;
 use cube::{Cube, Symbol};
+use rows::is_same_symbol;
 use std::alloc::{AllocError, Global};
 
 /// The blocking list of the step at a literal of the prime: the rows without this literal that meet
@@ -29,7 +29,7 @@ fn blocking_input(alloc: Global, off: &Cover, prime: &Cube, i: usize) -> Result<
     let mut list = Vec::new(alloc);
     let freed = prime.with_symbol(i, Symbol::Dash)?;
     for row in off.as_slice() {
-        if !is_same(row.symbol(i), literal) && !row.disjoint(&freed) {
+        if !is_same_symbol(row.symbol(i), literal) && !row.disjoint(&freed) {
             list.push(row.with_symbol(i, Symbol::Dash)?)?;
         }
     }
@@ -61,7 +61,7 @@ fn blocking_inputs(alloc: Global, off: &Cover, prime: &Cube) -> Result<Vec<Cover
 {
     let mut lists = Vec::new(alloc);
     for i in 0..off.shape().inputs() {
-        if !is_same(prime.symbol(i), Symbol::Dash) {
+        if !is_same_symbol(prime.symbol(i), Symbol::Dash) {
             lists.push(blocking_input(alloc, off, prime, i)?)?;
         }
     }

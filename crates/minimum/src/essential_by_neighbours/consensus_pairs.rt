@@ -1,4 +1,5 @@
-//! Whether rows have far more pairs with a consensus than literals: a hint.
+//! Whether rows have far more pairs with a consensus than literals: a hint, by which `way_hints` tells
+//! whether primes are many, for `exact` as for `essen`.
 //!
 //! Two rows that conflict at one input have a consensus. The primes of rows with few such pairs are
 //! mostly about as many as the rows: points, disjoint products, products without opposite literals.

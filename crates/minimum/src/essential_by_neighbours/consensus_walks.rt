@@ -1,4 +1,5 @@
-//! Whether iterated consensus leads from a row to many cubes: a hint.
+//! Whether iterated consensus leads from a row to many cubes: a hint, by which `way_hints` tells whether
+//! primes are many, for `exact` as for `essen`.
 //!
 //! Iterated consensus makes all primes (Quine 1955). A walk goes from a row to its consensus with
 //! another, and from there on. Where `n` rows have a consensus with each cube on the way, `k` steps

@@ -1,4 +1,4 @@
-//! Places that a search proposes for points.
+//! Places that a search proposes for points: the calls of `signature_search`, and lists as its rows.
 
 ghost use Rattle.std.specs.Prelude.{IfOk};
 ghost use Rattle.cube.specs.Limits.{IsWithinLimits, format_limits};

@@ -12,7 +12,7 @@ ghost use Rattle.cube.specs.Cube.{HasSize, Place, SameSize, IsSubset, holds};
 ghost use Rattle.rows.specs.Places.{places, behind};
 ghost use Rattle.regions.specs.Reason.{AreKnown, AreLearned, Shows};
 
-use crate::region::passes::passes_before_search;
+use crate::region::passes::{passes_before_search, passes_for_second_try};
 use cube::{Cube, Shape, Symbol};
 use rows::{
     clone_referents, cube_of_output, first_open_literal, is_disjoint_from_all, literal_of_value,
@@ -191,8 +191,10 @@ pub(crate) struct Learned {
     pub(crate) known: Vec<Cube>,
     // For each output the search among the rows that have it, once it was asked.
     searches: Vec<Option<Search>>,
-    // How many rows splits may still look at before a search is asked.
+    // How many rows splits may still look at in their first try.
     pub(crate) rows_left: u64,
+    // How many rows second tries looked at.
+    rows_looked_at: u64,
     // Whether a question was asked.
     is_asked: bool,
 }
@@ -204,6 +206,7 @@ impl Drop for Learned {
             known: _,
             searches: _,
             rows_left: _,
+            rows_looked_at: _,
             is_asked: _,
         } = self;
     }
@@ -225,6 +228,7 @@ impl Learned {
             known: Vec::new(alloc),
             searches: Vec::new(alloc),
             rows_left: 0,
+            rows_looked_at: 0,
             is_asked: false,
         }
     }
@@ -242,6 +246,23 @@ impl Learned {
         let more = passes.saturating_mul(rows.len() as u64);
         self.rows_left = self.rows_left.saturating_add(more);
         self.is_asked = true;
+    }
+
+    /// How many rows splits may look at in a second try, before the first search is built, beside those
+    /// that second tries looked at before; 0 once a search was asked.
+    pub(crate) fn rows_for_second_try(&self, rows: &[&Cube], region: &Cube) -> u64 {
+        if !self.known.is_empty() {
+            return 0;
+        }
+        let most = passes_for_second_try(rows, region).saturating_mul(rows.len() as u64);
+        most.saturating_sub(self.rows_looked_at)
+    }
+
+    /// Notes how many rows a second try looked at.
+    pub(crate) fn note_second_try(&mut self, rows: u64)
+        ensures { self.new.known ≡ self.old.known }
+    {
+        self.rows_looked_at = self.rows_looked_at.saturating_add(rows);
     }
 
     // Copies the rows, and builds the search among the rows of the output, unless both are there.

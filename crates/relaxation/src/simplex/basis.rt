@@ -270,8 +270,9 @@ impl Basis {
     }
 
     /// Computes the row of the inverse at the position of a row's surplus, which was not kept up:
-    /// the sum of those of the row's columns. `room` has a number for each row.
-    pub(crate) fn revive(&mut self, row: usize, columns: &[u32], room: &mut [f64]) {
+    /// the sum of those of the row's columns, each of which counts `entry` there. `room` has a number
+    /// for each row.
+    pub(crate) fn revive(&mut self, row: usize, columns: &[u32], entry: f64, room: &mut [f64]) {
         let position = self.position_of(self.surplus_of(row));
         if position == NONE {
             return;
@@ -280,7 +281,7 @@ impl Basis {
         for column in columns {
             let other = self.position_of(*column as usize);
             if other != NONE {
-                eliminate(room, self.inverse_row(other), -1.0);
+                eliminate(room, self.inverse_row(other), 0.0 - entry);
             }
         }
         let slots = self.tight.len();

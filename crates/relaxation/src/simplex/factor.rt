@@ -1,10 +1,11 @@
 //! The inverse of a basis, from the list of its variables; and the values, weights and reduced costs
-//! that follow from it.
+//! that follow from it. Also which rows are active.
 
 use super::Simplex;
 use super::basis::NONE;
 use crate::floats::{
-    add_float_to_each, add_multiple, fill_floats, float, inner_product, put_float, sum_at,
+    add_float, add_float_to_each, add_multiple, fill_floats, float, inner_product, put_float,
+    sum_at,
 };
 use number_lists::{flag, mark, number};
 use std::alloc::{AllocError, Global};
@@ -13,12 +14,15 @@ use std::alloc::{AllocError, Global};
 const LEAST_PIVOT_TO_FACTOR: f64 = 1e-6;
 
 impl Simplex {
-    /// Sets which rows are looked at. The rows of the inverse are computed for those that were not.
+    /// Sets which rows are looked at, beside the limit. The rows of the inverse are computed for those
+    /// that were not.
     pub(crate) fn set_active(&mut self, active: &[bool]) {
         for row in 0..self.active.len() {
-            let now = flag(active, row);
+            let now = flag(active, row) || row == self.limit;
             if now && !flag(&self.active, row) {
-                self.basis.revive(row, self.rows.list(row), &mut self.room);
+                let entry = self.entry(row);
+                self.basis
+                    .revive(row, self.rows.list(row), entry, &mut self.room);
             }
             mark(&mut self.active, row, now);
         }
@@ -65,8 +69,7 @@ impl Simplex {
     /// Lets a variable enter the basis, for the one with the largest pivot that is not marked; it
     /// stays out if no pivot is large enough.
     fn enter(&mut self, variable: usize, basic: &[bool]) -> Result<(), AllocError> {
-        self.basis
-            .fill_entering(&self.column_rows, variable, &mut self.entering);
+        self.fill_entering(variable);
         let position = self.largest_entry(basic);
         if position == NONE {
             return Ok(());
@@ -118,10 +121,12 @@ impl Simplex {
     fn fill_wanted(&mut self) -> f64 {
         let mut cost = 0.0;
         fill_floats(&mut self.wanted, 1.0);
+        put_float(&mut self.wanted, self.limit, 0.0 - self.most);
         for column in 0..self.costs.len() {
             if flag(&self.basis.at_one, column) && !self.basis.is_basic(column) {
                 cost += float(&self.costs, column);
                 add_float_to_each(&mut self.wanted, self.column_rows.list(column), -1.0);
+                add_float(&mut self.wanted, self.limit, 1.0);
             }
         }
         cost
@@ -198,13 +203,14 @@ impl Simplex {
         }
     }
 
-    /// Computes the reduced cost of a column: what it costs less the weights of its rows; 0 in the
-    /// basis.
+    /// Computes the reduced cost of a column: what it costs, with the weight of the limit, less the
+    /// weights of its other rows; 0 in the basis.
     fn compute_reduced_cost(&mut self, column: usize) {
         let mut reduced_cost = 0.0;
         if !self.basis.is_basic(column) {
             let load = sum_at(&self.basis.weights, self.column_rows.list(column));
-            reduced_cost = float(&self.costs, column) - load;
+            let limit = float(&self.basis.weights, self.limit);
+            reduced_cost = float(&self.costs, column) + limit - load;
         }
         put_float(&mut self.basis.reduced_costs, column, reduced_cost);
     }

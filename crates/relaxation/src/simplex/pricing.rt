@@ -97,12 +97,14 @@ impl Simplex {
         for slot in 0..self.basis.tight.len() {
             let entry = self.basis.inverse.entry(position, slot);
             if entry.abs() > TINY {
-                let columns = self.open_rows.list(number(&self.basis.tight, slot));
-                add_float_to_each(&mut self.tableau_row, columns, entry);
+                let row = number(&self.basis.tight, slot);
+                let more = entry * self.entry(row);
+                add_float_to_each(&mut self.tableau_row, self.open_rows.list(row), more);
             }
         }
         if let Some(row) = self.basis.surplus_row(position) {
-            add_float_to_each(&mut self.tableau_row, self.open_rows.list(row), -1.0);
+            let more = 0.0 - self.entry(row);
+            add_float_to_each(&mut self.tableau_row, self.open_rows.list(row), more);
         }
     }
 

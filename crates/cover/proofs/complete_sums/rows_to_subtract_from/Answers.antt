@@ -1,6 +1,6 @@
-use Rattle.std.proofs.Common.{◌≡◌, List, ap, sym, subst, ◌∙◌}
+use Rattle.std.proofs.Common.{ap, sym, subst, ◌∙◌}
 use Rattle.std.proofs.lemmas.Result.{IfOk-weaker}
-use Rattle.cube.specs.Cube.{Cube, difference}
+use Rattle.cube.specs.Cube.{difference}
 use Rattle.rows.specs.Cubes.{AreCubes}
 use Rattle.rows.specs.Places.{places}
 use Rattle.cover.proofs.NotHeld.{AreCubes-not_held, difference-not_held}

@@ -22,7 +22,7 @@ loop-column-preserved c =
     let preferred = is_preferred c.args.preference (counted c.args.choice c.args.literals.now) in
     let trans = preferred_on c.args.preference (counted c.args.choice c.args.literals.now) in
     let a = slice_index_or c.deref-column-items.result.now c.loop-column.column-index 0 in
-    let asked = c.any_dominates.ensures ∙ ap (λ keep. list_any (dominates preferred (items_of c.args.transpose.now) keep a) c.candidates-among.result.now) c.deref.ensures.value in
+    let asked = c.any_dominates.ensures ∙ ap (λ keep. list_any (dominates preferred (items_of c.args.transpose.now) keep a) c.in_ok-among.among.now) c.deref.ensures.value in
     let live = c.args.live.now in
     let transpose = items_of c.args.transpose.now in
     elim c.if-any_dominates.branch [

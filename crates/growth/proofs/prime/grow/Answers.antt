@@ -7,7 +7,7 @@ use Rattle.growth.proofs.prime.grow.Goals as goal
 pub outputs_at-requires : goal.outputs_at-requires
 outputs_at-requires c =
     let size = c.in_ok-part.ensures.size in
-    let long = c.in_ok-growth.ensures.grown.grows.is_cube.has_size in
+    let long = c.in_ok-growth.ensures.grown.settled.is_cube.has_size in
     let same = ap (λ k. k.size) c.rows_to_ask.ensures ∙ c.in_ok-growth.ensures.near.size in
     (size.0 ∙ long.0 ∙ sym (ap (λ k. k.inputs) same), size.1 ∙ long.1 ∙ sym (ap (λ k. k.outputs) same))
 
@@ -18,14 +18,14 @@ loop-j-init c =
       grown = c.in_ok-growth.ensures.grown;
       near = c.in_ok-growth.ensures.near;
       symbols = refl;
-      since = grows_none rows.size (on_side c.args.side rows.cubes) c.in_ok-growth.growth.cube c.in_ok-growth.ensures.grown.grows.is_cube;
+      since = grows_none rows.size (on_side c.args.side rows.cubes) c.in_ok-growth.growth.cube c.in_ok-growth.ensures.grown.settled.is_cube;
     }
 
 pub with_output-requires-clause-reached : goal.with_output-requires-clause-reached
 with_output-requires-clause-reached c =
     let rows = c.args.rows.now in
     let first = c.in_ok-growth.growth.cube in
-    let cube = c.in_ok-growth.ensures.grown.grows.is_cube in
+    let cube = c.in_ok-growth.ensures.grown.settled.is_cube in
     reached_grown rows.size (on_side c.args.side rows.cubes) first c.loop-j.growth.cube c.in_ok-reached.reached rows.cubes cube c.loop-j.invariant.since
     (reached_near rows.size first c.in_ok-part.part c.in_ok-reached.reached rows c.rows_to_ask.result.now cube (subst (AreNear first rows) (sym c.rows_to_ask.ensures) c.in_ok-growth.ensures.near) c.in_ok-part.ensures c.in_ok-reached.ensures)
 
@@ -42,7 +42,7 @@ loop-j-preserved c =
     }
 
 pub with_output-requires-clause-is_cube : goal.with_output-requires-clause-is_cube
-with_output-requires-clause-is_cube c = c.loop-j.invariant.grown.grows.is_cube
+with_output-requires-clause-is_cube c = c.loop-j.invariant.grown.settled.is_cube
 
 pub with_output-requires-clause-near : goal.with_output-requires-clause-near
 with_output-requires-clause-near c = c.loop-j.invariant.near

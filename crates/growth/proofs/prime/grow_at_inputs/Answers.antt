@@ -12,7 +12,7 @@ loop-i-preserved c =
           c.in_ok-without_literal.ensures.grows c.in_ok-without_literal.ensures.settled;
       freed = (
           let lt : c.loop-i.i < rows.size.inputs = omega (arith, c.loop-i-test.true, c.inputs-i-end.ensures.value, ap (λ z. z.inputs) c.shape.ensures.size) in
-          freed_more rows.size (on_side c.args.side rows.cubes) c.args.cube.now c.loop-i.growth.cube c.without_literal.new.growth.cube c.loop-i.i c.requires c.loop-i.invariant.grown.grows.is_cube lt c.loop-i.invariant.freed
+          freed_more rows.size (on_side c.args.side rows.cubes) c.args.cube.now c.loop-i.growth.cube c.without_literal.new.growth.cube c.loop-i.i c.requires c.loop-i.invariant.grown.settled.is_cube lt c.loop-i.invariant.freed
           c.in_ok-without_literal.ensures.freed c.in_ok-without_literal.ensures.settled);
       near = c.in_ok-without_literal.ensures.near;
     }

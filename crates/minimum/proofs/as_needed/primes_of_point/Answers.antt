@@ -13,8 +13,8 @@ use Rattle.minimum.proofs.as_needed.primes_of_point.Goals as goal
 pub columns_of_point-requires-clause-points : goal.columns_of_point-requires-clause-points
 columns_of_point-requires-clause-points c = subst (λ z. AreCubes z c.args.points.now) (sym c.loop.invariant.size) c.requires.points
 
-pub parts_left_out-requires : goal.parts_left_out-requires
-parts_left_out-requires c =
+pub parts_not_held-requires : goal.parts_not_held-requires
+parts_not_held-requires c =
     let size : c.in-Some.columns.size ≡ c.loop.outside.size = rw c.in-Some.is at c.in_ok-columns.ensures.size in
     subst (λ z. All (λ d. HasSize d z.size) c.as_slice.result.now) (sym c.list.ensures)
     (have_size c.in_ok-row.row.size c.args.all.now.size c.as_slice.result.now (c.in_ok-row.ensures.size ∙ size ∙ c.loop.invariant.size) c.as_slice.ensures.cubes)

@@ -6,7 +6,7 @@ use Rattle.cover.specs.Places.{places}
 use Rattle.minimum.specs.Primes.{care_on}
 use Rattle.growth.specs.Growth.{AreNear}
 use Rattle.minimum.specs.Neighbours.{has_own}
-use Rattle.growth.proofs.GrowthSteps.{grown_maximal}
+use Rattle.growth.proofs.GrowthSteps.{settled_maximal}
 use Rattle.minimum.proofs.EssentialByNeighbours.{in_rows, adds_none_found, adds_prime}
 use Rattle.minimum.proofs.essential_by_neighbours.add_essential.Goals as goal
 use Rattle.minimum.proofs.essential_by_neighbours.add_essential.Goals.{In_ok-prime}
@@ -15,8 +15,8 @@ maximal : (c : In_ok-prime) → IsMaximal c.args.sets.now.size (places c.args.ro
 maximal c =
     let rows = c.args.rows.now in
     subst (λ n. IsMaximal n (places rows.cubes) c.in_ok-prime.field-0.cube) (ap (λ k. k.size) c.requires.rows)
-    (grown_maximal rows.size (places rows.cubes) c.args.cube.now c.in_ok-prime.field-0.cube c.in_ok-prime.ensures.grown
-    (in_rows c.args.sets.now rows.cubes (ap (λ k. k.cubes) c.requires.rows) c.args.cube.now c.requires.cube))
+    (settled_maximal rows.size (places rows.cubes) c.args.cube.now c.in_ok-prime.field-0.cube c.in_ok-prime.ensures.grown.settled
+    (c.in_ok-prime.ensures.grown.within (in_rows c.args.sets.now rows.cubes (ap (λ k. k.cubes) c.requires.rows) c.args.cube.now c.requires.cube)))
 
 pub returns-then-contain : goal.returns-then-contain
 returns-then-contain c =
@@ -42,5 +42,5 @@ returns c =
     let own = c.in_ok-is_essential.ensures ∙ ap (λ k. has_own sets.size (care_on sets) (complete_sum sets.size (places k.cubes)) prime) (sym c.requires.rows) in
     IfOk-weaker c.add.result _ _
     (λ _ adds. adds_prime sets.size (places c.args.rows.now.cubes) (care_on sets) c.args.cube.now c.args.found.now prime (maximal ((goal.at.returns c).In_ok-prime))
-    c.in_ok-prime.ensures.grown.grows.over c.add.new.self c.in_ok-is_essential.is_essential own adds)
+    c.in_ok-prime.ensures.grown.settled.over c.add.new.self c.in_ok-is_essential.is_essential own adds)
     c.add.ensures

@@ -4,7 +4,7 @@ use Rattle.cover.specs.Cubes.{Cubes}
 use Rattle.minimum.specs.Primes.{exact_of}
 use Rattle.minimum.specs.Points.{lists_of}
 use Rattle.minimum.proofs.BothLists.{cubes_of}
-use Rattle.minimum.proofs.PrimeSources.{by_lists, listed_primes, primes_among, same_primes, stands_among}
+use Rattle.minimum.proofs.PrimeSources.{by_lists, listed_primes, source_among, same_primes, stands_among}
 use Rattle.minimum.proofs.exact_minimum.exact.Goals as goal
 
 pub exact_by_primes-requires : goal.exact_by_primes-requires
@@ -13,7 +13,7 @@ exact_by_primes-requires c =
     let dc = c.dc.result.now in
     let primes : c.in_ok-primes.field-0 ≡ listed_primes on dc = c.in_ok-primes.ensures ∙ same_primes c.args.sets.now on dc c.on.ensures c.dc.ensures in (
       ap (λ (l : Cubes). l.size) c.dc.ensures ∙ sym (ap (λ (l : Cubes). l.size) c.on.ensures),
-      (primes_among (lists_of on dc) c.in_ok-primes.field-0 primes, stands_among (lists_of on dc) c.in_ok-primes.field-0 primes),
+      (source_among (lists_of on dc) c.in_ok-primes.field-0 primes, stands_among (lists_of on dc) c.in_ok-primes.field-0 primes),
     )
 
 pub returns : goal.returns

@@ -49,7 +49,7 @@ exact_by_primes-requires g c =
       ),
     )
 
-pub primes_outside-requires-clause-places : goal.primes_outside-requires-clause-places
-primes_outside-requires-clause-places g c p place =
+pub primes_under_fr-requires-clause-places : goal.primes_under_fr-requires-clause-places
+primes_under_fr-requires-clause-places g c p place =
     let off = c.in_ok-large_first.field-0 in
     ap (λ (l : Cubes). places l.cubes p) c.list.ensures ∙ places_same c.args.off.cubes off.cubes c.in_ok-large_first.ensures.cubes p ∙ c.requires.1.1.1 p place

@@ -7,7 +7,7 @@ use Rattle.pla.specs.Sets.{SetLists}
 use Rattle.minimum.specs.declared.points.source.Source.TheVariants.{Outside}
 use Rattle.minimum.specs.Points.{IsSource}
 use Rattle.minimum.specs.Primes.{exact_of}
-use Rattle.minimum.proofs.PrimeSources.{places_same, primes_outside, stands_given, stands_outside}
+use Rattle.minimum.proofs.PrimeSources.{places_same, source_outside, stands_given, stands_outside}
 use Rattle.minimum.proofs.exact_minimum.exact_outside.Goals as goal
 
 pub exact_by_points-requires : goal.exact_by_points-requires
@@ -26,7 +26,7 @@ exact_by_points-requires g c =
     let on_size = ap (λ (l : Cubes). l.size) on in (
       ap (λ (l : Cubes). l.size) dc ∙ sym on_size,
       (
-        subst (λ z. IsSource z (Outside off)) (sym on_size) (primes_outside lists off sized),
+        subst (λ z. IsSource z (Outside off)) (sym on_size) (source_outside lists off sized),
         stands_given lists c.on.result.now c.dc.result.now (Outside off) on dc (stands_outside lists off sized (λ p place. same p ∙ outside p place)),
       ),
     )

@@ -8,8 +8,8 @@ use Rattle.minimum.proofs.fewer_rows.primes_of_pla.Goals as goal
 pub returns-in-Some : goal.returns-in-Some
 returns-in-Some c =
     let pla = c.fewer_rows_or_given-pla.result.now in
-    IfOk-weaker c.primes_outside.result _ _ (λ list h. h ∙ same_primes c.args.pla.now pla c.fewer_rows_or_given-pla.ensures)
-    c.primes_outside.ensures
+    IfOk-weaker c.primes_under_fr.result _ _ (λ list h. h ∙ same_primes c.args.pla.now pla c.fewer_rows_or_given-pla.ensures)
+    c.primes_under_fr.ensures
 
 pub returns : goal.returns
 returns c =

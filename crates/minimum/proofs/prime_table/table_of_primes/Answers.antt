@@ -1,14 +1,17 @@
-use Rattle.std.proofs.Common.{◌∙◌, ap, sym, subst, length, map}
+use Rattle.std.proofs.Common.{◌≡◌, ◌∙◌, ap, sym, subst, length, map}
 use Rattle.std.specs.List.{range_with_len}
 use Rattle.std.proofs.lemmas.List.{length-map}
 use Rattle.cube.specs.Cube.{literals}
 use Rattle.cover.specs.Cubes.{AreCubes}
 use Rattle.covering.specs.Table.{fresh, items_of}
+use Rattle.minimum.specs.Primes.{primes_of}
+use Rattle.minimum.specs.PrimeRows.{AreRowsOf}
 use Rattle.minimum.specs.Points.{lists_of}
 use Rattle.minimum.specs.PrimeTable.{HasPrimeCovers}
 use Rattle.minimum.proofs.PrimeSources.{enough_stand, on_stands, rows_stand}
 use Rattle.minimum.proofs.PrimeTables.{are_rows, same_covers}
 use Rattle.minimum.proofs.prime_table.table_of_primes.Goals as goal
+use Rattle.minimum.proofs.prime_table.table_of_primes.Goals.{In_ok-table}
 
 pub rows_of-requires-clause-enough : goal.rows_of-requires-clause-enough
 rows_of-requires-clause-enough g c =
@@ -16,29 +19,30 @@ rows_of-requires-clause-enough g c =
     let given_on = subst (AreCubes given.size) c.as_slice-2.ensures.value c.as_slice-2.ensures.cubes in
     enough_stand g.sets given c.args.primes.now given_on c.requires.1.1 c.as_slice.result.now c.as_slice-2.result.now c.as_slice-3.result.now c.as_slice.ensures.value c.as_slice-2.ensures.value c.as_slice-3.ensures.value
 
-pub unreachable-requires : goal.unreachable-requires
-unreachable-requires g c =
+-- rows of the primes of the sets, and a weight for each
+made : (g : _) (c : In_ok-table g) → AreCubes g.sets.size g.sets.on × AreRowsOf (primes_of g.sets) g.sets.on g.sets.dc (items_of c.in_ok-rows.rows.items)
+    × (length c.in_ok-weights.weights.items ≡ length (primes_of g.sets))
+made g c =
     let given = lists_of c.args.on.now c.args.dc.now in
     let same = c.requires.1.1 in
     let primes = c.args.primes.now in
-    let rows = items_of c.in_ok-rows.rows.items in
-    let given_on = subst (AreCubes given.size) c.as_slice-2.ensures.value c.as_slice-2.ensures.cubes in
-    let of = rows_stand g.sets given primes given_on same c.as_slice.result.now c.as_slice-2.result.now c.as_slice-3.result.now rows c.as_slice.ensures.value c.as_slice-2.ensures.value c.as_slice-3.ensures.value c.in_ok-rows.ensures.rows in
-    let long = ap length c.in_ok-weights.ensures ∙ length-map primes.cubes literals ∙ ap length same.primes in
+    let given_on = subst (AreCubes given.size) c.as_slice-2.ensures.value c.as_slice-2.ensures.cubes in (
+      on_stands g.sets given primes given_on same,
+      rows_stand g.sets given primes given_on same c.as_slice.result.now c.as_slice-2.result.now c.as_slice-3.result.now (items_of c.in_ok-rows.rows.items) c.as_slice.ensures.value c.as_slice-2.ensures.value c.as_slice-3.ensures.value c.in_ok-rows.ensures.rows,
+      ap length c.in_ok-weights.ensures ∙ length-map primes.cubes literals ∙ ap length same.primes,
+    )
+
+pub unreachable-requires : goal.unreachable-requires
+unreachable-requires g c =
+    let m = made g ((goal.at.unreachable-requires g c).In_ok-table) in
     let none' = rw c.in-None.is at c.in_ok-table.ensures in
-    none' (are_rows g.sets (on_stands g.sets given primes given_on same) rows (length c.in_ok-weights.weights.items) long of.demands)
+    none' (are_rows g.sets m.0 (items_of c.in_ok-rows.rows.items) (length c.in_ok-weights.weights.items) m.2 m.1.demands)
 
 pub returns-clause-covers : goal.returns-clause-covers
 returns-clause-covers g c =
-    let given = lists_of c.args.on.now c.args.dc.now in
-    let same = c.requires.1.1 in
-    let primes = c.args.primes.now in
-    let rows = items_of c.in_ok-rows.rows.items in
-    let given_on = subst (AreCubes given.size) c.as_slice-2.ensures.value c.as_slice-2.ensures.cubes in
-    let of = rows_stand g.sets given primes given_on same c.as_slice.result.now c.as_slice-2.result.now c.as_slice-3.result.now rows c.as_slice.ensures.value c.as_slice-2.ensures.value c.as_slice-3.ensures.value c.in_ok-rows.ensures.rows in
-    let long = ap length c.in_ok-weights.ensures ∙ length-map primes.cubes literals ∙ ap length same.primes in
+    let m = made g ((goal.at.returns-clause-covers g c).In_ok-table) in
     let some = rw c.in-Some.is at c.in_ok-table.ensures in
-    subst (HasPrimeCovers g.sets) (sym some.1) (same_covers g.sets (on_stands g.sets given primes given_on same) rows c.in_ok-weights.weights.items long of)
+    subst (HasPrimeCovers g.sets) (sym some.1) (same_covers g.sets m.0 (items_of c.in_ok-rows.rows.items) c.in_ok-weights.weights.items m.2 m.1)
 
 pub returns-clause-columns : goal.returns-clause-columns
 returns-clause-columns g c =

@@ -2,7 +2,10 @@ use Rattle.std.proofs.Common.{◌+◌, ◌*◌, length}
 use Rattle.covering.proofs.table.Table.+search.Given as goal
 
 abbrev pub decreases-search : goal.decreases-search
-decreases-search l = 2 * length l.self.live + 1
+decreases-search l = 3 * length l.self.live + 2
 
 abbrev pub decreases-branch : goal.decreases-branch
-decreases-branch l = 2 * length l.self.now.live
+decreases-branch l = 3 * length l.self.now.live
+
+abbrev pub decreases-branch_in_fewer_columns : goal.decreases-branch_in_fewer_columns
+decreases-branch_in_fewer_columns l = 3 * length l.self.now.live + 1

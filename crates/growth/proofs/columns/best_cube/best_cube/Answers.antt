@@ -2,8 +2,8 @@ use Rattle.std.proofs.Common.{◌≡◌, subst}
 use Rattle.cube.specs.Cube.{IsDisjoint, holds}
 use Rattle.cover.specs.Places.{places}
 use Rattle.growth.specs.declared.prime.Side.TheVariants.{Outside}
-use Rattle.growth.specs.Growth.{on_side}
-use Rattle.growth.specs.Dominating.{IsBestFreed, IsSettledUpTo}
+use Rattle.growth.specs.Growth.{on_side, IsSettledUpTo}
+use Rattle.growth.specs.Dominating.{IsBestFreed}
 use Rattle.growth.proofs.FirstPrimes.{best_of_freed}
 use Rattle.growth.proofs.Joins.{avoids}
 use Rattle.growth.proofs.columns.best_cube.best_cube.Goals as goal

@@ -1,8 +1,8 @@
 use Rattle.std.proofs.Common.{◌≡◌, ◌<◌, ap, sym, subst, arith}
 use Rattle.growth.specs.declared.prime.Side.TheVariants.{Outside}
-use Rattle.growth.specs.Growth.{on_side, IsFreed}
-use Rattle.growth.specs.Dominating.{IsSettledUpTo}
-use Rattle.growth.proofs.FirstPrimes.{freed_none, freed_more, freed_grows_all, settled_none, settled_input}
+use Rattle.growth.specs.Growth.{on_side, IsFreed, IsSettledUpTo}
+use Rattle.growth.proofs.GrowthSteps.{settled_none, settled_input}
+use Rattle.growth.proofs.FirstPrimes.{freed_none, freed_more, freed_grows_all}
 use Rattle.growth.proofs.columns.best_cube.first_at_inputs.Goals as goal
 
 pub loop-i-init : goal.loop-i-init

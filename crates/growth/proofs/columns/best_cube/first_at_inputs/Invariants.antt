@@ -1,6 +1,5 @@
 use Rattle.growth.specs.declared.prime.Side.TheVariants.{Outside}
-use Rattle.growth.specs.Growth.{on_side, IsFreed}
-use Rattle.growth.specs.Dominating.{IsSettledUpTo}
+use Rattle.growth.specs.Growth.{on_side, IsFreed, IsSettledUpTo}
 use Rattle.growth.proofs.columns.best_cube.first_at_inputs.Given as goal
 
 abbrev pub invariant-loop-i : goal.invariant-loop-i

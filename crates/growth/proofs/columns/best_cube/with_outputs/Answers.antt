@@ -1,8 +1,7 @@
 use Rattle.std.proofs.Common.{◌≡◌, ◌∙◌, ap, sym, subst, arith}
 use Rattle.growth.specs.declared.prime.Side.TheVariants.{Outside}
-use Rattle.growth.specs.Growth.{on_side}
-use Rattle.growth.specs.Dominating.{IsSettledUpTo}
-use Rattle.growth.proofs.FirstPrimes.{settled_none, settled_output}
+use Rattle.growth.specs.Growth.{on_side, IsSettledUpTo}
+use Rattle.growth.proofs.GrowthSteps.{settled_none, settled_output}
 use Rattle.growth.proofs.columns.best_cube.with_outputs.Goals as goal
 
 pub loop-j-init : goal.loop-j-init

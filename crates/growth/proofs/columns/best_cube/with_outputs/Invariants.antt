@@ -1,7 +1,6 @@
 use Rattle.std.proofs.Common.{◌≡◌}
 use Rattle.growth.specs.declared.prime.Side.TheVariants.{Outside}
-use Rattle.growth.specs.Growth.{on_side}
-use Rattle.growth.specs.Dominating.{IsSettledUpTo}
+use Rattle.growth.specs.Growth.{on_side, IsSettledUpTo}
 use Rattle.growth.proofs.columns.best_cube.with_outputs.Given as goal
 
 abbrev pub invariant-loop-j : goal.invariant-loop-j

@@ -1,4 +1,4 @@
-use Rattle.std.proofs.Common.{◌≡◌, ◌<◌, ◌⊎◌, inl, inr, length, take, drop, [], ◌∷◌, ◌++◌, slice_index_or, refl, ap, sym, subst, ◌∙◌, arith}
+use Rattle.std.proofs.Common.{◌≡◌, ℕ, ◌+◌, ◌<◌, ◌⊎◌, inl, inr, length, take, drop, [], ◌∷◌, ◌++◌, slice_index_or, refl, ap, sym, subst, ◌∙◌, arith}
 use Rattle.std.specs.List.{All, Contains}
 use Rattle.std.proofs.lemmas.List.{take_all, take-append-le, length-append}
 use Rattle.std.proofs.lemmas.List.Elements.{All-append, All-push, Contains-append_left, Contains-append_right, Contains-push}
@@ -8,23 +8,36 @@ use Rattle.cover.specs.Marks.{cube_at}
 use Rattle.growth.specs.Dominating.{NeedsNoJoin}
 use Rattle.growth.proofs.Dominating.{cube_at-is, rest_more}
 use Rattle.growth.proofs.columns.open_points.sort_points.Goals as goal
+use Rattle.growth.proofs.columns.open_points.sort_points.Goals.{After-contains}
+
+-- the candidate's point
+below : (c : After-contains) → slice_index_or c.args.candidates.now c.loop-k.k-index 0 < length c.args.points.now
+below c = c.requires.candidates c.loop-k.k-index 0 c.loop-k-test.true
+
+same_point : (c : After-contains) → cube_at c.args.points.now (slice_index_or c.args.candidates.now c.loop-k.k-index 0) ≡ c.index-points-k.result
+same_point c = cube_at-is c.args.points.now (slice_index_or c.args.candidates.now c.loop-k.k-index 0) c.index-points-k.result (below c) c.index-points-k.is
+
+-- a candidate that needs no join is passed over
+passed_over : (c : After-contains) → NeedsNoJoin c.args.off.now c.args.cube.now c.index-points-k.result → (j : ℕ) → Contains (take (c.loop-k.k-index + 1) c.args.candidates.now) j
+    → (Contains c.loop-k.numbers.items j ⊎ Contains c.loop-k.inside.items j) ⊎ NeedsNoJoin c.args.off.now c.args.cube.now (cube_at c.args.points.now j)
+passed_over c none =
+    let off = c.args.off.now in
+    let cube = c.args.cube.now in
+    let at = c.loop-k.k-index in
+    let candidates = c.args.candidates.now in
+    rest_more (λ k. (Contains c.loop-k.numbers.items k ⊎ Contains c.loop-k.inside.items k) ⊎ NeedsNoJoin off cube (cube_at c.args.points.now k)) candidates at (slice_index_or candidates at 0) c.loop-k-test.true refl
+    c.loop-k.invariant.rest (inr (subst (NeedsNoJoin off cube) (sym (same_point c)) none))
 
 pub loop-k-preserved-then-contains : goal.loop-k-preserved-then-contains
 loop-k-preserved-then-contains c =
     let so = c.loop-k.invariant in
-    let points = c.args.points.now in
-    let cube = c.args.cube.now in
-    let x = slice_index_or c.args.candidates.now c.loop-k.k-index 0 in
-    let low : x < length points = c.requires.candidates c.loop-k.k-index 0 c.loop-k-test.true in
-    let same = cube_at-is points x c.index-points-k.result low c.index-points-k.is in
     record {
       start = so.start;
       after = so.after;
       below = so.below;
       within = so.within;
       inside = so.inside;
-      rest = rest_more (λ k. (Contains c.loop-k.numbers.items k ⊎ Contains c.loop-k.inside.items k) ⊎ NeedsNoJoin c.args.off.now cube (cube_at points k)) c.args.candidates.now c.loop-k.k-index x c.loop-k-test.true refl so.rest
-          (inr (subst (NeedsNoJoin c.args.off.now cube) (sym same) (λ _ _ _ _ _. c.contains.ensures.0 c.if-contains.true)));
+      rest = passed_over ((goal.at.loop-k-preserved-then-contains c).After-contains) (λ _ _ _ _ _. c.contains.ensures.0 c.if-contains.true);
       refusing = so.refusing;
     }
 
@@ -34,8 +47,8 @@ loop-k-preserved-then-contains-2 c =
     let points = c.args.points.now in
     let inside = c.loop-k.inside.items in
     let x = slice_index_or c.args.candidates.now c.loop-k.k-index 0 in
-    let low : x < length points = c.requires.candidates c.loop-k.k-index 0 c.loop-k-test.true in
-    let same = cube_at-is points x c.index-points-k.result low c.index-points-k.is in
+    let low = below ((goal.at.loop-k-preserved-then-contains-2 c).After-contains) in
+    let same = same_point ((goal.at.loop-k-preserved-then-contains-2 c).After-contains) in
     let items = c.in_ok-push.ensures.items in
     record {
       start = so.start;
@@ -57,19 +70,13 @@ loop-k-preserved-then-contains-2 c =
 pub loop-k-preserved-then-branch : goal.loop-k-preserved-then-branch
 loop-k-preserved-then-branch c =
     let so = c.loop-k.invariant in
-    let points = c.args.points.now in
-    let cube = c.args.cube.now in
-    let x = slice_index_or c.args.candidates.now c.loop-k.k-index 0 in
-    let low : x < length points = c.requires.candidates c.loop-k.k-index 0 c.loop-k-test.true in
-    let same = cube_at-is points x c.index-points-k.result low c.index-points-k.is in
     record {
       start = so.start;
       after = so.after;
       below = so.below;
       within = so.within;
       inside = so.inside;
-      rest = rest_more (λ k. (Contains c.loop-k.numbers.items k ⊎ Contains c.loop-k.inside.items k) ⊎ NeedsNoJoin c.args.off.now cube (cube_at points k)) c.args.candidates.now c.loop-k.k-index x c.loop-k-test.true refl so.rest
-          (inr (subst (NeedsNoJoin c.args.off.now cube) (sym same) (c.in_ok-is_refused.ensures.refused c.if-branch.true)));
+      rest = passed_over ((goal.at.loop-k-preserved-then-branch c).After-contains) (c.in_ok-is_refused.ensures.refused c.if-branch.true);
       refusing = c.in_ok-is_refused.ensures.long ∙ so.refusing;
     }
 
@@ -79,7 +86,7 @@ loop-k-preserved c =
     let points = c.args.points.now in
     let numbers = c.loop-k.numbers.items in
     let x = slice_index_or c.args.candidates.now c.loop-k.k-index 0 in
-    let low : x < length points = c.requires.candidates c.loop-k.k-index 0 c.loop-k-test.true in
+    let low = below ((goal.at.loop-k-preserved c).After-contains) in
     let n = length c.args.excluded.now in
     let items = c.in_ok-push-2.ensures.items in
     let long : length c.push-in-loop-k.new.self.items ≡ length (numbers ++ x ∷ []) = ap length items in

@@ -5,7 +5,7 @@ use Rattle.minimum.proofs.AsNeeded.{on_ok_two, outside_grown}
 use Rattle.minimum.proofs.as_needed.places_outside.add_grown.Goals as goal
 
 pub add_copy-requires : goal.add_copy-requires
-add_copy-requires c = subst (HasSize c.in_ok-cube.field-0.cube) (sym c.requires.outside.size) c.in_ok-cube.ensures.grown.grows.is_cube.has_size
+add_copy-requires c = subst (HasSize c.in_ok-cube.field-0.cube) (sym c.requires.outside.size) c.in_ok-cube.ensures.grown.settled.is_cube.has_size
 
 pub returns : goal.returns
 returns c =

@@ -5,7 +5,7 @@ use Rattle.cube.specs.Sum.{IsMaximal}
 use Rattle.cover.specs.Places.{places}
 use Rattle.growth.specs.declared.prime.Side.TheVariants.{Outside}
 use Rattle.growth.specs.Growth.{on_side, AreNear}
-use Rattle.growth.proofs.GrowthSteps.{grown_maximal}
+use Rattle.growth.proofs.GrowthSteps.{settled_maximal}
 use Rattle.minimum.proofs.EssentialByNeighbours.{adds_none_found, adds_prime, sized_next}
 use Rattle.minimum.proofs.Blocking.{own_answer}
 use Rattle.minimum.proofs.Neighbours.{alone_to_all, alone_to_near}
@@ -16,10 +16,10 @@ maximal : (c : In_ok-prime) → IsSubset (holds c.args.cube.now) (on_side Outsid
 maximal c sub =
     let off = c.args.off.now in
     let s = on_side Outside off.cubes in
-    subst (λ n. IsMaximal n s c.in_ok-prime.field-0.cube) c.requires.size (grown_maximal off.size s c.args.cube.now c.in_ok-prime.field-0.cube c.in_ok-prime.ensures.grown sub)
+    subst (λ n. IsMaximal n s c.in_ok-prime.field-0.cube) c.requires.size (settled_maximal off.size s c.args.cube.now c.in_ok-prime.field-0.cube c.in_ok-prime.ensures.grown.settled (c.in_ok-prime.ensures.grown.within sub))
 
 prime_cube : (c : In_ok-prime) → IsCube c.args.on.now.size c.in_ok-prime.field-0.cube
-prime_cube c = subst (λ n. IsCube n c.in_ok-prime.field-0.cube) c.requires.size c.in_ok-prime.ensures.grown.grows.is_cube
+prime_cube c = subst (λ n. IsCube n c.in_ok-prime.field-0.cube) c.requires.size c.in_ok-prime.ensures.grown.settled.is_cube
 
 pub returns-then-contain-clause-adds : goal.returns-then-contain-clause-adds
 returns-then-contain-clause-adds c _ =
@@ -50,7 +50,7 @@ returns-clause-adds c =
     IfOk-weaker c.add.result _ _
     (λ _ adds sub.
     let prime = maximal ((goal.at.returns-clause-adds c).In_ok-prime) sub in
-    adds_prime on.size s (places on.cubes) c.args.cube.now c.args.found.now m prime c.in_ok-prime.ensures.grown.grows.over c.add.new.self c.in_ok-is_essential.is_essential
+    adds_prime on.size s (places on.cubes) c.args.cube.now c.args.found.now m prime c.in_ok-prime.ensures.grown.settled.over c.add.new.self c.in_ok-is_essential.is_essential
     (own_answer on.size s (places on.cubes) m prime c.in_ok-is_essential.is_essential
     (λ e. let w = c.in_ok-is_essential.ensures.some e in (w.0, w.1, w.2, alone_to_all m off near are Outside w.0 w.1 w.3))
     (λ e p in_m want alone. c.in_ok-is_essential.ensures.none e p in_m want (alone_to_near m off near are Outside p in_m alone)))

@@ -2,7 +2,7 @@ use Rattle.std.proofs.Common.{◌≡◌, ◌∙◌, ap, sym}
 use Rattle.std.proofs.lemmas.Result.{IfOk-weaker}
 use Rattle.cover.specs.Cubes.{Cubes}
 use Rattle.minimum.specs.Points.{lists_of}
-use Rattle.minimum.proofs.PrimeSources.{columns_of_lists, covers_of_lists, listed_primes, primes_among, same_primes, stands_among}
+use Rattle.minimum.proofs.PrimeSources.{columns_of_lists, covers_of_lists, listed_primes, source_among, same_primes, stands_among}
 use Rattle.minimum.proofs.prime_table.TableOfPrimes.build.Goals as goal
 
 pub table_of_primes-requires : goal.table_of_primes-requires
@@ -11,7 +11,7 @@ table_of_primes-requires c =
     let dc = c.dc.result.now in
     let primes : c.args.primes.now ≡ listed_primes on dc = c.requires ∙ same_primes c.args.sets.now on dc c.on.ensures c.dc.ensures in (
       ap (λ (l : Cubes). l.size) (c.dc.ensures) ∙ sym (ap (λ (l : Cubes). l.size) c.on.ensures),
-      (primes_among (lists_of on dc) c.args.primes.now primes, stands_among (lists_of on dc) c.args.primes.now primes),
+      (source_among (lists_of on dc) c.args.primes.now primes, stands_among (lists_of on dc) c.args.primes.now primes),
     )
 
 pub returns-clause-columns : goal.returns-clause-columns

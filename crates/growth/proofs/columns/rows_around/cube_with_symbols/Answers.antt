@@ -2,7 +2,7 @@ use Rattle.std.proofs.Common.{rules, ◌≡◌, sym, subst, true, false, replica
 use Rattle.std.specs.List.{Contains}
 use Rattle.std.proofs.lemmas.Bool.{false≢true}
 use Rattle.cover.proofs.OneOutput.{one_set}
-use Rattle.growth.proofs.columns.rows_around.cube_of_output.Goals as goal
+use Rattle.growth.proofs.columns.rows_around.cube_with_symbols.Goals as goal
 
 pub unreachable-requires : goal.unreachable-requires
 unreachable-requires c =

@@ -4,8 +4,8 @@ use Rattle.std.proofs.lemmas.Slice.Zip.{AllZip-long}
 use Rattle.cube.specs.Cube.{holds, IsSubset}
 use Rattle.cover.specs.Places.{places}
 use Rattle.minimum.proofs.AsNeeded.{ArePartsOf, parts_none, parts_held, parts_left}
-use Rattle.minimum.proofs.as_needed.places_outside.parts_left_out.Goals as goal
-use Rattle.minimum.proofs.as_needed.places_outside.parts_left_out.Goals.{in-Some+in_ok-try_clone+in_ok-push, in_default}
+use Rattle.minimum.proofs.as_needed.places_outside.parts_not_held.Goals as goal
+use Rattle.minimum.proofs.as_needed.places_outside.parts_not_held.Goals.{in-Some+in_ok-try_clone+in_ok-push, in_default}
 
 pub loop-part-init : goal.loop-part-init
 loop-part-init c = parts_none c.args.list.now c.args.cubes.now c.new-parts.result.items c.new-parts.ensures.items

@@ -8,7 +8,7 @@ use Rattle.cover.specs.Places.{places}
 use Rattle.pla.specs.Completed.{dc_list}
 use Rattle.minimum.proofs.BothLists.{cubes_of}
 use Rattle.minimum.proofs.OfPla.{primes-outside, primes-with_open}
-use Rattle.minimum.proofs.of_pla.primes_outside.Goals as goal
+use Rattle.minimum.proofs.of_pla.primes_under_fr.Goals as goal
 
 pub returns-in_default : goal.returns-in_default
 returns-in_default c =
