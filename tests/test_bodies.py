@@ -1,7 +1,10 @@
 """Texts that stand for others fit the files of the crates: those of wrong bodies, of wrong searches and of low budgets stand there once."""
 import glob
 import os
+import shutil
+import subprocess
 import sys
+import tempfile
 import unittest
 from runpy import run_path
 
@@ -22,6 +25,22 @@ class Fit(unittest.TestCase):
         self.assertEqual(len(edits), len(glob.glob(os.path.join(TOP, "mutants/*/*.edit"))))
         unfit = [edit.name for crate, edit in edits if not edit.triples or edit.changed({}, os.path.join(TOP, "crates", crate)) is None]
         self.assertEqual(unfit, [])
+
+    @unittest.skipUnless(shutil.which("cargo"), "cargo is needed to compile wrong bodies as plain Rust")
+    def test_wrong_bodies_are_rust(self):
+        """One that does not compile is not refused by its meaning, which `mutants/run` sees much later."""
+        run, rust = (run_path(os.path.join(TOP, path)) for path in ("mutants/run", "bench/as_rust.py"))
+        groups = {crate: run["groups_of"](found, os.path.join(TOP, "crates", crate)) for crate, found in run["edits_of"]([]).items()}
+        with tempfile.TemporaryDirectory() as folder:
+            for turn in range(max(map(len, groups.values()))):
+                texts = {}
+                for crate, found in groups.items():
+                    for file, text in run["changed"](found[turn] if turn < len(found) else [], os.path.join(TOP, "crates", crate)).items():
+                        texts[f"{crate}/{file.removeprefix('src/').removesuffix('.rt')}"] = text
+                rust["write_all"](folder, [rust["MAIN"], "test_devices"], lambda place, text: texts.get(place, text))
+                check = subprocess.run(["cargo", "check", "--offline", "--quiet", "--workspace"], cwd=folder, capture_output=True, text=True,
+                                       env={**os.environ, "RUSTC_BOOTSTRAP": "1"})
+                self.assertEqual(check.returncode, 0, check.stderr)
 
     def test_wrong_searches(self):
         for path in glob.glob(os.path.join(TOP, "tests/wrong_searches/*.edit")):
