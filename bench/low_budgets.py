@@ -25,6 +25,7 @@ NEAR, MERGING = "growth/near_rows", "cover/merging"
 POINTS_OF_FEW_INPUTS = [
     (WAYS, "shape.inputs() > 12", "shape.inputs() > 0"),
     (WAYS, "uses_points(shape) && shape.outputs() > 1\n", "uses_points(shape)\n"),
+    (WAYS, "const FEW_INPUTS: usize = 16", "const FEW_INPUTS: usize = 0"),
 ]
 GROWTH = [(WAYS, "inputs <= 12 {", "inputs < 1 {"), (WAYS, "if sets.on().shape().outputs() > 1 {", "if sets.on().shape().outputs() > 0 {")]
 NO_GROWTH = [(WAYS, "inputs <= 12 {", "inputs < 2000 {"), (WAYS, "return Ok(rows < 100);", "return Ok(false);")]

@@ -41,6 +41,7 @@ use crate::points::picked_points::{PickedPoints, push_cube};
 use crate::points::rounds::cover_of_points;
 use crate::points::{is_wanted, point_with};
 use crate::prime_implicants::on_and_dc;
+use crate::way_hints::most_looks_before_primes;
 use cover::{Cover, in_row_order};
 use covering::{Choice, Effort};
 use cube::{Cube, Shape, Symbol};
@@ -319,6 +320,7 @@ fn exact_beside(
 {
     let shape = all.shape();
     let looks = most_looks(shape);
+    let looks = looks.min(most_looks_before_primes(sets.on()));
     let mut known = Known::new(alloc, shape, looks);
     let mut is_least = true;
     let mut last = Cover::new(alloc, shape);

@@ -100,6 +100,34 @@ pub(crate) fn uses_places_as_needed(sets: &Sets) -> Result<bool, AllocError> {
     has_many_primes(sets)
 }
 
+// With up to so many inputs all primes are mostly listed, and their table solved, in seconds.
+const FEW_INPUTS: usize = 16;
+
+// With few inputs at most so many looks are taken for columns, and so many for each pair of points and each
+// ON cube: the more these are, the sooner the table of all primes is solved, beside columns made as they are
+// needed. With one output that table was seen to be harder.
+const MOST_LOOKS_OF_FEW_INPUTS: usize = 50_000_000;
+
+const LOOKS_FOR_A_PAIR: usize = 6;
+
+const LOOKS_FOR_A_PAIR_OF_ONE_OUTPUT: usize = 24;
+
+/// How many looks at a cube or a point may be taken for columns that are made as they are needed, before all
+/// primes are listed; with many inputs any number.
+pub(crate) fn most_looks_before_primes(on: &Cover) -> usize {
+    let (inputs, outputs) = (on.shape().inputs(), on.shape().outputs());
+    if inputs > FEW_INPUTS {
+        return usize::MAX;
+    }
+    let looks = if outputs == 1 {
+        LOOKS_FOR_A_PAIR_OF_ONE_OUTPUT
+    } else {
+        LOOKS_FOR_A_PAIR
+    };
+    let pairs = 4_usize.saturating_pow(inputs as u32) / on.len().max(1);
+    pairs.saturating_mul(looks).min(MOST_LOOKS_OF_FEW_INPUTS)
+}
+
 // Taking the ON list from one OFF row makes at most this many cubes; past that a DC list is made.
 const MOST_OF_OFF: usize = 200_000;
 
