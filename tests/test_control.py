@@ -9,7 +9,7 @@ import sys
 from dataclasses import replace
 
 from definition import Description, agree
-from support import Case, ProgramTest, lines, on_input, pla, printed, slashed
+from support import Case, ProgramTest, answer_in, folder_of, lines, on_input, pla, printed, slashed
 from worked import DIFFERENT, EQUAL
 
 TOP = os.path.dirname(os.path.dirname(os.path.abspath(__file__)))
@@ -17,6 +17,7 @@ FOLDER = os.path.join(TOP, "tests", "many_outputs")
 sys.path.append(os.path.join(TOP, "bench"))
 
 from control import grants, joined_rings, samples, selector, shifter  # noqa: E402
+from users import Machine, state_machine  # noqa: E402
 
 EXACT, LITERALS, ESSEN = "-Dexact", "-Dexact --literals", "-Dessen"
 COVERS = (EXACT, LITERALS)
@@ -270,3 +271,15 @@ class ByDefinition(ManyOutputs):
             self.compared(f"{number} and its least cover", function.text(), function.printed(function.exact()))
             for other in (*retyped, shorter):
                 self.compared(f"{number} and another", function.text(), other.text(), agree(function, other))
+
+
+class Machines(ManyOutputs):
+    def test_codes_that_no_state_has(self):
+        """A hundred states in seven bits: columns of points are made as they are needed until that takes long, and then all primes. The
+        answer is one of the places alone, and agrees with the machine where that is told."""
+        machine = state_machine(Machine("hundred", 6, 5, 100, 8), 3, "fd")
+        text, turned = listing_text(machine), listing_text(machine, shuffled(machine.rows))
+        with folder_of({}) as folder:
+            (least, _), (again, _) = (answer_in(folder, ["-Dexact"], given) for given in (text, turned))
+        self.assertEqual((least.status, least.output), (0, again.output), least.message)
+        self.compared("a machine and its least cover", text, least.output)
