@@ -91,6 +91,7 @@ SHORT_LISTS = [
     ("minimum/prime_table/halving_input", "FEW: usize = 16", "FEW: usize = 1"),
     ("covering/least_covers", "FEW: usize = 8", "FEW: usize = 1"),
     ("covering/questions", "BATCH_TABLES: u64 = 600", "BATCH_TABLES: u64 = 2"),
+    ("covering/questions", "TIMES_THE_LAST_NO: u64 = 10", "TIMES_THE_LAST_NO: u64 = 0"),
     ("covering/questions", "HARD_LENGTH: u64 = 400", "HARD_LENGTH: u64 = 1"),
     ("covering/questions", "HARD_NO: u64 = 100", "HARD_NO: u64 = 1"),
 ]

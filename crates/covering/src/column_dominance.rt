@@ -18,7 +18,7 @@ ghost use Rattle.covering.specs.Reduce.{row_at, IsTranspose, LeavesNoDominatedCo
 
 use crate::choice::{Choice, cost};
 use crate::columns::{entry, is_rising_within};
-use crate::kept_columns::{KeptColumns, are_many, by_falling_rows};
+use crate::kept_columns::{KeptColumns, are_columns_many, by_falling_rows};
 use crate::marks::{
     all_kept, all_marked, is_marked, marks_of, retain_marked, retain_marked_in_rows, unmark,
 };
@@ -303,7 +303,7 @@ fn column_dominance(
         v.items) }
 {
     let signatures = signatures_of(alloc, transpose)?;
-    if !is_complete && are_many(live, rows) {
+    if !is_complete && are_columns_many(live, rows) {
         dominance_by_kept(
             alloc,
             preference,

@@ -18,8 +18,13 @@ use crate::table::Table;
 use std::alloc::{AllocError, Global};
 use warm_start::{Effort, WarmStart, is_worth_a_bound};
 
-/// A question about a batch of columns is given up after this many tables.
+/// A question about a batch of columns is given up after this many tables, or after more if the last no
+/// took many.
 const BATCH_TABLES: u64 = 600;
+
+/// It is given up after no fewer than this many times the tables that the last no to one took: what a
+/// search has shown is lost where it is given up, and a larger batch takes few tables for each column.
+const TIMES_THE_LAST_NO: u64 = 10;
 
 /// The undecided columns are reduced again once so many tables were looked at, if some are gone.
 const TABLES_TO_REDUCE: u64 = 8;
@@ -46,6 +51,8 @@ pub(crate) struct Questions {
     live: usize,
     /// Whether the length was hard to find.
     hard: bool,
+    /// How many tables the last no to a question about a batch took.
+    tables_of_last_no: u64,
 }
 
 // Written out, so that where questions end a proof has one call, and no case for each list.
@@ -57,6 +64,7 @@ impl Drop for Questions {
             tables: _,
             live: _,
             hard: _,
+            tables_of_last_no: _,
         } = self;
     }
 }
@@ -70,6 +78,7 @@ impl Questions {
             tables: 0,
             live: usize::MAX,
             hard: false,
+            tables_of_last_no: 0,
         }
     }
 
@@ -158,9 +167,15 @@ impl Questions {
         Ok(witness)
     }
 
-    /// What `ask` answers, if it takes no more than `BATCH_TABLES` tables; else `None`, and the
-    /// next batch has one column. A cover that has one of many columns can be far harder to rule
-    /// out than a cover that has the first of them.
+    /// How many tables a question about a batch may take.
+    fn most_of_a_batch(&self) -> u64 {
+        let times = self.tables_of_last_no.saturating_mul(TIMES_THE_LAST_NO);
+        times.max(BATCH_TABLES)
+    }
+
+    /// What `ask` answers, if it takes no more tables than a question about a batch may; else `None`,
+    /// and the next batch has one column. A cover that has one of many columns can be far harder to
+    /// rule out than a cover that has the first of them.
     fn ask_briefly(
         &mut self,
         alloc: Global,
@@ -170,7 +185,13 @@ impl Questions {
     ) -> Result<Option<Option<Vec<usize>>>, AllocError>
         ensures { IfOk result (λ r. IfSome r (AnswersWithin choice table.now cutoff)) }
     {
-        match self.ask(alloc, choice, cutoff, table, BATCH_TABLES) {
+        let before = self.warm_start.effort();
+        let most_tables = self.most_of_a_batch();
+        match self.ask(alloc, choice, cutoff, table, most_tables) {
+            Ok(None) => {
+                self.tables_of_last_no = self.tables_since(before);
+                Ok(Some(None))
+            }
             Ok(witness) => Ok(Some(witness)),
             Err(Stop::Spent) => {
                 self.batch_size = 1;
