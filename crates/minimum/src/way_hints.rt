@@ -112,11 +112,25 @@ const LOOKS_FOR_A_PAIR: usize = 6;
 
 const LOOKS_FOR_A_PAIR_OF_ONE_OUTPUT: usize = 24;
 
+// Rows overlap if a point lies in more than so many of them on average.
+const MOST_ROWS_OF_A_POINT: usize = 1;
+
+/// In how many rows a point lies on average, whatever its outputs; with few inputs.
+fn rows_of_a_point(on: &Cover) -> usize {
+    let inputs = on.shape().inputs();
+    let mut points: usize = 0;
+    for row in on.as_slice() {
+        let open = inputs.saturating_sub(row.literals());
+        points = points.saturating_add(2_usize.saturating_pow(open as u32));
+    }
+    points / 2_usize.saturating_pow(inputs as u32)
+}
+
 /// How many looks at a cube or a point may be taken for columns that are made as they are needed, before all
-/// primes are listed; with many inputs any number.
+/// primes are listed; any number with many inputs, or where rows overlap, as primes are then far more.
 pub(crate) fn most_looks_before_primes(on: &Cover) -> usize {
     let (inputs, outputs) = (on.shape().inputs(), on.shape().outputs());
-    if inputs > FEW_INPUTS {
+    if inputs > FEW_INPUTS || rows_of_a_point(on) > MOST_ROWS_OF_A_POINT {
         return usize::MAX;
     }
     let looks = if outputs == 1 {
