@@ -138,7 +138,7 @@ COVERED = {
     "docs/TRUSTED.md": (),
     "docs/FORMAT.md": (),
     "docs/ARCHITECTURE.md": (),
-    "README.md": ("10 to 20 minutes on four processors", "25 to 50 minutes on two processors", "Python 3.9", "x86-64", "`rattle-kit-13f`"),
+    "README.md": ("10 to 30 minutes on four processors", "25 to 70 minutes on two processors", "Python 3.9", "x86-64", "`rattle-kit-13f`"),
 }
 
 
