@@ -684,14 +684,8 @@ impl Table {
         };
         let goal = table.goal(choice, cutoff);
         let steps = steps_in_reduced(table.row_lists().len());
-        let found = table.find_by_local_search(
-            alloc,
-            choice,
-            cutoff,
-            goal,
-            warm_start.hint(),
-            steps,
-        )?;
+        let near = warm_start.likely_cover(alloc, table.live_columns())?;
+        let found = table.find_by_local_search(alloc, choice, cutoff, goal, &near, steps)?;
         if let Some(cover) = found {
             return Ok(Some(cover));
         }

@@ -16,7 +16,7 @@ use number_lists::{
 use std::alloc::{AllocError, Global};
 
 /// The highest likelihood of a column.
-const LIKELIEST: i64 = 1048576;
+pub const LIKELIEST: i64 = 1048576;
 
 /// The most steps for a bound before a restart, after which as many may follow.
 pub const STEPS: u32 = 600;

@@ -1,6 +1,7 @@
 //! What a search carries over from table to table: its multipliers, how likely each column is, the
 //! last cover (`hint`, near which the next one is looked for), and how much work was done, which is
-//! counted here. Also whether a bound is worth computing again.
+//! counted here. Also whether a bound is worth computing again. A table of many rows is bounded by
+//! primal-dual steps, whose fractional cover tells how likely columns are.
 //!
 //! The first weights are perturbed at random, since with even ones all columns of a symmetric table
 //! would be overloaded together. A later table starts with the weights of the table that it came
@@ -9,12 +10,13 @@
 
 use crate::effort::Effort;
 use heuristics::{
-    Ascent, Course, FEW_STEPS, Goal, Multipliers, NEAR_PACE, NEAR_REACH, PACE, REACH, STEPS,
+    Ascent, Course, FEW_STEPS, Goal, LIKELIEST, Multipliers, NEAR_PACE, NEAR_REACH, PACE, REACH,
+    STEPS,
 };
 use number_lists::{
     Compact, Lists, SEED, UNIT, at, is_live_part_of, marked, next_random, number, put, set,
 };
-use relaxation::{BranchBasis, PseudoCosts, Relaxation, is_small_enough};
+use relaxation::{BranchBasis, PrimalDual, PseudoCosts, Relaxation, is_small_enough};
 use std::alloc::{AllocError, Global};
 
 /// Whether to compute a bound again: `before` is how many columns there were at the last one, `now`
@@ -93,6 +95,35 @@ const QUICK_TABLES_BY_COST_ONCE_HARD: u64 = 40;
 /// but at no fewer than the square of the number of rows, divided by this.
 const SQUARE_OF_ROWS: u64 = 4_000;
 
+/// A table of so many rows is bounded by primal-dual steps, if its columns cost the same: steps of the
+/// subgradient end far below its optimum.
+const MANY_ROWS: usize = 1_000;
+
+/// The most spans of primal-dual steps for a bound.
+const SPANS: u32 = 20;
+
+/// The most for a bound that only drops columns.
+const FEW_SPANS: u32 = 4;
+
+/// A column is branched on where its part of a fractional cover is so far from 0 and from 1.
+const LEAST_FRACTION: i64 = LIKELIEST / 10;
+
+/// The live column of which a fractional cover has a part nearest to one half; `None` if each is nearly 0
+/// or 1.
+fn most_fractional(likely: &[i64], live: &[usize]) -> Option<usize> {
+    let mut found = None;
+    let mut most = LEAST_FRACTION;
+    for column in live {
+        let part = at(likely, *column);
+        let fraction = part.min(LIKELIEST.wrapping_sub(part));
+        if fraction > most {
+            most = fraction;
+            found = Some(*column);
+        }
+    }
+    found
+}
+
 /// What a search remembers from table to table, and how much work it did.
 pub struct WarmStart {
     /// The rows of the last bound; none before the first.
@@ -105,6 +136,8 @@ pub struct WarmStart {
     column: i64,
     /// How likely each column is thought to be in a cover: a larger number is likelier.
     likely: Vec<i64>,
+    /// Whether `likely` is a fractional cover, of primal-dual steps.
+    fractional: bool,
     /// By how much the last bound fell short.
     missing: u64,
     /// The most steps of a bound that continues from another.
@@ -130,6 +163,7 @@ impl Drop for WarmStart {
             weights: _,
             column: _,
             likely: _,
+            fractional: _,
             missing: _,
             steps: _,
             hint: _,
@@ -150,6 +184,7 @@ impl WarmStart {
             weights: Vec::new(alloc),
             column: 4 * UNIT,
             likely: Vec::new(alloc),
+            fractional: false,
             missing: 0,
             steps: STEPS,
             hint: Vec::new(alloc),
@@ -177,6 +212,21 @@ impl WarmStart {
         &self.hint
     }
 
+    /// The columns near which a cover is looked for in a table with these live ones: those of which a
+    /// fractional cover has a half or more, if there is one, else the last cover.
+    pub fn likely_cover(&self, alloc: Global, live: &[usize]) -> Result<Vec<usize>, AllocError> {
+        if !self.fractional {
+            return self.hint.to_vec(alloc);
+        }
+        let mut columns = Vec::new(alloc);
+        for column in live {
+            if at(&self.likely, *column) >= LIKELIEST / 2 {
+                columns.push(*column)?;
+            }
+        }
+        Ok(columns)
+    }
+
     /// The work so far.
     pub fn effort(&self) -> Effort {
         self.effort
@@ -192,13 +242,13 @@ impl WarmStart {
         self.effort.questions = self.effort.questions.saturating_add(1);
     }
 
-    /// How likely each column is thought to be in a cover, by the last bound by subgradient steps: a
-    /// larger number is likelier. Empty before the first.
+    /// How likely each column is thought to be in a cover, by the last bound by steps: a larger number is
+    /// likelier. Empty before the first.
     pub fn likely(&self) -> &[i64] {
         &self.likely
     }
 
-    /// By how much the last bound by subgradient steps fell short of its goal, in columns, or in
+    /// By how much the last bound by steps fell short of its goal, in columns, or in
     /// cost where columns have different costs; rounded down, and 0 if it did not.
     pub fn shortfall(&self) -> u64 {
         self.missing
@@ -211,6 +261,7 @@ impl WarmStart {
         copy.column = self.column;
         copy.missing = self.missing;
         copy.hard = self.hard;
+        copy.fractional = self.fractional;
         copy.rows.extend_from(&self.rows)?;
         copy.numbers.extend_from_slice(&self.numbers)?;
         copy.weights.extend_from_slice(&self.weights)?;
@@ -234,6 +285,7 @@ impl WarmStart {
         copy.column = self.column;
         copy.missing = self.missing;
         copy.hard = self.hard;
+        copy.fractional = self.fractional;
         copy.weights.extend_from_slice(&self.weights)?;
         if !self.is_new() {
             let numbers = self.row_ids(alloc, rows, live, columns)?;
@@ -248,14 +300,21 @@ impl WarmStart {
 
     /// Takes over what a branch or a question has learned, which started with a copy: the weights
     /// of the rows that are known here, the multiplier of a column, the work, and whether it was
-    /// hard.
+    /// hard. Weights that belong to a fractional cover stay as they are.
     pub fn learn(&mut self, branch: &WarmStart) {
-        for (number, weight) in branch.weights.iter().enumerate() {
-            put(&mut self.weights, number, *weight);
+        if !self.fractional {
+            self.learn_weights(&branch.weights);
         }
         self.column = branch.column;
         self.effort = branch.effort;
         self.hard = branch.hard;
+    }
+
+    /// Takes over weights of the rows that are known here.
+    fn learn_weights(&mut self, weights: &[i64]) {
+        for (number, weight) in weights.iter().enumerate() {
+            put(&mut self.weights, number, *weight);
+        }
     }
 
     /// Whether a question was so hard that the relaxation was wanted.
@@ -333,7 +392,7 @@ impl WarmStart {
     }
 
     /// A column to branch on, if the relaxation of the table with these live and taken columns tells
-    /// one; it may be none of them.
+    /// one, or the last fractional cover; it may be none of them.
     pub fn branching_column(
         &mut self,
         alloc: Global,
@@ -342,6 +401,7 @@ impl WarmStart {
         goal: Goal,
     ) -> Result<Option<usize>, AllocError> {
         match &mut self.relaxation {
+            None if self.fractional => Ok(most_fractional(&self.likely, live)),
             None => Ok(None),
             Some(relaxation) => relaxation.branching_column(alloc, live, taken, goal),
         }
@@ -487,8 +547,8 @@ impl WarmStart {
     ///
     /// `rows` are the rows of the table before its columns, which are below `columns`, were
     /// renumbered, `live` its live columns in their order, and `taken` those that every cover of the
-    /// search has. Up to 1,202 steps, each of which reads all rows some times; or the linear
-    /// relaxation.
+    /// search has. Up to 1,202 steps, each of which reads all rows some times; up to 1,000 primal-dual
+    /// steps where rows are many; or the linear relaxation.
     pub fn multipliers(
         &mut self,
         alloc: Global,
@@ -504,12 +564,45 @@ impl WarmStart {
             return relaxation.multipliers(alloc, rows, live, taken, goal);
         }
         let numbers = self.row_ids(alloc, rows, live, columns)?;
-        let mut ascent = self.ascent(alloc, table, &numbers)?;
+        self.fractional = rows.len() >= MANY_ROWS && !table.is_uneven();
+        let mut ascent = if self.fractional {
+            self.approach(alloc, table, live, columns, &numbers, goal)?
+        } else {
+            self.ascent(alloc, table, &numbers)?
+        };
         if !rows.is_empty() {
-            self.climb(alloc, table, live, columns, goal, &mut ascent)?;
+            if !self.fractional {
+                self.climb(alloc, table, live, columns, goal, &mut ascent)?;
+            }
             self.remember(alloc, rows, &numbers, &ascent)?;
         }
         ascent.multipliers(alloc)
+    }
+
+    /// Makes primal-dual steps, keeps their fractional cover, and answers an ascent from their weights that
+    /// is over: they are polished.
+    fn approach(
+        &mut self,
+        alloc: Global,
+        table: &Compact,
+        live: &[usize],
+        columns: usize,
+        numbers: &[usize],
+        goal: Goal,
+    ) -> Result<Ascent, AllocError> {
+        let weights = if self.is_new() {
+            first_weights(alloc, table)?
+        } else {
+            self.weights_of(alloc, numbers)?
+        };
+        let likely = entries_at(alloc, &self.likely, live)?;
+        let mut pair = PrimalDual::new(alloc, table, &weights, &likely)?;
+        let spans = if self.steps < STEPS { FEW_SPANS } else { SPANS };
+        pair.approach(table, goal, spans);
+        self.keep_likely(alloc, live, &pair.parts(alloc)?, columns)?;
+        let mut ascent = Ascent::new(alloc, table, pair.weights(alloc)?, self.column, NEAR_PACE)?;
+        ascent.go_on(alloc, table, goal, 0, &mut Course::new(0, REACH))?;
+        Ok(ascent)
     }
 
     /// Keeps the best weights of the steps, by the numbers of their rows; new numbers are
