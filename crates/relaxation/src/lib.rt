@@ -17,8 +17,8 @@
 //! It is solved by the dual simplex method with steepest-edge pricing (Forrest and Goldfarb,
 //! Steepest-edge simplex algorithms for linear programming, 1992), and columns to branch on are found by
 //! reliability branching (Achterberg, Koch and Martin, Branching rules revisited, 2005). The primal-dual
-//! steps are those of Applegate et al. (Practical large-scale linear programming using primal-dual hybrid
-//! gradient, 2021), each of which reads all rows twice.
+//! steps are those of Lu and Yang (Restarted Halpern PDHG for linear programming, 2024), each of which
+//! reads all rows twice.
 //!
 //! The table with the rows {0,1}, {1,2} and {0,2} has the optimum 1.5, with weights of one half each:
 //! so no cover has fewer than two columns, where a row alone shows that there is one.

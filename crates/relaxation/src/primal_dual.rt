@@ -3,21 +3,24 @@
 //!
 //! A step moves each column's part against its slack, and each row's weight by what the parts of its columns
 //! fall short of one (Chambolle and Pock, A first-order primal-dual algorithm for convex problems, 2011). Its
-//! lengths are one by the numbers of rows and columns (Pock and Chambolle, Diagonal preconditioning for first
-//! order primal-dual algorithms, 2011). From time to time the steps are restarted from where they are, or from
-//! their mean (Applegate et al., Practical large-scale linear programming using primal-dual hybrid gradient,
-//! 2021). All columns cost the same here.
+//! lengths are by the numbers of rows and columns (Pock and Chambolle, Diagonal preconditioning for first
+//! order primal-dual algorithms, 2011). Steps are reflected, and drawn back to where they began, the less the
+//! more there were; from time to time they begin anew (Lu and Yang, Restarted Halpern PDHG for linear
+//! programming, 2024). All columns cost the same here.
 
-use crate::floats::{add_float, float, put_float, sum_at};
+use crate::floats::{float, put_float, sum_at};
 use heuristics::{Goal, LIKELIEST};
-use number_lists::{Compact, Lists, UNIT, at};
+use number_lists::{Compact, Lists, UNIT, at, overwrite};
 use std::alloc::{AllocError, Global};
 use std::num::{nearest_i64_to_f64, nearest_u64_to_f64, saturating_f64_to_u64};
 
 /// After so many steps it is looked at how near they came.
 const SPAN: u64 = 50;
 
-/// Steps are restarted where the gap between the bounds is this part of that at the last restart,
+/// How long the steps of weights are beside those of parts, as a square.
+const BALANCE: f64 = 1.7;
+
+/// Steps begin anew where the gap between the bounds is this part of that at the last beginning,
 const MUCH_NEARER: f64 = 0.4;
 
 /// or this part of it,
@@ -56,38 +59,38 @@ fn sum(numbers: &[f64]) -> f64 {
     sum
 }
 
-/// What the lists fall short of one together, whose numbers, times `factor`, are added up. Of a list that
-/// goes past one nothing is subtracted.
-fn shortage(lists: &Lists, numbers: &[f64], factor: f64) -> f64 {
+/// What the lists, whose numbers are added up, fall short of one together. Of a list that goes past one
+/// nothing is subtracted.
+fn shortage(lists: &Lists, numbers: &[f64]) -> f64 {
     let mut shortage = 0.0;
     for index in 0..lists.len() {
-        let short = 1.0 - factor * sum_at(numbers, lists.list(index));
+        let short = 1.0 - sum_at(numbers, lists.list(index));
         shortage += short.max(0.0);
     }
     shortage
 }
 
-/// By how much the lists go past one together, likewise.
-fn excess(lists: &Lists, numbers: &[f64], factor: f64) -> f64 {
+/// By how much the lists, whose numbers are added up, go past one together.
+fn excess(lists: &Lists, numbers: &[f64]) -> f64 {
     let mut excess = 0.0;
     for index in 0..lists.len() {
-        let over = factor * sum_at(numbers, lists.list(index)) - 1.0;
+        let over = sum_at(numbers, lists.list(index)) - 1.0;
         excess += over.max(0.0);
     }
     excess
 }
 
-/// One by the number of entries of the list, and no more than one.
+/// One by the number of entries of the list; one if it has none.
 fn pace(list: &[u32]) -> f64 {
     1.0 / nearest_u64_to_f64(list.len().max(1) as u64)
 }
 
 impl Bounds {
-    /// The bounds of these parts of columns and weights of rows, times `factor`.
-    fn of(table: &Compact, parts: &[f64], weights: &[f64], factor: f64) -> Bounds {
+    /// The bounds of these parts of columns and weights of rows.
+    fn of(table: &Compact, parts: &[f64], weights: &[f64]) -> Bounds {
         Bounds {
-            low: factor * sum(weights) - excess(&table.column_rows, weights, factor),
-            high: factor * sum(parts) + shortage(&table.rows, parts, factor),
+            low: sum(weights) - excess(&table.column_rows, weights),
+            high: sum(parts) + shortage(&table.rows, parts),
         }
     }
 
@@ -104,23 +107,64 @@ impl Bounds {
     }
 }
 
-/// A fractional cover and weights of rows, which steps bring nearer to the best ones.
-pub struct PrimalDual {
-    /// How much of each column the fractional cover has: from 0 to 1.
+/// A number for each column and each row.
+struct Pair {
+    /// How much of each column a fractional cover has: from 0 to 1.
     parts: Vec<f64>,
     /// The weight of each row, in columns.
     weights: Vec<f64>,
-    /// Of each column the new part, and what the last step added to it once more.
+}
+
+// Written out, so that where one ends a proof has one call, and not one for each of its lists.
+impl Drop for Pair {
+    fn drop(self) {
+        let Pair {
+            parts: _,
+            weights: _,
+        } = self;
+    }
+}
+
+impl Pair {
+    /// A copy.
+    fn copy(&self, alloc: Global) -> Result<Pair, AllocError> {
+        Ok(Pair {
+            parts: copy_of(alloc, &self.parts)?,
+            weights: copy_of(alloc, &self.weights)?,
+        })
+    }
+
+    /// Becomes the same as another of as many numbers.
+    fn become_as(&mut self, other: &Pair) {
+        overwrite(&mut self.parts, &other.parts);
+        overwrite(&mut self.weights, &other.weights);
+    }
+}
+
+/// The same numbers.
+fn copy_of(alloc: Global, numbers: &[f64]) -> Result<Vec<f64>, AllocError> {
+    let mut copy = Vec::with_capacity(alloc, numbers.len())?;
+    for number in numbers {
+        copy.push(*number)?;
+    }
+    Ok(copy)
+}
+
+/// A fractional cover and weights of rows, which steps bring nearer to the best ones.
+pub struct PrimalDual {
+    /// Where the next step begins.
+    here: Pair,
+    /// Where the last step led, before it was reflected.
+    found: Pair,
+    /// Where the steps began.
+    begin: Pair,
+    /// Of each column the part that was found, and what the last step added to it once more.
     ahead: Vec<f64>,
-    /// The sums of the parts after each step since the last restart.
-    part_sums: Vec<f64>,
-    /// The sums of the weights after each step since the last restart.
-    weight_sums: Vec<f64>,
     /// How many steps were made.
     all_steps: u64,
-    /// How many since the last restart.
+    /// How many since they began anew.
     steps: u64,
-    /// The gap at the last restart.
+    /// The gap then.
     gap: f64,
 }
 
@@ -128,11 +172,10 @@ pub struct PrimalDual {
 impl Drop for PrimalDual {
     fn drop(self) {
         let PrimalDual {
-            parts: _,
-            weights: _,
+            here: _,
+            found: _,
+            begin: _,
             ahead: _,
-            part_sums: _,
-            weight_sums: _,
             all_steps: _,
             steps: _,
             gap: _,
@@ -161,20 +204,6 @@ fn in_whole_numbers(alloc: Global, floats: &[f64], unit: i64) -> Result<Vec<i64>
     Ok(numbers)
 }
 
-/// Sets the numbers to the means that these are the sums of, `factor` being one by their number.
-fn set_means(numbers: &mut [f64], sums: &[f64], factor: f64) {
-    for index in 0..numbers.len().min(sums.len()) {
-        numbers[index] = factor * sums[index];
-    }
-}
-
-/// Sets each number to 0.
-fn clear(numbers: &mut [f64]) {
-    for number in numbers.iter_mut() {
-        *number = 0.0;
-    }
-}
-
 impl PrimalDual {
     /// The start, from these weights, one for each row, in which a column is `UNIT`, and from how likely each
     /// column is to be in a cover, at most `LIKELIEST`.
@@ -184,14 +213,16 @@ impl PrimalDual {
         weights: &[i64],
         likely: &[i64],
     ) -> Result<PrimalDual, AllocError> {
-        let rows = table.rows.len();
         let columns = table.costs.len();
-        Ok(PrimalDual {
+        let here = Pair {
             parts: in_units(alloc, likely, LIKELIEST, columns)?,
-            weights: in_units(alloc, weights, UNIT, rows)?,
+            weights: in_units(alloc, weights, UNIT, table.rows.len())?,
+        };
+        Ok(PrimalDual {
+            found: here.copy(alloc)?,
+            begin: here.copy(alloc)?,
+            here,
             ahead: vec![in alloc; 0.0; columns]?,
-            part_sums: vec![in alloc; 0.0; columns]?,
-            weight_sums: vec![in alloc; 0.0; rows]?,
             all_steps: 0,
             steps: 0,
             gap: NO_GAP,
@@ -199,84 +230,80 @@ impl PrimalDual {
     }
 
     /// Moves the part of each column: less where its rows have more weight than it costs, which is one.
-    fn move_parts(&mut self, column_rows: &Lists) {
+    /// `share` is how much of the reflected step is made.
+    fn move_parts(&mut self, column_rows: &Lists, share: f64) {
         for column in 0..column_rows.len() {
             let rows = column_rows.list(column);
-            let slack = 1.0 - sum_at(&self.weights, rows);
-            let before = float(&self.parts, column);
-            let part = (before - slack * pace(rows)).max(0.0).min(1.0);
-            put_float(&mut self.ahead, column, part + part - before);
-            put_float(&mut self.parts, column, part);
-            add_float(&mut self.part_sums, column, part);
+            let slack = 1.0 - sum_at(&self.here.weights, rows);
+            let before = float(&self.here.parts, column);
+            let part = (before - slack * pace(rows) / BALANCE).max(0.0).min(1.0);
+            let ahead = part + part - before;
+            let back = float(&self.begin.parts, column);
+            put_float(&mut self.ahead, column, ahead);
+            put_float(&mut self.found.parts, column, part);
+            put_float(&mut self.here.parts, column, back + share * (ahead - back));
         }
     }
 
     /// Moves the weight of each row: up where the parts of its columns are less than one together.
-    fn move_weights(&mut self, rows: &Lists) {
+    /// `share` is how much of the reflected step is made.
+    fn move_weights(&mut self, rows: &Lists, share: f64) {
         for row in 0..rows.len() {
             let columns = rows.list(row);
             let short = 1.0 - sum_at(&self.ahead, columns);
-            let weight = (float(&self.weights, row) + short * pace(columns)).max(0.0);
-            put_float(&mut self.weights, row, weight);
-            add_float(&mut self.weight_sums, row, weight);
+            let before = float(&self.here.weights, row);
+            let weight = (before + short * pace(columns) * BALANCE).max(0.0);
+            let ahead = weight + weight - before;
+            let back = float(&self.begin.weights, row);
+            put_float(&mut self.found.weights, row, weight);
+            put_float(&mut self.here.weights, row, back + share * (ahead - back));
         }
     }
 
     /// Makes `SPAN` steps.
     fn make_steps(&mut self, table: &Compact) {
         for _ in 0..SPAN {
-            self.move_parts(&table.column_rows);
-            self.move_weights(&table.rows);
+            self.steps = self.steps.saturating_add(1);
+            let steps = nearest_u64_to_f64(self.steps);
+            let share = steps / (steps + 1.0);
+            self.move_parts(&table.column_rows, share);
+            self.move_weights(&table.rows, share);
         }
-        self.steps = self.steps.saturating_add(SPAN);
         self.all_steps = self.all_steps.saturating_add(SPAN);
     }
 
-    /// Whether to restart the steps at this gap.
-    fn is_worth_a_restart(&self, gap: f64) -> bool {
+    /// Whether the steps are to begin anew at this gap.
+    fn is_near(&self, gap: f64) -> bool {
         let long = LONG * nearest_u64_to_f64(self.all_steps);
         gap < MUCH_NEARER * self.gap
             || (nearest_u64_to_f64(self.steps) >= long && gap < NEARER * self.gap)
     }
 
-    /// Restarts the steps, from their mean if told so; `factor` is one by their number.
-    fn restart(&mut self, takes_mean: bool, factor: f64, gap: f64) {
-        if takes_mean {
-            set_means(&mut self.parts, &self.part_sums, factor);
-            set_means(&mut self.weights, &self.weight_sums, factor);
-        }
-        clear(&mut self.part_sums);
-        clear(&mut self.weight_sums);
+    /// Begins anew from what was found.
+    fn begin_anew(&mut self, gap: f64) {
+        self.here.become_as(&self.found);
+        self.begin.become_as(&self.found);
         self.steps = 0;
         self.gap = gap;
     }
 
-    /// Makes `SPAN` steps, and restarts them where that is worth it, or if they are over: if they are the last
-    /// ones, or more would hardly tell more. Answers whether they are.
-    fn go_on(&mut self, table: &Compact, goal: f64, is_last: bool) -> bool {
+    /// Makes `SPAN` steps, after which they begin anew if they came near. Answers whether more would hardly
+    /// tell more.
+    fn go_on(&mut self, table: &Compact, goal: f64) -> bool {
         self.make_steps(table);
-        let factor = 1.0 / nearest_u64_to_f64(self.steps.max(1));
-        let mean = Bounds::of(table, &self.part_sums, &self.weight_sums, factor);
-        let here = Bounds::of(table, &self.parts, &self.weights, 1.0);
-        let takes_mean = if mean.low.max(here.low) > goal {
-            mean.low > here.low
-        } else {
-            mean.gap() < here.gap()
-        };
-        let bounds = if takes_mean { mean } else { here };
-        let is_over = is_last || bounds.is_enough(goal);
-        if is_over || self.is_worth_a_restart(bounds.gap()) {
-            self.restart(takes_mean, factor, bounds.gap());
+        let bounds = Bounds::of(table, &self.found.parts, &self.found.weights);
+        if self.is_near(bounds.gap()) {
+            self.begin_anew(bounds.gap());
         }
-        is_over
+        bounds.is_enough(goal)
     }
 
     /// Makes up to so many spans of 50 steps: until the weights show that no cover has so few columns as the
     /// goal, or more steps would hardly tell more.
     pub fn approach(&mut self, table: &Compact, goal: Goal, spans: u32) {
         let columns = nearest_i64_to_f64(goal.columns);
-        for span in 0..spans {
-            if self.go_on(table, columns, span.wrapping_add(1) == spans) {
+        for _ in 0..spans {
+            if self.go_on(table, columns) {
                 break;
             }
         }
@@ -284,11 +311,11 @@ impl PrimalDual {
 
     /// The weight of each row; a column is `UNIT`.
     pub fn weights(&self, alloc: Global) -> Result<Vec<i64>, AllocError> {
-        in_whole_numbers(alloc, &self.weights, UNIT)
+        in_whole_numbers(alloc, &self.found.weights, UNIT)
     }
 
     /// How much of each column the fractional cover has, where `LIKELIEST` is all of it.
     pub fn parts(&self, alloc: Global) -> Result<Vec<i64>, AllocError> {
-        in_whole_numbers(alloc, &self.parts, LIKELIEST)
+        in_whole_numbers(alloc, &self.found.parts, LIKELIEST)
     }
 }
