@@ -95,6 +95,10 @@ SHORT_LISTS = [
     ("covering/questions", "HARD_LENGTH: u64 = 400", "HARD_LENGTH: u64 = 1"),
     ("covering/questions", "HARD_NO: u64 = 100", "HARD_NO: u64 = 1"),
 ]
+PRIMAL_DUAL = [
+    ("warm_start/warm_start", "MANY_ROWS: usize = 1_000", "MANY_ROWS: usize = 1"),
+    ("warm_start/warm_start", "SPANS: u32 = 20", "SPANS: u32 = 2"),
+]
 FEW_PROPOSALS = [
     ("signature_search/proposer", "FEW_PLACES: usize = 2_000", "FEW_PLACES: usize = 8"),
     ("signature_search/search", "MOST_REGIONS_OF_LEFT_OUT: u64 = 1 << 16", "MOST_REGIONS_OF_LEFT_OUT: u64 = 2"),
@@ -109,7 +113,7 @@ BUILDS = {
     "points": [*POINTS_OF_FEW_INPUTS, *GROWTH, *NO_FEW_PRIMES, *ROWS_AROUND, *SHORT_COVERS, *SHORT_LISTS],
     # The same within budgets that are spent now and then: by cubes outside, looks, primes of a point, rounds.
     "points-spent": [*POINTS_OF_FEW_INPUTS, *GROWTH, *NO_FEW_PRIMES, *FEW_CUBES_OUTSIDE, *FEW_LOOKS, *FEW_PRIMES_OF_A_POINT,
-                     *FEW_ROUNDS, *ALWAYS_AS_NEEDED, *FEW_PROPOSALS, *NEVER_NEAR],
+                     *FEW_ROUNDS, *ALWAYS_AS_NEEDED, *FEW_PROPOSALS, *NEVER_NEAR, *PRIMAL_DUAL],
     # Places outside as they are needed.
     "needed": [*POINTS_OF_FEW_INPUTS, *GROWTH, *ROWS_AROUND, *NO_CUBES_OUTSIDE, *ALWAYS_AS_NEEDED, *NO_CUBES_OF_OFF, *ALWAYS_NEAR],
     # The same until rounds or looks are spent; then points that are picked by all primes.
@@ -122,7 +126,7 @@ BUILDS = {
                      *NO_CUBES_OF_OFF, *NEVER_NEAR, *SEARCH_AT_ONCE],
     # The table of all primes, also of many inputs.
     "table": [*NO_GROWTH, *POINTS_OF_FEW_INPUTS, *NO_CUBES_OUTSIDE, *NEVER_AS_NEEDED, *NO_POINTS_OF_PRIMES, *NO_CUBES_OF_OFF,
-              *SHORT_LISTS],
+              *SHORT_LISTS, *PRIMAL_DUAL],
     # Rows of all lists are merged, whatever they are; then points, or places outside as they are needed.
     "merged": [*MERGED, *POINTS_OF_FEW_INPUTS, *GROWTH, *FEW_CUBES_OUTSIDE, *ALWAYS_AS_NEEDED, *ALWAYS_NEAR, *SEARCH_AT_ONCE],
 }
