@@ -283,3 +283,12 @@ class Machines(ManyOutputs):
             (least, _), (again, _) = (answer_in(folder, ["-Dexact"], given) for given in (text, turned))
         self.assertEqual((least.status, least.output), (0, again.output), least.message)
         self.compared("a machine and its least cover", text, least.output)
+
+    def test_a_table_of_many_rows(self):
+        """A machine of 190 states leaves a table of 4,930 rows and 9,509 columns, of which HiGHS takes as many columns."""
+        text = listing_text(state_machine(Machine("large", 3, 10, 190, 5), 61, "fd"))
+        with folder_of({}) as folder:
+            answer, _ = answer_in(folder, ["-Dexact"], text)
+        self.assertEqual(answer.status, 0, answer.message)
+        self.assertIn("\n.p 851\n", answer.output)
+        self.compared("a large machine and its least cover", text, answer.output)
