@@ -290,5 +290,5 @@ class Machines(ManyOutputs):
         with folder_of({}) as folder:
             answer, _ = answer_in(folder, ["-Dexact"], text)
         self.assertEqual(answer.status, 0, answer.message)
-        self.assertIn("\n.p 851\n", answer.output)
+        self.assertIn(b"\n.p 851\n", answer.output)
         self.compared("a large machine and its least cover", text, answer.output)
