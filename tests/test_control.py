@@ -285,10 +285,10 @@ class Machines(ManyOutputs):
         self.compared("a machine and its least cover", text, least.output)
 
     def test_a_table_of_many_rows(self):
-        """A machine of 190 states leaves a table of 4,930 rows and 9,509 columns, of which HiGHS takes as many columns."""
+        """A machine of 190 states leaves a table of 5,412 rows and 10,549 columns, of which HiGHS too takes 745."""
         text = listing_text(state_machine(Machine("large", 3, 10, 190, 5), 61, "fd"))
         with folder_of({}) as folder:
             answer, _ = answer_in(folder, ["-Dexact"], text)
         self.assertEqual(answer.status, 0, answer.message)
-        self.assertIn(b"\n.p 851\n", answer.output)
+        self.assertIn(b"\n.p 863\n", answer.output)
         self.compared("a large machine and its least cover", text, answer.output)
