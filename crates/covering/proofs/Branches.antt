@@ -1,15 +1,16 @@
 -- What a search over a table rests on: the leaf, the two branches, steps and columns outside the
 -- cutoff.
 use Rattle.std.proofs.Common.{◌≡◌, ◌≢◌, ℕ, zero, suc, ◌+◌, ◌<◌, ◌≤◌, ◌⊎◌, inl, inr, Bool, true, false, not, List, [], ◌∷◌, ◌++◌, eqb, replicate, length, map, refl, sym, ap, subst, ◌∙◌, arith}
-use Rattle.std.specs.Prelude.{Option, Some, None, filter, MatchBool, MatchOption, nat_lt}
+use Rattle.std.specs.Prelude.{Option, Some, None, Vec, filter, IfSome, MatchBool, MatchOption, nat_lt}
 use Rattle.std.specs.List.{AllByRecursion, list_any}
 use Rattle.std.specs.Cmp.{both_ways as same_bool}
 use Rattle.std.proofs.lemmas.Bool.{cases_eq, cases_lt, cases_Bool, or_cases, or_left, or_right, or_parts, eqb-true, ltb-true, ltb-false, both_ways, true≢false}
+use Rattle.covering.specs.declared.bound.Cutoff.{Cutoff}
 use Rattle.covering.specs.declared.choice.Choice.{Choice}
 use Rattle.covering.specs.Table.{Table, has, RisesFrom, IsWithin, IsTable}
 use Rattle.covering.specs.Cover.{meets, IsCover, counted, sum_over, Precedes, IsLeast}
 use Rattle.covering.specs.Steps.{without, take_column, drop_column, with_rows, Step, row_leaves, only_column, column_leaves, Steps, done, more}
-use Rattle.covering.specs.Search.{IsBeyond, NoneWithin, NoneBelow, IsAnswer, Answers, Leads, IsOutside, IsForced, IsPruned, keep_columns, is_blank, marked}
+use Rattle.covering.specs.Search.{IsBeyond, NoneWithin, NoneBelow, IsAnswer, Answers, AnswersWithin, Leads, IsOutside, IsForced, IsPruned, keep_columns, is_blank, marked}
 use Rattle.covering.proofs.Sets.{has_here, has_later, has_cases, without_keeps, without_length, filter_parts, filter_keeps, filter_rises, filter_length, meets_at, meets_from, first_by_sets}
 use Rattle.covering.proofs.Covers.{rows_at, rows_mapped, rows_unmapped, rows_weaker2, take_cover, take_back, drop_cover, drop_back}
 use Rattle.covering.proofs.Subsets.{same_list, minus, minus_keeps, minus_length, minus_sum, rows_within}
@@ -152,6 +153,10 @@ module _ (test : ℕ → Bool) (t : Table) where
     rows = rows_unmapped (λ row. meets x row ≡ true) (λ row. meets x row ≡ true) (filter test) t.rows (λ row e. let m = meets_at x (filter test row) e in meets_from m.0 x row m.1 (filter_parts test m.0 row m.2).0) h.rows;
   }
 
+  -- an answer with some columns alone is one with all
+  pub answer_kept : (choice : Choice) (k w : ℕ) (s : List ℕ) → IsAnswer choice (keep_columns test t) k w s → IsAnswer choice t k w s
+  answer_kept choice k w s a = record { cover = kept_back s a.cover; fits = a.fits; counts = a.counts }
+
   -- whether all live columns of a list are kept
   pub split : (xs : List ℕ) → ((c : ℕ) → has c xs ≡ true → has c t.live ≡ true → test c ≡ true) ⊎ ((c : ℕ) × (has c xs ≡ true) × (has c t.live ≡ true) × (test c ≡ false))
   split [] = inl (λ c h. absurd (true≢false (sym h)))
@@ -179,13 +184,19 @@ module _ (test : ℕ → Bool) (t : Table) where
         (rows_weaker2 (λ row. meets x row ≡ true) (λ row. IsWithin row t.live) (λ row. (meets x row ≡ true) × IsWithin row t.live) t.rows (λ row p q. (p, q)) h.rows (rows_within t t.rows w.rows));
   }
 
+-- what is found with some columns alone is an answer with all
+pub within_kept : {Z : Type 0} (choice : Choice) (test : ℕ → Bool) (t u : Table) (cutoff : Cutoff) (o : Option (Vec ℕ Z)) → u ≡ keep_columns test t → AnswersWithin choice u cutoff o
+    → IfSome o (λ v. IsAnswer choice t cutoff.columns cutoff.cost v.items)
+within_kept choice test t u cutoff None same a = tt
+within_kept choice test t u cutoff (Some v) same a = answer_kept test t choice cutoff.columns cutoff.cost v.items (subst (λ g. IsAnswer choice g cutoff.columns cutoff.cost v.items) same a)
+
 module _ (choice : Choice) (test : ℕ → Bool) (t : Table) (k w : ℕ) (wt : IsTable t) (out : (c : ℕ) → has c t.live ≡ true → test c ≡ false → IsOutside choice t k w c) where
   pub lead_kept : Leads choice k w t (keep_columns test t)
   lead_kept None a = λ x h. elim (split test t x) [
     | inl f ↦ a x (kept_cover test t wt x h f)
     | inr f ↦ out f.0 f.2 f.3 x h f.1
   ]
-  lead_kept (Some s) a = record { cover = kept_back test t s a.cover; fits = a.fits; counts = a.counts }
+  lead_kept (Some s) a = answer_kept test t choice k w s a
 
   blank_beyond : (x : List ℕ) → IsCover t x → (rows : List (List ℕ)) → AllByRecursion (λ row. meets x row ≡ true) rows → AllByRecursion (λ row. IsWithin row t.live) rows → list_any is_blank (map (filter test) rows) ≡ true → IsBeyond (counted choice t.weights) k w x
   blank_beyond x h [] m i e = absurd (true≢false (sym e))

@@ -10,10 +10,10 @@
 //! length and the fewest literals (`find_or_refute_for_length`), and for the order
 //! (`find_or_refute_for_order`) with literals, else only where the length wanted it.
 
-ghost use Rattle.std.specs.Prelude.{◌≡◌, ◌≤◌, ◌-◌, ℕ, [], IfOk, MatchOption, MatchBool, length, true, false};
+ghost use Rattle.std.specs.Prelude.{◌≡◌, ◌≤◌, ◌-◌, ℕ, [], IfOk, IfSome, MatchOption, MatchBool, length, true, false};
 ghost use Rattle.covering.specs.Table.{IsTable, has};
 ghost use Rattle.covering.specs.Cover.{counted, sum_over};
-ghost use Rattle.covering.specs.Search.{NoneWithin, AnswersWithin, IsPruned, IsOutside, marked};
+ghost use Rattle.covering.specs.Search.{NoneWithin, AnswersWithin, IsAnswer, IsPruned, IsOutside, marked};
 
 use crate::bound::{Cutoff, columns_within_gap, limit_of, scaled_costs};
 use crate::choice::{Choice, cost, total_cost};
@@ -42,6 +42,9 @@ const MOST_STEPS_NEAR: usize = 1_000;
 
 /// A local search in the reduced table takes twelve steps a row, and no more than so many.
 const MOST_STEPS_REDUCED: usize = 5_000;
+
+/// A search in the support of a fractional cover looks at no more than so many tables.
+const SUPPORT_TABLES: u64 = 500;
 
 /// A table is wide if it has more live columns than this many times its rows.
 const WIDE: usize = 16;
@@ -649,8 +652,48 @@ impl Table {
         self.find_or_refute(alloc, choice, cutoff, warm_start, most_tables)
     }
 
-    /// A cover within the cutoff, or none if there is none: local searches look for one first, and
-    /// then a search that branches into no more than `most_tables` tables.
+    /// A cover within the cutoff, if a search finds one of the columns of which a fractional cover has some
+    /// part (Berthold, RENS: the optimal rounding, 2014). `None` does not say that there is none.
+    fn find_in_support(
+        &self,
+        alloc: Global,
+        choice: Choice,
+        cutoff: Cutoff,
+        warm_start: &mut WarmStart,
+        lists: &mut Vec<Vec<usize>>,
+    ) -> Result<Option<Vec<usize>>, AllocError>
+        ensures { IfOk result (λ o. IfSome o (λ v. IsAnswer choice self.now cutoff.columns
+            cutoff.cost v.items)) }
+    {
+        let Some(keep) = warm_start.support(alloc, self.columns())? else {
+            return Ok(None);
+        };
+        let copy = self.copy(alloc)?;
+        let Some(table) = copy.keep_marked(&keep) else {
+            return Ok(None);
+        };
+        let mut own = warm_start.copy(alloc)?;
+        let mut tables_left = SUPPORT_TABLES;
+        let found = table.search(
+            alloc,
+            choice,
+            cutoff,
+            Due::ALL,
+            &mut own,
+            &mut tables_left,
+            lists,
+        );
+        warm_start.learn(&own);
+        match found {
+            Ok(cover) => Ok(cover),
+            Err(Stop::Spent) => Ok(None),
+            Err(Stop::Memory) => Err(AllocError),
+        }
+    }
+
+    /// A cover within the cutoff, or none if there is none: local searches look for one first, then one
+    /// in the support of a fractional cover, where there is one, and then a search that branches into no
+    /// more than `most_tables` tables.
     pub(crate) fn find_or_refute(
         &self,
         alloc: Global,
@@ -686,6 +729,10 @@ impl Table {
         let steps = steps_in_reduced(table.row_lists().len());
         let near = warm_start.likely_cover(alloc, table.live_columns())?;
         let found = table.find_by_local_search(alloc, choice, cutoff, goal, &near, steps)?;
+        if let Some(cover) = found {
+            return Ok(Some(cover));
+        }
+        let found = table.find_in_support(alloc, choice, cutoff, warm_start, &mut lists)?;
         if let Some(cover) = found {
             return Ok(Some(cover));
         }

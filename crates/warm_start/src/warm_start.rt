@@ -14,7 +14,7 @@ use heuristics::{
     STEPS,
 };
 use number_lists::{
-    Compact, Lists, SEED, UNIT, at, is_live_part_of, marked, next_random, number, put, set,
+    Compact, Lists, SEED, UNIT, at, is_live_part_of, mark, marked, next_random, number, put, set,
 };
 use relaxation::{BranchBasis, PrimalDual, PseudoCosts, Relaxation, is_small_enough};
 use std::alloc::{AllocError, Global};
@@ -107,6 +107,9 @@ const FEW_SPANS: u32 = 4;
 
 /// A column is branched on where its part of a fractional cover is so far from 0 and from 1.
 const LEAST_FRACTION: i64 = LIKELIEST / 10;
+
+/// A fractional cover has some part of a column if it has no less than this.
+const LEAST_PART: i64 = LIKELIEST / 100;
 
 /// The live column of which a fractional cover has a part nearest to one half; `None` if each is nearly 0
 /// or 1.
@@ -225,6 +228,19 @@ impl WarmStart {
             }
         }
         Ok(columns)
+    }
+
+    /// Marks for `columns` columns: those of which the last fractional cover has some part are set, its
+    /// support; `None` if there is no such cover.
+    pub fn support(&self, alloc: Global, columns: usize) -> Result<Option<Vec<bool>>, AllocError> {
+        if !self.fractional {
+            return Ok(None);
+        }
+        let mut marks = vec![in alloc; false; columns]?;
+        for (column, part) in self.likely.iter().enumerate() {
+            mark(&mut marks, column, *part >= LEAST_PART);
+        }
+        Ok(Some(marks))
     }
 
     /// The work so far.
