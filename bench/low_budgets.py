@@ -98,6 +98,7 @@ SHORT_LISTS = [
 PRIMAL_DUAL = [
     ("warm_start/warm_start", "MANY_ROWS: usize = 1_000", "MANY_ROWS: usize = 1"),
     ("warm_start/warm_start", "SPANS: u32 = 20", "SPANS: u32 = 2"),
+    ("covering/search", "SUPPORT_TABLES: u64 = 500", "SUPPORT_TABLES: u64 = 2"),
 ]
 FEW_PROPOSALS = [
     ("signature_search/proposer", "FEW_PLACES: usize = 2_000", "FEW_PLACES: usize = 8"),
