@@ -17,7 +17,7 @@ use std::num::{nearest_i64_to_f64, nearest_u64_to_f64, saturating_f64_to_u64};
 /// After so many steps it is looked at how near they came.
 const SPAN: u64 = 50;
 
-/// How long the steps of weights are beside those of parts, as a square.
+/// Steps of weights are longer by this factor, and those of parts shorter.
 const BALANCE: f64 = 1.7;
 
 /// Steps begin anew where the gap between the bounds is this part of that at the last beginning,
@@ -129,8 +129,8 @@ impl Pair {
     /// A copy.
     fn copy(&self, alloc: Global) -> Result<Pair, AllocError> {
         Ok(Pair {
-            parts: copy_of(alloc, &self.parts)?,
-            weights: copy_of(alloc, &self.weights)?,
+            parts: self.parts.to_vec(alloc)?,
+            weights: self.weights.to_vec(alloc)?,
         })
     }
 
@@ -139,15 +139,6 @@ impl Pair {
         overwrite(&mut self.parts, &other.parts);
         overwrite(&mut self.weights, &other.weights);
     }
-}
-
-/// The same numbers.
-fn copy_of(alloc: Global, numbers: &[f64]) -> Result<Vec<f64>, AllocError> {
-    let mut copy = Vec::with_capacity(alloc, numbers.len())?;
-    for number in numbers {
-        copy.push(*number)?;
-    }
-    Ok(copy)
 }
 
 /// A fractional cover and weights of rows, which steps bring nearer to the best ones.
