@@ -34,7 +34,7 @@ pub use branching::{batch, likeliest, row_counts};
 pub use components::side_hint;
 pub use goal::Goal;
 pub use subgradient::{
-    Ascent, Course, FEW_STEPS, LIKELIEST, Multipliers, NEAR_PACE, NEAR_REACH, PACE, Point, REACH,
-    STEPS,
+    Ascent, Course, Cut, FEW_STEPS, LIKELIEST, Multipliers, NEAR_PACE, NEAR_REACH, PACE, Point,
+    REACH, STEPS,
 };
 pub use swaps::{local_search, steps_of_long_search};

@@ -50,12 +50,24 @@ const SLOPE: i64 = 16;
 /// After this many steps without a gain the steps become shorter.
 const PATIENCE: u32 = 10;
 
-/// The multipliers of the relaxation: weights of rows, and the parts of a column's scaled cost, for
-/// itself and for each unit of its cost.
+/// A cut with its weight: some rows of the table, of which each cover has so many columns, counted by
+/// halves of their rows and rounded up, as are half of the rows (a {0, 1/2}-cut).
+#[derive(Drop)]
+pub struct Cut {
+    /// The indices of the rows.
+    pub rows: Vec<usize>,
+    /// The weight.
+    pub weight: u64,
+}
+
+/// The multipliers of the relaxation: weights of rows and of cuts, and the parts of a column's scaled
+/// cost, for itself and for each unit of its cost.
 #[derive(Drop)]
 pub struct Multipliers {
     /// The weight of each row.
     pub weights: Vec<u64>,
+    /// Cuts, which strengthen the bound of the rows alone; mostly none.
+    pub cuts: Vec<Cut>,
     /// The multiplier of a column.
     pub column: u32,
     /// The multiplier of each unit of a column's cost.
@@ -694,6 +706,7 @@ impl Ascent {
         }
         Ok(Multipliers {
             weights,
+            cuts: Vec::new(alloc),
             column: u32::try_from(self.best.column).unwrap_or(u32::MAX),
             cost: u32::try_from(self.cost).unwrap_or(u32::MAX),
         })

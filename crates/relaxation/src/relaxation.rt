@@ -350,6 +350,7 @@ impl Relaxation {
         if !self.simplex.is_limited() {
             return Ok(Multipliers {
                 weights,
+                cuts: Vec::new(alloc),
                 column: unit,
                 cost: 0,
             });
@@ -357,6 +358,7 @@ impl Relaxation {
         let column = saturating_f64_to_u64(more * nearest_u64_to_f64(u64::from(unit)));
         Ok(Multipliers {
             weights,
+            cuts: Vec::new(alloc),
             column: u32::try_from(column).unwrap_or(u32::MAX),
             cost: unit,
         })
