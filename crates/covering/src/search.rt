@@ -187,7 +187,8 @@ impl Table {
             multipliers.column,
             multipliers.cost,
         )?;
-        let loads = lagrangian(alloc, rows, &multipliers.weights, &scaled_costs)?;
+        let mut loads = lagrangian(alloc, rows, &multipliers.weights, &scaled_costs)?;
+        crate::lagrangian::add_cuts_prototype(alloc, rows, &multipliers.cuts, &scaled_costs, &mut loads)?;
         let rest = self.remaining_cutoff(choice, cutoff);
         let Some(limit) = limit_of(
             multipliers.column,

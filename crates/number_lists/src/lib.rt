@@ -8,7 +8,7 @@
 //!   is known again from table to table.
 //! - Most others read and write at an index that may be past the end, where a read gives 0 and a write
 //!   does nothing: [`at`] and [`put`] for `i64`, [`number`] and [`set`] for `usize`, [`flag`] and
-//!   [`mark`] for marks. [`next_random`] is a fixed pseudo-random sequence.
+//!   [`mark`] for marks, [`float`] and [`put_float`] for `f64`. [`next_random`] is a fixed pseudo-random sequence.
 //!
 //! A table with the rows {3,7} and {7,9}, of which the columns 3, 7 and 9 are live, becomes one with
 //! the rows {0,1} and {1,2}; its columns are in the rows {0}, {0,1} and {1}.
@@ -18,10 +18,12 @@
 #![tactic(auto)]
 
 mod compact;
+mod floats;
 mod lists;
 mod numbers;
 
 pub use compact::{Compact, UNIT};
+pub use floats::{float, put_float, sum_at};
 pub use lists::{Lists, is_live_part_of};
 pub use numbers::{
     SEED, add_at, add_to, add_to_each, at, flag, mark, marked, marks_of, next_random, number,

@@ -1,23 +1,8 @@
-//! Lists of floating-point numbers: reads and writes at indices that may be out of range, and the
-//! kernels of linear algebra, which take eight numbers at a time.
+//! Lists of floating-point numbers: what is added at indices that may be out of range, and the kernels of
+//! linear algebra, which take eight numbers at a time.
 
+pub(crate) use number_lists::{float, put_float, sum_at};
 use std::simd::prelude::*;
-
-/// The number at the index, or 0 past the end.
-pub(crate) fn float(numbers: &[f64], index: usize) -> f64 {
-    if index < numbers.len() {
-        numbers[index]
-    } else {
-        0.0
-    }
-}
-
-/// Sets the number at the index; does nothing past the end.
-pub(crate) fn put_float(numbers: &mut [f64], index: usize, number: f64) {
-    if index < numbers.len() {
-        numbers[index] = number;
-    }
-}
 
 /// Adds `amount` to the number at the index; does nothing past the end.
 pub(crate) fn add_float(numbers: &mut [f64], index: usize, amount: f64) {
@@ -31,15 +16,6 @@ pub(crate) fn add_float_to_each(numbers: &mut [f64], indices: &[u32], amount: f6
     for index in indices {
         add_float(numbers, *index as usize, amount);
     }
-}
-
-/// The sum of the numbers at these indices.
-pub(crate) fn sum_at(numbers: &[f64], indices: &[u32]) -> f64 {
-    let mut sum = 0.0;
-    for index in indices {
-        sum += float(numbers, *index as usize);
-    }
-    sum
 }
 
 /// Sets each number to this one.

@@ -11,14 +11,10 @@
 //!   of a branch, and [`Relaxation::go_back`] returns to it.
 //!   What branches gained ([`PseudoCosts`]) passes to the relaxation of the next search.
 //! - [`is_small_enough`] tells whether a table is small enough for all this.
-//! - [`PrimalDual`] comes near the optimum of a larger table where all columns cost the same, by
-//!   primal-dual steps: weights of its rows, and a fractional cover.
 //!
 //! It is solved by the dual simplex method with steepest-edge pricing (Forrest and Goldfarb,
 //! Steepest-edge simplex algorithms for linear programming, 1992), and columns to branch on are found by
-//! reliability branching (Achterberg, Koch and Martin, Branching rules revisited, 2005). The primal-dual
-//! steps are those of Lu and Yang (Restarted Halpern PDHG for linear programming, 2024), each of which
-//! reads all rows twice.
+//! reliability branching (Achterberg, Koch and Martin, Branching rules revisited, 2005).
 //!
 //! The table with the rows {0,1}, {1,2} and {0,2} has the optimum 1.5, with weights of one half each:
 //! so no cover has fewer than two columns, where a row alone shows that there is one.
@@ -31,11 +27,9 @@
 
 mod floats;
 mod matrix;
-mod primal_dual;
 mod relaxation;
 mod reliability;
 mod simplex;
 
-pub use primal_dual::PrimalDual;
 pub use relaxation::{BranchBasis, Relaxation, is_small_enough};
 pub use reliability::PseudoCosts;

@@ -10,13 +10,15 @@
 
 use crate::effort::Effort;
 use heuristics::{
-    Ascent, Course, FEW_STEPS, Goal, LIKELIEST, Multipliers, NEAR_PACE, NEAR_REACH, PACE, REACH,
-    STEPS,
+    Ascent, Course, Cut, FEW_STEPS, Goal, LIKELIEST, Multipliers, NEAR_PACE, NEAR_REACH, PACE,
+    REACH, STEPS,
 };
 use number_lists::{
     Compact, Lists, SEED, UNIT, at, is_live_part_of, mark, marked, next_random, number, put, set,
+    small,
 };
-use relaxation::{BranchBasis, PrimalDual, PseudoCosts, Relaxation, is_small_enough};
+use primal_dual::PrimalDual;
+use relaxation::{BranchBasis, PseudoCosts, Relaxation, is_small_enough};
 use std::alloc::{AllocError, Global};
 
 /// Whether to compute a bound again: `before` is how many columns there were at the last one, `now`
@@ -54,6 +56,64 @@ fn indices_of(alloc: Global, live: &[usize], columns: &[usize]) -> Result<Vec<us
         }
     }
     Ok(indices)
+}
+
+/// The index of each of the numbers, at the number, and `u32::MAX` for others; numbers are below `end`, or
+/// left out.
+fn indices_by_number(
+    alloc: Global,
+    numbers: &[usize],
+    end: usize,
+) -> Result<Vec<u32>, AllocError> {
+    let mut indices: Vec<u32> = vec![in alloc; u32::MAX; end]?;
+    for (index, number) in numbers.iter().enumerate() {
+        if *number < indices.len() {
+            indices[*number] = small(index);
+        }
+    }
+    Ok(indices)
+}
+
+/// The indices of those of the numbers that have one.
+fn present(alloc: Global, numbers: &[u32], indices: &[u32]) -> Result<Vec<u32>, AllocError> {
+    let mut found = Vec::new(alloc);
+    for number in numbers {
+        let number = *number as usize;
+        if number < indices.len() && indices[number] != u32::MAX {
+            found.push(indices[number])?;
+        }
+    }
+    Ok(found)
+}
+
+/// The weights, at least 0, as the caller checks them.
+fn whole(alloc: Global, weights: &[i64]) -> Result<Vec<u64>, AllocError> {
+    let mut whole = Vec::with_capacity(alloc, weights.len())?;
+    for weight in weights {
+        whole.push(u64::try_from(*weight).unwrap_or(0))?;
+    }
+    Ok(whole)
+}
+
+/// The list as indices.
+fn as_indices(alloc: Global, list: &[u32]) -> Result<Vec<usize>, AllocError> {
+    let mut indices = Vec::with_capacity(alloc, list.len())?;
+    for number in list {
+        indices.push(*number as usize)?;
+    }
+    Ok(indices)
+}
+
+/// The cuts with their weights, as the caller checks them.
+fn weighted_cuts(alloc: Global, cuts: &Lists, weights: &[i64]) -> Result<Vec<Cut>, AllocError> {
+    let mut weighted = Vec::with_capacity(alloc, cuts.len())?;
+    for (cut, weight) in whole(alloc, weights)?.iter().enumerate() {
+        weighted.push(Cut {
+            rows: as_indices(alloc, cuts.list(cut))?,
+            weight: *weight,
+        })?;
+    }
+    Ok(weighted)
 }
 
 /// The most rows that a column of the row is in; at least 1.
@@ -105,6 +165,12 @@ const SPANS: u32 = 20;
 /// The most for a bound that only drops columns.
 const FEW_SPANS: u32 = 4;
 
+/// How often cuts are added for a bound.
+const TIMES_OF_CUTS: u32 = 8;
+
+/// How often for a bound that only drops columns.
+const FEW_TIMES_OF_CUTS: u32 = 1;
+
 /// A column is branched on where its part of a fractional cover is so far from 0 and from 1.
 const LEAST_FRACTION: i64 = LIKELIEST / 10;
 
@@ -135,6 +201,10 @@ pub struct WarmStart {
     numbers: Vec<usize>,
     /// The weight of each row, by its number.
     weights: Vec<i64>,
+    /// The rows of each cut of the last bound, by their numbers.
+    cuts: Lists,
+    /// The weight of each cut.
+    cut_weights: Vec<i64>,
     /// The multiplier of a column.
     column: i64,
     /// How likely each column is thought to be in a cover: a larger number is likelier.
@@ -164,6 +234,8 @@ impl Drop for WarmStart {
             rows: _,
             numbers: _,
             weights: _,
+            cuts: _,
+            cut_weights: _,
             column: _,
             likely: _,
             fractional: _,
@@ -185,6 +257,8 @@ impl WarmStart {
             rows: Lists::new(alloc),
             numbers: Vec::new(alloc),
             weights: Vec::new(alloc),
+            cuts: Lists::new(alloc),
+            cut_weights: Vec::new(alloc),
             column: 4 * UNIT,
             likely: Vec::new(alloc),
             fractional: false,
@@ -281,6 +355,8 @@ impl WarmStart {
         copy.rows.extend_from(&self.rows)?;
         copy.numbers.extend_from_slice(&self.numbers)?;
         copy.weights.extend_from_slice(&self.weights)?;
+        copy.cuts.extend_from(&self.cuts)?;
+        copy.cut_weights.extend_from_slice(&self.cut_weights)?;
         copy.likely.extend_from_slice(&self.likely)?;
         copy.hint.extend_from_slice(&self.hint)?;
         Ok(copy)
@@ -303,6 +379,8 @@ impl WarmStart {
         copy.hard = self.hard;
         copy.fractional = self.fractional;
         copy.weights.extend_from_slice(&self.weights)?;
+        copy.cuts.extend_from(&self.cuts)?;
+        copy.cut_weights.extend_from_slice(&self.cut_weights)?;
         if !self.is_new() {
             let numbers = self.row_ids(alloc, rows, live, columns)?;
             copy.keep_weights(&numbers, &self.weights_of(alloc, &numbers)?)?;
@@ -581,44 +659,101 @@ impl WarmStart {
         }
         let numbers = self.row_ids(alloc, rows, live, columns)?;
         self.fractional = rows.len() >= MANY_ROWS && !table.is_uneven();
-        let mut ascent = if self.fractional {
-            self.approach(alloc, table, live, columns, &numbers, goal)?
-        } else {
-            self.ascent(alloc, table, &numbers)?
-        };
+        if self.fractional {
+            return self.approach(alloc, table, live, rows, columns, &numbers, goal);
+        }
+        let mut ascent = self.ascent(alloc, table, &numbers)?;
         if !rows.is_empty() {
-            if !self.fractional {
-                self.climb(alloc, table, live, columns, goal, &mut ascent)?;
-            }
+            self.climb(alloc, table, live, columns, goal, &mut ascent)?;
             self.remember(alloc, rows, &numbers, &ascent)?;
         }
         ascent.multipliers(alloc)
     }
 
-    /// Makes primal-dual steps, keeps their fractional cover, and answers an ascent from their weights that
-    /// is over: they are polished.
+    /// Multipliers by primal-dual steps, with cuts, whose fractional cover is kept; the arguments are those of
+    /// `multipliers`, and the numbers of the rows. Without cuts the weights are polished.
     fn approach(
         &mut self,
         alloc: Global,
         table: &Compact,
         live: &[usize],
+        rows: &[Vec<usize>],
         columns: usize,
         numbers: &[usize],
         goal: Goal,
-    ) -> Result<Ascent, AllocError> {
-        let weights = if self.is_new() {
-            first_weights(alloc, table)?
-        } else {
-            self.weights_of(alloc, numbers)?
-        };
-        let likely = entries_at(alloc, &self.likely, live)?;
-        let mut pair = PrimalDual::new(alloc, table, &weights, &likely)?;
-        let spans = if self.steps < STEPS { FEW_SPANS } else { SPANS };
-        pair.approach(table, goal, spans);
+    ) -> Result<Multipliers, AllocError> {
+        let mut pair = self.primal_dual(alloc, table, live, numbers)?;
+        let hurried = self.steps < STEPS;
+        let spans = if hurried { FEW_SPANS } else { SPANS };
+        let times = if hurried { FEW_TIMES_OF_CUTS } else { TIMES_OF_CUTS };
+        pair.approach(goal, spans);
+        pair.strengthen(alloc, table, goal, times, spans)?;
         self.keep_likely(alloc, live, &pair.parts(alloc)?, columns)?;
-        let mut ascent = Ascent::new(alloc, table, pair.weights(alloc)?, self.column, NEAR_PACE)?;
-        ascent.go_on(alloc, table, goal, 0, &mut Course::new(0, REACH))?;
-        Ok(ascent)
+        let mut weights = pair.weights(alloc)?;
+        self.remember_cuts(alloc, pair.cuts(), numbers, &weights)?;
+        if self.cut_weights.is_empty() {
+            let mut ascent = Ascent::new(alloc, table, weights, self.column, NEAR_PACE)?;
+            ascent.go_on(alloc, table, goal, 0, &mut Course::new(0, REACH))?;
+            self.remember(alloc, rows, numbers, &ascent)?;
+            return ascent.multipliers(alloc);
+        }
+        let cuts = weighted_cuts(alloc, pair.cuts(), &self.cut_weights)?;
+        weights.truncate(numbers.len());
+        self.missing = pair.shortfall(goal);
+        self.remember_rows(alloc, rows, numbers, &weights)?;
+        Ok(Multipliers {
+            weights: whole(alloc, &weights)?,
+            cuts,
+            column: UNIT as u32,
+            cost: 0,
+        })
+    }
+
+    /// The start of primal-dual steps: from the remembered weights of the rows with these numbers and of the
+    /// cuts of them, or from first weights if no rows are remembered.
+    fn primal_dual(
+        &self,
+        alloc: Global,
+        table: &Compact,
+        live: &[usize],
+        numbers: &[usize],
+    ) -> Result<PrimalDual, AllocError> {
+        let likely = entries_at(alloc, &self.likely, live)?;
+        if self.is_new() {
+            let weights = first_weights(alloc, table)?;
+            return PrimalDual::new(alloc, table, Lists::new(alloc), &weights, &likely);
+        }
+        let mut weights = self.weights_of(alloc, numbers)?;
+        let mut cuts = Lists::new(alloc);
+        let indices = indices_by_number(alloc, numbers, self.weights.len())?;
+        for (cut, weight) in self.cut_weights.iter().enumerate() {
+            let rows = present(alloc, self.cuts.list(cut), &indices)?;
+            if rows.len() > 1 && rows.len() % 2 == 1 {
+                cuts.push_list(&rows)?;
+                weights.push(*weight)?;
+            }
+        }
+        PrimalDual::new(alloc, table, cuts, &weights, &likely)
+    }
+
+    /// Remembers these cuts, by the numbers of their rows. Their weights come after those of the rows.
+    fn remember_cuts(
+        &mut self,
+        alloc: Global,
+        cuts: &Lists,
+        numbers: &[usize],
+        weights: &[i64],
+    ) -> Result<(), AllocError> {
+        self.cuts = Lists::new(alloc);
+        self.cut_weights = Vec::new(alloc);
+        for cut in 0..cuts.len() {
+            for row in cuts.list(cut) {
+                self.cuts.push(small(number(numbers, *row as usize)))?;
+            }
+            self.cuts.end()?;
+            self.cut_weights.push(at(weights, numbers.len().saturating_add(cut)))?;
+        }
+        Ok(())
     }
 
     /// Keeps the best weights of the steps, by the numbers of their rows; new numbers are
@@ -643,10 +778,22 @@ impl WarmStart {
         numbers: &[usize],
         ascent: &Ascent,
     ) -> Result<(), AllocError> {
-        self.keep_weights(numbers, &ascent.best.weights)?;
+        self.remember_rows(alloc, rows, numbers, &ascent.best.weights)?;
+        self.note_shortfall(ascent);
+        Ok(())
+    }
+
+    /// Remembers the rows, their numbers and their weights.
+    fn remember_rows(
+        &mut self,
+        alloc: Global,
+        rows: &[Vec<usize>],
+        numbers: &[usize],
+        weights: &[i64],
+    ) -> Result<(), AllocError> {
+        self.keep_weights(numbers, weights)?;
         self.rows = Lists::of(alloc, rows)?;
         self.numbers = numbers.to_vec(alloc)?;
-        self.note_shortfall(ascent);
         Ok(())
     }
 

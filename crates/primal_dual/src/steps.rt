@@ -8,9 +8,10 @@
 //! more there were; from time to time they begin anew (Lu and Yang, Restarted Halpern PDHG for linear
 //! programming, 2024). All columns cost the same here.
 
-use crate::floats::{float, put_float, sum_at};
+use crate::constraints::Constraints;
+use crate::separation::violated_cuts;
 use heuristics::{Goal, LIKELIEST};
-use number_lists::{Compact, Lists, UNIT, at, overwrite};
+use number_lists::{Compact, Lists, UNIT, at, float, overwrite, put_float, sum_at};
 use std::alloc::{AllocError, Global};
 use std::num::{nearest_i64_to_f64, nearest_u64_to_f64, saturating_f64_to_u64};
 
@@ -41,6 +42,15 @@ const GAP_WITHIN_GOAL: f64 = 0.15;
 /// More than any gap.
 const NO_GAP: f64 = 1e300;
 
+/// Cuts are looked for where the weights fall short of the goal by less than this, in columns,
+const MOST_SHORT: f64 = 3.0;
+
+/// and again where the last ones gained this.
+const LEAST_GAIN: f64 = 0.02;
+
+/// A cut is left out again where it has less weight than this, in columns.
+const LEAST_WEIGHT: f64 = 0.005;
+
 /// Bounds on the size of the least fractional cover.
 #[derive(Clone, Copy)]
 struct Bounds {
@@ -59,15 +69,24 @@ fn sum(numbers: &[f64]) -> f64 {
     sum
 }
 
-/// What the lists, whose numbers are added up, fall short of one together. Of a list that goes past one
-/// nothing is subtracted.
-fn shortage(lists: &Lists, numbers: &[f64]) -> f64 {
+/// What the constraints need beyond these parts of columns, all together. Of one that has more than it
+/// needs nothing is subtracted.
+fn shortage(constraints: &Constraints, parts: &[f64]) -> f64 {
     let mut shortage = 0.0;
-    for index in 0..lists.len() {
-        let short = 1.0 - sum_at(numbers, lists.list(index));
+    for (index, need) in constraints.needs.iter().enumerate() {
+        let short = *need - sum_at(parts, constraints.columns.list(index));
         shortage += short.max(0.0);
     }
     shortage
+}
+
+/// The weights times what the constraints need, added up.
+fn weight_of_needs(needs: &[f64], weights: &[f64]) -> f64 {
+    let mut sum = 0.0;
+    for (index, need) in needs.iter().enumerate() {
+        sum += *need * float(weights, index);
+    }
+    sum
 }
 
 /// By how much the lists, whose numbers are added up, go past one together.
@@ -86,11 +105,18 @@ fn pace(list: &[u32]) -> f64 {
 }
 
 impl Bounds {
+    /// No bounds yet.
+    const NONE: Bounds = Bounds {
+        low: 0.0,
+        high: NO_GAP,
+    };
+
     /// The bounds of these parts of columns and weights of rows.
-    fn of(table: &Compact, parts: &[f64], weights: &[f64]) -> Bounds {
+    fn of(constraints: &Constraints, parts: &[f64], weights: &[f64]) -> Bounds {
+        let needed = weight_of_needs(&constraints.needs, weights);
         Bounds {
-            low: sum(weights) - excess(&table.column_rows, weights),
-            high: sum(parts) + shortage(&table.rows, parts),
+            low: needed - excess(&constraints.column_rows, weights),
+            high: sum(parts) + shortage(constraints, parts),
         }
     }
 
@@ -104,6 +130,11 @@ impl Bounds {
     fn is_enough(&self, goal: f64) -> bool {
         let small = SMALL_GAP.max(SMALL_PART * (goal - self.low));
         self.low > goal || self.gap() < small || (self.high < goal && self.gap() < GAP_WITHIN_GOAL)
+    }
+
+    /// Whether cuts may show that no cover has so few columns as the goal, or which columns one lacks.
+    fn is_worth_cuts(&self, goal: f64) -> bool {
+        self.low <= goal && goal - self.low < MOST_SHORT
     }
 }
 
@@ -141,8 +172,12 @@ impl Pair {
     }
 }
 
-/// A fractional cover and weights of rows, which steps bring nearer to the best ones.
+/// A fractional cover and weights of rows and cuts, which steps bring nearer to the best ones.
 pub struct PrimalDual {
+    /// The rows, and cuts beside them.
+    constraints: Constraints,
+    /// The rows of each cut.
+    cuts: Lists,
     /// Where the next step begins.
     here: Pair,
     /// Where the last step led, before it was reflected.
@@ -157,12 +192,16 @@ pub struct PrimalDual {
     steps: u64,
     /// The gap then.
     gap: f64,
+    /// The last bounds.
+    bounds: Bounds,
 }
 
 // Written out, so that where one ends a proof has one call, and not one for each of its lists.
 impl Drop for PrimalDual {
     fn drop(self) {
         let PrimalDual {
+            constraints: _,
+            cuts: _,
             here: _,
             found: _,
             begin: _,
@@ -170,6 +209,7 @@ impl Drop for PrimalDual {
             all_steps: _,
             steps: _,
             gap: _,
+            bounds: _,
         } = self;
     }
 }
@@ -196,20 +236,24 @@ fn in_whole_numbers(alloc: Global, floats: &[f64], unit: i64) -> Result<Vec<i64>
 }
 
 impl PrimalDual {
-    /// The start, from these weights, one for each row, in which a column is `UNIT`, and from how likely each
-    /// column is to be in a cover, at most `LIKELIEST`.
+    /// The start, with these cuts, from these weights, one for each row and then one for each cut, in which a
+    /// column is `UNIT`, and from how likely each column is to be in a cover, at most `LIKELIEST`.
     pub fn new(
         alloc: Global,
         table: &Compact,
+        cuts: Lists,
         weights: &[i64],
         likely: &[i64],
     ) -> Result<PrimalDual, AllocError> {
+        let constraints = Constraints::of(alloc, table, &cuts)?;
         let columns = table.costs.len();
         let here = Pair {
             parts: in_units(alloc, likely, LIKELIEST, columns)?,
-            weights: in_units(alloc, weights, UNIT, table.rows.len())?,
+            weights: in_units(alloc, weights, UNIT, constraints.needs.len())?,
         };
         Ok(PrimalDual {
+            constraints,
+            cuts,
             found: here.copy(alloc)?,
             begin: here.copy(alloc)?,
             here,
@@ -217,12 +261,14 @@ impl PrimalDual {
             all_steps: 0,
             steps: 0,
             gap: NO_GAP,
+            bounds: Bounds::NONE,
         })
     }
 
-    /// Moves the part of each column: less where its rows have more weight than it costs, which is one.
-    /// `share` is how much of the reflected step is made.
-    fn move_parts(&mut self, column_rows: &Lists, share: f64) {
+    /// Moves the part of each column: less where its constraints have more weight than it costs, which is
+    /// one. `share` is how much of the reflected step is made.
+    fn move_parts(&mut self, share: f64) {
+        let column_rows = &self.constraints.column_rows;
         for column in 0..column_rows.len() {
             let rows = column_rows.list(column);
             let slack = 1.0 - sum_at(&self.here.weights, rows);
@@ -236,12 +282,12 @@ impl PrimalDual {
         }
     }
 
-    /// Moves the weight of each row: up where the parts of its columns are less than one together.
+    /// Moves the weight of each constraint: up where the parts of its columns are less than it needs.
     /// `share` is how much of the reflected step is made.
-    fn move_weights(&mut self, rows: &Lists, share: f64) {
-        for row in 0..rows.len() {
-            let columns = rows.list(row);
-            let short = 1.0 - sum_at(&self.ahead, columns);
+    fn move_weights(&mut self, share: f64) {
+        for (row, need) in self.constraints.needs.iter().enumerate() {
+            let columns = self.constraints.columns.list(row);
+            let short = *need - sum_at(&self.ahead, columns);
             let before = float(&self.here.weights, row);
             let weight = (before + short * pace(columns) * BALANCE).max(0.0);
             let ahead = weight + weight - before;
@@ -252,13 +298,13 @@ impl PrimalDual {
     }
 
     /// Makes `SPAN` steps.
-    fn make_steps(&mut self, table: &Compact) {
+    fn make_steps(&mut self) {
         for _ in 0..SPAN {
             self.steps = self.steps.saturating_add(1);
             let steps = nearest_u64_to_f64(self.steps);
             let share = steps / (steps + 1.0);
-            self.move_parts(&table.column_rows, share);
-            self.move_weights(&table.rows, share);
+            self.move_parts(share);
+            self.move_weights(share);
         }
         self.all_steps = self.all_steps.saturating_add(SPAN);
     }
@@ -280,9 +326,10 @@ impl PrimalDual {
 
     /// Makes `SPAN` steps, after which they begin anew if they came near. Answers whether more would hardly
     /// tell more.
-    fn go_on(&mut self, table: &Compact, goal: f64) -> bool {
-        self.make_steps(table);
-        let bounds = Bounds::of(table, &self.found.parts, &self.found.weights);
+    fn go_on(&mut self, goal: f64) -> bool {
+        self.make_steps();
+        let bounds = Bounds::of(&self.constraints, &self.found.parts, &self.found.weights);
+        self.bounds = bounds;
         if self.is_near(bounds.gap()) {
             self.begin_anew(bounds.gap());
         }
@@ -291,16 +338,93 @@ impl PrimalDual {
 
     /// Makes up to so many spans of 50 steps: until the weights show that no cover has so few columns as the
     /// goal, or more steps would hardly tell more.
-    pub fn approach(&mut self, table: &Compact, goal: Goal, spans: u32) {
+    pub fn approach(&mut self, goal: Goal, spans: u32) {
         let columns = nearest_i64_to_f64(goal.columns);
         for _ in 0..spans {
-            if self.go_on(table, columns) {
+            if self.go_on(columns) {
                 break;
             }
         }
     }
 
-    /// The weight of each row; a column is `UNIT`.
+    /// Adds cuts that the fractional cover violates, up to so many times, each time with up to so many spans
+    /// of 50 steps, as long as the weights fall little short of the goal and gain by it. `table` is that of
+    /// the rows.
+    pub fn strengthen(
+        &mut self,
+        alloc: Global,
+        table: &Compact,
+        goal: Goal,
+        times: u32,
+        spans: u32,
+    ) -> Result<(), AllocError> {
+        let columns = nearest_i64_to_f64(goal.columns);
+        for _ in 0..times {
+            let before = self.bounds;
+            if !before.is_worth_cuts(columns) || !self.add_cuts(alloc, table)? {
+                break;
+            }
+            self.approach(goal, spans);
+            if self.bounds.low < before.low + LEAST_GAIN {
+                break;
+            }
+        }
+        Ok(())
+    }
+
+    /// Adds cuts that the fractional cover violates, and leaves out those without weight; the steps begin
+    /// anew. Answers whether there are more.
+    fn add_cuts(&mut self, alloc: Global, table: &Compact) -> Result<bool, AllocError> {
+        let more = violated_cuts(alloc, &table.rows, &self.parts(alloc)?)?;
+        if more.len() == 0 {
+            return Ok(false);
+        }
+        let (cuts, weights) = self.cuts_with_weight(alloc, table.rows.len())?;
+        self.cuts = cuts;
+        self.found.weights = weights;
+        for cut in 0..more.len() {
+            self.cuts.push_list(more.list(cut))?;
+            self.found.weights.push(0.0)?;
+        }
+        self.constraints = Constraints::of(alloc, table, &self.cuts)?;
+        self.here = self.found.copy(alloc)?;
+        self.begin = self.found.copy(alloc)?;
+        self.all_steps = 0;
+        self.steps = 0;
+        self.gap = NO_GAP;
+        Ok(true)
+    }
+
+    /// The cuts that have some weight, and the weights of so many rows and of these.
+    fn cuts_with_weight(
+        &self,
+        alloc: Global,
+        rows: usize,
+    ) -> Result<(Lists, Vec<f64>), AllocError> {
+        let mut cuts = Lists::new(alloc);
+        let mut weights = self.found.weights.to_vec(alloc)?;
+        weights.truncate(rows);
+        for cut in 0..self.cuts.len() {
+            let weight = float(&self.found.weights, rows.saturating_add(cut));
+            if weight > LEAST_WEIGHT {
+                cuts.push_list(self.cuts.list(cut))?;
+                weights.push(weight)?;
+            }
+        }
+        Ok((cuts, weights))
+    }
+
+    /// The rows of each cut.
+    pub fn cuts(&self) -> &Lists {
+        &self.cuts
+    }
+
+    /// By how much the weights fall short of the goal, in columns, rounded down; 0 if they do not.
+    pub fn shortfall(&self, goal: Goal) -> u64 {
+        saturating_f64_to_u64((nearest_i64_to_f64(goal.columns) - self.bounds.low).max(0.0))
+    }
+
+    /// The weight of each row, and then of each cut; a column is `UNIT`.
     pub fn weights(&self, alloc: Global) -> Result<Vec<i64>, AllocError> {
         in_whole_numbers(alloc, &self.found.weights, UNIT)
     }
