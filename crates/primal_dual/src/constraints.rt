@@ -18,6 +18,10 @@ pub(crate) struct Constraints {
     pub(crate) column_rows: Lists,
     /// How many each needs.
     pub(crate) needs: Vec<f64>,
+    /// The length of a step of each constraint's weight: one by its number of columns.
+    pub(crate) paces: Vec<f64>,
+    /// The length of a step of each column's part: one by its number of constraints.
+    pub(crate) column_paces: Vec<f64>,
 }
 
 // Written out, so that where one ends a proof has one call, and not one for each of its lists.
@@ -27,6 +31,8 @@ impl Drop for Constraints {
             columns: _,
             column_rows: _,
             needs: _,
+            paces: _,
+            column_paces: _,
         } = self;
     }
 }
@@ -77,6 +83,25 @@ fn needs(alloc: Global, rows: usize, cuts: &Lists) -> Result<Vec<f64>, AllocErro
     Ok(needs)
 }
 
+/// One by the number of entries of each list; one where it has none.
+fn paces(alloc: Global, lists: &Lists) -> Result<Vec<f64>, AllocError> {
+    let mut paces = Vec::with_capacity(alloc, lists.len())?;
+    for index in 0..lists.len() {
+        paces.push(1.0 / nearest_u64_to_f64(lists.list(index).len().max(1) as u64))?;
+    }
+    Ok(paces)
+}
+
+/// Adds a list of those of the columns that are marked.
+fn push_marked(columns: &mut Lists, list: &[u32], marks: &[bool]) -> Result<(), AllocError> {
+    for column in list {
+        if flag(marks, *column as usize) {
+            columns.push(*column)?;
+        }
+    }
+    columns.end()
+}
+
 impl Constraints {
     /// The rows of the table, and then these cuts, each a list of rows.
     pub(crate) fn of(
@@ -91,10 +116,22 @@ impl Constraints {
         for cut in 0..cuts.len() {
             push_cut(&mut columns, rows, cuts.list(cut), &mut odd)?;
         }
+        let column_rows = columns.transpose(alloc, table.costs.len())?;
         Ok(Constraints {
-            column_rows: columns.transpose(alloc, table.costs.len())?,
+            paces: paces(alloc, &columns)?,
+            column_paces: paces(alloc, &column_rows)?,
+            column_rows,
             columns,
             needs: needs(alloc, rows.len(), cuts)?,
         })
+    }
+
+    /// The columns of each constraint without those that sleep.
+    pub(crate) fn awake_columns(&self, alloc: Global, awake: &[bool]) -> Result<Lists, AllocError> {
+        let mut columns = Lists::with_capacity(alloc, self.columns.len(), 0)?;
+        for index in 0..self.columns.len() {
+            push_marked(&mut columns, self.columns.list(index), awake)?;
+        }
+        Ok(columns)
     }
 }

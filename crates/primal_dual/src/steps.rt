@@ -11,7 +11,7 @@
 use crate::constraints::Constraints;
 use crate::separation::violated_cuts;
 use heuristics::{Goal, LIKELIEST};
-use number_lists::{Compact, Lists, UNIT, at, float, overwrite, put_float, sum_at};
+use number_lists::{Compact, Lists, UNIT, at, float, mark, overwrite, put_float, sum_at};
 use std::alloc::{AllocError, Global};
 use std::num::{nearest_i64_to_f64, nearest_u64_to_f64, saturating_f64_to_u64};
 
@@ -37,16 +37,22 @@ const SMALL_GAP: f64 = 0.05;
 const SMALL_PART: f64 = 0.2;
 
 /// or no more than this where the upper bound is within the goal, so that no weights go past it.
-const GAP_WITHIN_GOAL: f64 = 0.15;
+const GAP_WITHIN_GOAL: f64 = 0.25;
 
 /// More than any gap.
 const NO_GAP: f64 = 1e300;
 
+/// A column of which there is no part sleeps for a span of steps where it has so much slack.
+const SLEEPING_SLACK: f64 = 0.3;
+
 /// Cuts are looked for where the weights fall short of the goal by less than this, in columns,
 const MOST_SHORT: f64 = 3.0;
 
-/// and again where the last ones gained this.
+/// and again where the last ones gained this,
 const LEAST_GAIN: f64 = 0.02;
+
+/// and so many times what they gained would reach the goal.
+const REACH: f64 = 8.0;
 
 /// A cut is left out again where it has less weight than this, in columns.
 const LEAST_WEIGHT: f64 = 0.005;
@@ -97,11 +103,6 @@ fn excess(lists: &Lists, numbers: &[f64]) -> f64 {
         excess += over.max(0.0);
     }
     excess
-}
-
-/// One by the number of entries of the list; one if it has none.
-fn pace(list: &[u32]) -> f64 {
-    1.0 / nearest_u64_to_f64(list.len().max(1) as u64)
 }
 
 impl Bounds {
@@ -186,6 +187,10 @@ pub struct PrimalDual {
     begin: Pair,
     /// Of each column the part that was found, and what the last step added to it once more.
     ahead: Vec<f64>,
+    /// The columns that steps move; the others sleep, and have no part.
+    awake: Vec<usize>,
+    /// Those of each constraint.
+    awake_columns: Lists,
     /// How many steps were made.
     all_steps: u64,
     /// How many since they began anew.
@@ -206,6 +211,8 @@ impl Drop for PrimalDual {
             found: _,
             begin: _,
             ahead: _,
+            awake: _,
+            awake_columns: _,
             all_steps: _,
             steps: _,
             gap: _,
@@ -258,6 +265,8 @@ impl PrimalDual {
             begin: here.copy(alloc)?,
             here,
             ahead: vec![in alloc; 0.0; columns]?,
+            awake: Vec::new(alloc),
+            awake_columns: Lists::new(alloc),
             all_steps: 0,
             steps: 0,
             gap: NO_GAP,
@@ -265,15 +274,42 @@ impl PrimalDual {
         })
     }
 
-    /// Moves the part of each column: less where its constraints have more weight than it costs, which is
-    /// one. `share` is how much of the reflected step is made.
+    /// Whether steps may move the part of this column: it has some, or little slack.
+    fn is_awake(&self, column: usize) -> bool {
+        if float(&self.found.parts, column) > 0.0 || float(&self.begin.parts, column) > 0.0 {
+            return true;
+        }
+        let rows = self.constraints.column_rows.list(column);
+        1.0 - sum_at(&self.found.weights, rows) < SLEEPING_SLACK
+    }
+
+    /// Wakes the columns that steps may move, and lets the others sleep.
+    fn wake(&mut self, alloc: Global) -> Result<(), AllocError> {
+        let mut marks = vec![in alloc; false; self.ahead.len()]?;
+        self.awake.clear();
+        for column in 0..self.ahead.len() {
+            if self.is_awake(column) {
+                mark(&mut marks, column, true);
+                self.awake.push(column)?;
+            } else {
+                put_float(&mut self.ahead, column, 0.0);
+                put_float(&mut self.here.parts, column, 0.0);
+            }
+        }
+        self.awake_columns = self.constraints.awake_columns(alloc, &marks)?;
+        Ok(())
+    }
+
+    /// Moves the part of each column that is awake: less where its constraints have more weight than it costs,
+    /// which is one. `share` is how much of the reflected step is made.
     fn move_parts(&mut self, share: f64) {
-        let column_rows = &self.constraints.column_rows;
-        for column in 0..column_rows.len() {
-            let rows = column_rows.list(column);
+        for column in self.awake.iter() {
+            let column = *column;
+            let rows = self.constraints.column_rows.list(column);
             let slack = 1.0 - sum_at(&self.here.weights, rows);
             let before = float(&self.here.parts, column);
-            let part = (before - slack * pace(rows) / BALANCE).max(0.0).min(1.0);
+            let pace = float(&self.constraints.column_paces, column) / BALANCE;
+            let part = (before - slack * pace).max(0.0).min(1.0);
             let ahead = part + part - before;
             let back = float(&self.begin.parts, column);
             put_float(&mut self.ahead, column, ahead);
@@ -286,10 +322,10 @@ impl PrimalDual {
     /// `share` is how much of the reflected step is made.
     fn move_weights(&mut self, share: f64) {
         for (row, need) in self.constraints.needs.iter().enumerate() {
-            let columns = self.constraints.columns.list(row);
-            let short = *need - sum_at(&self.ahead, columns);
+            let short = *need - sum_at(&self.ahead, self.awake_columns.list(row));
             let before = float(&self.here.weights, row);
-            let weight = (before + short * pace(columns) * BALANCE).max(0.0);
+            let pace = float(&self.constraints.paces, row) * BALANCE;
+            let weight = (before + short * pace).max(0.0);
             let ahead = weight + weight - before;
             let back = float(&self.begin.weights, row);
             put_float(&mut self.found.weights, row, weight);
@@ -326,25 +362,27 @@ impl PrimalDual {
 
     /// Makes `SPAN` steps, after which they begin anew if they came near. Answers whether more would hardly
     /// tell more.
-    fn go_on(&mut self, goal: f64) -> bool {
+    fn go_on(&mut self, alloc: Global, goal: f64) -> Result<bool, AllocError> {
+        self.wake(alloc)?;
         self.make_steps();
         let bounds = Bounds::of(&self.constraints, &self.found.parts, &self.found.weights);
         self.bounds = bounds;
         if self.is_near(bounds.gap()) {
             self.begin_anew(bounds.gap());
         }
-        bounds.is_enough(goal)
+        Ok(bounds.is_enough(goal))
     }
 
     /// Makes up to so many spans of 50 steps: until the weights show that no cover has so few columns as the
     /// goal, or more steps would hardly tell more.
-    pub fn approach(&mut self, goal: Goal, spans: u32) {
+    pub fn approach(&mut self, alloc: Global, goal: Goal, spans: u32) -> Result<(), AllocError> {
         let columns = nearest_i64_to_f64(goal.columns);
         for _ in 0..spans {
-            if self.go_on(columns) {
+            if self.go_on(alloc, columns)? {
                 break;
             }
         }
+        Ok(())
     }
 
     /// Adds cuts that the fractional cover violates, up to so many times, each time with up to so many spans
@@ -364,8 +402,9 @@ impl PrimalDual {
             if !before.is_worth_cuts(columns) || !self.add_cuts(alloc, table)? {
                 break;
             }
-            self.approach(goal, spans);
-            if self.bounds.low < before.low + LEAST_GAIN {
+            self.approach(alloc, goal, spans)?;
+            let gain = self.bounds.low - before.low;
+            if gain < LEAST_GAIN || gain * REACH < columns - self.bounds.low {
                 break;
             }
         }

@@ -159,11 +159,17 @@ const SQUARE_OF_ROWS: u64 = 4_000;
 /// subgradient end far below its optimum.
 const MANY_ROWS: usize = 1_000;
 
+/// A table of so many is, where there are cuts of its rows, which only those steps use.
+const MANY_ROWS_WITH_CUTS: usize = 250;
+
 /// The most spans of primal-dual steps for a bound.
 const SPANS: u32 = 20;
 
 /// The most for a bound that only drops columns.
 const FEW_SPANS: u32 = 4;
+
+/// The most spans of primal-dual steps after cuts were added.
+const SPANS_OF_CUTS: u32 = 16;
 
 /// How often cuts are added for a bound.
 const TIMES_OF_CUTS: u32 = 8;
@@ -658,7 +664,7 @@ impl WarmStart {
             return relaxation.multipliers(alloc, rows, live, taken, goal);
         }
         let numbers = self.row_ids(alloc, rows, live, columns)?;
-        self.fractional = rows.len() >= MANY_ROWS && !table.is_uneven();
+        self.fractional = rows.len() >= self.least_rows_of_steps() && !table.is_uneven();
         if self.fractional {
             return self.approach(alloc, table, live, rows, columns, &numbers, goal);
         }
@@ -668,6 +674,15 @@ impl WarmStart {
             self.remember(alloc, rows, &numbers, &ascent)?;
         }
         ascent.multipliers(alloc)
+    }
+
+    /// From so many rows on a table is bounded by primal-dual steps, if its columns cost the same.
+    fn least_rows_of_steps(&self) -> usize {
+        if self.cut_weights.is_empty() {
+            MANY_ROWS
+        } else {
+            MANY_ROWS_WITH_CUTS
+        }
     }
 
     /// Multipliers by primal-dual steps, with cuts, whose fractional cover is kept; the arguments are those of
@@ -686,8 +701,8 @@ impl WarmStart {
         let hurried = self.steps < STEPS;
         let spans = if hurried { FEW_SPANS } else { SPANS };
         let times = if hurried { FEW_TIMES_OF_CUTS } else { TIMES_OF_CUTS };
-        pair.approach(goal, spans);
-        pair.strengthen(alloc, table, goal, times, spans)?;
+        pair.approach(alloc, goal, spans)?;
+        pair.strengthen(alloc, table, goal, times, SPANS_OF_CUTS)?;
         self.keep_likely(alloc, live, &pair.parts(alloc)?, columns)?;
         let mut weights = pair.weights(alloc)?;
         self.remember_cuts(alloc, pair.cuts(), numbers, &weights)?;
