@@ -92,26 +92,3 @@ pub(crate) fn lagrangian(
     let over = over(&loads, scaled_costs);
     Ok(Loads { loads, total, over })
 }
-
-pub(crate) fn add_cuts_prototype(
-    alloc: Global,
-    rows: &[Vec<usize>],
-    cuts: &[heuristics::Cut],
-    scaled_costs: &[u64],
-    loads: &mut Loads,
-) -> Result<(), AllocError> {
-    if cuts.is_empty() { return Ok(()); }
-    for cut in cuts {
-        let mut counts: Vec<u128> = vec![in alloc; 0; scaled_costs.len()]?;
-        let mut number: u128 = 0;
-        for index in &cut.rows {
-            if *index < rows.len() { charge(&mut counts, &rows[*index], 1); number += 1; }
-        }
-        for column in 0..counts.len() {
-            loads.loads[column] += u128::from(cut.weight) * ((counts[column] + 1) / 2);
-        }
-        loads.total += u128::from(cut.weight) * ((number + 1) / 2);
-    }
-    loads.over = over(&loads.loads, scaled_costs);
-    Ok(())
-}

@@ -187,8 +187,7 @@ impl Table {
             multipliers.column,
             multipliers.cost,
         )?;
-        let mut loads = lagrangian(alloc, rows, &multipliers.weights, &scaled_costs)?;
-        crate::lagrangian::add_cuts_prototype(alloc, rows, &multipliers.cuts, &scaled_costs, &mut loads)?;
+        let loads = lagrangian(alloc, rows, &multipliers.weights, &scaled_costs)?;
         let rest = self.remaining_cutoff(choice, cutoff);
         let Some(limit) = limit_of(
             multipliers.column,
