@@ -8,8 +8,7 @@ use Rattle.covering.specs.Weights.{load, total}
 use Rattle.covering.proofs.Sets.{has_cases}
 
 abbrev pub loads : List ℕ → List (List ℕ) → List ℕ → ℕ
-loads [] rows ys = 0
-loads (c ∷ cs) rows ys = load c rows ys + loads cs rows ys
+loads cs rows ys = sum_over (λ c. load c rows ys) cs
 
 loads_nil : (cs : List ℕ) (ys : List ℕ) → loads cs [] ys ≡ 0
 loads_nil [] ys = refl

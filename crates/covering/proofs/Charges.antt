@@ -1,5 +1,5 @@
 -- Weights of rows laid on the columns, one row after another.
-use Rattle.std.proofs.Common.{◌≡◌, ℕ, zero, suc, ◌+◌, ◌-◌, ◌<◌, ◌≤◌, ◌||◌, inl, inr, Bool, true, false, cond, eqb, List, [], ◌∷◌, ◌++◌, length, take, set, slice_index_or, refl, sym, ap, subst, ◌∙◌, arith, Vec}
+use Rattle.std.proofs.Common.{◌≡◌, ℕ, zero, suc, ◌+◌, ◌-◌, ◌<◌, ◌≤◌, ◌||◌, ◌⊎◌, inl, inr, Bool, true, false, cond, eqb, List, [], ◌∷◌, ◌++◌, length, take, set, slice_index_or, refl, sym, ap, subst, ◌∙◌, arith, Vec}
 use Rattle.std.specs.List.{AllByRecursion, range_with_len}
 use Rattle.std.proofs.lemmas.Bool.{cases_Bool, or_from, eqb-true, eqb-false, both_ways, false≢true}
 use Rattle.std.proofs.lemmas.List.{length-set, map-id, take_more, get_or-set_same, get_or-set_other}
@@ -7,11 +7,11 @@ use Rattle.std.proofs.lemmas.List.FromFn.{map-range_with_len_more}
 use Rattle.covering.specs.Table.{has, RisesFrom, items_of}
 use Rattle.covering.specs.Cover.{sum_over}
 use Rattle.covering.specs.Weights.{at, total, load}
-use Rattle.covering.specs.Lagrange.{beyond, overload, overloads, IsLoaded, BoundsCovers}
+use Rattle.covering.specs.Lagrange.{beyond, overload, overloads, Hits, Carries, IsLoaded, BoundsCovers, BoundsCoversLacking}
 use Rattle.covering.proofs.Bounds.{load_push, total_push}
 use Rattle.covering.proofs.Rows.{take_items}
-use Rattle.covering.proofs.Sets.{has_cases}
-use Rattle.covering.proofs.Lagrange.{lagrangian_holds}
+use Rattle.covering.proofs.Sets.{has_here, has_later, has_cases}
+use Rattle.covering.proofs.Lagrange.{bound_all, bound_in, weights_borne, lagrangian_holds}
 
 rises_at : (l i : ℕ) (xs : List ℕ) → RisesFrom l xs → i < length xs → l ≤ slice_index_or xs i 0
 rises_at l i [] r h = absurd (omega arith)
@@ -110,26 +110,46 @@ scaled_cost_most : (g : ℕ → ℕ) (c : ℕ) (x : List ℕ) → has c x ≡ tr
 scaled_cost_most g c [] h = absurd (false≢true h)
 scaled_cost_most g c (d ∷ x) h = elim (has_cases c d x h) [ inl e ↦ (let same = ap g e in omega arith) | inr e ↦ (let k = scaled_cost_most g c x e in omega arith) ]
 
-pub covers_from : (rows : List (List ℕ)) (ys scaled_costs loads : List ℕ) (n over : ℕ) → length ys ≡ length rows → IsLoaded rows ys scaled_costs loads n over → BoundsCovers rows scaled_costs loads n over
-covers_from rows ys scaled_costs loads n over e l = record {
-  all = λ x h. elim l.exceeds [
-    | inl s ↦ (let k = (lagrangian_holds (at scaled_costs) (length scaled_costs) rows ys x e h).0 in let t = l.weighs in omega arith)
-    | inr s ↦ omega arith
-  ];
-  having = λ x h c i. elim l.exceeds [
-    | inl s ↦ (let k = (lagrangian_holds (at scaled_costs) (length scaled_costs) rows ys x e h).1 c i in let t = l.weighs in let b = l.loads_are c (h.below c i) in omega arith)
-    | inr s ↦ (let k = scaled_cost_most (at scaled_costs) c x i in omega arith)
-  ];
-  lacking = λ x h c s0 i. elim l.exceeds [
-    | inl s ↦ (let k = (lagrangian_holds (at scaled_costs) (length scaled_costs) rows ys x e h).2 c s0 i in let t = l.weighs in let b = l.loads_are c s0 in omega arith)
-    | inr s ↦ (let k = load_total c rows ys in let t = l.weighs in let b = l.loads_are c s0 in omega arith)
-  ];
-}
+-- loads that each list carries bound it
+pub covers_from : (rows : List (List ℕ)) (scaled_costs loads : List ℕ) (n over : ℕ) → Carries rows loads n → length loads ≡ length scaled_costs → (over ≡ sum_over (beyond loads scaled_costs) (range_with_len 0 (length loads))) ⊎ (n ≤ over) → BoundsCovers rows scaled_costs loads n over
+covers_from rows scaled_costs loads n over carries e exceeds =
+    let borne : (x : List ℕ) → Hits (length scaled_costs) rows x → n ≤ sum_over (at loads) x = λ x h. carries x (subst (λ k. Hits k rows x) (sym e) h) in
+    let is : (over ≡ sum_over (beyond loads scaled_costs) (range_with_len 0 (length scaled_costs))) ⊎ (n ≤ over) = subst (λ k. (over ≡ sum_over (beyond loads scaled_costs) (range_with_len 0 k)) ⊎ (n ≤ over)) e exceeds in
+    record {
+      all = λ x h. elim is [
+        | inl s ↦ (let k = bound_all (at scaled_costs) (at loads) (length scaled_costs) n rows x h (borne x h) in omega arith)
+        | inr s ↦ omega arith
+      ];
+      having = λ x h c i. elim is [
+        | inl s ↦ (let k = bound_in (at scaled_costs) (at loads) (length scaled_costs) n rows x h (borne x h) c i in omega arith)
+        | inr s ↦ (let k = scaled_cost_most (at scaled_costs) c x i in omega arith)
+      ];
+    }
 
-pub rise_at : {Z : Type 0} (rows : List (Vec ℕ Z)) (i : ℕ) (r : Vec ℕ Z) → AllByRecursion (RisesFrom 0) (items_of rows) → i < length rows → RisesFrom 0 (slice_index_or rows i r).items
-rise_at [] i r a h = absurd (omega arith)
-rise_at (row ∷ rows) zero r a h = a.0
-rise_at (row ∷ rows) (suc i) r a h = rise_at rows i r a.1 (omega arith)
+pub lacking_from : (rows : List (List ℕ)) (ys scaled_costs loads : List ℕ) (n over : ℕ) → length ys ≡ length rows → IsLoaded rows ys scaled_costs loads n over → BoundsCoversLacking rows scaled_costs loads n over
+lacking_from rows ys scaled_costs loads n over e l x h c s0 i = elim l.exceeds [
+  | inl s ↦ (let k = (lagrangian_holds (at scaled_costs) (length scaled_costs) rows ys x e h).2 c s0 i in let t = l.weighs in let b = l.loads_are c s0 in omega arith)
+  | inr s ↦ (let k = load_total c rows ys in let t = l.weighs in let b = l.loads_are c s0 in omega arith)
+]
+
+sum_same : (f g : ℕ → ℕ) (x : List ℕ) → ((c : ℕ) → has c x ≡ true → f c ≡ g c) → sum_over f x ≡ sum_over g x
+sum_same f g [] e = refl
+sum_same f g (c ∷ x) e =
+    let one = e c (has_here c c x refl) in
+    let k = sum_same f g x (λ d h. e d (has_later d c x h)) in
+    omega arith
+
+pub carries_from : (rows : List (List ℕ)) (ys scaled_costs loads : List ℕ) (n over : ℕ) → length ys ≡ length rows → length loads ≡ length scaled_costs → IsLoaded rows ys scaled_costs loads n over → Carries rows loads n
+carries_from rows ys scaled_costs loads n over e long l x h =
+    let borne = weights_borne (length loads) rows ys x e h in
+    let same = sum_same (at loads) (λ c. load c rows ys) x (λ c i. l.loads_are c (let b = h.below c i in omega arith)) in
+    let t = l.weighs in
+    omega arith
+
+pub all_at : (P : List ℕ → Type 0) {Z : Type 0} (rows : List (Vec ℕ Z)) (i : ℕ) (r : Vec ℕ Z) → AllByRecursion P (items_of rows) → i < length rows → P (slice_index_or rows i r).items
+all_at P [] i r a h = absurd (omega arith)
+all_at P (row ∷ rows) zero r a h = a.0
+all_at P (row ∷ rows) (suc i) r a h = all_at P rows i r a.1 (omega arith)
 
 take_same : {Z : Type 0} (rows : List (Vec ℕ Z)) (ws : List ℕ) (i : ℕ) → length ws ≡ length rows → length (take i ws) ≡ length (items_of (take i rows))
 take_same rows ws zero e = refl

@@ -8,27 +8,28 @@ use Rattle.covering.specs.declared.choice.Choice.{Choice}
 use Rattle.covering.specs.Table.{Table, has, RisesFrom, IsTable, IsWithin}
 use Rattle.covering.specs.Cover.{meets, IsCover, counted, sum_over}
 use Rattle.covering.specs.Search.{IsBeyond, NoneWithin, IsOutside, marked}
-use Rattle.covering.specs.Weights.{total, at}
-use Rattle.covering.specs.Lagrange.{overload, slack, overloads, Hits, LagrangianHolds, BoundsCovers}
+use Rattle.covering.specs.Weights.{load, total, at}
+use Rattle.covering.specs.Lagrange.{Hits, LagrangianHolds, BoundsCovers}
 use Rattle.covering.specs.Steps.{without}
 use Rattle.covering.proofs.Sets.{has_here, has_later, has_cases, without_keeps, without_rises, sum_without, meets_at, meets_from}
 use Rattle.covering.proofs.Subsets.{minus, minus_only, minus_keeps, minus_length, minus_sum, rows_met, rows_within}
 use Rattle.covering.proofs.BestChoice.{minus_rises}
 use Rattle.covering.proofs.Rising.{range_rises, range_has}
-use Rattle.covering.proofs.Bounds.{loads, weights_met}
+use Rattle.covering.proofs.Bounds.{weights_met}
 
--- ---- what the columns of a list bear
+-- ---- what the columns of a list bear, under any loads
 
-loads_over : (scaled_cost : ℕ → ℕ) (cs : List ℕ) (rows : List (List ℕ)) (ys : List ℕ) → loads cs rows ys ≤ sum_over scaled_cost cs + sum_over (overload scaled_cost rows ys) cs
-loads_over scaled_cost [] rows ys = omega arith
-loads_over scaled_cost (c ∷ cs) rows ys = let k = loads_over scaled_cost cs rows ys in omega arith
+module _ (scaled_cost bears : ℕ → ℕ) where
+  bears_over : (cs : List ℕ) → sum_over bears cs ≤ sum_over scaled_cost cs + sum_over (λ c. bears c - scaled_cost c) cs
+  bears_over [] = omega arith
+  bears_over (c ∷ cs) = let k = bears_over cs in omega arith
 
-loads_slack : (scaled_cost : ℕ → ℕ) (c : ℕ) (cs : List ℕ) (rows : List (List ℕ)) (ys : List ℕ) → has c cs ≡ true → loads cs rows ys + slack scaled_cost rows ys c ≤ sum_over scaled_cost cs + sum_over (overload scaled_cost rows ys) cs
-loads_slack scaled_cost c [] rows ys h = absurd (true≢false (sym h))
-loads_slack scaled_cost c (d ∷ cs) rows ys h = elim (has_cases c d cs h) [
-  | inl e ↦ subst (λ n. loads (d ∷ cs) rows ys + slack scaled_cost rows ys n ≤ sum_over scaled_cost (d ∷ cs) + sum_over (overload scaled_cost rows ys) (d ∷ cs)) (sym e) (let k = loads_over scaled_cost cs rows ys in omega arith)
-  | inr e ↦ (let k = loads_slack scaled_cost c cs rows ys e in omega arith)
-]
+  bears_slack : (c : ℕ) (cs : List ℕ) → has c cs ≡ true → sum_over bears cs + (scaled_cost c - bears c) ≤ sum_over scaled_cost cs + sum_over (λ d. bears d - scaled_cost d) cs
+  bears_slack c [] h = absurd (true≢false (sym h))
+  bears_slack c (d ∷ cs) h = elim (has_cases c d cs h) [
+    | inl e ↦ subst (λ n. sum_over bears (d ∷ cs) + (scaled_cost n - bears n) ≤ sum_over scaled_cost (d ∷ cs) + sum_over (λ k. bears k - scaled_cost k) (d ∷ cs)) (sym e) (let k = bears_over cs in omega arith)
+    | inr e ↦ (let k = bears_slack c cs e in omega arith)
+  ]
 
 -- ---- a rising list within another
 
@@ -43,46 +44,48 @@ sum_beside g c cs ds r q f h a =
 
 -- ---- the rows, and a list that has a column of each
 
-module _ (scaled_cost : ℕ → ℕ) (n : ℕ) (rows : List (List ℕ)) (ys x : List ℕ) (e : length ys ≡ length rows) (rises : RisesFrom 0 x) (below : (c : ℕ) → has c x ≡ true → c < n) (met : AllByRecursion (λ row. (c : ℕ) × (has c x ≡ true) × (has c row ≡ true)) rows) where
+module _ (scaled_cost bears : ℕ → ℕ) (n most : ℕ) (rows : List (List ℕ)) (x : List ℕ) (h : Hits n rows x) (borne : most ≤ sum_over bears x) where
   among : IsWithin x (range_with_len 0 n)
-  among c h = range_has c 0 n (omega arith) (let b = below c h in omega arith)
+  among c i = range_has c 0 n (omega arith) (let b = h.below c i in omega arith)
 
-  over_within : sum_over (overload scaled_cost rows ys) x ≤ overloads n scaled_cost rows ys
-  over_within = sum_within (overload scaled_cost rows ys) x (range_with_len 0 n) rises (range_rises 0 n) among
+  over_within : sum_over (λ c. bears c - scaled_cost c) x ≤ sum_over (λ c. bears c - scaled_cost c) (range_with_len 0 n)
+  over_within = sum_within (λ c. bears c - scaled_cost c) x (range_with_len 0 n) h.rises (range_rises 0 n) among
 
-  pub weights_bound : total ys ≤ sum_over scaled_cost x + overloads n scaled_cost rows ys
-  weights_bound =
-      let a = weights_met x rows ys e met in
-      let b = loads_over scaled_cost x rows ys in
+  pub bound_all : most ≤ sum_over scaled_cost x + sum_over (λ c. bears c - scaled_cost c) (range_with_len 0 n)
+  bound_all =
+      let b = bears_over scaled_cost bears x in
       let d = over_within in
       omega arith
 
-  pub weights_in : (c : ℕ) → has c x ≡ true → total ys + slack scaled_cost rows ys c ≤ sum_over scaled_cost x + overloads n scaled_cost rows ys
-  weights_in c h =
-      let a = weights_met x rows ys e met in
-      let b = loads_slack scaled_cost c x rows ys h in
+  pub bound_in : (c : ℕ) → has c x ≡ true → most + (scaled_cost c - bears c) ≤ sum_over scaled_cost x + sum_over (λ d. bears d - scaled_cost d) (range_with_len 0 n)
+  bound_in c i =
+      let b = bears_slack scaled_cost bears c x i in
       let d = over_within in
       omega arith
 
-  pub weights_out : (c : ℕ) → c < n → has c x ≡ false → total ys + overload scaled_cost rows ys c ≤ sum_over scaled_cost x + overloads n scaled_cost rows ys
-  weights_out c l h =
-      let a = weights_met x rows ys e met in
-      let b = loads_over scaled_cost x rows ys in
-      let d = sum_beside (overload scaled_cost rows ys) c x (range_with_len 0 n) rises (range_rises 0 n) among (range_has c 0 n (omega arith) (omega arith)) h in
+  pub bound_out : (c : ℕ) → c < n → has c x ≡ false → most + (bears c - scaled_cost c) ≤ sum_over scaled_cost x + sum_over (λ d. bears d - scaled_cost d) (range_with_len 0 n)
+  bound_out c l i =
+      let b = bears_over scaled_cost bears x in
+      let d = sum_beside (λ k. bears k - scaled_cost k) c x (range_with_len 0 n) h.rises (range_rises 0 n) among (range_has c 0 n (omega arith) (omega arith)) i in
       omega arith
 
 rows_at : (x : List ℕ) (rows : List (List ℕ)) → AllByRecursion (λ row. meets x row ≡ true) rows → AllByRecursion (λ row. (c : ℕ) × (has c x ≡ true) × (has c row ≡ true)) rows
 rows_at x [] h = tt
 rows_at x (row ∷ rows) h = (let m = meets_at x row h.0 in (m.0, m.1, m.2), rows_at x rows h.1)
 
+-- a list with a column of each row bears the weight of all rows
+pub weights_borne : (n : ℕ) (rows : List (List ℕ)) (ys x : List ℕ) → length ys ≡ length rows → Hits n rows x → total ys ≤ sum_over (λ c. load c rows ys) x
+weights_borne n rows ys x e h = weights_met x rows ys e (rows_at x rows h.each)
+
 pub lagrangian_holds : LagrangianHolds
 lagrangian_holds scaled_cost n rows ys x e h =
-    let met = rows_at x rows h.each in
-    (weights_bound scaled_cost n rows ys x e h.rises h.below met, weights_in scaled_cost n rows ys x e h.rises h.below met, weights_out scaled_cost n rows ys x e h.rises h.below met)
+    let borne = weights_borne n rows ys x e h in
+    let bears : ℕ → ℕ = λ c. load c rows ys in
+    (bound_all scaled_cost bears n (total ys) rows x h borne, bound_in scaled_cost bears n (total ys) rows x h borne, bound_out scaled_cost bears n (total ys) rows x h borne)
 
 -- ---- products
 
-scaled_sum : (a b c : ℕ) → a * (b + c) ≡ a * b + a * c
+pub scaled_sum : (a b c : ℕ) → a * (b + c) ≡ a * b + a * c
 scaled_sum zero b c = omega arith
 scaled_sum (suc a) b c = let k = scaled_sum a b c in omega arith
 

@@ -12,6 +12,7 @@ pub mod Rising
 pub mod Bounds
 pub mod Lagrange
 pub mod Charges
+pub mod Halves
 pub mod Branches
 pub mod Rows
 pub mod Pushes

@@ -47,13 +47,21 @@ pub record IsLoaded (rows : List (List ℕ)) (ys scaled_costs loads : List ℕ)
   pub weighs : n ≡ total ys
   pub exceeds : (over ≡ overloads (length scaled_costs) (at scaled_costs) rows ys) ⊎ (n + n ≤ over)
 
--- the weight of all rows, with the slack of a column in the list or the overload of one outside, is at
--- most the scaled costs of a list with a column of each row and all overloads
+-- each rising list of columns with a column of each row has so much load, all together
+abbrev pub Carries : List (List ℕ) → List ℕ → ℕ → Type 0
+Carries rows loads n = (x : List ℕ) → Hits (length loads) rows x → n ≤ sum_over (at loads) x
+
+-- so much, with the slack of a column in the list, is at most the scaled costs of a list with a column
+-- of each row and all overloads
 pub record BoundsCovers (rows : List (List ℕ)) (scaled_costs loads : List ℕ)
     (n over : ℕ) : Type 0 where
   pub all : (x : List ℕ) → Hits (length scaled_costs) rows x
       → n ≤ sum_over (at scaled_costs) x + over
   pub having : (x : List ℕ) → Hits (length scaled_costs) rows x → (c : ℕ) → has c x ≡ true
       → n + (at scaled_costs c - at loads c) ≤ sum_over (at scaled_costs) x + over
-  pub lacking : (x : List ℕ) → Hits (length scaled_costs) rows x → (c : ℕ) → c < length scaled_costs
-      → has c x ≡ false → n + (at loads c - at scaled_costs c) ≤ sum_over (at scaled_costs) x + over
+
+-- so is it with the overload of a column outside the list
+abbrev pub BoundsCoversLacking : List (List ℕ) → List ℕ → List ℕ → ℕ → ℕ → Type 0
+BoundsCoversLacking rows scaled_costs loads n over = (x : List ℕ)
+    → Hits (length scaled_costs) rows x → (c : ℕ) → c < length scaled_costs → has c x ≡ false
+    → n + (at loads c - at scaled_costs c) ≤ sum_over (at scaled_costs) x + over

@@ -8,4 +8,5 @@ pub mod Choices
 pub mod Laws
 pub mod Weights
 pub mod Lagrange
+pub mod Cuts
 pub mod Reduce

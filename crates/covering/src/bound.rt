@@ -1,6 +1,6 @@
 //! Cutoffs, scaled costs (`one` a column, `each` a unit of its cost), columns that a gap leaves. The weights
-//! of rows come from `warm_start`, whose steps are in `heuristics`; here and in `lagrangian` they are
-//! checked.
+//! of rows and of cuts come from `warm_start`, whose steps are in `heuristics`; here, in `lagrangian` and in
+//! `cuts` they are checked.
 
 ghost use Rattle.std.specs.Prelude.{◌≡◌, ◌<◌, ◌*◌, ◌+◌, ◌-◌, IfOk, IfSome, length, map, nat_le};
 ghost use Rattle.std.specs.List.{range_with_len};

@@ -8,7 +8,7 @@
 ghost use Rattle.std.specs.Prelude.{◌≡◌, ◌≤◌, ◌<◌, ◌+◌, ◌-◌, ◌*◌, ◌^◌, ◌⊎◌, ℕ, IfOk, cond, length};
 ghost use Rattle.std.specs.List.{AllByRecursion, range_with_len};
 ghost use Rattle.covering.specs.Cover.{sum_over};
-ghost use Rattle.covering.specs.Lagrange.{BoundsCovers, IsLoaded, beyond};
+ghost use Rattle.covering.specs.Lagrange.{BoundsCovers, BoundsCoversLacking, Carries, IsLoaded, beyond};
 ghost use Rattle.covering.specs.Table.{RisesFrom, has, items_of};
 ghost use Rattle.covering.specs.Weights.{at, total};
 
@@ -27,7 +27,7 @@ pub(crate) struct Loads {
 }
 
 /// Adds the weight to the load of each column of the row, but for columns past the end.
-fn charge(loads: &mut Vec<u128>, row: &[usize], weight: u64)
+pub(crate) fn charge(loads: &mut Vec<u128>, row: &[usize], weight: u64)
     requires rises { RisesFrom 0 row.now }
     requires fits { (c : ℕ) → at loads.old.items c + weight < 2 ^ 128 }
     ensures charged { (c : ℕ) → c < length loads.old.items
@@ -54,7 +54,7 @@ fn total(weights: &[u64]) -> u128
 }
 
 /// The overloads of all columns together, or the largest number if they are larger.
-fn over(loads: &[u128], scaled_costs: &[u64]) -> u128
+pub(crate) fn over(loads: &[u128], scaled_costs: &[u64]) -> u128
     ensures { (result ≡ sum_over (beyond loads.now scaled_costs.now)
         (range_with_len 0 (length loads.now))) ⊎ (result ≡ 2 ^ 128 - 1) }
 {
@@ -81,7 +81,11 @@ pub(crate) fn lagrangian(
     requires rise { AllByRecursion (RisesFrom 0) (items_of rows.now) }
     ensures loaded { IfOk result (λ l. IsLoaded (items_of rows.now) weights.now scaled_costs.now
         l.loads.items l.total l.over) }
+    ensures length { IfOk result (λ l. length l.loads.items ≡ length scaled_costs.now) }
+    ensures carries { IfOk result (λ l. Carries (items_of rows.now) l.loads.items l.total) }
     ensures covers { IfOk result (λ l. BoundsCovers (items_of rows.now) scaled_costs.now
+        l.loads.items l.total l.over) }
+    ensures lacking { IfOk result (λ l. BoundsCoversLacking (items_of rows.now) scaled_costs.now
         l.loads.items l.total l.over) }
 {
     let mut loads: Vec<u128> = vec![in alloc; 0; scaled_costs.len()]?;

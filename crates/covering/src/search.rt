@@ -18,7 +18,7 @@ ghost use Rattle.covering.specs.Search.{NoneWithin, AnswersWithin, IsAnswer, IsP
 use crate::bound::{Cutoff, columns_within_gap, limit_of, scaled_costs};
 use crate::choice::{Choice, cost, total_cost};
 use crate::columns::{contains, copy_of};
-use crate::lagrangian::lagrangian;
+use crate::cuts::loads_of;
 use crate::marks::{all_kept, all_marked};
 use crate::reduction::Due;
 use crate::table::Table;
@@ -187,7 +187,7 @@ impl Table {
             multipliers.column,
             multipliers.cost,
         )?;
-        let loads = lagrangian(alloc, rows, &multipliers.weights, &scaled_costs)?;
+        let loads = loads_of(alloc, rows, multipliers, &scaled_costs)?;
         let rest = self.remaining_cutoff(choice, cutoff);
         let Some(limit) = limit_of(
             multipliers.column,

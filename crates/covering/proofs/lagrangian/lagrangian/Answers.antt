@@ -6,11 +6,11 @@ use Rattle.covering.specs.Weights.{at, load}
 use Rattle.covering.specs.Lagrange.{beyond}
 use Rattle.std.specs.List.{range_with_len}
 use Rattle.covering.specs.Cover.{sum_over}
-use Rattle.covering.proofs.Charges.{rise_at, load_more, cond_top, covers_from, overs, items_count}
+use Rattle.covering.proofs.Charges.{all_at, load_more, cond_top, carries_from, covers_from, lacking_from, overs, items_count}
 use Rattle.covering.proofs.lagrangian.lagrangian.Goals as goal
 
 pub charge-requires-clause-rises : goal.charge-requires-clause-rises
-charge-requires-clause-rises c = subst (RisesFrom 0) (sym (c.deref.ensures.value ∙ ap (λ v. v.items) c.index-rows-i.is)) (rise_at c.args.rows.now c.loop-i.i c.index-rows-i.result c.requires.rise c.loop-i-test.true)
+charge-requires-clause-rises c = subst (RisesFrom 0) (sym (c.deref.ensures.value ∙ ap (λ v. v.items) c.index-rows-i.is)) (all_at (RisesFrom 0) c.args.rows.now c.loop-i.i c.index-rows-i.result c.requires.rise c.loop-i-test.true)
 
 pub loop-i-preserved : goal.loop-i-preserved
 loop-i-preserved c =
@@ -49,5 +49,15 @@ returns-clause-loaded c =
       ];
     }
 
+pub returns-clause-carries : goal.returns-clause-carries
+returns-clause-carries c = carries_from (items_of c.args.rows.now) c.args.weights.now c.args.scaled_costs.now c.loop-i.loads.items c.total-total.result c.over-over.result (c.requires.length ∙ sym (items_count c.args.rows.now)) c.loop-i.invariant.long (returns-clause-loaded c)
+
 pub returns-clause-covers : goal.returns-clause-covers
-returns-clause-covers c = covers_from (items_of c.args.rows.now) c.args.weights.now c.args.scaled_costs.now c.loop-i.loads.items c.total-total.result c.over-over.result (c.requires.length ∙ sym (items_count c.args.rows.now)) (returns-clause-loaded c)
+returns-clause-covers c = covers_from (items_of c.args.rows.now) c.args.scaled_costs.now c.loop-i.loads.items c.total-total.result c.over-over.result (returns-clause-carries c) c.loop-i.invariant.long
+    (elim c.over-over.ensures [
+      | inl e ↦ inl (e ∙ ap (λ ls. sum_over (beyond ls c.args.scaled_costs.now) (range_with_len 0 (length ls))) c.deref-2.ensures.value)
+      | inr e ↦ inr (let few = c.requires.few in let bound = c.total-total.ensures.bound in omega arith)
+    ])
+
+pub returns-clause-lacking : goal.returns-clause-lacking
+returns-clause-lacking c = lacking_from (items_of c.args.rows.now) c.args.weights.now c.args.scaled_costs.now c.loop-i.loads.items c.total-total.result c.over-over.result (c.requires.length ∙ sym (items_count c.args.rows.now)) (returns-clause-loaded c)

@@ -32,7 +32,7 @@ each c d l = ap (λ xs. at xs d) (made c) ∙ scaled_costs_at (fair c) (length c
 
 covers : (c : In-Some) → BoundsCovers c.args.self.now.rows c.in_ok-scaled_costs.scaled_costs.items c.in_ok-loads.loads.loads.items c.in_ok-loads.loads.total c.in_ok-loads.loads.over
 covers c = subst (λ rows. BoundsCovers rows c.in_ok-scaled_costs.scaled_costs.items c.in_ok-loads.loads.loads.items c.in_ok-loads.loads.total c.in_ok-loads.loads.over) c.row_lists-rows.ensures.value
-    (subst (λ scaled_costs. BoundsCovers (items_of c.row_lists-rows.result.now) scaled_costs c.in_ok-loads.loads.loads.items c.in_ok-loads.loads.total c.in_ok-loads.loads.over) c.deref-2.ensures.value c.in_ok-loads.ensures.covers)
+    (subst (λ scaled_costs. BoundsCovers (items_of c.row_lists-rows.result.now) scaled_costs c.in_ok-loads.loads.loads.items c.in_ok-loads.loads.total c.in_ok-loads.loads.over) c.deref.ensures.value c.in_ok-loads.ensures)
 
 limit : (c : In-Some) → c.in-Some.limit ≡ c.args.multipliers.now.column * (c.args.cutoff.columns - length c.args.self.now.taken) + c.args.multipliers.now.cost * (c.args.cutoff.cost - sum_over (counted c.args.choice c.args.self.now.weights) c.args.self.now.taken) + c.in_ok-loads.loads.over
 limit c =
@@ -55,7 +55,7 @@ returns c d l e =
     let gap = c.in-Some.limit - c.in_ok-loads.loads.total in
     let within = c.literals.ensures.table.within d l in
     let same = long p in
-    let marks = c.in_ok-columns_within_gap.ensures ∙ ap (λ xs. map (λ n. leb (at xs n - at c.deref-4.result.now n) gap) (range_with_len 0 (length xs))) c.deref-3.ensures.value ∙ ap (λ xs. map (λ n. leb (at scaled_costs n - at xs n) gap) (range_with_len 0 (length scaled_costs))) c.deref-4.ensures.value in
+    let marks = c.in_ok-columns_within_gap.ensures ∙ ap (λ xs. map (λ n. leb (at xs n - at c.deref-3.result.now n) gap) (range_with_len 0 (length xs))) c.deref-2.ensures.value ∙ ap (λ xs. map (λ n. leb (at scaled_costs n - at xs n) gap) (range_with_len 0 (length scaled_costs))) c.deref-3.ensures.value in
     let mark = ap (λ xs. marked xs d) marks ∙ marks_at (λ n. leb (at scaled_costs n - at loads n) gap) (length scaled_costs) d (omega arith) in
     let over : gap < at scaled_costs d - at loads d = leb-false (at scaled_costs d - at loads d) gap (sym mark ∙ e) in
     let under = c.if-loads-limit.false in
