@@ -147,11 +147,7 @@ impl Found {
 }
 
 /// The rows that hardly go past one, each by itself.
-fn single_rows(
-    alloc: Global,
-    rows: &Lists,
-    parts: &[i64],
-) -> Result<Vec<Combination>, AllocError> {
+fn single_rows(alloc: Global, rows: &Lists, parts: &[i64]) -> Result<Vec<Combination>, AllocError> {
     let mut combinations = Vec::new(alloc);
     for index in 0..rows.len() {
         let row = rows.list(index);

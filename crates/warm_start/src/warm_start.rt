@@ -60,11 +60,7 @@ fn indices_of(alloc: Global, live: &[usize], columns: &[usize]) -> Result<Vec<us
 
 /// The index of each of the numbers, at the number, and `u32::MAX` for others; numbers are below `end`, or
 /// left out.
-fn indices_by_number(
-    alloc: Global,
-    numbers: &[usize],
-    end: usize,
-) -> Result<Vec<u32>, AllocError> {
+fn indices_by_number(alloc: Global, numbers: &[usize], end: usize) -> Result<Vec<u32>, AllocError> {
     let mut indices: Vec<u32> = vec![in alloc; u32::MAX; end]?;
     for (index, number) in numbers.iter().enumerate() {
         if *number < indices.len() {
@@ -700,7 +696,11 @@ impl WarmStart {
         let mut pair = self.primal_dual(alloc, table, live, numbers)?;
         let hurried = self.steps < STEPS;
         let spans = if hurried { FEW_SPANS } else { SPANS };
-        let times = if hurried { FEW_TIMES_OF_CUTS } else { TIMES_OF_CUTS };
+        let times = if hurried {
+            FEW_TIMES_OF_CUTS
+        } else {
+            TIMES_OF_CUTS
+        };
         pair.approach(alloc, goal, spans)?;
         pair.strengthen(alloc, table, goal, times, SPANS_OF_CUTS)?;
         self.keep_likely(alloc, live, &pair.parts(alloc)?, columns)?;
@@ -766,7 +766,8 @@ impl WarmStart {
                 self.cuts.push(small(number(numbers, *row as usize)))?;
             }
             self.cuts.end()?;
-            self.cut_weights.push(at(weights, numbers.len().saturating_add(cut)))?;
+            self.cut_weights
+                .push(at(weights, numbers.len().saturating_add(cut)))?;
         }
         Ok(())
     }
