@@ -121,6 +121,7 @@ impl Combination {
 }
 
 /// Cuts that were found, each a list of rows, and how good each is.
+#[derive(Drop)]
 struct Found {
     /// The rows of each.
     cuts: Lists,
@@ -233,10 +234,29 @@ fn choose(cut: &[u32], uses: &mut Vec<usize>, chosen: &mut Lists) -> Result<(), 
     chosen.end()
 }
 
+/// The best of the cuts that were found, each row in a few of them at most. There are so many rows.
+fn best_cuts(alloc: Global, found: &mut Found, rows: usize) -> Result<Lists, AllocError> {
+    found.scores.sort_unstable();
+    found.scores.reverse();
+    let mut uses: Vec<usize> = vec![in alloc; 0; rows]?;
+    let mut chosen = Lists::new(alloc);
+    for (_, index) in found.scores.iter() {
+        let cut = found.cuts.list(*index);
+        if !is_used_up(cut, &uses) {
+            choose(cut, &mut uses, &mut chosen)?;
+        }
+    }
+    Ok(chosen)
+}
+
 /// Cuts of these rows that a fractional cover violates, the best first, each a list of an odd number of rows.
 /// `parts` is how much of each column it has, where `LIKELIEST` is all of it. Takes some passes over the
 /// rows for each column of which it has a part.
-pub fn violated_cuts(alloc: Global, rows: &Lists, parts: &[i64]) -> Result<Lists, AllocError> {
+pub(crate) fn violated_cuts(
+    alloc: Global,
+    rows: &Lists,
+    parts: &[i64],
+) -> Result<Lists, AllocError> {
     let mut combinations = single_rows(alloc, rows, parts)?;
     let mut found = Found {
         cuts: Lists::new(alloc),
@@ -245,16 +265,5 @@ pub fn violated_cuts(alloc: Global, rows: &Lists, parts: &[i64]) -> Result<Lists
     for (_, column) in columns_by_part(alloc, parts)?.iter() {
         eliminate(alloc, &mut combinations, small(*column), parts, &mut found)?;
     }
-    let Found { cuts, mut scores } = found;
-    scores.sort_unstable();
-    scores.reverse();
-    let mut uses: Vec<usize> = vec![in alloc; 0; rows.len()]?;
-    let mut chosen = Lists::new(alloc);
-    for (_, index) in scores.iter() {
-        let cut = cuts.list(*index);
-        if !is_used_up(cut, &uses) {
-            choose(cut, &mut uses, &mut chosen)?;
-        }
-    }
-    Ok(chosen)
+    best_cuts(alloc, &mut found, rows.len())
 }

@@ -8,14 +8,14 @@
 //! from, row by row. A row keeps its number from table to table, so that a branch hands back what
 //! it has learned.
 
+use crate::cuts::{Cuts, whole};
 use crate::effort::Effort;
 use heuristics::{
-    Ascent, Course, Cut, FEW_STEPS, Goal, LIKELIEST, Multipliers, NEAR_PACE, NEAR_REACH, PACE,
-    REACH, STEPS,
+    Ascent, Course, FEW_STEPS, Goal, LIKELIEST, Multipliers, NEAR_PACE, NEAR_REACH, PACE, REACH,
+    STEPS,
 };
 use number_lists::{
     Compact, Lists, SEED, UNIT, at, is_live_part_of, mark, marked, next_random, number, put, set,
-    small,
 };
 use primal_dual::PrimalDual;
 use relaxation::{BranchBasis, PseudoCosts, Relaxation, is_small_enough};
@@ -56,60 +56,6 @@ fn indices_of(alloc: Global, live: &[usize], columns: &[usize]) -> Result<Vec<us
         }
     }
     Ok(indices)
-}
-
-/// The index of each of the numbers, at the number, and `u32::MAX` for others; numbers are below `end`, or
-/// left out.
-fn indices_by_number(alloc: Global, numbers: &[usize], end: usize) -> Result<Vec<u32>, AllocError> {
-    let mut indices: Vec<u32> = vec![in alloc; u32::MAX; end]?;
-    for (index, number) in numbers.iter().enumerate() {
-        if *number < indices.len() {
-            indices[*number] = small(index);
-        }
-    }
-    Ok(indices)
-}
-
-/// The indices of those of the numbers that have one.
-fn present(alloc: Global, numbers: &[u32], indices: &[u32]) -> Result<Vec<u32>, AllocError> {
-    let mut found = Vec::new(alloc);
-    for number in numbers {
-        let number = *number as usize;
-        if number < indices.len() && indices[number] != u32::MAX {
-            found.push(indices[number])?;
-        }
-    }
-    Ok(found)
-}
-
-/// The weights, at least 0, as the caller checks them.
-fn whole(alloc: Global, weights: &[i64]) -> Result<Vec<u64>, AllocError> {
-    let mut whole = Vec::with_capacity(alloc, weights.len())?;
-    for weight in weights {
-        whole.push(u64::try_from(*weight).unwrap_or(0))?;
-    }
-    Ok(whole)
-}
-
-/// The list as indices.
-fn as_indices(alloc: Global, list: &[u32]) -> Result<Vec<usize>, AllocError> {
-    let mut indices = Vec::with_capacity(alloc, list.len())?;
-    for number in list {
-        indices.push(*number as usize)?;
-    }
-    Ok(indices)
-}
-
-/// The cuts with their weights, as the caller checks them.
-fn weighted_cuts(alloc: Global, cuts: &Lists, weights: &[i64]) -> Result<Vec<Cut>, AllocError> {
-    let mut weighted = Vec::with_capacity(alloc, cuts.len())?;
-    for (cut, weight) in whole(alloc, weights)?.iter().enumerate() {
-        weighted.push(Cut {
-            rows: as_indices(alloc, cuts.list(cut))?,
-            weight: *weight,
-        })?;
-    }
-    Ok(weighted)
 }
 
 /// The most rows that a column of the row is in; at least 1.
@@ -167,11 +113,8 @@ const FEW_SPANS: u32 = 4;
 /// The most spans of primal-dual steps after cuts were added.
 const SPANS_OF_CUTS: u32 = 16;
 
-/// How often cuts are added for a bound.
+/// How often cuts are added for a bound, at most; once for one that only drops columns.
 const TIMES_OF_CUTS: u32 = 8;
-
-/// How often for a bound that only drops columns.
-const FEW_TIMES_OF_CUTS: u32 = 1;
 
 /// A column is branched on where its part of a fractional cover is so far from 0 and from 1.
 const LEAST_FRACTION: i64 = LIKELIEST / 10;
@@ -203,10 +146,8 @@ pub struct WarmStart {
     numbers: Vec<usize>,
     /// The weight of each row, by its number.
     weights: Vec<i64>,
-    /// The rows of each cut of the last bound, by their numbers.
-    cuts: Lists,
-    /// The weight of each cut.
-    cut_weights: Vec<i64>,
+    /// The cuts of the last bound.
+    cuts: Cuts,
     /// The multiplier of a column.
     column: i64,
     /// How likely each column is thought to be in a cover: a larger number is likelier.
@@ -237,7 +178,6 @@ impl Drop for WarmStart {
             numbers: _,
             weights: _,
             cuts: _,
-            cut_weights: _,
             column: _,
             likely: _,
             fractional: _,
@@ -259,8 +199,7 @@ impl WarmStart {
             rows: Lists::new(alloc),
             numbers: Vec::new(alloc),
             weights: Vec::new(alloc),
-            cuts: Lists::new(alloc),
-            cut_weights: Vec::new(alloc),
+            cuts: Cuts::new(alloc),
             column: 4 * UNIT,
             likely: Vec::new(alloc),
             fractional: false,
@@ -357,8 +296,7 @@ impl WarmStart {
         copy.rows.extend_from(&self.rows)?;
         copy.numbers.extend_from_slice(&self.numbers)?;
         copy.weights.extend_from_slice(&self.weights)?;
-        copy.cuts.extend_from(&self.cuts)?;
-        copy.cut_weights.extend_from_slice(&self.cut_weights)?;
+        copy.cuts = self.cuts.copy(alloc)?;
         copy.likely.extend_from_slice(&self.likely)?;
         copy.hint.extend_from_slice(&self.hint)?;
         Ok(copy)
@@ -381,8 +319,7 @@ impl WarmStart {
         copy.hard = self.hard;
         copy.fractional = self.fractional;
         copy.weights.extend_from_slice(&self.weights)?;
-        copy.cuts.extend_from(&self.cuts)?;
-        copy.cut_weights.extend_from_slice(&self.cut_weights)?;
+        copy.cuts = self.cuts.copy(alloc)?;
         if !self.is_new() {
             let numbers = self.row_ids(alloc, rows, live, columns)?;
             copy.keep_weights(&numbers, &self.weights_of(alloc, &numbers)?)?;
@@ -662,7 +599,7 @@ impl WarmStart {
         let numbers = self.row_ids(alloc, rows, live, columns)?;
         self.fractional = rows.len() >= self.least_rows_of_steps() && !table.is_uneven();
         if self.fractional {
-            return self.approach(alloc, table, live, rows, columns, &numbers, goal);
+            return self.multipliers_by_steps(alloc, table, live, rows, columns, &numbers, goal);
         }
         let mut ascent = self.ascent(alloc, table, &numbers)?;
         if !rows.is_empty() {
@@ -674,58 +611,15 @@ impl WarmStart {
 
     /// From so many rows on a table is bounded by primal-dual steps, if its columns cost the same.
     fn least_rows_of_steps(&self) -> usize {
-        if self.cut_weights.is_empty() {
+        if self.cuts.is_empty() {
             MANY_ROWS
         } else {
             MANY_ROWS_WITH_CUTS
         }
     }
 
-    /// Multipliers by primal-dual steps, with cuts, whose fractional cover is kept; the arguments are those of
-    /// `multipliers`, and the numbers of the rows. Without cuts the weights are polished.
-    fn approach(
-        &mut self,
-        alloc: Global,
-        table: &Compact,
-        live: &[usize],
-        rows: &[Vec<usize>],
-        columns: usize,
-        numbers: &[usize],
-        goal: Goal,
-    ) -> Result<Multipliers, AllocError> {
-        let mut pair = self.primal_dual(alloc, table, live, numbers)?;
-        let hurried = self.steps < STEPS;
-        let spans = if hurried { FEW_SPANS } else { SPANS };
-        let times = if hurried {
-            FEW_TIMES_OF_CUTS
-        } else {
-            TIMES_OF_CUTS
-        };
-        pair.approach(alloc, goal, spans)?;
-        pair.strengthen(alloc, table, goal, times, SPANS_OF_CUTS)?;
-        self.keep_likely(alloc, live, &pair.parts(alloc)?, columns)?;
-        let mut weights = pair.weights(alloc)?;
-        self.remember_cuts(alloc, pair.cuts(), numbers, &weights)?;
-        if self.cut_weights.is_empty() {
-            let mut ascent = Ascent::new(alloc, table, weights, self.column, NEAR_PACE)?;
-            ascent.go_on(alloc, table, goal, 0, &mut Course::new(0, REACH))?;
-            self.remember(alloc, rows, numbers, &ascent)?;
-            return ascent.multipliers(alloc);
-        }
-        let cuts = weighted_cuts(alloc, pair.cuts(), &self.cut_weights)?;
-        weights.truncate(numbers.len());
-        self.missing = pair.shortfall(goal);
-        self.remember_rows(alloc, rows, numbers, &weights)?;
-        Ok(Multipliers {
-            weights: whole(alloc, &weights)?,
-            cuts,
-            column: UNIT as u32,
-            cost: 0,
-        })
-    }
-
-    /// The start of primal-dual steps: from the remembered weights of the rows with these numbers and of the
-    /// cuts of them, or from first weights if no rows are remembered.
+    /// The start of primal-dual steps: from the remembered weights of the rows with these numbers and of their
+    /// cuts, or from first weights if no rows are remembered.
     fn primal_dual(
         &self,
         alloc: Global,
@@ -739,37 +633,62 @@ impl WarmStart {
             return PrimalDual::new(alloc, table, Lists::new(alloc), &weights, &likely);
         }
         let mut weights = self.weights_of(alloc, numbers)?;
-        let mut cuts = Lists::new(alloc);
-        let indices = indices_by_number(alloc, numbers, self.weights.len())?;
-        for (cut, weight) in self.cut_weights.iter().enumerate() {
-            let rows = present(alloc, self.cuts.list(cut), &indices)?;
-            if rows.len() > 1 && rows.len() % 2 == 1 {
-                cuts.push_list(&rows)?;
-                weights.push(*weight)?;
-            }
-        }
+        let cuts = self
+            .cuts
+            .among(alloc, numbers, self.weights.len(), &mut weights)?;
         PrimalDual::new(alloc, table, cuts, &weights, &likely)
     }
 
-    /// Remembers these cuts, by the numbers of their rows. Their weights come after those of the rows.
-    fn remember_cuts(
+    /// Makes primal-dual steps, with cuts, and keeps their fractional cover.
+    fn approach(
         &mut self,
         alloc: Global,
-        cuts: &Lists,
+        table: &Compact,
+        live: &[usize],
+        columns: usize,
         numbers: &[usize],
-        weights: &[i64],
-    ) -> Result<(), AllocError> {
-        self.cuts = Lists::new(alloc);
-        self.cut_weights = Vec::new(alloc);
-        for cut in 0..cuts.len() {
-            for row in cuts.list(cut) {
-                self.cuts.push(small(number(numbers, *row as usize)))?;
-            }
-            self.cuts.end()?;
-            self.cut_weights
-                .push(at(weights, numbers.len().saturating_add(cut)))?;
+        goal: Goal,
+    ) -> Result<PrimalDual, AllocError> {
+        let mut pair = self.primal_dual(alloc, table, live, numbers)?;
+        let hurried = self.steps < STEPS;
+        let spans = if hurried { FEW_SPANS } else { SPANS };
+        let times = if hurried { 1 } else { TIMES_OF_CUTS };
+        pair.approach(alloc, goal, spans)?;
+        pair.strengthen(alloc, table, goal, times, SPANS_OF_CUTS)?;
+        self.keep_likely(alloc, live, &pair.parts(alloc)?, columns)?;
+        Ok(pair)
+    }
+
+    /// Multipliers by primal-dual steps, with cuts; the arguments are those of `multipliers`, and the numbers
+    /// of the rows. Where there are no cuts weights are polished.
+    fn multipliers_by_steps(
+        &mut self,
+        alloc: Global,
+        table: &Compact,
+        live: &[usize],
+        rows: &[Vec<usize>],
+        columns: usize,
+        numbers: &[usize],
+        goal: Goal,
+    ) -> Result<Multipliers, AllocError> {
+        let pair = self.approach(alloc, table, live, columns, numbers, goal)?;
+        let mut weights = pair.weights(alloc)?;
+        self.cuts = Cuts::of(alloc, pair.cuts(), numbers, &weights)?;
+        if self.cuts.is_empty() {
+            let mut ascent = Ascent::new(alloc, table, weights, self.column, NEAR_PACE)?;
+            ascent.go_on(alloc, table, goal, 0, &mut Course::new(0, REACH))?;
+            self.remember(alloc, rows, numbers, &ascent)?;
+            return ascent.multipliers(alloc);
         }
-        Ok(())
+        weights.truncate(numbers.len());
+        self.remember_rows(alloc, rows, numbers, &weights)?;
+        self.missing = pair.shortfall(goal);
+        Ok(Multipliers {
+            weights: whole(alloc, &weights)?,
+            cuts: self.cuts.weighted(alloc, pair.cuts())?,
+            column: UNIT as u32,
+            cost: 0,
+        })
     }
 
     /// Keeps the best weights of the steps, by the numbers of their rows; new numbers are
