@@ -9,6 +9,7 @@
 use heuristics::LIKELIEST;
 use number_lists::{Lists, add_to, at, number, small};
 use std::alloc::{AllocError, Global};
+use std::mem::replace;
 
 /// Of a column of which the fractional cover has no more than this it has no part.
 const NO_PART: i64 = LIKELIEST / 50;
@@ -87,6 +88,15 @@ fn columns_with_parts(alloc: Global, row: &[u32], parts: &[i64]) -> Result<Vec<u
 }
 
 impl Combination {
+    /// The sum of no rows.
+    fn new(alloc: Global) -> Combination {
+        Combination {
+            rows: Vec::new(alloc),
+            columns: Vec::new(alloc),
+            excess: 0,
+        }
+    }
+
     /// Whether the column is in an odd number of the rows.
     fn has(&self, column: u32) -> bool {
         self.columns.binary_search(&column).is_ok()
@@ -103,8 +113,7 @@ impl Combination {
     /// Becomes the sum of no rows where it has too many, or they go too far past one.
     fn give_up_if_large(&mut self, alloc: Global) {
         if self.rows.len() > MOST_ROWS || self.excess > MOST_EXCESS {
-            self.rows = Vec::new(alloc);
-            self.columns = Vec::new(alloc);
+            *self = Combination::new(alloc);
         }
     }
 
@@ -176,43 +185,137 @@ fn columns_by_part(alloc: Global, parts: &[i64]) -> Result<Vec<(i64, usize)>, Al
     Ok(columns)
 }
 
-/// The index of the combination that has the column and the fewest rows; the number of combinations if
-/// none has it.
-fn smallest_with(combinations: &[Combination], column: u32) -> usize {
-    let mut found = combinations.len();
-    let mut least = (usize::MAX, i64::MAX);
-    for (index, combination) in combinations.iter().enumerate() {
-        let size = (combination.rows.len(), combination.excess);
-        if size < least && combination.has(column) {
-            least = size;
-            found = index;
-        }
-    }
-    found
-}
-
-/// Eliminates the column: the smallest combination that has it is taken out, and added to all others that
-/// have it. What is found on the way is noted.
-fn eliminate(
-    alloc: Global,
-    combinations: &mut Vec<Combination>,
-    column: u32,
-    parts: &[i64],
-    found: &mut Found,
+/// Notes the combination at the index for each of these columns.
+fn note_columns(
+    having: &mut Vec<Vec<usize>>,
+    columns: &[u32],
+    index: usize,
 ) -> Result<(), AllocError> {
-    let index = smallest_with(combinations, column);
-    if index >= combinations.len() {
-        return Ok(());
-    }
-    let smallest = combinations.swap_remove(index);
-    for combination in combinations.iter_mut() {
-        if combination.has(column) {
-            combination.add(alloc, &smallest)?;
-            combination.give_up_if_large(alloc);
-            found.note(combination, parts)?;
+    for column in columns {
+        let column = *column as usize;
+        if column < having.len() {
+            having[column].push(index)?;
         }
     }
     Ok(())
+}
+
+/// So many empty lists.
+fn empty_lists(alloc: Global, number: usize) -> Result<Vec<Vec<usize>>, AllocError> {
+    let mut lists = Vec::with_capacity(alloc, number)?;
+    for _ in 0..number {
+        lists.push(Vec::new(alloc))?;
+    }
+    Ok(lists)
+}
+
+/// Combinations whose columns are eliminated one after the other.
+struct Elimination {
+    /// The combinations; the sum of no rows stands where one was left out.
+    combinations: Vec<Combination>,
+    /// Of each column the indices of combinations that have it, and of some that had it.
+    having: Vec<Vec<usize>>,
+}
+
+// Written out, so that where one ends a proof has one call, and not one for each of its lists.
+impl Drop for Elimination {
+    fn drop(self) {
+        let Elimination {
+            combinations: _,
+            having: _,
+        } = self;
+    }
+}
+
+impl Elimination {
+    /// The start, with these combinations of so many columns.
+    fn new(
+        alloc: Global,
+        combinations: Vec<Combination>,
+        columns: usize,
+    ) -> Result<Elimination, AllocError> {
+        let mut having = empty_lists(alloc, columns)?;
+        for (index, combination) in combinations.iter().enumerate() {
+            note_columns(&mut having, &combination.columns, index)?;
+        }
+        Ok(Elimination {
+            combinations,
+            having,
+        })
+    }
+
+    /// Whether the combination at the index has the column; not so past the end.
+    fn has(&self, index: usize, column: u32) -> bool {
+        index < self.combinations.len() && self.combinations[index].has(column)
+    }
+
+    /// The index of the combination, among these, that has the column and the fewest rows; the number of
+    /// combinations if none has it.
+    fn smallest(&self, among: &[usize], column: u32) -> usize {
+        let mut found = self.combinations.len();
+        let mut least = (usize::MAX, i64::MAX);
+        for index in among {
+            if self.has(*index, column) {
+                let combination = &self.combinations[*index];
+                let size = (combination.rows.len(), combination.excess);
+                if size < least {
+                    least = size;
+                    found = *index;
+                }
+            }
+        }
+        found
+    }
+
+    /// Takes out the combination at the index; the sum of no rows past the end.
+    fn take(&mut self, alloc: Global, index: usize) -> Combination {
+        if index < self.combinations.len() {
+            replace(&mut self.combinations[index], Combination::new(alloc))
+        } else {
+            Combination::new(alloc)
+        }
+    }
+
+    /// Adds a combination to that at the index, and notes the cut that comes of it if it is violated.
+    fn add(
+        &mut self,
+        alloc: Global,
+        index: usize,
+        other: &Combination,
+        parts: &[i64],
+        found: &mut Found,
+    ) -> Result<(), AllocError> {
+        if index < self.combinations.len() {
+            let combination = &mut self.combinations[index];
+            combination.add(alloc, other)?;
+            combination.give_up_if_large(alloc);
+            found.note(combination, parts)?;
+        }
+        note_columns(&mut self.having, &other.columns, index)
+    }
+
+    /// Eliminates the column: the smallest combination that has it is taken out, and added to all others that
+    /// have it. What is found on the way is noted.
+    fn eliminate(
+        &mut self,
+        alloc: Global,
+        column: usize,
+        parts: &[i64],
+        found: &mut Found,
+    ) -> Result<(), AllocError> {
+        if column >= self.having.len() {
+            return Ok(());
+        }
+        let among = replace(&mut self.having[column], Vec::new(alloc));
+        let smallest = self.smallest(&among, small(column));
+        let smallest = self.take(alloc, smallest);
+        for index in among.iter() {
+            if self.has(*index, small(column)) {
+                self.add(alloc, *index, &smallest, parts, found)?;
+            }
+        }
+        Ok(())
+    }
 }
 
 /// Whether one of these rows is in as many cuts as it may be.
@@ -250,20 +353,21 @@ fn best_cuts(alloc: Global, found: &mut Found, rows: usize) -> Result<Lists, All
 }
 
 /// Cuts of these rows that a fractional cover violates, the best first, each a list of an odd number of rows.
-/// `parts` is how much of each column it has, where `LIKELIEST` is all of it. Takes some passes over the
-/// rows for each column of which it has a part.
+/// `parts` is how much of each column it has, where `LIKELIEST` is all of it. Takes memory and time for the
+/// entries of combinations, of at most some ten rows each.
 pub(crate) fn violated_cuts(
     alloc: Global,
     rows: &Lists,
     parts: &[i64],
 ) -> Result<Lists, AllocError> {
-    let mut combinations = single_rows(alloc, rows, parts)?;
+    let rows_alone = single_rows(alloc, rows, parts)?;
+    let mut elimination = Elimination::new(alloc, rows_alone, parts.len())?;
     let mut found = Found {
         cuts: Lists::new(alloc),
         scores: Vec::new(alloc),
     };
     for (_, column) in columns_by_part(alloc, parts)?.iter() {
-        eliminate(alloc, &mut combinations, small(*column), parts, &mut found)?;
+        elimination.eliminate(alloc, *column, parts, &mut found)?;
     }
     best_cuts(alloc, &mut found, rows.len())
 }

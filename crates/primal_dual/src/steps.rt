@@ -6,7 +6,9 @@
 //! lengths are by the numbers of rows and columns (Pock and Chambolle, Diagonal preconditioning for first
 //! order primal-dual algorithms, 2011). Steps are reflected, and drawn back to where they began, the less the
 //! more there were; from time to time they begin anew (Lu and Yang, Restarted Halpern PDHG for linear
-//! programming, 2024). All columns cost the same here.
+//! programming, 2024). All columns cost the same here. A column without part that has much slack sleeps: for a
+//! span of steps it is left out, and the bounds at its end see it again. Cuts are rows that need more than
+//! one column.
 
 use crate::constraints::Constraints;
 use crate::separation::violated_cuts;
