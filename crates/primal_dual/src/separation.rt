@@ -255,10 +255,10 @@ impl Elimination {
         let mut found = self.combinations.len();
         let mut least = (usize::MAX, i64::MAX);
         for index in among {
-            if self.has(*index, column) {
+            if *index < self.combinations.len() {
                 let combination = &self.combinations[*index];
                 let size = (combination.rows.len(), combination.excess);
-                if size < least {
+                if size < least && combination.has(column) {
                     least = size;
                     found = *index;
                 }
