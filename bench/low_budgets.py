@@ -100,7 +100,7 @@ PRIMAL_DUAL = [
     ("warm_start/warm_start", "SPANS: u32 = 20", "SPANS: u32 = 2"),
     ("covering/search", "SUPPORT_TABLES: u64 = 500", "SUPPORT_TABLES: u64 = 2"),
 ]
-# Primal-dual steps as often where there are cuts, of which all are used that are violated at all.
+# The same also where there are cuts of a few rows; cuts are used that are hardly violated.
 CUTS = [
     *PRIMAL_DUAL,
     ("warm_start/warm_start", "MANY_ROWS_WITH_CUTS: usize = 250", "MANY_ROWS_WITH_CUTS: usize = 1"),

@@ -295,8 +295,8 @@ class Machines(ManyOutputs):
         self.compared("a large machine and its least cover", text, answer.output)
 
     def test_a_table_that_needs_cuts(self):
-        """A machine of 90 states leaves a table of 1,973 rows and 3,256 columns, which its linear relaxation bounds poorly. A program
-        without cuts found the same answer, in seven times the time."""
+        """A machine of 90 states leaves a table of 1,973 rows and 3,256 columns, of which HiGHS too takes 329. Its linear relaxation
+        bounds it poorly: without cuts the same answer takes seven times as long."""
         text = listing_text(state_machine(Machine("s298", 3, 6, 90, 5), 3, "fd"))
         with folder_of({}) as folder:
             answer, _ = answer_in(folder, ["-Dexact"], text)
