@@ -100,6 +100,12 @@ PRIMAL_DUAL = [
     ("warm_start/warm_start", "SPANS: u32 = 20", "SPANS: u32 = 2"),
     ("covering/search", "SUPPORT_TABLES: u64 = 500", "SUPPORT_TABLES: u64 = 2"),
 ]
+# The same also where there are cuts of a few rows; cuts are used that are hardly violated.
+CUTS = [
+    *PRIMAL_DUAL,
+    ("warm_start/warm_start", "MANY_ROWS_WITH_CUTS: usize = 250", "MANY_ROWS_WITH_CUTS: usize = 1"),
+    ("primal_dual/separation", "LEAST_VIOLATION: i64 = LIKELIEST * 15 / 100", "LEAST_VIOLATION: i64 = LIKELIEST / 100"),
+]
 FEW_PROPOSALS = [
     ("signature_search/proposer", "FEW_PLACES: usize = 2_000", "FEW_PLACES: usize = 8"),
     ("signature_search/search", "MOST_REGIONS_OF_LEFT_OUT: u64 = 1 << 16", "MOST_REGIONS_OF_LEFT_OUT: u64 = 2"),
@@ -127,7 +133,7 @@ BUILDS = {
                      *NO_CUBES_OF_OFF, *NEVER_NEAR, *SEARCH_AT_ONCE],
     # The table of all primes, also of many inputs.
     "table": [*NO_GROWTH, *POINTS_OF_FEW_INPUTS, *NO_CUBES_OUTSIDE, *NEVER_AS_NEEDED, *NO_POINTS_OF_PRIMES, *NO_CUBES_OF_OFF,
-              *SHORT_LISTS, *PRIMAL_DUAL],
+              *SHORT_LISTS, *CUTS],
     # Rows of all lists are merged, whatever they are; then points, or places outside as they are needed.
     "merged": [*MERGED, *POINTS_OF_FEW_INPUTS, *GROWTH, *FEW_CUBES_OUTSIDE, *ALWAYS_AS_NEEDED, *ALWAYS_NEAR, *SEARCH_AT_ONCE],
 }

@@ -3,6 +3,7 @@
 No answer here is the program's. Those of small functions are made by the definitions; those of parts of a data path and of
 joined rings are known by hand; those in the folder were found by another program, which takes least covers from maximal
 signature cubes (McGeer et al. 1993) and was compared with the definitions on many thousand functions."""
+import hashlib
 import os
 import random
 import sys
@@ -292,3 +293,14 @@ class Machines(ManyOutputs):
         self.assertEqual(answer.status, 0, answer.message)
         self.assertIn(b"\n.p 863\n", answer.output)
         self.compared("a large machine and its least cover", text, answer.output)
+
+    def test_a_table_that_needs_cuts(self):
+        """A machine of 90 states leaves a table of 1,973 rows and 3,256 columns, of which HiGHS too takes 329. Its linear relaxation
+        bounds it poorly: without cuts the same answer takes seven times as long."""
+        text = listing_text(state_machine(Machine("s298", 3, 6, 90, 5), 3, "fd"))
+        with folder_of({}) as folder:
+            answer, _ = answer_in(folder, ["-Dexact"], text)
+        self.assertEqual(answer.status, 0, answer.message)
+        self.assertIn(b"\n.p 392\n", answer.output)
+        self.assertEqual(hashlib.sha256(answer.output).hexdigest(), "6ed503718ca246a123e63f403233a56fe704ce95fe82b089c7c6d45c5a966be5")
+        self.compared("a machine and its least cover by cuts", text, answer.output)
