@@ -308,6 +308,27 @@ pub mod string {
 pub mod collections {
     use crate::alloc::{AllocError, Global};
 
+    pub struct BinaryHeap<T> {
+        items: std::collections::BinaryHeap<T>,
+    }
+
+    impl<T: Ord> BinaryHeap<T> {
+        pub fn new(_: Global) -> BinaryHeap<T> {
+            BinaryHeap {
+                items: std::collections::BinaryHeap::new(),
+            }
+        }
+
+        pub fn push(&mut self, item: T) -> Result<(), AllocError> {
+            self.items.push(item);
+            Ok(())
+        }
+
+        pub fn pop(&mut self) -> Option<T> {
+            self.items.pop()
+        }
+    }
+
     pub struct BTreeSet<T> {
         items: std::collections::BTreeSet<T>,
     }

@@ -4,7 +4,9 @@
 //! whose loss is least, and adds a column of some uncovered row. Rows that stay uncovered get
 //! larger weights, so that the search does not cycle, and a column that was dropped is added again
 //! only after another column of its rows was added (Cai, Su, Luo and Sattar, NuMVC: an efficient
-//! local search algorithm for minimum vertex cover, 2013).
+//! local search algorithm for minimum vertex cover, 2013). Of a long list some columns are looked at for
+//! one to drop, at random (Cai, Balance between complexity and quality: local search for minimum vertex
+//! cover in massive graphs, 2015).
 
 use crate::goal::Goal;
 use number_lists::{
@@ -12,6 +14,18 @@ use number_lists::{
     set,
 };
 use std::alloc::{AllocError, Global};
+use std::cmp::Reverse;
+use std::collections::BinaryHeap;
+
+/// In a longer list of chosen columns only some are looked at for one to drop,
+const LONG_LIST: usize = 2_000;
+
+/// so many.
+const LOOKS: usize = 100;
+
+/// How good a column is to add: what it would gain; what it costs and when it was last added or dropped, both
+/// below 0; and the column, the first of equals first.
+type Rank = (i64, i64, i64, Reverse<usize>);
 
 /// The present list of columns, and the best one so far.
 struct LocalSearch {
@@ -43,6 +57,8 @@ struct LocalSearch {
     stamps: Vec<usize>,
     /// The best list so far.
     best: Vec<usize>,
+    /// By which the columns of a long list are picked.
+    seed: u64,
 }
 
 // Written out, so that where one ends a proof has one call, and not one for each of its lists.
@@ -63,6 +79,7 @@ impl Drop for LocalSearch {
             fresh: _,
             stamps: _,
             best: _,
+            seed: _,
         } = self;
     }
 }
@@ -85,6 +102,7 @@ impl LocalSearch {
             fresh: Vec::new(alloc),
             stamps: Vec::new(alloc),
             best: Vec::new(alloc),
+            seed: SEED,
         }
     }
 
@@ -240,8 +258,17 @@ impl LocalSearch {
     }
 
     /// The chosen column other than `last` that is best to drop: that of the least loss, and among
-    /// equals by `is_better_to_drop`; `usize::MAX` if there is none.
-    fn column_to_drop(&self, table: &Compact, last: usize) -> usize {
+    /// equals by `is_better_to_drop`; of a long list, of some of them. `usize::MAX` if there is none.
+    fn column_to_drop(&mut self, table: &Compact, last: usize) -> usize {
+        if self.losses.len() > LONG_LIST {
+            self.best_to_drop_of_some(table, last)
+        } else {
+            self.best_to_drop(table, last)
+        }
+    }
+
+    /// What `column_to_drop` answers, of all chosen columns.
+    fn best_to_drop(&self, table: &Compact, last: usize) -> usize {
         let mut best = usize::MAX;
         let mut top = i64::MIN;
         for (slot, loss) in self.losses.iter().enumerate() {
@@ -251,6 +278,29 @@ impl LocalSearch {
                     best = column;
                     top = *loss;
                 }
+            }
+        }
+        best
+    }
+
+    /// The slot of a chosen column, at random.
+    fn random_slot(&mut self) -> usize {
+        self.seed = next_random(self.seed);
+        usize::try_from(self.seed >> 1).unwrap_or(0) % self.chosen.len().max(1)
+    }
+
+    /// What `column_to_drop` answers, of some chosen columns.
+    fn best_to_drop_of_some(&mut self, table: &Compact, last: usize) -> usize {
+        let mut best = usize::MAX;
+        let mut top = i64::MIN;
+        for _ in 0..LOOKS {
+            let slot = self.random_slot();
+            let loss = at(&self.losses, slot);
+            let column = number(&self.chosen, slot);
+            let is_better = loss > top || self.is_better_to_drop(table, column, best);
+            if loss >= top && column != last && is_better {
+                best = column;
+                top = loss;
             }
         }
         best
@@ -275,21 +325,23 @@ impl LocalSearch {
         best
     }
 
-    /// The column that is best to add of all that are not chosen, fresh or not; `usize::MAX` if
-    /// there is none.
-    fn best_to_add(&self, table: &Compact) -> usize {
-        let mut best = usize::MAX;
-        let mut top = i64::MIN;
-        for (column, score) in self.scores.iter().enumerate() {
-            if *score >= top
-                && !flag(&self.inside, column)
-                && (*score > top || self.is_better_to_add(table, column, best))
-            {
-                best = column;
-                top = *score;
+    /// How good the column is to add.
+    fn rank(&self, table: &Compact, column: usize) -> Rank {
+        let stamp = i64::try_from(number(&self.stamps, column)).unwrap_or(i64::MAX);
+        let cost = 0i64.wrapping_sub(at(&table.costs, column));
+        let since = 0i64.wrapping_sub(stamp);
+        (at(&self.scores, column), cost, since, Reverse(column))
+    }
+
+    /// The columns that are not chosen, the best to add first.
+    fn queue(&self, alloc: Global, table: &Compact) -> Result<BinaryHeap<Rank>, AllocError> {
+        let mut queue = BinaryHeap::new(alloc);
+        for (column, inside) in self.inside.iter().enumerate() {
+            if !*inside {
+                queue.push(self.rank(table, column))?;
             }
         }
-        best
+        Ok(queue)
     }
 
     /// Raises the weight of each uncovered row by one, and so the scores of its columns.
@@ -329,15 +381,25 @@ impl LocalSearch {
         Ok(())
     }
 
-    /// Adds the best column to add, again and again, until each row is covered.
-    fn cover_greedily(&mut self, table: &Compact) -> Result<(), AllocError> {
-        for _ in 0..table.rows.len() {
+    /// Adds the best column to add, again and again, until each row is covered. What a column would gain
+    /// only falls on the way: one that is met with the rank of before goes back.
+    fn cover_greedily(&mut self, alloc: Global, table: &Compact) -> Result<(), AllocError> {
+        let mut queue = self.queue(alloc, table)?;
+        for _ in 0..usize::MAX {
             if self.open.is_empty() {
-                return Ok(());
+                break;
             }
-            let column = self.best_to_add(table);
-            let now = self.chosen.len();
-            self.add(table, column, now)?;
+            let Some(rank) = queue.pop() else {
+                break;
+            };
+            let (_, _, _, Reverse(column)) = rank;
+            let rank_now = self.rank(table, column);
+            if rank_now < rank {
+                queue.push(rank_now)?;
+            } else {
+                let now = self.chosen.len();
+                self.add(table, column, now)?;
+            }
         }
         Ok(())
     }
@@ -390,7 +452,7 @@ impl LocalSearch {
         goal: Goal,
         steps: usize,
     ) -> Result<(), AllocError> {
-        self.cover_greedily(table)?;
+        self.cover_greedily(alloc, table)?;
         self.keep(alloc)?;
         let mut least = (i64::MAX, i64::MAX);
         let mut last = usize::MAX;
