@@ -106,6 +106,11 @@ CUTS = [
     ("warm_start/warm_start", "MANY_ROWS_WITH_CUTS: usize = 250", "MANY_ROWS_WITH_CUTS: usize = 1"),
     ("primal_dual/separation", "LEAST_VIOLATION: i64 = LIKELIEST * 15 / 100", "LEAST_VIOLATION: i64 = LIKELIEST / 100"),
 ]
+# A local search looks at a few of the chosen columns for one to drop.
+FEW_LOOKS_TO_DROP = [
+    ("heuristics/swaps", "LONG_LIST: usize = 2_000", "LONG_LIST: usize = 2"),
+    ("heuristics/swaps", "LOOKS: usize = 100", "LOOKS: usize = 2"),
+]
 FEW_PROPOSALS = [
     ("signature_search/proposer", "FEW_PLACES: usize = 2_000", "FEW_PLACES: usize = 8"),
     ("signature_search/search", "MOST_REGIONS_OF_LEFT_OUT: u64 = 1 << 16", "MOST_REGIONS_OF_LEFT_OUT: u64 = 2"),
@@ -133,7 +138,7 @@ BUILDS = {
                      *NO_CUBES_OF_OFF, *NEVER_NEAR, *SEARCH_AT_ONCE],
     # The table of all primes, also of many inputs.
     "table": [*NO_GROWTH, *POINTS_OF_FEW_INPUTS, *NO_CUBES_OUTSIDE, *NEVER_AS_NEEDED, *NO_POINTS_OF_PRIMES, *NO_CUBES_OF_OFF,
-              *SHORT_LISTS, *CUTS],
+              *SHORT_LISTS, *CUTS, *FEW_LOOKS_TO_DROP],
     # Rows of all lists are merged, whatever they are; then points, or places outside as they are needed.
     "merged": [*MERGED, *POINTS_OF_FEW_INPUTS, *GROWTH, *FEW_CUBES_OUTSIDE, *ALWAYS_AS_NEEDED, *ALWAYS_NEAR, *SEARCH_AT_ONCE],
 }
