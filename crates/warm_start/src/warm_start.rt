@@ -580,8 +580,8 @@ impl WarmStart {
     ///
     /// `rows` are the rows of the table before its columns, which are below `columns`, were
     /// renumbered, `live` its live columns in their order, and `taken` those that every cover of the
-    /// search has. Up to 1,202 steps, each of which reads all rows some times; up to 1,000 primal-dual
-    /// steps where rows are many; or the linear relaxation.
+    /// search has. Up to 1,202 steps, each of which reads all rows some times; where rows are many up to
+    /// 1,000 primal-dual steps, and up to 800 each time that cuts are added; or the linear relaxation.
     pub fn multipliers(
         &mut self,
         alloc: Global,
