@@ -38,7 +38,7 @@ const BRIEF_PART: usize = 8;
 
 /// A local search near the last cover takes three steps a row, and no more than so many: in a large table
 /// what a question changes is near what it asks for.
-const MOST_STEPS_NEAR: usize = 1_000;
+const MOST_STEPS_NEAR: usize = 2_000;
 
 /// A local search in the reduced table takes twelve steps a row, and no more than so many.
 const MOST_STEPS_REDUCED: usize = 5_000;

@@ -375,6 +375,14 @@ impl PrimalDual {
         Ok(bounds.is_enough(goal))
     }
 
+    /// Whether the weights, as they are, fall so little short of the goal that steps would hardly tell more of
+    /// a table which has a cover of so few columns.
+    pub fn is_near_goal(&mut self, goal: Goal) -> bool {
+        let bounds = Bounds::of(&self.constraints, &self.found.parts, &self.found.weights);
+        self.bounds = bounds;
+        nearest_i64_to_f64(goal.columns) - bounds.low < SMALL_GAP
+    }
+
     /// Makes up to so many spans of 50 steps: until the weights show that no cover has so few columns as the
     /// goal, or more steps would hardly tell more.
     pub fn approach(&mut self, alloc: Global, goal: Goal, spans: u32) -> Result<(), AllocError> {

@@ -639,7 +639,8 @@ impl WarmStart {
         PrimalDual::new(alloc, table, cuts, &weights, &likely)
     }
 
-    /// Makes primal-dual steps, with cuts, and keeps their fractional cover.
+    /// Makes primal-dual steps, with cuts, and keeps their fractional cover. A bound that only drops columns
+    /// makes none where the weights tell as much already, as they mostly do once a column was taken.
     fn approach(
         &mut self,
         alloc: Global,
@@ -651,6 +652,9 @@ impl WarmStart {
     ) -> Result<PrimalDual, AllocError> {
         let mut pair = self.primal_dual(alloc, table, live, numbers)?;
         let hurried = self.steps < STEPS;
+        if hurried && pair.is_near_goal(goal) {
+            return Ok(pair);
+        }
         let spans = if hurried { FEW_SPANS } else { SPANS };
         let times = if hurried { 1 } else { TIMES_OF_CUTS };
         pair.approach(alloc, goal, spans)?;
