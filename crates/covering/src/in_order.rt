@@ -6,14 +6,14 @@
 //! cutoff, all are dropped. From time to time what is left is reduced: without the columns that were
 //! dropped, more of them are dominated.
 
-ghost use Rattle.std.specs.Prelude.{◌≡◌, ◌≤◌, ℕ, IfOk, filter, map, true, false};
+ghost use Rattle.std.specs.Prelude.{◌≡◌, ◌≤◌, ℕ, IfOk, filter, length, map, true, false};
 ghost use Rattle.std.specs.List.{list_any};
 ghost use Rattle.covering.specs.Table.{has};
 ghost use Rattle.covering.specs.Cover.{IsLeast};
-ghost use Rattle.covering.specs.Search.{Continues, IsBest, IsPartialWithin, is_blank, keep_columns, marked};
+ghost use Rattle.covering.specs.Search.{Continues, IsPartial, IsPartialWithin, is_blank, keep_columns, marked};
 
 use crate::bound::Cutoff;
-use crate::choice::{Choice, total_cost};
+use crate::choice::Choice;
 use crate::columns::{contains, copy_of};
 use crate::marks::{all_but, others};
 use crate::questions::Questions;
@@ -24,8 +24,8 @@ use std::alloc::{AllocError, Global};
 use warm_start::is_worth_a_bound;
 
 /// A partial solution: the table of what is undecided, and a cover of it within the cutoff.
-struct Partial {
-    table: Table,
+pub(crate) struct Partial {
+    pub(crate) table: Table,
     witness: Vec<usize>,
 }
 
@@ -137,6 +137,7 @@ impl Partial {
         requires { IsPartialWithin choice cutoff self }
         ensures partial { IfOk result (IsPartialWithin choice cutoff) }
         ensures next { IfOk result (λ s. Continues choice self.table s.table) }
+        ensures rows { IfOk result (λ s. length s.table.rows ≡ length self.table.rows) }
     {
         match self
             .table
@@ -158,6 +159,7 @@ impl Partial {
         requires { IsPartialWithin choice cutoff self }
         ensures partial { IfOk result (IsPartialWithin choice cutoff) }
         ensures next { IfOk result (λ s. Continues choice self.table s.table) }
+        ensures rows { IfOk result (λ s. length s.table.rows ≡ length self.table.rows) }
     {
         let mut partial = self;
         loop {
@@ -231,30 +233,22 @@ impl Partial {
     }
 }
 
-impl Table {
-    /// The first of the best covers in list order, from `best`, which is one of them.
-    pub(crate) fn first_of(
-        &self,
+impl Partial {
+    /// The first of the covers within the cutoff, below which there is none.
+    pub(crate) fn first(
+        self,
         alloc: Global,
         choice: Choice,
-        best: Vec<usize>,
+        cutoff: Cutoff,
         questions: &mut Questions,
     ) -> Result<Vec<usize>, AllocError>
-        requires { IsBest choice self.now best.items }
-        ensures { IfOk result (λ v. IsLeast choice self.now v.items) }
+        requires { IsPartialWithin choice cutoff self }
+        ensures { IfOk result (λ v. IsLeast choice self.table v.items) }
     {
-        let cutoff = Cutoff {
-            columns: best.len(),
-            cost: total_cost(choice, self.literals(), &best),
-        };
-        questions.warm_start.set_hint(alloc, &best)?;
-        let mut partial = Partial {
-            table: self.copy(alloc)?,
-            witness: best,
-        };
-        partial = partial.drop_columns_over_cutoff(alloc, choice, cutoff, questions)?;
         questions.warm_start.hurry();
-        for column in 0..self.columns() {
+        let columns = self.table.columns();
+        let mut partial = self;
+        for column in 0..columns {
             if partial.table.is_solved() {
                 return copy_of(alloc, partial.table.taken_columns());
             }
@@ -262,5 +256,28 @@ impl Table {
             partial = partial.reduce(alloc, choice, cutoff, questions)?;
         }
         copy_of(alloc, partial.table.taken_columns())
+    }
+}
+
+impl Table {
+    /// What is undecided of a table with a cover within the cutoff and none below it: without columns that
+    /// row weights show to be in no such cover.
+    pub(crate) fn undecided(
+        &self,
+        alloc: Global,
+        choice: Choice,
+        cutoff: Cutoff,
+        witness: Vec<usize>,
+        questions: &mut Questions,
+    ) -> Result<Partial, AllocError>
+        requires { IsPartial choice cutoff.columns cutoff.cost self.now witness.items }
+        ensures partial { IfOk result (IsPartialWithin choice cutoff) }
+        ensures next { IfOk result (λ p. Continues choice self.now p.table) }
+        ensures rows { IfOk result (λ p. length p.table.rows ≡ length self.now.rows) }
+    {
+        questions.warm_start.set_hint(alloc, &witness)?;
+        let table = self.copy(alloc)?;
+        let partial = Partial { table, witness };
+        partial.drop_columns_over_cutoff(alloc, choice, cutoff, questions)
     }
 }

@@ -7,16 +7,13 @@
 ghost use Rattle.std.specs.Prelude.{◌≡◌, ℕ, List, IfOk, ◌==◌};
 ghost use Rattle.std.specs.List.{list_all};
 ghost use Rattle.covering.specs.Cover.{IsLeast, counted};
+ghost use Rattle.covering.specs.Search.{IsBest};
 
 use crate::choice::{Choice, cost};
-use crate::exhaustive::least_cover_plain;
 use crate::questions::Questions;
 use crate::table::Table;
 use std::alloc::{AllocError, Global};
 use warm_start::Effort;
-
-/// A table with so few live columns is solved by trying all choices.
-const FEW: usize = 8;
 
 /// Whether each of the columns has this cost.
 fn all_cost(choice: Choice, literals: &[u32], columns: &[usize], same: u32) -> bool
@@ -33,7 +30,7 @@ fn all_cost(choice: Choice, literals: &[u32], columns: &[usize], same: u32) -> b
 impl Table {
     /// The choice that decides: `First` if all live columns cost the same, since covers of one
     /// length then do too.
-    fn deciding_choice(&self, choice: Choice) -> Choice
+    pub(crate) fn deciding_choice(&self, choice: Choice) -> Choice
         ensures { (s : List ℕ) → IsLeast result self.now s → IsLeast choice self.now s }
     {
         let Some(first) = self.live_columns().first() else {
@@ -46,31 +43,22 @@ impl Table {
         choice
     }
 
-    /// The least cover, of all rows at once.
-    pub(crate) fn least_of_whole(
+    /// A cover of the least length, and among those, where columns have costs, of the least cost.
+    pub(crate) fn best_cover(
         &self,
         alloc: Global,
         choice: Choice,
-        effort: &mut Effort,
+        questions: &mut Questions,
     ) -> Result<Vec<usize>, AllocError>
-        ensures { IfOk result (λ v. IsLeast choice self.now v.items) }
+        ensures { IfOk result (λ v. IsBest choice self.now v.items) }
     {
-        if self.live_columns().len() <= FEW {
-            return least_cover_plain(self, choice);
+        let before = questions.warm_start.effort();
+        let shortest = self.shortest_cover(alloc, choice, &mut questions.warm_start)?;
+        questions.note_length(before);
+        match choice {
+            Choice::First => Ok(shortest),
+            Choice::Literals => self.fewest_literals(alloc, shortest, &mut questions.warm_start),
         }
-        let deciding = self.deciding_choice(choice);
-        let mut questions = Questions::new(alloc, *effort);
-        let shortest = self.shortest_cover(alloc, deciding, &mut questions.warm_start)?;
-        questions.note_length(*effort);
-        let best = match deciding {
-            Choice::First => shortest,
-            Choice::Literals => {
-                self.fewest_literals(alloc, shortest, &mut questions.warm_start)?
-            }
-        };
-        let first = self.first_of(alloc, deciding, best, &mut questions)?;
-        *effort = questions.warm_start.effort();
-        Ok(first)
     }
 }
 

@@ -29,10 +29,10 @@
 //! in whole numbers (Coudert, On solving covering problems, 1996). Weights, witnesses and branches
 //! are hints, which are checked before they are used. Rows that fall into parts which share no
 //! column are solved part by part, each renumbered (the first of two lists of one length has the
-//! least number in which they differ, so that the parts' least covers make the least cover); if all
-//! columns of a part cost the same its size decides. A search holds a copy of the table for each
-//! branch that is open, as many as columns are decided on one path. A search may take exponentially
-//! many branches.
+//! least number in which they differ, so that the parts' least covers make the least cover), and so
+//! are those into which falls what a known length leaves undecided; if all columns of a part cost
+//! the same its size decides. A search holds a copy of the table for each branch that is open, as
+//! many as columns are decided on one path. A search may take exponentially many branches.
 #![tactic(auto)]
 
 mod bound;

@@ -6,6 +6,10 @@
 //! the least cover. Without this, each question on the way to the least cover would be asked of all
 //! parts together. Which columns make a part is a hint; it is checked that each row lies on one
 //! side.
+//!
+//! A large table in which all hangs together often falls into parts once its length is known, as most
+//! columns are in no cover of that length. Then their lengths are found anew, which is cheap unless one
+//! part has most of the rows: such a table is decided as a whole.
 
 ghost use Rattle.std.specs.Prelude.{◌≡◌, ◌||◌, IfOk, IfSome};
 ghost use Rattle.std.specs.List.{list_all};
@@ -14,13 +18,22 @@ ghost use Rattle.covering.specs.Cover.{IsLeast};
 ghost use Rattle.covering.specs.Search.{marked};
 ghost use Rattle.covering.specs.Parts.{AreParts, is_on_one_side, part_of};
 
-use crate::choice::Choice;
+use crate::bound::Cutoff;
+use crate::choice::{Choice, total_cost};
 use crate::columns::{copy_of, union_of};
+use crate::exhaustive::least_cover_plain;
 use crate::marks::{all_kept, marked_columns, others, untouched_rows};
+use crate::questions::Questions;
 use crate::table::Table;
 use heuristics::side_hint;
 use std::alloc::{AllocError, Global};
 use warm_start::Effort;
+
+/// A table with so few live columns is solved by trying all choices.
+const FEW: usize = 8;
+
+/// What is undecided is solved by parts if none has more than so many quarters of the rows.
+const QUARTERS: usize = 3;
 
 /// Two tables of parts that share no column.
 #[derive(Drop)]
@@ -114,13 +127,65 @@ impl Table {
     ) -> Result<Vec<usize>, AllocError>
         ensures { IfOk result (λ v. IsLeast choice self.now v.items) }
     {
-        match self.parts(alloc)? {
-            None => self.least_of_whole(alloc, choice, effort),
-            Some(Parts { one, other }) => {
-                let first = one.least_renumbered(alloc, choice, effort)?;
-                let second = other.least_renumbered(alloc, choice, effort)?;
-                union_of(alloc, &first, &second)
-            }
+        let most_rows = self.row_count();
+        if let Some(least) = self.least_of_parts(alloc, choice, most_rows, effort)? {
+            return Ok(least);
         }
+        self.least_of_whole(alloc, choice, effort)
+    }
+
+    /// The least covers of two parts together, if each has at most so many rows; `None` if there are no
+    /// such parts. Adds the work to `effort`.
+    #[cycle(parts)]
+    fn least_of_parts(
+        &self,
+        alloc: Global,
+        choice: Choice,
+        most_rows: usize,
+        effort: &mut Effort,
+    ) -> Result<Option<Vec<usize>>, AllocError>
+        ensures { IfOk result (λ o. IfSome o (λ v. IsLeast choice self.now v.items)) }
+    {
+        let Some(Parts { one, other }) = self.parts(alloc)? else {
+            return Ok(None);
+        };
+        if one.row_count().max(other.row_count()) > most_rows {
+            return Ok(None);
+        }
+        let first = one.least_renumbered(alloc, choice, effort)?;
+        let second = other.least_renumbered(alloc, choice, effort)?;
+        Ok(Some(union_of(alloc, &first, &second)?))
+    }
+
+    /// The least cover, of all rows at once, unless what is undecided once the length is known falls into
+    /// parts. Adds the work to `effort`.
+    #[cycle(parts)]
+    fn least_of_whole(
+        &self,
+        alloc: Global,
+        choice: Choice,
+        effort: &mut Effort,
+    ) -> Result<Vec<usize>, AllocError>
+        ensures { IfOk result (λ v. IsLeast choice self.now v.items) }
+    {
+        if self.live_columns().len() <= FEW {
+            return least_cover_plain(self, choice);
+        }
+        let deciding = self.deciding_choice(choice);
+        let mut questions = Questions::new(alloc, *effort);
+        let best = self.best_cover(alloc, deciding, &mut questions)?;
+        let cutoff = Cutoff {
+            columns: best.len(),
+            cost: total_cost(deciding, self.literals(), &best),
+        };
+        let partial = self.undecided(alloc, deciding, cutoff, best, &mut questions)?;
+        *effort = questions.warm_start.effort();
+        let most_rows = self.row_count() / 4 * QUARTERS;
+        if let Some(least) = partial.table.least_of_parts(alloc, deciding, most_rows, effort)? {
+            return Ok(least);
+        }
+        let first = partial.first(alloc, deciding, cutoff, &mut questions)?;
+        *effort = questions.warm_start.effort();
+        Ok(first)
     }
 }
