@@ -115,7 +115,7 @@ SENTENCES = (
     ("docs/DECISIONS.md", "a round of more than # points takes a short cover", "many points"),
     ("docs/DECISIONS.md", "two of three hold: more than # inputs, several outputs, # rows or more", "many inputs", "merged rows"),
     ("docs/DECISIONS.md", "after # tables of the search by subgradient steps, and after # once", "quick tables", "few quick tables"),
-    ("docs/DECISIONS.md", "is reduced as the order goes on**, after # tables", "tables to reduce"),
+    ("docs/DECISIONS.md", "reduced as the order goes on**, after # tables", "tables to reduce"),
     ("docs/DECISIONS.md", "is given up after # tables", "batch"),
     ("docs/DECISIONS.md", "Where the size took #, columns are asked for alone", "hard length"),
     ("docs/DECISIONS.md", "Each gets # GB", "proof memory"),
