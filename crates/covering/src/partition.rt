@@ -181,7 +181,10 @@ impl Table {
         let partial = self.undecided(alloc, deciding, cutoff, best, &mut questions)?;
         *effort = questions.warm_start.effort();
         let most_rows = self.row_count() / 4 * QUARTERS;
-        if let Some(least) = partial.table.least_of_parts(alloc, deciding, most_rows, effort)? {
+        if let Some(least) = partial
+            .table
+            .least_of_parts(alloc, deciding, most_rows, effort)?
+        {
             return Ok(least);
         }
         let first = partial.first(alloc, deciding, cutoff, &mut questions)?;
