@@ -4,7 +4,7 @@
 //! (`fewest_literals`), and then the first such cover (`in_order`). Parts of the table that share no
 //! column are solved by themselves (`partition`).
 
-ghost use Rattle.std.specs.Prelude.{◌≡◌, ℕ, List, IfOk, ◌==◌};
+ghost use Rattle.std.specs.Prelude.{◌≡◌, ℕ, List, IfOk, IfSome, ◌==◌};
 ghost use Rattle.std.specs.List.{list_all};
 ghost use Rattle.covering.specs.Cover.{IsLeast, counted};
 ghost use Rattle.covering.specs.Search.{IsBest};
@@ -43,17 +43,23 @@ impl Table {
         choice
     }
 
-    /// A cover of the least length, and among those, where columns have costs, of the least cost.
+    /// A cover of the least length, which `shortest` is where it is known, and among those, where columns
+    /// have costs, of the least cost.
     pub(crate) fn best_cover(
         &self,
         alloc: Global,
         choice: Choice,
+        shortest: Option<Vec<usize>>,
         questions: &mut Questions,
     ) -> Result<Vec<usize>, AllocError>
+        requires { IfSome shortest (λ v. IsBest Choice.First self.now v.items) }
         ensures { IfOk result (λ v. IsBest choice self.now v.items) }
     {
         let before = questions.warm_start.effort();
-        let shortest = self.shortest_cover(alloc, choice, &mut questions.warm_start)?;
+        let shortest = match shortest {
+            Some(cover) => cover,
+            None => self.shortest_cover(alloc, choice, &mut questions.warm_start)?,
+        };
         questions.note_length(before);
         match choice {
             Choice::First => Ok(shortest),

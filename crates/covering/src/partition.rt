@@ -7,15 +7,16 @@
 //! parts together. Which columns make a part is a hint; it is checked that each row lies on one
 //! side.
 //!
-//! A large table in which all hangs together often falls into parts once its length is known, as most
-//! columns are in no cover of that length. Then their lengths are found anew, which is cheap unless one
-//! part has most of the rows: such a table is decided as a whole.
+//! A large table in which all hangs together often falls into parts where only its length is asked for,
+//! as then a column leaves under any other that is in all its rows; and once its length is known, as
+//! most columns are in no cover of that length. Then their lengths are found anew, which is cheap unless
+//! one part has most of the rows: such a table is decided as a whole.
 
 ghost use Rattle.std.specs.Prelude.{◌≡◌, ◌||◌, IfOk, IfSome};
 ghost use Rattle.std.specs.List.{list_all};
 ghost use Rattle.covering.specs.Table.{IsWithin, RisesFrom};
 ghost use Rattle.covering.specs.Cover.{IsLeast};
-ghost use Rattle.covering.specs.Search.{marked};
+ghost use Rattle.covering.specs.Search.{IsBest, marked};
 ghost use Rattle.covering.specs.Parts.{AreParts, is_on_one_side, part_of};
 
 use crate::bound::Cutoff;
@@ -24,6 +25,7 @@ use crate::columns::{copy_of, union_of};
 use crate::exhaustive::least_cover_plain;
 use crate::marks::{all_kept, marked_columns, others, untouched_rows};
 use crate::questions::Questions;
+use crate::reduction::Due;
 use crate::table::Table;
 use heuristics::side_hint;
 use std::alloc::{AllocError, Global};
@@ -157,6 +159,26 @@ impl Table {
         Ok(Some(union_of(alloc, &first, &second)?))
     }
 
+    /// A shortest cover, by parts of what is left where a column leaves under any other that is in all its
+    /// rows; `None` if that does not fall into parts. Adds the work to `effort`.
+    #[cycle(parts)]
+    fn shortest_by_parts(
+        &self,
+        alloc: Global,
+        effort: &mut Effort,
+    ) -> Result<Option<Vec<usize>>, AllocError>
+        ensures { IfOk result (λ o. IfSome o (λ v. IsBest Choice.First self.now v.items)) }
+    {
+        let mut lists = Vec::new(alloc);
+        let copy = self.copy(alloc)?;
+        let table = copy.reduce_weakly(alloc, Choice::First, Due::ALL, &mut lists)?;
+        let rows = table.row_count();
+        if rows >= self.row_count() {
+            return Ok(None);
+        }
+        table.least_of_parts(alloc, Choice::First, rows / 4 * QUARTERS, effort)
+    }
+
     /// The least cover, of all rows at once, unless what is undecided once the length is known falls into
     /// parts. Adds the work to `effort`.
     #[cycle(parts)]
@@ -172,8 +194,9 @@ impl Table {
             return least_cover_plain(self, choice);
         }
         let deciding = self.deciding_choice(choice);
+        let shortest = self.shortest_by_parts(alloc, effort)?;
         let mut questions = Questions::new(alloc, *effort);
-        let best = self.best_cover(alloc, deciding, &mut questions)?;
+        let best = self.best_cover(alloc, deciding, shortest, &mut questions)?;
         let cutoff = Cutoff {
             columns: best.len(),
             cost: total_cost(deciding, self.literals(), &best),

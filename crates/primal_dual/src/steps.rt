@@ -50,6 +50,9 @@ const SLEEPING_SLACK: f64 = 0.3;
 /// Cuts are looked for where the weights fall short of the goal by less than this, in columns,
 const MOST_SHORT: f64 = 3.0;
 
+/// or by less than this part of it, as in a large table they fall short at many places by a little,
+const MOST_SHORT_PART: f64 = 0.00025;
+
 /// and again where the last ones gained this,
 const LEAST_GAIN: f64 = 0.02;
 
@@ -137,7 +140,7 @@ impl Bounds {
 
     /// Whether cuts may show that no cover has so few columns as the goal, or which columns one lacks.
     fn is_worth_cuts(&self, goal: f64) -> bool {
-        self.low <= goal && goal - self.low < MOST_SHORT
+        self.low <= goal && goal - self.low < MOST_SHORT.max(MOST_SHORT_PART * goal)
     }
 }
 

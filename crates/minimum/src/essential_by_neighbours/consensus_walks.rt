@@ -18,6 +18,9 @@ const MOST_STEPS: usize = 3;
 // At most about so many rows are looked at for a step; of more rows, some that are spread over them.
 const MOST_LOOKED_AT: usize = 2_000;
 
+// Each that is met then stands for some that were passed over, if so many are met: one alone tells nothing.
+const FEWEST_MET: u64 = 2;
+
 // So many cubes from a row, on average, are many: rings of points have six.
 const MANY: u64 = 10;
 
@@ -28,14 +31,17 @@ const PARTS: u64 = 1_000;
 // looked at, `None` if there is none.
 fn rows_at_distance_one<'a>(rows: &'a [Cube], cube: &Cube) -> (u64, Option<&'a Cube>) {
     let stride = 1 + rows.len() / MOST_LOOKED_AT;
-    let (mut count, mut last) = (0_u64, None);
+    let (mut met, mut last) = (0_u64, None);
     for row in rows.iter().step_by(stride) {
         if row.opposites(cube) == 1 {
-            count = count.saturating_add(stride as u64);
+            met = met.saturating_add(1);
             last = Some(row);
         }
     }
-    (count, last)
+    if stride > 1 && met < FEWEST_MET {
+        return (0, None);
+    }
+    (met.saturating_mul(stride as u64), last)
 }
 
 // The literals of the consensus of a cube and a row that conflict at one input, with the outputs of

@@ -1,8 +1,10 @@
 use Rattle.std.proofs.Common.{◌∙◌, map, sym, ap, subst, arith}
 use Rattle.std.proofs.lemmas.Result.{IfOk-weaker}
+use Rattle.std.proofs.lemmas.Option.{IfSome_then}
 use Rattle.covering.specs.Cover.{IsLeast}
 use Rattle.covering.specs.Choices.{union_of}
 use Rattle.covering.specs.Parts.{pick}
+use Rattle.covering.proofs.Cutoffs.{least_best}
 use Rattle.covering.proofs.table.Table.+parts.Goals as goal
 
 pub least_renumbered-returns-in_ok-numbers-in-Some : goal.least_renumbered-returns-in_ok-numbers-in-Some
@@ -28,3 +30,10 @@ least_of_whole-returns-in-Some t c =
 
 pub least_of_whole-returns : goal.least_of_whole-returns
 least_of_whole-returns t c = c.deciding_choice-deciding.ensures c.in_ok-first.first.items (c.in_ok-partial.ensures.next.least c.in_ok-first.first.items c.in_ok-first.ensures)
+
+pub shortest_by_parts-least_of_parts-requires : goal.shortest_by_parts-least_of_parts-requires
+shortest_by_parts-least_of_parts-requires t c = (omega (arith, c.row_count-rows.ensures, c.row_count.ensures, c.if-rows-row_count.false, c.decreases), tt)
+
+pub shortest_by_parts-returns : goal.shortest_by_parts-returns
+shortest_by_parts-returns t c =
+    IfOk-weaker c.least_of_parts.result _ _ (λ o h. IfSome_then o h (λ v least. least_best c.args.self.now c.in_ok-table.table v.items (rw c.in_ok-copy.ensures.copy at c.in_ok-table.ensures) least)) c.least_of_parts.ensures
