@@ -485,15 +485,17 @@ impl Table {
         &self,
         alloc: Global,
         choice: Choice,
+        cutoff: Cutoff,
         warm_start: &mut WarmStart,
     ) -> Result<(), AllocError> {
         let compact = self.compact(alloc, choice)?;
+        let goal = self.goal(choice, cutoff);
         let (live, rows) = (self.live_columns(), self.row_lists());
-        warm_start.relax(alloc, &compact, live, rows, self.columns())
+        warm_start.relax(alloc, &compact, live, rows, self.columns(), goal)
     }
 
-    /// A cover within the cutoff, or none if there is none: a search with the linear relaxation,
-    /// which is `Spent` if `most_tables` tables do not suffice.
+    /// A cover within the cutoff, or none if there is none: a search with the linear relaxation, which
+    /// is `Spent` if `most_tables` tables do not suffice. The relaxation is kept for another search.
     fn search_with_relaxation(
         self,
         alloc: Global,
@@ -505,16 +507,14 @@ impl Table {
     ) -> Result<Option<Vec<usize>>, Stop>
         ensures { IfOk result (AnswersWithin choice self cutoff) }
     {
-        self.relax(alloc, choice, warm_start)?;
+        self.relax(alloc, choice, cutoff, warm_start)?;
         let mut tables_left = most_tables;
-        let found = match self.prune(alloc, choice, cutoff, Due::ALL, warm_start, lists)? {
+        match self.prune(alloc, choice, cutoff, Due::ALL, warm_start, lists)? {
             None => Ok(None),
             Some(table) => {
                 table.branch(alloc, choice, cutoff, warm_start, &mut tables_left, lists)
             }
-        };
-        warm_start.stop_relaxing();
-        found
+        }
     }
 
     /// A cover within the cutoff, or none if there is none: a local search of `steps` steps a row
@@ -598,14 +598,16 @@ impl Table {
         else {
             return Ok(None);
         };
-        table.find_or_refute_in_two_looks(
+        let found = table.find_or_refute_in_two_looks(
             alloc,
             choice,
             cutoff,
             warm_start,
             most_tables,
             &mut lists,
-        )
+        );
+        warm_start.stop_relaxing();
+        found
     }
 
     /// A cover within the cutoff, or none if there is none, as the length and the fewest literals are

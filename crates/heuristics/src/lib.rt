@@ -10,6 +10,7 @@
 //!   and 1971); a [`Course`] says how many.
 //! - [`local_search`] looks for a cover within a [`Goal`]: swaps under row weights (Cai, Su, Luo
 //!   and Sattar, NuMVC: an efficient local search algorithm for minimum vertex cover, 2013).
+//! - [`Constraints`] are the rows of a table with cuts beside them.
 //! - [`side_hint`] proposes columns that share no row with the others.
 //! - [`likeliest`] proposes a column to branch on, and [`batch`] columns that one question asks for
 //!   together.
@@ -26,12 +27,14 @@
 
 mod branching;
 mod components;
+mod constraints;
 mod goal;
 mod subgradient;
 mod swaps;
 
 pub use branching::{batch, likeliest, row_counts};
 pub use components::side_hint;
+pub use constraints::Constraints;
 pub use goal::Goal;
 pub use subgradient::{
     Ascent, Course, Cut, FEW_STEPS, LIKELIEST, Multipliers, NEAR_PACE, NEAR_REACH, PACE, Point,

@@ -10,10 +10,9 @@
 //! span of steps it is left out, and the bounds at its end see it again. Cuts are rows that need more than
 //! one column.
 
-use crate::constraints::Constraints;
 use crate::separation::violated_cuts;
-use heuristics::{Goal, LIKELIEST};
-use number_lists::{Compact, Lists, UNIT, at, float, mark, overwrite, put_float, sum_at};
+use heuristics::{Constraints, Goal, LIKELIEST};
+use number_lists::{Compact, Lists, UNIT, at, flag, float, mark, overwrite, put_float, sum_at};
 use std::alloc::{AllocError, Global};
 use std::num::{nearest_i64_to_f64, nearest_u64_to_f64, saturating_f64_to_u64};
 
@@ -144,6 +143,62 @@ impl Bounds {
     }
 }
 
+/// One by the number of entries of each list; one where it has none.
+fn one_by_lengths(alloc: Global, lists: &Lists) -> Result<Vec<f64>, AllocError> {
+    let mut parts = Vec::with_capacity(alloc, lists.len())?;
+    for index in 0..lists.len() {
+        parts.push(1.0 / nearest_u64_to_f64(lists.list(index).len().max(1) as u64))?;
+    }
+    Ok(parts)
+}
+
+/// How long steps are (Pock and Chambolle, 2011).
+struct Paces {
+    /// Of each constraint's weight: one by its number of columns.
+    rows: Vec<f64>,
+    /// Of each column's part: one by its number of constraints.
+    columns: Vec<f64>,
+}
+
+// Written out, so that where one ends a proof has one call, and not one for each of its lists.
+impl Drop for Paces {
+    fn drop(self) {
+        let Paces {
+            rows: _,
+            columns: _,
+        } = self;
+    }
+}
+
+impl Paces {
+    /// Those of the constraints.
+    fn of(alloc: Global, constraints: &Constraints) -> Result<Paces, AllocError> {
+        Ok(Paces {
+            rows: one_by_lengths(alloc, &constraints.columns)?,
+            columns: one_by_lengths(alloc, &constraints.column_rows)?,
+        })
+    }
+}
+
+/// Adds a list of those of the columns that are marked.
+fn push_marked(columns: &mut Lists, list: &[u32], marks: &[bool]) -> Result<(), AllocError> {
+    for column in list {
+        if flag(marks, *column as usize) {
+            columns.push(*column)?;
+        }
+    }
+    columns.end()
+}
+
+/// The lists without those that are not marked.
+fn awake_columns(alloc: Global, lists: &Lists, marks: &[bool]) -> Result<Lists, AllocError> {
+    let mut columns = Lists::with_capacity(alloc, lists.len(), 0)?;
+    for index in 0..lists.len() {
+        push_marked(&mut columns, lists.list(index), marks)?;
+    }
+    Ok(columns)
+}
+
 /// A number for each column and each row.
 struct Pair {
     /// How much of each column a fractional cover has: from 0 to 1.
@@ -182,6 +237,8 @@ impl Pair {
 pub struct PrimalDual {
     /// The rows, and cuts beside them.
     constraints: Constraints,
+    /// How long steps are.
+    paces: Paces,
     /// The rows of each cut.
     cuts: Lists,
     /// Where the next step begins.
@@ -211,6 +268,7 @@ impl Drop for PrimalDual {
     fn drop(self) {
         let PrimalDual {
             constraints: _,
+            paces: _,
             cuts: _,
             here: _,
             found: _,
@@ -264,6 +322,7 @@ impl PrimalDual {
             weights: in_units(alloc, weights, UNIT, constraints.needs.len())?,
         };
         Ok(PrimalDual {
+            paces: Paces::of(alloc, &constraints)?,
             constraints,
             cuts,
             found: here.copy(alloc)?,
@@ -301,7 +360,7 @@ impl PrimalDual {
                 put_float(&mut self.here.parts, column, 0.0);
             }
         }
-        self.awake_columns = self.constraints.awake_columns(alloc, &marks)?;
+        self.awake_columns = awake_columns(alloc, &self.constraints.columns, &marks)?;
         Ok(())
     }
 
@@ -313,7 +372,7 @@ impl PrimalDual {
             let rows = self.constraints.column_rows.list(column);
             let slack = 1.0 - sum_at(&self.here.weights, rows);
             let before = float(&self.here.parts, column);
-            let pace = float(&self.constraints.column_paces, column) / BALANCE;
+            let pace = float(&self.paces.columns, column) / BALANCE;
             let part = (before - slack * pace).max(0.0).min(1.0);
             let ahead = part + part - before;
             let back = float(&self.begin.parts, column);
@@ -329,7 +388,7 @@ impl PrimalDual {
         for (row, need) in self.constraints.needs.iter().enumerate() {
             let short = *need - sum_at(&self.ahead, self.awake_columns.list(row));
             let before = float(&self.here.weights, row);
-            let pace = float(&self.constraints.paces, row) * BALANCE;
+            let pace = float(&self.paces.rows, row) * BALANCE;
             let weight = (before + short * pace).max(0.0);
             let ahead = weight + weight - before;
             let back = float(&self.begin.weights, row);
@@ -411,17 +470,51 @@ impl PrimalDual {
     ) -> Result<(), AllocError> {
         let columns = nearest_i64_to_f64(goal.columns);
         for _ in 0..times {
-            let before = self.bounds;
-            if !before.is_worth_cuts(columns) || !self.add_cuts(alloc, table)? {
+            if !self.bounds.is_worth_cuts(columns) {
                 break;
             }
-            self.approach(alloc, goal, spans)?;
-            let gain = self.bounds.low - before.low;
+            let gain = self.strengthen_once(alloc, table, goal, spans)?;
             if gain < LEAST_GAIN || gain * REACH < columns - self.bounds.low {
                 break;
             }
         }
         Ok(())
+    }
+
+    /// Adds cuts likewise, as long as the weights gain by it, however far they fall short of the goal.
+    pub fn strengthen_fully(
+        &mut self,
+        alloc: Global,
+        table: &Compact,
+        goal: Goal,
+        times: u32,
+        spans: u32,
+    ) -> Result<(), AllocError> {
+        let columns = nearest_i64_to_f64(goal.columns);
+        for _ in 0..times {
+            if self.bounds.low > columns
+                || self.strengthen_once(alloc, table, goal, spans)? < LEAST_GAIN
+            {
+                break;
+            }
+        }
+        Ok(())
+    }
+
+    /// Adds cuts, and makes steps; answers what the weights gain by it, in columns.
+    fn strengthen_once(
+        &mut self,
+        alloc: Global,
+        table: &Compact,
+        goal: Goal,
+        spans: u32,
+    ) -> Result<f64, AllocError> {
+        let before = self.bounds.low;
+        if !self.add_cuts(alloc, table)? {
+            return Ok(0.0);
+        }
+        self.approach(alloc, goal, spans)?;
+        Ok(self.bounds.low - before)
     }
 
     /// Adds cuts that the fractional cover violates, and leaves out those without weight; the steps begin
@@ -439,6 +532,7 @@ impl PrimalDual {
             self.found.weights.push(0.0)?;
         }
         self.constraints = Constraints::of(alloc, table, &self.cuts)?;
+        self.paces = Paces::of(alloc, &self.constraints)?;
         self.here = self.found.copy(alloc)?;
         self.begin = self.found.copy(alloc)?;
         self.all_steps = 0;

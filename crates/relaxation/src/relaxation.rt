@@ -7,7 +7,7 @@
 use crate::floats::{add_float, float, put_float};
 use crate::reliability::PseudoCosts;
 use crate::simplex::{Basis, End, NONE, Simplex};
-use heuristics::{Goal, Multipliers};
+use heuristics::{Cut, Goal, Multipliers};
 use number_lists::{Compact, Lists, UNIT, flag, is_live_part_of, mark, marked, number, set};
 use std::alloc::{AllocError, Global};
 use std::num::{nearest_i64_to_f64, nearest_u64_to_f64, saturating_f64_to_u64};
@@ -88,6 +88,8 @@ pub struct Relaxation {
     indices: Vec<usize>,
     /// The rows of the first table.
     rows: Lists,
+    /// Cuts of these rows, each a list of their indices.
+    cuts: Lists,
     /// The live columns of the present table.
     live: Vec<bool>,
     /// The taken columns of the present table.
@@ -113,6 +115,7 @@ impl Drop for Relaxation {
             columns: _,
             indices: _,
             rows: _,
+            cuts: _,
             live: _,
             taken: _,
             gains: _,
@@ -176,6 +179,16 @@ fn first_inside(rows: &[Vec<usize>], marks: &[bool]) -> usize {
     rows.len()
 }
 
+/// For each of so many rows of the first table its index in the present one, or `NONE`; `origins` has those
+/// of the present one.
+fn places_of(alloc: Global, origins: &[usize], rows: usize) -> Result<Vec<usize>, AllocError> {
+    let mut places = vec![in alloc; NONE; rows]?;
+    for (index, origin) in origins.iter().enumerate() {
+        set(&mut places, *origin, index);
+    }
+    Ok(places)
+}
+
 /// What one counts in whole numbers: `UNIT`, or less where this number of them would not fit into 32
 /// bits.
 fn unit_for(most: f64) -> u32 {
@@ -196,17 +209,19 @@ fn whole(alloc: Global, weights: &[f64], unit: u32) -> Result<Vec<u64>, AllocErr
 }
 
 impl Relaxation {
-    /// The relaxation of a table with these rows and live columns, which are below `columns`; `gains`
-    /// is what branches on columns gained so far.
+    /// The relaxation of a table with these rows and live columns, which are below `columns`, and with
+    /// these cuts, each a list of its rows, if its columns cost the same; `gains` is what branches on
+    /// columns gained so far.
     pub fn new(
         alloc: Global,
         table: &Compact,
         rows: &[Vec<usize>],
         live: &[usize],
         columns: usize,
+        cuts: Lists,
         gains: PseudoCosts,
     ) -> Result<Relaxation, AllocError> {
-        let simplex = Simplex::new(alloc, table)?;
+        let simplex = Simplex::new(alloc, table, &cuts)?;
         let no_costs = vec![in alloc; 0.0; live.len()]?;
         Ok(Relaxation {
             saved: Basis::new(alloc, simplex.row_count(), &no_costs)?,
@@ -214,6 +229,7 @@ impl Relaxation {
             columns: live.to_vec(alloc)?,
             indices: indices_of(alloc, live, columns)?,
             rows: Lists::of(alloc, rows)?,
+            cuts,
             live: vec![in alloc; false; columns]?,
             taken: vec![in alloc; false; columns]?,
             gains,
@@ -231,6 +247,7 @@ impl Relaxation {
             columns: _,
             indices: _,
             rows: _,
+            cuts: _,
             live: _,
             taken: _,
             gains,
@@ -240,6 +257,14 @@ impl Relaxation {
             cutoff: _,
         } = self;
         gains
+    }
+
+    /// Returns to the first table, from which another search begins. The basis stays as it is.
+    pub fn begin_anew(&mut self, alloc: Global) -> Result<(), AllocError> {
+        let all = vec![in alloc; true; self.simplex.row_count()]?;
+        let basic = self.simplex.basis.marks(alloc)?;
+        self.branched = None;
+        self.simplex.go_to(alloc, &basic, &all)
     }
 
     /// Makes the table with these live and these taken columns the present one.
@@ -332,25 +357,41 @@ impl Relaxation {
     ) -> Result<Multipliers, AllocError> {
         self.look_at(alloc, live, taken)?;
         let origins = self.first_rows(alloc, rows)?;
-        let used = marked(alloc, &origins, self.rows.len())?;
+        let mut used = marked(alloc, &origins, self.rows.len())?;
+        self.mark_cuts(&mut used)?;
         self.simplex.set_active(&used);
         self.solve(alloc, goal)?;
         self.note_gain();
         let mut weights = self.own_weights(alloc, &origins)?;
         self.hand_over(alloc, rows, &used, &mut weights)?;
-        self.in_whole_numbers(alloc, &weights)
+        let cuts = self.weighted_cuts(alloc, rows, &origins)?;
+        self.in_whole_numbers(alloc, &weights, cuts)
     }
 
-    /// These weights of rows with the parts of a column's cost, in whole numbers: where columns cost the
-    /// same that is `UNIT`, and else a number for each unit of its cost beside the weight of the limit.
-    fn in_whole_numbers(&self, alloc: Global, weights: &[f64]) -> Result<Multipliers, AllocError> {
+    /// Adds a mark for each cut: all are looked at.
+    fn mark_cuts(&self, marks: &mut Vec<bool>) -> Result<(), AllocError> {
+        for _ in 0..self.cuts.len() {
+            marks.push(true)?;
+        }
+        Ok(())
+    }
+
+    /// These weights of rows, and cuts, with the parts of a column's cost, in whole numbers: where columns
+    /// cost the same that is `UNIT`, and else a number for each unit of its cost beside the weight of the
+    /// limit.
+    fn in_whole_numbers(
+        &self,
+        alloc: Global,
+        weights: &[f64],
+        cuts: Vec<Cut>,
+    ) -> Result<Multipliers, AllocError> {
         let more = self.simplex.limit_weight(self.end);
         let unit = unit_for(more);
         let weights = whole(alloc, weights, unit)?;
         if !self.simplex.is_limited() {
             return Ok(Multipliers {
                 weights,
-                cuts: Vec::new(alloc),
+                cuts,
                 column: unit,
                 cost: 0,
             });
@@ -358,10 +399,63 @@ impl Relaxation {
         let column = saturating_f64_to_u64(more * nearest_u64_to_f64(u64::from(unit)));
         Ok(Multipliers {
             weights,
-            cuts: Vec::new(alloc),
+            cuts,
             column: u32::try_from(column).unwrap_or(u32::MAX),
             cost: unit,
         })
+    }
+
+    /// The cuts that have some weight, each by the rows of the present table that stand for its own: the
+    /// rows themselves, or the first row inside one that is not in the table. Those with a taken column are
+    /// left out: a cut then needs as much less as the column counts there.
+    fn weighted_cuts(
+        &mut self,
+        alloc: Global,
+        rows: &[Vec<usize>],
+        origins: &[usize],
+    ) -> Result<Vec<Cut>, AllocError> {
+        let mut weighted = Vec::new(alloc);
+        let factor = nearest_i64_to_f64(UNIT);
+        let mut places = Vec::new(alloc);
+        for cut in 0..self.cuts.len() {
+            let row = self.rows.len().saturating_add(cut);
+            let weight = float(self.simplex.weights(self.end), row);
+            if weight > LEAST_WEIGHT {
+                if places.is_empty() {
+                    places = places_of(alloc, origins, self.rows.len())?;
+                }
+                weighted.push(Cut {
+                    rows: self.present_rows(alloc, rows, &places, cut)?,
+                    weight: saturating_f64_to_u64(weight * factor),
+                })?;
+            }
+        }
+        Ok(weighted)
+    }
+
+    /// The rows of the present table that stand for those of a cut.
+    fn present_rows(
+        &self,
+        alloc: Global,
+        rows: &[Vec<usize>],
+        places: &[usize],
+        cut: usize,
+    ) -> Result<Vec<usize>, AllocError> {
+        let mut present = Vec::new(alloc);
+        let mut marks = vec![in alloc; false; self.indices.len()]?;
+        for row in self.cuts.list(cut) {
+            let row = *row as usize;
+            let list = self.rows.list(row);
+            let place = number(places, row);
+            if place != NONE {
+                present.push(place)?;
+            } else if !has_marked(list, &self.taken) {
+                mark_each(&mut marks, list, true);
+                present.push(first_inside(rows, &marks))?;
+                mark_each(&mut marks, list, false);
+            }
+        }
+        Ok(present)
     }
 
     /// The weights of these rows of the first table, at least 0; 0 for `NONE`.

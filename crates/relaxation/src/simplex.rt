@@ -1,7 +1,7 @@
 //! The linear relaxation of a covering table, by the bounded dual simplex method.
 //!
 //! Each column has a value from 0 to 1, or is fixed at one of these, and each row wants values of at
-//! least 1 together. A basis is kept dual feasible: a column outside it is at the bound that its
+//! least 1 together, each cut of as much as it needs. A basis is kept dual feasible: a column outside it is at the bound that its
 //! reduced cost tells. A step takes the position whose value is furthest outside its bounds by steepest
 //! edge (Forrest and Goldfarb, Steepest-edge simplex algorithms for linear programming, 1992; the
 //! norms are computed anew with the rows of the inverse), and a ratio test with a tolerance (Harris,
@@ -24,6 +24,7 @@ mod pricing;
 
 use crate::floats::{add_float, float, put_float};
 pub(crate) use basis::{Basis, NONE};
+use heuristics::Constraints;
 use number_lists::{Compact, Lists, SEED, at, flag, mark, next_random, number, small};
 use std::alloc::{AllocError, Global};
 use std::num::{nearest_i64_to_f64, nearest_u64_to_f64};
@@ -86,10 +87,12 @@ struct Candidate {
 
 /// The relaxation of a table.
 pub(crate) struct Simplex {
-    /// The columns of each row.
+    /// The columns of each row, of the cuts after the rows, and of the limit.
     rows: Lists,
-    /// The rows of each column, without the limit.
+    /// The rows and cuts of each column, without the limit.
     column_rows: Lists,
+    /// How many columns each row and each cut needs.
+    needs: Vec<f64>,
     /// The limit, or `NONE` where columns cost the same.
     limit: usize,
     /// How many columns there are at most, where there is a limit.
@@ -130,6 +133,7 @@ impl Drop for Simplex {
         let Simplex {
             rows: _,
             column_rows: _,
+            needs: _,
             limit: _,
             most: _,
             costs: _,
@@ -185,34 +189,33 @@ fn perturbed_costs(alloc: Global, table: &Compact) -> Result<Vec<f64>, AllocErro
     Ok(costs)
 }
 
-/// The rows of the table, and after them the limit if there is one: a row of all columns.
-fn rows_and_limit(alloc: Global, table: &Compact, limited: bool) -> Result<Lists, AllocError> {
-    let mut rows = Lists::new(alloc);
-    rows.extend_from(&table.rows)?;
-    if limited {
-        for column in 0..table.column_rows.len() {
-            rows.push(small(column))?;
-        }
-        rows.end()?;
+/// Adds the limit: a row of so many columns.
+fn push_limit(rows: &mut Lists, columns: usize) -> Result<(), AllocError> {
+    for column in 0..columns {
+        rows.push(small(column))?;
     }
-    Ok(rows)
+    rows.end()
 }
 
 impl Simplex {
-    /// The relaxation of the table. No column is fixed, all are at 0, and all rows are active.
-    pub(crate) fn new(alloc: Global, table: &Compact) -> Result<Simplex, AllocError> {
-        let limited = table.is_uneven();
-        let all_rows = rows_and_limit(alloc, table, limited)?;
-        let rows = all_rows.len();
+    /// The relaxation of the table with these cuts, each a list of its rows. No column is fixed, all are
+    /// at 0, and all rows are active.
+    pub(crate) fn new(alloc: Global, table: &Compact, cuts: &Lists) -> Result<Simplex, AllocError> {
         let columns = table.column_rows.len();
+        let (mut all_rows, column_rows, needs) = Constraints::of(alloc, table, cuts)?.into_parts();
+        let mut limit = NONE;
+        if table.is_uneven() {
+            limit = all_rows.len();
+            push_limit(&mut all_rows, columns)?;
+        }
+        let rows = all_rows.len();
         let costs = perturbed_costs(alloc, table)?;
         let basis = Basis::new(alloc, rows, &costs)?;
-        let mut column_rows = Lists::new(alloc);
-        column_rows.extend_from(&table.column_rows)?;
         Ok(Simplex {
             rows: all_rows,
             column_rows,
-            limit: if limited { table.rows.len() } else { NONE },
+            needs,
+            limit,
             most: 0.0,
             costs,
             lower: vec![in alloc; 0.0; columns]?,

@@ -113,8 +113,11 @@ const FEW_SPANS: u32 = 4;
 /// The most spans of primal-dual steps after cuts were added.
 const SPANS_OF_CUTS: u32 = 16;
 
-/// How often cuts are added for a bound, at most; once for one that only drops columns.
+/// How often cuts are added for a bound, at most; once for one that only drops columns,
 const TIMES_OF_CUTS: u32 = 8;
+
+/// and so often, at most, for the linear relaxation of a search.
+const TIMES_FOR_RELAXATION: u32 = 20;
 
 /// A column is branched on where its part of a fractional cover is so far from 0 and from 1.
 const LEAST_FRACTION: i64 = LIKELIEST / 10;
@@ -382,7 +385,8 @@ impl WarmStart {
     }
 
     /// From now on tables are bounded by their linear relaxation, and `is_hard` is `true`. This is
-    /// the first; the arguments are those of `multipliers`.
+    /// the first; the arguments are those of `multipliers`. If they are bounded so already, it was the first
+    /// of the search before.
     pub fn relax(
         &mut self,
         alloc: Global,
@@ -390,15 +394,49 @@ impl WarmStart {
         live: &[usize],
         rows: &[Vec<usize>],
         columns: usize,
+        goal: Goal,
     ) -> Result<(), AllocError> {
         self.hard = true;
+        if let Some(relaxation) = &mut self.relaxation {
+            return relaxation.begin_anew(alloc);
+        }
+        let cuts = self.cuts_for_relaxation(alloc, table, live, rows, columns, goal)?;
         let gains = match self.gains.take() {
             Some(gains) => gains,
             None => PseudoCosts::new(alloc, columns)?,
         };
-        let relaxation = Relaxation::new(alloc, table, rows, live, columns, gains)?;
+        let relaxation = Relaxation::new(alloc, table, rows, live, columns, cuts, gains)?;
         self.relaxation = Some(relaxation);
         Ok(())
+    }
+
+    /// Cuts that make the linear relaxation of a table stronger, found by primal-dual steps, each a list of
+    /// its rows; the arguments are those of `multipliers`. They are remembered. None where columns have
+    /// different costs.
+    fn cuts_for_relaxation(
+        &mut self,
+        alloc: Global,
+        table: &Compact,
+        live: &[usize],
+        rows: &[Vec<usize>],
+        columns: usize,
+        goal: Goal,
+    ) -> Result<Lists, AllocError> {
+        let mut cuts = Lists::new(alloc);
+        if table.is_uneven() {
+            return Ok(cuts);
+        }
+        let numbers = self.row_ids(alloc, rows, live, columns)?;
+        let mut pair = self.primal_dual(alloc, table, live, &numbers)?;
+        pair.approach(alloc, goal, SPANS)?;
+        pair.strengthen_fully(alloc, table, goal, TIMES_FOR_RELAXATION, SPANS_OF_CUTS)?;
+        if pair.cuts().len() > 0 {
+            cuts.extend_from(pair.cuts())?;
+            self.fractional = true;
+            self.keep_likely(alloc, live, &pair.parts(alloc)?, columns)?;
+            self.remember_steps(alloc, rows, &numbers, &pair)?;
+        }
+        Ok(cuts)
     }
 
     /// Gives the relaxation up, but for what branches gained.
@@ -676,16 +714,15 @@ impl WarmStart {
         goal: Goal,
     ) -> Result<Multipliers, AllocError> {
         let pair = self.approach(alloc, table, live, columns, numbers, goal)?;
-        let mut weights = pair.weights(alloc)?;
-        self.cuts = Cuts::of(alloc, pair.cuts(), numbers, &weights)?;
-        if self.cuts.is_empty() {
+        if pair.cuts().len() == 0 {
+            self.cuts = Cuts::new(alloc);
+            let weights = pair.weights(alloc)?;
             let mut ascent = Ascent::new(alloc, table, weights, self.column, NEAR_PACE)?;
             ascent.go_on(alloc, table, goal, 0, &mut Course::new(0, REACH))?;
             self.remember(alloc, rows, numbers, &ascent)?;
             return ascent.multipliers(alloc);
         }
-        weights.truncate(numbers.len());
-        self.remember_rows(alloc, rows, numbers, &weights)?;
+        let weights = self.remember_steps(alloc, rows, numbers, &pair)?;
         self.missing = pair.shortfall(goal);
         Ok(Multipliers {
             weights: whole(alloc, &weights)?,
@@ -693,6 +730,22 @@ impl WarmStart {
             column: UNIT as u32,
             cost: 0,
         })
+    }
+
+    /// Remembers the rows, their numbers, and the cuts and weights of primal-dual steps; answers the weights of
+    /// the rows.
+    fn remember_steps(
+        &mut self,
+        alloc: Global,
+        rows: &[Vec<usize>],
+        numbers: &[usize],
+        pair: &PrimalDual,
+    ) -> Result<Vec<i64>, AllocError> {
+        let mut weights = pair.weights(alloc)?;
+        self.cuts = Cuts::of(alloc, pair.cuts(), numbers, &weights)?;
+        weights.truncate(numbers.len());
+        self.remember_rows(alloc, rows, numbers, &weights)?;
+        Ok(weights)
     }
 
     /// Keeps the best weights of the steps, by the numbers of their rows; new numbers are

@@ -7,7 +7,7 @@ use crate::floats::{
     add_float, add_float_to_each, add_multiple, fill_floats, float, inner_product, put_float,
     sum_at,
 };
-use number_lists::{flag, mark, number};
+use number_lists::{flag, mark, number, overwrite};
 use std::alloc::{AllocError, Global};
 
 /// Smaller entries are no pivots on the way to a basis: where none is larger, a variable stays out.
@@ -120,7 +120,7 @@ impl Simplex {
     /// cost.
     fn fill_wanted(&mut self) -> f64 {
         let mut cost = 0.0;
-        fill_floats(&mut self.wanted, 1.0);
+        overwrite(&mut self.wanted, &self.needs);
         put_float(&mut self.wanted, self.limit, 0.0 - self.most);
         for column in 0..self.costs.len() {
             if flag(&self.basis.at_one, column) && !self.basis.is_basic(column) {

@@ -10,18 +10,14 @@ use std::alloc::{AllocError, Global};
 use std::num::nearest_u64_to_f64;
 
 /// What a cover needs of some columns: one of each row, and more of a cut.
-pub(crate) struct Constraints {
+pub struct Constraints {
     /// The columns of each constraint: the rows come first, then the cuts. A column stands there as often
     /// as it counts.
-    pub(crate) columns: Lists,
-    /// The constraints of each column.
-    pub(crate) column_rows: Lists,
+    pub columns: Lists,
+    /// The constraints of each column, each as often as the column counts there.
+    pub column_rows: Lists,
     /// How many each needs.
-    pub(crate) needs: Vec<f64>,
-    /// The length of a step of each constraint's weight: one by its number of columns.
-    pub(crate) paces: Vec<f64>,
-    /// The length of a step of each column's part: one by its number of constraints.
-    pub(crate) column_paces: Vec<f64>,
+    pub needs: Vec<f64>,
 }
 
 // Written out, so that where one ends a proof has one call, and not one for each of its lists.
@@ -31,8 +27,6 @@ impl Drop for Constraints {
             columns: _,
             column_rows: _,
             needs: _,
-            paces: _,
-            column_paces: _,
         } = self;
     }
 }
@@ -83,28 +77,9 @@ fn needs(alloc: Global, rows: usize, cuts: &Lists) -> Result<Vec<f64>, AllocErro
     Ok(needs)
 }
 
-/// One by the number of entries of each list; one where it has none.
-fn paces(alloc: Global, lists: &Lists) -> Result<Vec<f64>, AllocError> {
-    let mut paces = Vec::with_capacity(alloc, lists.len())?;
-    for index in 0..lists.len() {
-        paces.push(1.0 / nearest_u64_to_f64(lists.list(index).len().max(1) as u64))?;
-    }
-    Ok(paces)
-}
-
-/// Adds a list of those of the columns that are marked.
-fn push_marked(columns: &mut Lists, list: &[u32], marks: &[bool]) -> Result<(), AllocError> {
-    for column in list {
-        if flag(marks, *column as usize) {
-            columns.push(*column)?;
-        }
-    }
-    columns.end()
-}
-
 impl Constraints {
     /// The rows of the table, and then these cuts, each a list of rows.
-    pub(crate) fn of(
+    pub fn of(
         alloc: Global,
         table: &Compact,
         cuts: &Lists,
@@ -116,22 +91,20 @@ impl Constraints {
         for cut in 0..cuts.len() {
             push_cut(&mut columns, rows, cuts.list(cut), &mut odd)?;
         }
-        let column_rows = columns.transpose(alloc, table.costs.len())?;
         Ok(Constraints {
-            paces: paces(alloc, &columns)?,
-            column_paces: paces(alloc, &column_rows)?,
-            column_rows,
+            column_rows: columns.transpose(alloc, table.costs.len())?,
             columns,
             needs: needs(alloc, rows.len(), cuts)?,
         })
     }
 
-    /// The columns of each constraint without those that sleep.
-    pub(crate) fn awake_columns(&self, alloc: Global, awake: &[bool]) -> Result<Lists, AllocError> {
-        let mut columns = Lists::with_capacity(alloc, self.columns.len(), 0)?;
-        for index in 0..self.columns.len() {
-            push_marked(&mut columns, self.columns.list(index), awake)?;
-        }
-        Ok(columns)
+    /// The columns of each constraint, the constraints of each column, and what each needs.
+    pub fn into_parts(self) -> (Lists, Lists, Vec<f64>) {
+        let Constraints {
+            columns,
+            column_rows,
+            needs,
+        } = self;
+        (columns, column_rows, needs)
     }
 }
