@@ -28,7 +28,7 @@ impl Table {
             return Ok(None);
         };
         let cutoff = Cutoff { columns, cost };
-        let fewer = self.find_or_refute_for_length(
+        let fewer = self.find_or_refute_in_stages(
             alloc,
             Choice::Literals,
             cutoff,

@@ -150,7 +150,7 @@ impl Questions {
         let answer = {
             let mut warm_start = self.warm_start.copy(alloc)?;
             warm_start.take_gains(&mut self.warm_start);
-            let answer = table.find_or_refute_for_order(
+            let answer = table.find_or_refute_in_stages(
                 alloc,
                 choice,
                 cutoff,
@@ -159,6 +159,7 @@ impl Questions {
             );
             self.warm_start.learn(&warm_start);
             self.warm_start.take_gains(&mut warm_start);
+            self.warm_start.take_first_cuts(alloc, &mut warm_start);
             answer
         };
         let witness = answer?;

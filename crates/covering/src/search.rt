@@ -6,9 +6,8 @@
 //! that cost no less, and by weights of its rows (the dual bound): if the weights are more than the
 //! cutoff there is no cover within it, and a column with more slack than the remaining gap is in
 //! none. Any cover within the cutoff is a right answer, so any order of branches serves. A search that
-//! looked at many tables is begun anew, with its tables bounded by their linear relaxation: for the
-//! length and the fewest literals (`find_or_refute_for_length`), and for the order
-//! (`find_or_refute_for_order`) with literals, else only where the length wanted it.
+//! looked at many tables is begun anew, with its tables bounded by their linear relaxation, which cuts
+//! make stronger (`find_or_refute_in_stages`).
 
 ghost use Rattle.std.specs.Prelude.{◌≡◌, ◌≤◌, ◌-◌, ℕ, [], IfOk, IfSome, MatchOption, MatchBool, length, true, false};
 ghost use Rattle.covering.specs.Table.{IsTable, has};
@@ -610,10 +609,9 @@ impl Table {
         found
     }
 
-    /// A cover within the cutoff, or none if there is none, as the length and the fewest literals are
-    /// found: if a search does not end soon, it is begun anew with the linear relaxation, and branches
-    /// into no more than `most_tables` tables.
-    pub(crate) fn find_or_refute_for_length(
+    /// A cover within the cutoff, or none if there is none: if a search does not end soon, it is begun
+    /// anew with the linear relaxation, and branches into no more than `most_tables` tables.
+    pub(crate) fn find_or_refute_in_stages(
         &self,
         alloc: Global,
         choice: Choice,
@@ -630,28 +628,6 @@ impl Table {
         }
         let copy = self.copy(alloc)?;
         copy.find_or_refute_with_relaxation(alloc, choice, cutoff, warm_start, most_tables)
-    }
-
-    /// A cover within the cutoff, or none if there is none, as columns are decided in order: where they
-    /// cost the same, with the linear relaxation only if the length wanted it.
-    pub(crate) fn find_or_refute_for_order(
-        &self,
-        alloc: Global,
-        choice: Choice,
-        cutoff: Cutoff,
-        warm_start: &mut WarmStart,
-        most_tables: u64,
-    ) -> Result<Option<Vec<usize>>, Stop>
-        ensures { IfOk result (AnswersWithin choice self.now cutoff) }
-    {
-        let may_relax = match choice {
-            Choice::First => warm_start.is_hard(),
-            Choice::Literals => true,
-        };
-        if may_relax {
-            return self.find_or_refute_for_length(alloc, choice, cutoff, warm_start, most_tables);
-        }
-        self.find_or_refute(alloc, choice, cutoff, warm_start, most_tables)
     }
 
     /// A cover within the cutoff, if a search finds one of the columns of which a fractional cover has some

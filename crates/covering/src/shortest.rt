@@ -104,7 +104,7 @@ impl Table {
         warm_start.set_hint(alloc, &cover)?;
         while let Some(columns) = cover.len().checked_sub(1) {
             let cutoff = Cutoff { columns, cost: 0 };
-            match self.find_or_refute_for_length(
+            match self.find_or_refute_in_stages(
                 alloc,
                 Choice::First,
                 cutoff,

@@ -8,6 +8,8 @@
 //! from, row by row. A row keeps its number from table to table, so that a branch hands back what
 //! it has learned.
 
+mod relaxing;
+
 use crate::cuts::{Cuts, whole};
 use crate::effort::Effort;
 use heuristics::{
@@ -18,7 +20,7 @@ use number_lists::{
     Compact, Lists, SEED, UNIT, at, is_live_part_of, mark, marked, next_random, number, put, set,
 };
 use primal_dual::PrimalDual;
-use relaxation::{BranchBasis, PseudoCosts, Relaxation, is_small_enough};
+use relaxation::{PseudoCosts, Relaxation};
 use std::alloc::{AllocError, Global};
 
 /// Whether to compute a bound again: `before` is how many columns there were at the last one, `now`
@@ -82,21 +84,6 @@ fn first_weights(alloc: Global, table: &Compact) -> Result<Vec<i64>, AllocError>
     Ok(weights)
 }
 
-/// A search looks at so many tables before it is begun anew with the linear relaxation,
-const QUICK_TABLES: u64 = 200;
-
-/// and at so many once another one was.
-const QUICK_TABLES_ONCE_HARD: u64 = 20;
-
-/// Where columns have different costs it looks at so many,
-const QUICK_TABLES_BY_COST: u64 = 100;
-
-/// and at so many once another search was hard;
-const QUICK_TABLES_BY_COST_ONCE_HARD: u64 = 40;
-
-/// but at no fewer than the square of the number of rows, divided by this.
-const SQUARE_OF_ROWS: u64 = 4_000;
-
 /// A table of so many rows is bounded by primal-dual steps, if its columns cost the same: steps of the
 /// subgradient end far below its optimum.
 const MANY_ROWS: usize = 1_000;
@@ -113,33 +100,11 @@ const FEW_SPANS: u32 = 4;
 /// The most spans of primal-dual steps after cuts were added.
 const SPANS_OF_CUTS: u32 = 16;
 
-/// How often cuts are added for a bound, at most; once for one that only drops columns,
+/// How often cuts are added for a bound, at most; once for one that only drops columns.
 const TIMES_OF_CUTS: u32 = 8;
-
-/// and so often, at most, for the linear relaxation of a search.
-const TIMES_FOR_RELAXATION: u32 = 20;
-
-/// A column is branched on where its part of a fractional cover is so far from 0 and from 1.
-const LEAST_FRACTION: i64 = LIKELIEST / 10;
 
 /// A fractional cover has some part of a column if it has no less than this.
 const LEAST_PART: i64 = LIKELIEST / 100;
-
-/// The live column of which a fractional cover has a part nearest to one half; `None` if each is nearly 0
-/// or 1.
-fn most_fractional(likely: &[i64], live: &[usize]) -> Option<usize> {
-    let mut found = None;
-    let mut most = LEAST_FRACTION;
-    for column in live {
-        let part = at(likely, *column);
-        let fraction = part.min(LIKELIEST.wrapping_sub(part));
-        if fraction > most {
-            most = fraction;
-            found = Some(*column);
-        }
-    }
-    found
-}
 
 /// What a search remembers from table to table, and how much work it did.
 pub struct WarmStart {
@@ -350,149 +315,6 @@ impl WarmStart {
     fn learn_weights(&mut self, weights: &[i64]) {
         for (number, weight) in weights.iter().enumerate() {
             put(&mut self.weights, number, *weight);
-        }
-    }
-
-    /// Whether a question was so hard that the relaxation was wanted.
-    pub fn is_hard(&self) -> bool {
-        self.hard
-    }
-
-    /// How many tables a search looks at before it is begun anew with the linear relaxation of its
-    /// first one, which has so many rows and columns; `u64::MAX` if that is too large for it.
-    pub fn quick_tables(&self, rows: usize, columns: usize) -> u64 {
-        if !is_small_enough(rows, columns) {
-            u64::MAX
-        } else if self.hard {
-            QUICK_TABLES_ONCE_HARD
-        } else {
-            QUICK_TABLES
-        }
-    }
-
-    /// The same where columns have different costs. The relaxation then bounds far better than
-    /// subgradient steps do, but the more rows there are the longer it takes.
-    pub fn quick_tables_by_cost(&self, rows: usize, columns: usize) -> u64 {
-        if !is_small_enough(rows, columns) {
-            return u64::MAX;
-        }
-        let least = if self.hard {
-            QUICK_TABLES_BY_COST_ONCE_HARD
-        } else {
-            QUICK_TABLES_BY_COST
-        };
-        least.max(rows.saturating_mul(rows) as u64 / SQUARE_OF_ROWS)
-    }
-
-    /// From now on tables are bounded by their linear relaxation, and `is_hard` is `true`. This is
-    /// the first; the arguments are those of `multipliers`. If they are bounded so already, it was the first
-    /// of the search before.
-    pub fn relax(
-        &mut self,
-        alloc: Global,
-        table: &Compact,
-        live: &[usize],
-        rows: &[Vec<usize>],
-        columns: usize,
-        goal: Goal,
-    ) -> Result<(), AllocError> {
-        self.hard = true;
-        if let Some(relaxation) = &mut self.relaxation {
-            return relaxation.begin_anew(alloc);
-        }
-        let cuts = self.cuts_for_relaxation(alloc, table, live, rows, columns, goal)?;
-        let gains = match self.gains.take() {
-            Some(gains) => gains,
-            None => PseudoCosts::new(alloc, columns)?,
-        };
-        let relaxation = Relaxation::new(alloc, table, rows, live, columns, cuts, gains)?;
-        self.relaxation = Some(relaxation);
-        Ok(())
-    }
-
-    /// Cuts that make the linear relaxation of a table stronger, found by primal-dual steps, each a list of
-    /// its rows; the arguments are those of `multipliers`. They are remembered. None where columns have
-    /// different costs.
-    fn cuts_for_relaxation(
-        &mut self,
-        alloc: Global,
-        table: &Compact,
-        live: &[usize],
-        rows: &[Vec<usize>],
-        columns: usize,
-        goal: Goal,
-    ) -> Result<Lists, AllocError> {
-        let mut cuts = Lists::new(alloc);
-        if table.is_uneven() {
-            return Ok(cuts);
-        }
-        let numbers = self.row_ids(alloc, rows, live, columns)?;
-        let mut pair = self.primal_dual(alloc, table, live, &numbers)?;
-        pair.approach(alloc, goal, SPANS)?;
-        pair.strengthen_fully(alloc, table, goal, TIMES_FOR_RELAXATION, SPANS_OF_CUTS)?;
-        if pair.cuts().len() > 0 {
-            cuts.extend_from(pair.cuts())?;
-            self.fractional = true;
-            self.keep_likely(alloc, live, &pair.parts(alloc)?, columns)?;
-            self.remember_steps(alloc, rows, &numbers, &pair)?;
-        }
-        Ok(cuts)
-    }
-
-    /// Gives the relaxation up, but for what branches gained.
-    pub fn stop_relaxing(&mut self) {
-        if let Some(relaxation) = self.relaxation.take() {
-            self.gains = Some(relaxation.into_gains());
-        }
-    }
-
-    /// Whether tables are bounded by their linear relaxation.
-    pub fn is_relaxing(&self) -> bool {
-        self.relaxation.is_some()
-    }
-
-    /// Takes over what branches gained. It is handed from question to question of one table, whose
-    /// columns keep their numbers, and is not copied.
-    pub fn take_gains(&mut self, from: &mut WarmStart) {
-        self.gains = from.gains.take();
-    }
-
-    /// Takes the relaxation over from another, which is left without one; drops its own.
-    pub fn take_relaxation(&mut self, from: &mut WarmStart) {
-        self.relaxation = from.relaxation.take();
-    }
-
-    /// A column to branch on, if the relaxation of the table with these live and taken columns tells
-    /// one, or the last fractional cover; it may be none of them.
-    pub fn branching_column(
-        &mut self,
-        alloc: Global,
-        live: &[usize],
-        taken: &[usize],
-        goal: Goal,
-    ) -> Result<Option<usize>, AllocError> {
-        match &mut self.relaxation {
-            None if self.fractional => Ok(most_fractional(&self.likely, live)),
-            None => Ok(None),
-            Some(relaxation) => relaxation.branching_column(alloc, live, taken, goal),
-        }
-    }
-
-    /// The basis of the relaxation, for `go_back`; no basis if there is no relaxation. The column, which
-    /// a search branches on and first takes, is noted for what that gains; the basis stays as it is.
-    pub fn branch(&mut self, alloc: Global, column: usize) -> Result<BranchBasis, AllocError> {
-        match &mut self.relaxation {
-            None => Ok(BranchBasis::none(alloc)),
-            Some(relaxation) => relaxation.branch(alloc, column),
-        }
-    }
-
-    /// Returns the relaxation, if there is one, to the basis from which a search branched, to go on
-    /// without the column.
-    pub fn go_back(&mut self, alloc: Global, to: BranchBasis) -> Result<(), AllocError> {
-        match &mut self.relaxation {
-            None => Ok(()),
-            Some(relaxation) => relaxation.go_back(alloc, &to),
         }
     }
 
