@@ -107,6 +107,11 @@ CUTS = [
     ("warm_start/warm_start", "MANY_ROWS_WITH_CUTS: usize = 250", "MANY_ROWS_WITH_CUTS: usize = 1"),
     ("primal_dual/separation", "LEAST_VIOLATION: i64 = LIKELIEST * 15 / 100", "LEAST_VIOLATION: i64 = LIKELIEST / 100"),
 ]
+# Questions come to the linear relaxation, with its cuts, at once.
+RELAXED = [
+    ("warm_start/warm_start/relaxing", "QUICK_TABLES: u64 = 200", "QUICK_TABLES: u64 = 2"),
+    ("warm_start/warm_start/relaxing", "QUICK_TABLES_ONCE_HARD: u64 = 8", "QUICK_TABLES_ONCE_HARD: u64 = 1"),
+]
 # A local search looks at a few of the chosen columns for one to drop.
 FEW_LOOKS_TO_DROP = [
     ("heuristics/swaps", "LONG_LIST: usize = 2_000", "LONG_LIST: usize = 2"),
@@ -134,12 +139,12 @@ BUILDS = {
                      *POINTS_OF_PRIMES, *FEW_CUBES_OF_OFF, *SEARCH_AT_ONCE],
     # Points that are picked by all primes, until rounds are spent; then the table of all primes.
     "primes": [*POINTS_OF_FEW_INPUTS, *NO_GROWTH, *NO_CUBES_OUTSIDE, *NEVER_AS_NEEDED, *POINTS_OF_PRIMES, *SHORT_COVERS,
-               *SHORT_LISTS, *FEW_PROPOSALS],
+               *SHORT_LISTS, *RELAXED, *FEW_PROPOSALS],
     "primes-spent": [*POINTS_OF_FEW_INPUTS, *GROWTH, *NO_CUBES_OUTSIDE, *NEVER_AS_NEEDED, *POINTS_OF_PRIMES, *FEW_ROUNDS,
                      *NO_CUBES_OF_OFF, *NEVER_NEAR, *SEARCH_AT_ONCE],
     # The table of all primes, also of many inputs.
     "table": [*NO_GROWTH, *POINTS_OF_FEW_INPUTS, *NO_CUBES_OUTSIDE, *NEVER_AS_NEEDED, *NO_POINTS_OF_PRIMES, *NO_CUBES_OF_OFF,
-              *SHORT_LISTS, *CUTS, *FEW_LOOKS_TO_DROP],
+              *SHORT_LISTS, *CUTS, *RELAXED, *FEW_LOOKS_TO_DROP],
     # Rows of all lists are merged, whatever they are; then points, or places outside as they are needed.
     "merged": [*MERGED, *POINTS_OF_FEW_INPUTS, *GROWTH, *FEW_CUBES_OUTSIDE, *ALWAYS_AS_NEEDED, *ALWAYS_NEAR, *SEARCH_AT_ONCE],
 }

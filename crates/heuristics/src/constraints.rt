@@ -79,11 +79,7 @@ fn needs(alloc: Global, rows: usize, cuts: &Lists) -> Result<Vec<f64>, AllocErro
 
 impl Constraints {
     /// The rows of the table, and then these cuts, each a list of rows.
-    pub fn of(
-        alloc: Global,
-        table: &Compact,
-        cuts: &Lists,
-    ) -> Result<Constraints, AllocError> {
+    pub fn of(alloc: Global, table: &Compact, cuts: &Lists) -> Result<Constraints, AllocError> {
         let rows = &table.rows;
         let mut columns = Lists::new(alloc);
         columns.extend_from(rows)?;

@@ -4,7 +4,7 @@
 //!   [`WarmStart::learn`] takes over.
 //! - [`WarmStart::multipliers`] gives weights of a table's rows that may show that no cover is within a
 //!   goal: by subgradient steps from the weights before, or, once [`WarmStart::relax`] was called, by the
-//!   linear relaxation; where rows are many and columns cost the same, by primal-dual steps, with cuts.
+//!   linear relaxation with cuts; where rows are many and columns cost the same, by primal-dual steps, with cuts.
 //! - [`WarmStart::branching_column`] names a column to branch on.
 //!
 //! An [`Effort`] counts what was done.
