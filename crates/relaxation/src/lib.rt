@@ -21,7 +21,7 @@
 //! three rows ([`heuristics::Constraints`]) the optimum is 2.
 //!
 //! With m rows a step of the simplex method takes up to m * m sums, a table up to 5,000 steps, and the
-//! relaxation memory for two square matrices of m rows; m is at most 2,500. Every 400 steps an inverse is
+//! relaxation memory for two square matrices of m rows; m is at most 2,500. Every 1,000 steps an inverse is
 //! made anew, by up to m * m * m sums. Sums of floating-point numbers are not exact: weights are checked
 //! in whole numbers by the caller.
 #![tactic(auto)]

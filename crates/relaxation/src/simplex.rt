@@ -54,7 +54,7 @@ const PIVOT_ERROR: f64 = 1e-6;
 const LEAST_PIVOT: f64 = 1e-7;
 
 /// The inverse is computed anew after so many pivots.
-const PIVOTS_TO_FACTOR: u32 = 400;
+const PIVOTS_TO_FACTOR: u32 = 1_000;
 
 /// So many pivots that turned out wrong end the steps.
 const MOST_TROUBLE: u32 = 5;
