@@ -304,3 +304,17 @@ class Machines(ManyOutputs):
         self.assertIn(b"\n.p 392\n", answer.output)
         self.assertEqual(hashlib.sha256(answer.output).hexdigest(), "6ed503718ca246a123e63f403233a56fe704ce95fe82b089c7c6d45c5a966be5")
         self.compared("a machine and its least cover by cuts", text, answer.output)
+
+
+class RandomTables(ManyOutputs):
+    def test_an_order_that_needs_cuts(self):
+        """Half of the places of eight inputs and seven outputs: a table of 678 rows and 939 columns, of which HiGHS too takes 180. The
+        length is soon known, and then the columns take four times as long without cuts in the linear relaxation."""
+        chance = random.Random(14)
+        text = pla(8, 7, *(f"{point:08b} {chance.getrandbits(7):07b}" for point in range(256)))
+        with folder_of({}) as folder:
+            answer, _ = answer_in(folder, ["-Dexact"], text)
+        self.assertEqual(answer.status, 0, answer.message)
+        self.assertIn(b"\n.p 197\n", answer.output)
+        self.assertEqual(hashlib.sha256(answer.output).hexdigest(), "0d2036ac5caebef531fa72883037f4ee0b18c43ae89b6e8ca4d24a863e90cd4c")
+        self.compared("random points and their least cover", text, answer.output)
