@@ -21,8 +21,14 @@ const MOST_COLUMNS: usize = 20_000;
 /// The most steps at a table.
 const MOST_STEPS: u32 = 5_000;
 
-/// How far past the goal an objective shows that no cover reaches it.
+/// How far past the goal an objective shows that no cover reaches it, at first.
 pub(crate) const MARGIN: f64 = 1e-3;
+
+/// Where the caller found that it does not, the margin grows by this factor,
+const MARGIN_FACTOR: f64 = 8.0;
+
+/// up to this, in columns.
+const MOST_MARGIN: f64 = 1.0;
 
 /// The multiplier of a column, in whole numbers, is at most about this: it is of 32 bits.
 const MOST_COLUMN: f64 = 4294967295.0;
@@ -103,6 +109,8 @@ pub struct Relaxation {
     pub(crate) saved: Basis,
     /// How the last steps ended.
     end: End,
+    /// How far past the goal the steps go.
+    margin: f64,
     /// The objective past which no cover reaches the goal.
     pub(crate) cutoff: f64,
 }
@@ -122,6 +130,7 @@ impl Drop for Relaxation {
             branched: _,
             saved: _,
             end: _,
+            margin: _,
             cutoff: _,
         } = self;
     }
@@ -235,6 +244,7 @@ impl Relaxation {
             gains,
             branched: None,
             end: End::Spent,
+            margin: MARGIN,
             cutoff: 0.0,
         })
     }
@@ -254,6 +264,7 @@ impl Relaxation {
             branched: _,
             saved: _,
             end: _,
+            margin: _,
             cutoff: _,
         } = self;
         gains
@@ -307,14 +318,22 @@ impl Relaxation {
         let most = nearest_i64_to_f64(goal.columns.saturating_add(ones));
         self.cutoff = if self.simplex.is_limited() {
             self.simplex.set_most(most);
-            nearest_i64_to_f64(goal.cost) + cost + MARGIN
+            nearest_i64_to_f64(goal.cost) + cost + self.margin
         } else {
-            most + MARGIN
+            most + self.margin
         };
         self.simplex.list_open(alloc)?;
         self.simplex.settle();
         self.end = self.simplex.optimize(alloc, self.cutoff, MOST_STEPS)?;
         Ok(())
+    }
+
+    /// Widens the margin where the last steps ended past the goal, or without values within the bounds: the
+    /// caller branches, so that the weights did not show it.
+    pub(crate) fn note_branching(&mut self) {
+        if self.end == End::Past || self.end == End::Infeasible {
+            self.margin = (self.margin * MARGIN_FACTOR).min(MOST_MARGIN);
+        }
     }
 
     /// The index of the first active row of the first table, from an index on, that this row is the

@@ -161,6 +161,7 @@ impl Relaxation {
         taken: &[usize],
         goal: Goal,
     ) -> Result<Option<usize>, AllocError> {
+        self.note_branching();
         self.look_at(alloc, live, taken)?;
         self.solve(alloc, goal)?;
         let order = self.fractional_columns(alloc)?;
