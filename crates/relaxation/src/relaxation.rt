@@ -428,7 +428,7 @@ impl Relaxation {
     /// rows themselves, or the first row inside one that is not in the table. Those with a taken column are
     /// left out: a cut then needs as much less as the column counts there.
     fn weighted_cuts(
-        &mut self,
+        &self,
         alloc: Global,
         rows: &[Vec<usize>],
         origins: &[usize],
