@@ -105,7 +105,7 @@ PRIMAL_DUAL = [
 CUTS = [
     *PRIMAL_DUAL,
     ("warm_start/warm_start", "MANY_ROWS_WITH_CUTS: usize = 250", "MANY_ROWS_WITH_CUTS: usize = 1"),
-    ("primal_dual/separation", "LEAST_VIOLATION: i64 = LIKELIEST * 15 / 100", "LEAST_VIOLATION: i64 = LIKELIEST / 100"),
+    ("heuristics/separation", "LEAST_VIOLATION: i64 = LIKELIEST * 15 / 100", "LEAST_VIOLATION: i64 = LIKELIEST / 100"),
 ]
 # Questions come to the linear relaxation, with its cuts, at once.
 RELAXED = [

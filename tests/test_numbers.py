@@ -54,6 +54,8 @@ CONSTANTS = {
     "tables to reduce": ("crates/covering/src", "const TABLES_TO_REDUCE: u64 = #;"),
     "many rows": ("crates/warm_start/src/warm_start.rt", "const MANY_ROWS: usize = #;"),
     "relaxed rows": ("crates/relaxation/src/relaxation.rt", "const MOST_ROWS: usize = #;"),
+    "simplex steps": ("crates/relaxation/src/relaxation.rt", "const MOST_STEPS: u32 = #;"),
+    "exchanges": ("crates/relaxation/src/simplex.rt", "const MOST_EXCHANGES: usize = #;"),
     "relaxed columns": ("crates/relaxation/src/relaxation.rt", "const MOST_COLUMNS: usize = #;"),
     "many points": ("crates/minimum/src/points/round_hints.rt", "const MOST_POINTS_FOR_LEAST: usize = #;"),
     "merged rows": ("crates/minimum/src/fewer_rows.rt", "const LONG_LIST: usize = #;"),
@@ -130,7 +132,8 @@ SENTENCES = (
     ("docs/statement.py", "# inputs and outputs and lines of # bytes", "older inputs", "older line bytes"),
     ("mutants/run", "processors and # GB of memory for each", "proof memory"),
     ("crates/cover/src/lib.rt", "before it takes # GB", "kept numbers"),
-    ("crates/relaxation/src/lib.rt", "//! relaxation memory for two square matrices of m rows; m is at most #", "relaxed rows"),
+    ("crates/relaxation/src/lib.rt", "//! A table of up to # rows takes up to # steps", "relaxed rows", "simplex steps"),
+    ("crates/relaxation/src/lib.rt", "after # steps factors are made anew", "exchanges"),
 )
 
 # What a page names where the code has another unit: a list that grows takes its old and its new place, of four bytes a number.

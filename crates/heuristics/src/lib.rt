@@ -10,7 +10,8 @@
 //!   and 1971); a [`Course`] says how many.
 //! - [`local_search`] looks for a cover within a [`Goal`]: swaps under row weights (Cai, Su, Luo
 //!   and Sattar, NuMVC: an efficient local search algorithm for minimum vertex cover, 2013).
-//! - [`Constraints`] are the rows of a table with cuts beside them.
+//! - [`Constraints`] are the rows of a table with cuts beside them, and [`violated_cuts`] are those that a
+//!   fractional cover violates.
 //! - [`side_hint`] proposes columns that share no row with the others.
 //! - [`likeliest`] proposes a column to branch on, and [`batch`] columns that one question asks for
 //!   together.
@@ -29,6 +30,7 @@ mod branching;
 mod components;
 mod constraints;
 mod goal;
+mod separation;
 mod subgradient;
 mod swaps;
 
@@ -36,6 +38,7 @@ pub use branching::{batch, likeliest, row_counts};
 pub use components::side_hint;
 pub use constraints::Constraints;
 pub use goal::Goal;
+pub use separation::violated_cuts;
 pub use subgradient::{
     Ascent, Course, Cut, FEW_STEPS, LIKELIEST, Multipliers, NEAR_PACE, NEAR_REACH, PACE, Point,
     REACH, STEPS,

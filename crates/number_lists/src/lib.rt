@@ -23,7 +23,7 @@ mod lists;
 mod numbers;
 
 pub use compact::{Compact, UNIT};
-pub use floats::{float, put_float, sum_at};
+pub use floats::{float, in_whole_numbers, put_float, sum_at};
 pub use lists::{Lists, is_live_part_of};
 pub use numbers::{
     SEED, add_at, add_to, add_to_each, at, flag, mark, marked, marks_of, next_random, number,

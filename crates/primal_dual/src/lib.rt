@@ -17,7 +17,6 @@
 //! numbers are not exact: weights are checked in whole numbers by the caller.
 #![tactic(auto)]
 
-mod separation;
 mod steps;
 
 pub use steps::PrimalDual;

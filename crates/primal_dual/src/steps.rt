@@ -10,9 +10,10 @@
 //! span of steps it is left out, and the bounds at its end see it again. Cuts are rows that need more than
 //! one column.
 
-use crate::separation::violated_cuts;
-use heuristics::{Constraints, Goal, LIKELIEST};
-use number_lists::{Compact, Lists, UNIT, at, flag, float, mark, overwrite, put_float, sum_at};
+use heuristics::{Constraints, Goal, LIKELIEST, violated_cuts};
+use number_lists::{
+    Compact, Lists, UNIT, at, flag, float, in_whole_numbers, mark, overwrite, put_float, sum_at,
+};
 use std::alloc::{AllocError, Global};
 use std::num::{nearest_i64_to_f64, nearest_u64_to_f64, saturating_f64_to_u64};
 
@@ -294,17 +295,6 @@ fn in_units(alloc: Global, numbers: &[i64], unit: i64, len: usize) -> Result<Vec
     Ok(floats)
 }
 
-/// The numbers times `unit`, as whole numbers, and 0 for one below 0.
-fn in_whole_numbers(alloc: Global, floats: &[f64], unit: i64) -> Result<Vec<i64>, AllocError> {
-    let unit = nearest_i64_to_f64(unit);
-    let mut numbers = Vec::with_capacity(alloc, floats.len())?;
-    for float in floats {
-        let number = saturating_f64_to_u64((*float * unit).max(0.0));
-        numbers.push(i64::try_from(number).unwrap_or(i64::MAX))?;
-    }
-    Ok(numbers)
-}
-
 impl PrimalDual {
     /// The start, with these cuts, from these weights, one for each row and then one for each cut, in which a
     /// column is `UNIT`, and from how likely each column is to be in a cover, at most `LIKELIEST`.
@@ -475,26 +465,6 @@ impl PrimalDual {
             }
             let gain = self.strengthen_once(alloc, table, goal, spans)?;
             if gain < LEAST_GAIN || gain * REACH < columns - self.bounds.low {
-                break;
-            }
-        }
-        Ok(())
-    }
-
-    /// Adds cuts likewise, as long as the weights gain by it, however far they fall short of the goal.
-    pub fn strengthen_fully(
-        &mut self,
-        alloc: Global,
-        table: &Compact,
-        goal: Goal,
-        times: u32,
-        spans: u32,
-    ) -> Result<(), AllocError> {
-        let columns = nearest_i64_to_f64(goal.columns);
-        for _ in 0..times {
-            if self.bounds.low > columns
-                || self.strengthen_once(alloc, table, goal, spans)? < LEAST_GAIN
-            {
                 break;
             }
         }

@@ -5,6 +5,7 @@
 //!
 //! - [`Relaxation::new`] makes the relaxation of the first table of a search, with cuts of its rows. Later
 //!   tables are the first one with some columns fixed.
+//! - [`Relaxation::strengthen`] adds cuts that its fractional covers violate.
 //! - [`Relaxation::multipliers`] solves that of a table, and gives weights of its rows and cuts. Where columns have
 //!   different costs it limits their number as well.
 //! - [`Relaxation::branching_column`] names a column to branch on. [`Relaxation::branch`] keeps the place
@@ -20,17 +21,21 @@
 //! so no cover has fewer than two columns, where a row alone shows that there is one. With the cut of all
 //! three rows ([`heuristics::Constraints`]) the optimum is 2.
 //!
-//! With m rows a step of the simplex method takes up to m * m sums, a table up to 5,000 steps, and the
-//! relaxation memory for two square matrices of m rows; m is at most 2,500. Every 1,000 steps an inverse is
-//! made anew, by up to m * m * m sums. Sums of floating-point numbers are not exact: weights are checked
-//! in whole numbers by the caller.
+//! A table of up to 2,500 rows takes up to 5,000 steps of the simplex method. A step solves three systems of
+//! equations by sparse factors of the basis, and reads some numbers of each row, each column and each entry of
+//! a row; after 16 steps factors are made anew. Memory is for some numbers of each of these, and for the
+//! entries of the factors. Sums of floating-point numbers are not exact: weights are checked in whole numbers
+//! by the caller.
 #![tactic(auto)]
 
+mod cuts;
+mod elimination;
+mod factors;
 mod floats;
-mod matrix;
 mod relaxation;
 mod reliability;
 mod simplex;
+mod vectors;
 
 pub use relaxation::{BranchBasis, Relaxation, is_small_enough};
 pub use reliability::PseudoCosts;

@@ -7,8 +7,10 @@
 use crate::floats::{add_float, float, put_float};
 use crate::reliability::PseudoCosts;
 use crate::simplex::{Basis, End, NONE, Simplex};
-use heuristics::{Cut, Goal, Multipliers};
-use number_lists::{Compact, Lists, UNIT, flag, is_live_part_of, mark, marked, number, set};
+use heuristics::{Cut, Goal, LIKELIEST, Multipliers};
+use number_lists::{
+    Compact, Lists, UNIT, flag, in_whole_numbers, is_live_part_of, mark, marked, number, set,
+};
 use std::alloc::{AllocError, Global};
 use std::num::{nearest_i64_to_f64, nearest_u64_to_f64, saturating_f64_to_u64};
 
@@ -50,8 +52,10 @@ pub(crate) struct Branching {
 
 /// A basis from which a search branched, and to which it returns.
 pub struct BranchBasis {
-    /// For each variable whether it is in the basis.
-    basic: Vec<bool>,
+    /// The variable of each position.
+    basic: Vec<usize>,
+    /// The norm of the row of the inverse at each position.
+    norms: Vec<f64>,
     /// For each row whether it was looked at.
     active: Vec<bool>,
     /// The column that was branched on.
@@ -63,6 +67,7 @@ impl Drop for BranchBasis {
     fn drop(self) {
         let BranchBasis {
             basic: _,
+            norms: _,
             active: _,
             branching: _,
         } = self;
@@ -74,6 +79,7 @@ impl BranchBasis {
     pub fn none(alloc: Global) -> BranchBasis {
         BranchBasis {
             basic: Vec::new(alloc),
+            norms: Vec::new(alloc),
             active: Vec::new(alloc),
             branching: Branching {
                 index: NONE,
@@ -93,9 +99,9 @@ pub struct Relaxation {
     /// The index of each column, or `NONE`.
     indices: Vec<usize>,
     /// The rows of the first table.
-    rows: Lists,
+    pub(crate) rows: Lists,
     /// Cuts of these rows, each a list of their indices.
-    cuts: Lists,
+    pub(crate) cuts: Lists,
     /// The live columns of the present table.
     live: Vec<bool>,
     /// The taken columns of the present table.
@@ -108,7 +114,7 @@ pub struct Relaxation {
     /// The basis to which trials return.
     pub(crate) saved: Basis,
     /// How the last steps ended.
-    end: End,
+    pub(crate) end: End,
     /// How far past the goal the steps go.
     margin: f64,
     /// The objective past which no cover reaches the goal.
@@ -273,9 +279,36 @@ impl Relaxation {
     /// Returns to the first table, from which another search begins. The basis stays as it is.
     pub fn begin_anew(&mut self, alloc: Global) -> Result<(), AllocError> {
         let all = vec![in alloc; true; self.simplex.row_count()]?;
-        let basic = self.simplex.basis.marks(alloc)?;
         self.branched = None;
-        self.simplex.go_to(alloc, &basic, &all)
+        self.simplex.set_active(&all);
+        self.simplex.factor(alloc)
+    }
+
+    /// Solves the relaxation of the first table, or stops where its objective shows that no cover reaches the
+    /// goal.
+    pub(crate) fn solve_first(&mut self, alloc: Global, goal: Goal) -> Result<(), AllocError> {
+        let columns = self.columns.to_vec(alloc)?;
+        self.look_at(alloc, &columns, &[])?;
+        self.solve(alloc, goal)
+    }
+
+    /// How much of each column of the first table the fractional cover has, where `LIKELIEST` is all of it.
+    pub fn parts(&self, alloc: Global) -> Result<Vec<i64>, AllocError> {
+        let mut parts = Vec::with_capacity(alloc, self.columns.len())?;
+        for index in 0..self.columns.len() {
+            parts.push(self.simplex.value(index).min(1.0))?;
+        }
+        in_whole_numbers(alloc, &parts, LIKELIEST)
+    }
+
+    /// The weight of each row of the first table, and then of each cut; a column is `UNIT`.
+    pub fn weights(&self, alloc: Global) -> Result<Vec<i64>, AllocError> {
+        in_whole_numbers(alloc, self.simplex.weights(self.end), UNIT)
+    }
+
+    /// The rows of each cut.
+    pub fn cuts(&self) -> &Lists {
+        &self.cuts
     }
 
     /// Makes the table with these live and these taken columns the present one.
@@ -299,7 +332,7 @@ impl Relaxation {
         for index in 0..self.columns.len() {
             let column = number(&self.columns, index);
             if flag(&self.live, column) {
-                self.simplex.set_bounds(index, 0.0, 1.0);
+                self.simplex.free(index);
             } else if flag(&self.taken, column) {
                 ones = ones.saturating_add(1);
                 cost += self.simplex.cost(index);
@@ -541,7 +574,8 @@ impl Relaxation {
         };
         self.branched = Some((branching, true));
         Ok(BranchBasis {
-            basic: self.simplex.basis.marks(alloc)?,
+            basic: self.simplex.basis.basic.to_vec(alloc)?,
+            norms: self.simplex.basis.norms.to_vec(alloc)?,
             active: self.simplex.active().to_vec(alloc)?,
             branching,
         })
@@ -550,7 +584,8 @@ impl Relaxation {
     /// Returns to the basis from which a search branched; the gain that is noted next is that of the
     /// branch without the column. No column is fixed here: `multipliers` does that by its table.
     pub fn go_back(&mut self, alloc: Global, to: &BranchBasis) -> Result<(), AllocError> {
-        self.simplex.go_to(alloc, &to.basic, &to.active)?;
+        self.simplex.set_active(&to.active);
+        self.simplex.go_to(alloc, &to.basic, &to.norms)?;
         self.branched = Some((to.branching, false));
         Ok(())
     }

@@ -8,7 +8,7 @@
 
 use crate::floats::{add_float, float};
 use crate::relaxation::{MARGIN, Relaxation};
-use crate::simplex::{End, NONE};
+use crate::simplex::{End, NONE, Saved};
 use heuristics::Goal;
 use number_lists::{add_to, number};
 use std::alloc::{AllocError, Global};
@@ -168,8 +168,8 @@ impl Relaxation {
         if order.is_empty() {
             return Ok(self.highest_column());
         }
-        self.simplex.save(&mut self.saved)?;
-        let best = self.best_of(alloc, &order)?;
+        let saved = self.simplex.save(alloc, &mut self.saved)?;
+        let best = self.best_of(alloc, &order, saved)?;
         Ok(self.columns.get(best).copied())
     }
 
@@ -207,12 +207,17 @@ impl Relaxation {
     /// The index of the best of these columns to branch on, which `fractional_columns` gives: the
     /// first one of which a branch has no cover, or that of the highest score. `NONE` if there are
     /// no columns.
-    fn best_of(&mut self, alloc: Global, order: &[(u64, usize)]) -> Result<usize, AllocError> {
+    fn best_of(
+        &mut self,
+        alloc: Global,
+        order: &[(u64, usize)],
+        saved: Saved,
+    ) -> Result<usize, AllocError> {
         let mut best = NONE;
         let mut highest = -1.0;
         let mut idle: u32 = 0;
         for (_, index) in order {
-            match self.look_at_column(alloc, *index)? {
+            match self.look_at_column(alloc, *index, saved)? {
                 Look::Refuted => return Ok(*index),
                 Look::Score(score) => {
                     if score > highest {
@@ -233,7 +238,12 @@ impl Relaxation {
 
     /// How good it is to branch on a column: by its pseudo-costs where these are reliable, and else
     /// by a trial either way.
-    fn look_at_column(&mut self, alloc: Global, index: usize) -> Result<Look, AllocError> {
+    fn look_at_column(
+        &mut self,
+        alloc: Global,
+        index: usize,
+        saved: Saved,
+    ) -> Result<Look, AllocError> {
         let value = self.simplex.value(index);
         let room = self.room();
         let column = number(&self.columns, index);
@@ -242,8 +252,8 @@ impl Relaxation {
             let down = self.gains.down.cost(column, 0.0) * value;
             return Ok(Look::Score(score_of(up.min(room), down.min(room))));
         }
-        let (up, up_ends) = self.trial(alloc, index, 1.0)?;
-        let (down, down_ends) = self.trial(alloc, index, 0.0)?;
+        let (up, up_ends) = self.trial(alloc, index, 1.0, saved)?;
+        let (down, down_ends) = self.trial(alloc, index, 0.0, saved)?;
         self.gains.note(column, value, true, up);
         self.gains.note(column, value, false, down);
         if up_ends || down_ends {
@@ -264,18 +274,21 @@ impl Relaxation {
         alloc: Global,
         index: usize,
         value: f64,
+        saved: Saved,
     ) -> Result<(f64, bool), AllocError> {
         let before = self.simplex.basis.objective;
         let room = self.room();
         self.simplex.fix(index, value);
+        self.simplex.is_trial = true;
         let end = self.simplex.optimize(alloc, self.cutoff, TRIAL_STEPS)?;
+        self.simplex.is_trial = false;
         let refuted = end == End::Infeasible || end == End::Past;
         let gain = if refuted {
             room
         } else {
             (self.simplex.basis.objective - before).max(0.0).min(room)
         };
-        self.simplex.restore(&self.saved)?;
+        self.simplex.restore(alloc, &self.saved, saved)?;
         self.simplex.set_bounds(index, 0.0, 1.0);
         Ok((gain, refuted))
     }

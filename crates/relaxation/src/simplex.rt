@@ -3,29 +3,30 @@
 //! Each column has a value from 0 to 1, or is fixed at one of these, and each row wants values of at
 //! least 1 together, each cut of as much as it needs. A basis is kept dual feasible: a column outside it is at the bound that its
 //! reduced cost tells. A step takes the position whose value is furthest outside its bounds by steepest
-//! edge (Forrest and Goldfarb, Steepest-edge simplex algorithms for linear programming, 1992; the
-//! norms are computed anew with the rows of the inverse), and a ratio test with a tolerance (Harris,
+//! edge (Forrest and Goldfarb, Steepest-edge simplex algorithms for linear programming, 1992), and a ratio test with a tolerance (Harris,
 //! Pivot selection methods of the Devex LP code, 1973) names the variable that enters. Costs are
 //! perturbed downwards a little against ties, so that weights stay within the true costs.
 //!
 //! Where columns have different costs, one more row, the limit, says how many there are at most: each
 //! column counts -1 there, and the row wants at least minus that number.
 //!
-//! The inverse is kept entry by entry, and computed anew from time to time. Its rows for surpluses of
-//! rows that are not looked at now, the inactive ones, are not kept up, and computed when they are
-//! active again.
+//! The basis is kept as sparse factors ([`Factors`]), which are computed anew from time to time. Surpluses of
+//! rows that are not looked at now, the inactive ones, may be below 0.
 //!
-//! Nothing depends on the figures but hints. With m rows a step takes up to m * m sums, and the
-//! matrix as many numbers.
+//! Nothing depends on the figures but hints. A step takes a few passes over the factors, over rows and over
+//! columns, and over the rows that its row of the inverse has.
 
 mod basis;
 mod factor;
 mod pricing;
 
-use crate::floats::{add_float, float, put_float};
+use crate::factors::Factors;
+use crate::floats::{
+    add_float, add_float_to_each, add_multiple, fill_floats, float, put_float, sum_of_squares,
+};
 pub(crate) use basis::{Basis, NONE};
 use heuristics::Constraints;
-use number_lists::{Compact, Lists, SEED, at, flag, mark, next_random, number, small};
+use number_lists::{Compact, Lists, SEED, at, flag, mark, next_random, number, overwrite, small};
 use std::alloc::{AllocError, Global};
 use std::num::{nearest_i64_to_f64, nearest_u64_to_f64};
 
@@ -53,8 +54,14 @@ const PIVOT_ERROR: f64 = 1e-6;
 /// Smaller entries of the tableau are no pivots.
 const LEAST_PIVOT: f64 = 1e-7;
 
-/// The inverse is computed anew after so many pivots.
-const PIVOTS_TO_FACTOR: u32 = 1_000;
+/// The factors are computed anew after so many exchanges, but for those of a trial.
+const MOST_EXCHANGES: usize = 16;
+
+/// Before trials they are computed anew after so many.
+const MOST_EXCHANGES_BEFORE_TRIALS: usize = 6;
+
+/// A norm is at least so large, as scores are divided by it.
+const LEAST_NORM: f64 = 1e-4;
 
 /// So many pivots that turned out wrong end the steps.
 const MOST_TROUBLE: u32 = 5;
@@ -85,6 +92,15 @@ struct Candidate {
     slack: f64,
 }
 
+/// Which factors a basis had when it was copied.
+#[derive(Clone, Copy)]
+pub(crate) struct Saved {
+    /// How often factors had been computed.
+    pub(crate) factored: u64,
+    /// How many exchanges there were since.
+    pub(crate) exchanges: usize,
+}
+
 /// The relaxation of a table.
 pub(crate) struct Simplex {
     /// The columns of each row, of the cuts after the rows, and of the limit.
@@ -105,16 +121,26 @@ pub(crate) struct Simplex {
     upper: Vec<f64>,
     /// The basis.
     pub(crate) basis: Basis,
+    /// Its factors.
+    factors: Factors,
+    /// How often these were computed.
+    factored: u64,
+    /// Whether the steps are a trial, after which they return to a saved basis.
+    pub(crate) is_trial: bool,
     /// The rows that are looked at.
     active: Vec<bool>,
     /// The columns that were not fixed when the steps began.
     open: Vec<usize>,
     /// The open columns of each row.
     open_rows: Lists,
+    /// A row of the inverse: an entry for each row.
+    inverse_row: Vec<f64>,
     /// A row of the tableau: an entry for each column.
     tableau_row: Vec<f64>,
     /// A column of the tableau: an entry for each position.
     entering: Vec<f64>,
+    /// The inner products of a row of the inverse and each of its rows: one for each position.
+    products: Vec<f64>,
     /// Room for a number for each row.
     room: Vec<f64>,
     /// What each row wants from the columns in the basis.
@@ -123,8 +149,6 @@ pub(crate) struct Simplex {
     candidates: Vec<Candidate>,
     /// Weights that show that there are no values within the bounds.
     ray: Vec<f64>,
-    /// How many pivots there were since the inverse was computed.
-    pivots: u32,
 }
 
 // Written out, so that where one ends a proof has one call, and not one for each of its lists.
@@ -140,16 +164,20 @@ impl Drop for Simplex {
             lower: _,
             upper: _,
             basis: _,
+            factors: _,
+            factored: _,
+            is_trial: _,
             active: _,
             open: _,
             open_rows: _,
+            inverse_row: _,
             tableau_row: _,
             entering: _,
+            products: _,
             room: _,
             wanted: _,
             candidates: _,
             ray: _,
-            pivots: _,
         } = self;
     }
 }
@@ -211,7 +239,7 @@ impl Simplex {
         let rows = all_rows.len();
         let costs = perturbed_costs(alloc, table)?;
         let basis = Basis::new(alloc, rows, &costs)?;
-        Ok(Simplex {
+        let mut simplex = Simplex {
             rows: all_rows,
             column_rows,
             needs,
@@ -221,17 +249,23 @@ impl Simplex {
             lower: vec![in alloc; 0.0; columns]?,
             upper: vec![in alloc; 1.0; columns]?,
             basis,
+            factors: Factors::new(alloc),
+            factored: 0,
+            is_trial: false,
             active: vec![in alloc; true; rows]?,
             open: Vec::new(alloc),
             open_rows: Lists::new(alloc),
+            inverse_row: vec![in alloc; 0.0; rows]?,
             tableau_row: vec![in alloc; 0.0; columns]?,
             entering: vec![in alloc; 0.0; rows]?,
+            products: vec![in alloc; 0.0; rows]?,
             room: vec![in alloc; 0.0; rows]?,
             wanted: vec![in alloc; 0.0; rows]?,
             candidates: Vec::new(alloc),
             ray: vec![in alloc; 0.0; rows]?,
-            pivots: 0,
-        })
+        };
+        simplex.compute_factors(alloc)?;
+        Ok(simplex)
     }
 
     /// Whether the number of columns is limited, as it is where they have different costs.
@@ -299,14 +333,31 @@ impl Simplex {
         float(self.weights(end), self.limit).max(0.0)
     }
 
-    /// Copies the basis.
-    pub(crate) fn save(&self, to: &mut Basis) -> Result<(), AllocError> {
-        to.copy_from(&self.basis, &self.active)
+    /// Copies the basis, whose factors have few exchanges then.
+    pub(crate) fn save(&mut self, alloc: Global, to: &mut Basis) -> Result<Saved, AllocError> {
+        if self.factors.exchange_count() > MOST_EXCHANGES_BEFORE_TRIALS {
+            self.factor(alloc)?;
+        }
+        to.copy_from(&self.basis);
+        Ok(Saved {
+            factored: self.factored,
+            exchanges: self.factors.exchange_count(),
+        })
     }
 
-    /// Returns to a copy of a basis that was made with the same active rows.
-    pub(crate) fn restore(&mut self, from: &Basis) -> Result<(), AllocError> {
-        self.basis.copy_from(from, &self.active)
+    /// Returns to a copy of a basis, of the factors that these were.
+    pub(crate) fn restore(
+        &mut self,
+        alloc: Global,
+        from: &Basis,
+        saved: Saved,
+    ) -> Result<(), AllocError> {
+        self.basis.copy_from(from);
+        if self.factored == saved.factored {
+            self.factors.truncate_exchanges(saved.exchanges);
+            return Ok(());
+        }
+        self.compute_factors(alloc)
     }
 
     /// Sets the bounds of a column. If these are others than before, and it is outside the basis, it
@@ -314,6 +365,14 @@ impl Simplex {
     pub(crate) fn set_bounds(&mut self, column: usize, lower: f64, upper: f64) {
         put_float(&mut self.lower, column, lower);
         put_float(&mut self.upper, column, upper);
+    }
+
+    /// Frees a column. If it was fixed, its reduced cost is computed anew, which steps do not keep up.
+    pub(crate) fn free(&mut self, column: usize) {
+        if !self.is_free(column) {
+            self.set_bounds(column, 0.0, 1.0);
+            self.compute_reduced_cost(column);
+        }
     }
 
     /// Lists the columns that are not fixed, for the steps that follow.
@@ -400,7 +459,7 @@ impl Simplex {
     /// One step of the dual simplex method, or how the steps end. The cutoff only tells how far a
     /// ray is followed.
     fn step(&mut self, alloc: Global, cutoff: f64) -> Result<Step, AllocError> {
-        if self.pivots > PIVOTS_TO_FACTOR {
+        if !self.is_trial && self.factors.exchange_count() > MOST_EXCHANGES {
             self.factor(alloc)?;
         }
         let Some(position) = self.leaving_position() else {
@@ -424,12 +483,15 @@ impl Simplex {
 
     /// Fills in the column of the tableau of a variable.
     fn fill_entering(&mut self, variable: usize) {
-        self.basis
-            .fill_entering(&self.column_rows, variable, &mut self.entering);
-        if self.basis.row_of(variable).is_none() {
-            self.basis
-                .add_inverse_column(self.limit, -1.0, &mut self.entering);
+        fill_floats(&mut self.room, 0.0);
+        match self.basis.row_of(variable) {
+            Some(row) => put_float(&mut self.room, row, -1.0),
+            None => {
+                add_float_to_each(&mut self.room, self.column_rows.list(variable), 1.0);
+                put_float(&mut self.room, self.limit, -1.0);
+            }
         }
+        self.factors.solve(&mut self.room, &mut self.entering);
     }
 
     /// Lets the variable at the position leave for its bound, and another one enter.
@@ -442,7 +504,7 @@ impl Simplex {
     ) -> Result<(), AllocError> {
         let leaving = number(&self.basis.basic, position);
         let reduced_cost = self.reduced_cost(variable);
-        self.move_duals(position, reduced_cost / pivot);
+        self.move_duals(reduced_cost / pivot);
         self.set_reduced_cost(leaving, 0.0 - reduced_cost / pivot);
         self.set_reduced_cost(variable, 0.0);
         let step = (float(&self.basis.values, position) - bound) / pivot;
@@ -450,16 +512,30 @@ impl Simplex {
         self.move_values(step);
         mark(&mut self.basis.at_one, leaving, bound > 0.5);
         self.basis.objective += reduced_cost * step;
-        self.pivots = self.pivots.saturating_add(1);
-        self.basis.pivot(
-            position,
-            variable,
-            &self.entering,
-            &self.active,
-            &mut self.room,
-        )?;
+        self.move_norms(position, pivot);
+        self.factors.exchange(position, &self.entering)?;
+        self.basis.exchange(position, variable);
         put_float(&mut self.basis.values, position, value);
         Ok(())
+    }
+
+    /// Computes the norms of the rows of the inverse after an exchange at the position (Forrest and Goldfarb
+    /// 1992).
+    fn move_norms(&mut self, position: usize, pivot: f64) {
+        overwrite(&mut self.room, &self.inverse_row);
+        self.factors.solve(&mut self.room, &mut self.products);
+        let own = sum_of_squares(&self.inverse_row);
+        for other in 0..self.entering.len() {
+            let entry = float(&self.entering, other);
+            if entry != 0.0 && other != position {
+                let ratio = entry / pivot;
+                let product = float(&self.products, other);
+                let norm = float(&self.basis.norms, other) + ratio * (ratio * own - 2.0 * product);
+                put_float(&mut self.basis.norms, other, norm.max(LEAST_NORM));
+            }
+        }
+        let norm = own / (pivot * pivot);
+        put_float(&mut self.basis.norms, position, norm.max(LEAST_NORM));
     }
 
     /// The value of a variable outside the basis.
@@ -487,21 +563,14 @@ impl Simplex {
         }
     }
 
-    /// Moves the reduced costs of open columns and the weights of tight rows by a multiple of the
-    /// row of the tableau.
-    fn move_duals(&mut self, position: usize, multiple: f64) {
+    /// Moves the reduced costs of open columns and the weights of rows by a multiple of the row of the
+    /// tableau.
+    fn move_duals(&mut self, multiple: f64) {
         if multiple == 0.0 {
             return;
         }
         self.move_reduced_costs(multiple);
-        for slot in 0..self.basis.tight.len() {
-            let more = multiple * self.basis.inverse.entry(position, slot);
-            add_float(
-                &mut self.basis.weights,
-                number(&self.basis.tight, slot),
-                more,
-            );
-        }
+        add_multiple(&mut self.basis.weights, &self.inverse_row, multiple);
     }
 
     /// Subtracts a multiple of the row of the tableau from the reduced costs of open columns

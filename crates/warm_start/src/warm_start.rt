@@ -544,7 +544,8 @@ impl WarmStart {
             self.remember(alloc, rows, numbers, &ascent)?;
             return ascent.multipliers(alloc);
         }
-        let weights = self.remember_steps(alloc, rows, numbers, &pair)?;
+        let weights = pair.weights(alloc)?;
+        let weights = self.remember_steps(alloc, rows, numbers, pair.cuts(), weights)?;
         self.missing = pair.shortfall(goal);
         Ok(Multipliers {
             weights: whole(alloc, &weights)?,
@@ -554,17 +555,17 @@ impl WarmStart {
         })
     }
 
-    /// Remembers the rows, their numbers, and the cuts and weights of primal-dual steps; answers the weights of
-    /// the rows.
+    /// Remembers the rows, their numbers, cuts of them, and weights of the rows and then of the cuts; answers
+    /// the weights of the rows.
     fn remember_steps(
         &mut self,
         alloc: Global,
         rows: &[Vec<usize>],
         numbers: &[usize],
-        pair: &PrimalDual,
+        cuts: &Lists,
+        mut weights: Vec<i64>,
     ) -> Result<Vec<i64>, AllocError> {
-        let mut weights = pair.weights(alloc)?;
-        self.cuts = Cuts::of(alloc, pair.cuts(), numbers, &weights)?;
+        self.cuts = Cuts::of(alloc, cuts, numbers, &weights)?;
         weights.truncate(numbers.len());
         self.remember_rows(alloc, rows, numbers, &weights)?;
         Ok(weights)

@@ -1,14 +1,16 @@
 //! Which variable leaves the basis, and which one enters.
 
-use super::basis::TINY;
 use super::{Candidate, FEASIBLE, LEAST_PIVOT, Simplex};
-use crate::floats::{add_float, add_float_to_each, fill_floats, float, put_float};
+use crate::floats::{add_float_to_each, add_multiple, fill_floats, float, put_float};
 use number_lists::{number, overwrite};
 use std::alloc::AllocError;
 
 /// What is added to reduced costs in the ratio test, so that of nearly equal steps one with a large pivot
 /// can be taken.
 const TOLERANCE: f64 = 1e-9;
+
+/// Smaller entries of the inverse count as 0.
+const TINY: f64 = 1e-12;
 
 /// How far past the cutoff a ray is followed: enough that rounding the weights to whole numbers does not
 /// bring them back.
@@ -91,20 +93,28 @@ impl Simplex {
         }
     }
 
-    /// Fills in the row of the tableau at the position, for open columns.
-    fn fill_tableau_row(&mut self, position: usize) {
+    /// Fills in the row of the inverse at the position.
+    fn fill_inverse_row(&mut self, position: usize) {
+        fill_floats(&mut self.room, 0.0);
+        put_float(&mut self.room, position, 1.0);
+        self.factors
+            .solve_transposed(&mut self.room, &mut self.inverse_row);
+        for entry in self.inverse_row.iter_mut() {
+            if entry.abs() <= TINY {
+                *entry = 0.0;
+            }
+        }
+    }
+
+    /// Fills in the row of the tableau that the row of the inverse gives, for open columns.
+    fn fill_tableau_row(&mut self) {
         fill_floats(&mut self.tableau_row, 0.0);
-        for slot in 0..self.basis.tight.len() {
-            let entry = self.basis.inverse.entry(position, slot);
-            if entry.abs() > TINY {
-                let row = number(&self.basis.tight, slot);
+        for row in 0..self.inverse_row.len() {
+            let entry = float(&self.inverse_row, row);
+            if entry != 0.0 {
                 let more = entry * self.entry(row);
                 add_float_to_each(&mut self.tableau_row, self.open_rows.list(row), more);
             }
-        }
-        if let Some(row) = self.basis.surplus_row(position) {
-            let more = 0.0 - self.entry(row);
-            add_float_to_each(&mut self.tableau_row, self.open_rows.list(row), more);
         }
     }
 
@@ -132,14 +142,13 @@ impl Simplex {
         })
     }
 
-    /// The surplus of the tight row with the slot, if it may enter.
-    fn surplus_candidate(&self, position: usize, slot: usize, sign: f64) -> Option<Candidate> {
-        let entry = 0.0 - self.basis.inverse.entry(position, slot);
+    /// The surplus of a row as a candidate, if the row is tight and it may enter.
+    fn surplus_candidate(&self, row: usize, sign: f64) -> Option<Candidate> {
+        let entry = 0.0 - float(&self.inverse_row, row);
         let size = sign * entry;
-        if size <= LEAST_PIVOT {
+        if size <= LEAST_PIVOT || !self.basis.is_tight(row) {
             return None;
         }
-        let row = number(&self.basis.tight, slot);
         Some(Candidate {
             variable: self.basis.surplus_of(row),
             entry,
@@ -161,24 +170,26 @@ impl Simplex {
     }
 
     /// Adds the surpluses of tight rows that may enter to the candidates.
-    fn list_surpluses(&mut self, position: usize, sign: f64) -> Result<(), AllocError> {
-        for slot in 0..self.basis.tight.len() {
-            if let Some(candidate) = self.surplus_candidate(position, slot, sign) {
+    fn list_surpluses(&mut self, sign: f64) -> Result<(), AllocError> {
+        for row in 0..self.inverse_row.len() {
+            if let Some(candidate) = self.surplus_candidate(row, sign) {
                 self.candidates.push(candidate)?;
             }
         }
         Ok(())
     }
 
-    /// The variable that enters where the one at the position leaves, if there is one.
+    /// The variable that enters where the one at the position leaves, if there is one. Fills in the rows of
+    /// the inverse and of the tableau.
     pub(super) fn entering_candidate(
         &mut self,
         position: usize,
         sign: f64,
     ) -> Result<Option<Candidate>, AllocError> {
-        self.fill_tableau_row(position);
+        self.fill_inverse_row(position);
+        self.fill_tableau_row();
         self.list_columns(sign)?;
-        self.list_surpluses(position, sign)?;
+        self.list_surpluses(sign)?;
         Ok(largest_pivot(&self.candidates, least_step(&self.candidates)))
     }
 
@@ -190,12 +201,6 @@ impl Simplex {
         let missing = (cutoff + PAST_CUTOFF - self.basis.objective).max(0.0);
         let multiple = sign * missing / excess.max(FEASIBLE);
         overwrite(&mut self.ray, &self.basis.weights);
-        for slot in 0..self.basis.tight.len() {
-            let more = multiple * self.basis.inverse.entry(position, slot);
-            add_float(&mut self.ray, number(&self.basis.tight, slot), more);
-        }
-        if let Some(row) = self.basis.surplus_row(position) {
-            put_float(&mut self.ray, row, 0.0 - multiple);
-        }
+        add_multiple(&mut self.ray, &self.inverse_row, multiple);
     }
 }

@@ -1,7 +1,7 @@
 //! Where tables of a search are bounded by their linear relaxation: when it is wanted, the cuts that make it
 //! stronger, and columns to branch on.
 
-use super::{SPANS, SPANS_OF_CUTS, WarmStart};
+use super::WarmStart;
 use crate::cuts::Cuts;
 use heuristics::{Goal, LIKELIEST};
 use number_lists::{Compact, Lists, at};
@@ -23,9 +23,6 @@ const QUICK_TABLES_BY_COST_ONCE_HARD: u64 = 40;
 
 /// but at no fewer than the square of the number of rows, divided by this.
 const SQUARE_OF_ROWS: u64 = 4_000;
-
-/// How often cuts are added for the linear relaxation of a search, at most.
-const TIMES_FOR_RELAXATION: u32 = 20;
 
 /// A column is branched on where its part of a fractional cover is so far from 0 and from 1.
 const LEAST_FRACTION: i64 = LIKELIEST / 10;
@@ -89,43 +86,54 @@ impl WarmStart {
         if let Some(relaxation) = &mut self.relaxation {
             return relaxation.begin_anew(alloc);
         }
-        let cuts = self.cuts_for_relaxation(alloc, table, live, rows, columns, goal)?;
+        let numbers = self.row_ids(alloc, rows, live, columns)?;
+        let cuts = self.cuts_of_rows(alloc, table, &numbers)?;
         let gains = match self.gains.take() {
             Some(gains) => gains,
             None => PseudoCosts::new(alloc, columns)?,
         };
-        let relaxation = Relaxation::new(alloc, table, rows, live, columns, cuts, gains)?;
+        let mut relaxation = Relaxation::new(alloc, table, rows, live, columns, cuts, gains)?;
+        if !table.is_uneven() {
+            relaxation.strengthen(alloc, table, goal)?;
+            self.remember_cuts(alloc, live, rows, columns, &numbers, &relaxation)?;
+        }
         self.relaxation = Some(relaxation);
         Ok(())
     }
 
-    /// Cuts that make the linear relaxation of a table stronger, found by primal-dual steps, each a list of
-    /// its rows; the arguments are those of `multipliers`. They are remembered. None where columns have
+    /// The remembered cuts of the rows with these numbers, each a list of rows; none where columns have
     /// different costs.
-    fn cuts_for_relaxation(
-        &mut self,
+    fn cuts_of_rows(
+        &self,
         alloc: Global,
         table: &Compact,
+        numbers: &[usize],
+    ) -> Result<Lists, AllocError> {
+        if table.is_uneven() {
+            return Ok(Lists::new(alloc));
+        }
+        self.cuts
+            .among(alloc, numbers, self.weights.len(), &mut Vec::new(alloc))
+    }
+
+    /// Remembers the cuts of the relaxation, if there are some, with the weights and the fractional cover to
+    /// which they belong; the arguments are those of `multipliers`, and the numbers of the rows.
+    fn remember_cuts(
+        &mut self,
+        alloc: Global,
         live: &[usize],
         rows: &[Vec<usize>],
         columns: usize,
-        goal: Goal,
-    ) -> Result<Lists, AllocError> {
-        let mut cuts = Lists::new(alloc);
-        if table.is_uneven() {
-            return Ok(cuts);
-        }
-        let numbers = self.row_ids(alloc, rows, live, columns)?;
-        let mut pair = self.primal_dual(alloc, table, live, &numbers)?;
-        pair.approach(alloc, goal, SPANS)?;
-        pair.strengthen_fully(alloc, table, goal, TIMES_FOR_RELAXATION, SPANS_OF_CUTS)?;
-        if pair.cuts().len() > 0 {
-            cuts.extend_from(pair.cuts())?;
+        numbers: &[usize],
+        relaxation: &Relaxation,
+    ) -> Result<(), AllocError> {
+        if relaxation.cuts().len() > 0 {
             self.fractional = true;
-            self.keep_likely(alloc, live, &pair.parts(alloc)?, columns)?;
-            self.remember_steps(alloc, rows, &numbers, &pair)?;
+            self.keep_likely(alloc, live, &relaxation.parts(alloc)?, columns)?;
+            let weights = relaxation.weights(alloc)?;
+            self.remember_steps(alloc, rows, numbers, relaxation.cuts(), weights)?;
         }
-        Ok(cuts)
+        Ok(())
     }
 
     /// Takes over the cuts of a question, with the rows, their weights and the fractional cover to which they

@@ -6,7 +6,7 @@
 //! that has it and the fewest rows (Koster, Zymolka and Kutschka, Algorithms to separate
 //! {0, 1/2}-Chvátal-Gomory cuts, 2009).
 
-use heuristics::LIKELIEST;
+use crate::subgradient::LIKELIEST;
 use number_lists::{Lists, add_to, at, number, small};
 use std::alloc::{AllocError, Global};
 use std::mem::replace;
@@ -355,11 +355,7 @@ fn best_cuts(alloc: Global, found: &mut Found, rows: usize) -> Result<Lists, All
 /// Cuts of these rows that a fractional cover violates, the best first, each a list of an odd number of rows.
 /// `parts` is how much of each column it has, where `LIKELIEST` is all of it. Takes memory and time for the
 /// entries of combinations, of at most some ten rows each.
-pub(crate) fn violated_cuts(
-    alloc: Global,
-    rows: &Lists,
-    parts: &[i64],
-) -> Result<Lists, AllocError> {
+pub fn violated_cuts(alloc: Global, rows: &Lists, parts: &[i64]) -> Result<Lists, AllocError> {
     let rows_alone = single_rows(alloc, rows, parts)?;
     let mut elimination = Elimination::new(alloc, rows_alone, parts.len())?;
     let mut found = Found {
