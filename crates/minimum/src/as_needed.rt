@@ -53,7 +53,6 @@ mod narrowing;
 mod places_outside;
 
 /// What the rounds know.
-#[derive(Drop)]
 struct Known {
     /// Cubes none of whose places is in ON or DC.
     outside: Cover,
@@ -61,6 +60,17 @@ struct Known {
     found: PickedPoints,
     /// How many looks at a cube or a point are left for columns.
     looks: usize,
+}
+
+// Written out, so that where it ends a proof has one call, and no case for each list.
+impl Drop for Known {
+    fn drop(self) {
+        let Known {
+            outside: _,
+            found: _,
+            looks: _,
+        } = self;
+    }
 }
 
 impl Known {

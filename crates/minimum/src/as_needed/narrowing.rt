@@ -10,7 +10,6 @@ use rows::{cube_of_output, share_output};
 use std::alloc::{AllocError, Global};
 
 /// How far a row is narrowed.
-#[derive(Drop)]
 pub(crate) struct Narrowing {
     /// What is left of it, under one output.
     here: Cube,
@@ -18,6 +17,17 @@ pub(crate) struct Narrowing {
     near: Vec<usize>,
     /// For each input, whether the places that are left are known to need a literal.
     needed: Vec<bool>,
+}
+
+// Written out, so that where it ends a proof has one call, and no case for each part.
+impl Drop for Narrowing {
+    fn drop(self) {
+        let Narrowing {
+            here: _,
+            near: _,
+            needed: _,
+        } = self;
+    }
 }
 
 /// A step: what it would leave, and the input whose literal would be needed.

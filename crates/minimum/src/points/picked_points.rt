@@ -7,12 +7,21 @@ use cube::{Cube, Shape};
 use std::alloc::{AllocError, Global};
 
 /// Points, and columns for their table.
-#[derive(Drop)]
 pub(crate) struct PickedPoints {
     /// Wanted points.
     pub(crate) points: Vec<Cube>,
     /// Primes that dominate all that contain one of the points; some may stand twice.
     pub(crate) columns: Cover,
+}
+
+// Written out, so that where they end a proof has one call, and no case for each list.
+impl Drop for PickedPoints {
+    fn drop(self) {
+        let PickedPoints {
+            points: _,
+            columns: _,
+        } = self;
+    }
 }
 
 impl PickedPoints {

@@ -7,14 +7,14 @@
 //! three columns a row. A round costs what the cover does, and a look at the ON cubes that are left
 //! out.
 
-ghost use Rattle.std.specs.Prelude.{◌≡◌, ◌||◌, [], IfOk, IfSome, true};
+ghost use Rattle.std.specs.Prelude.{◌≡◌, ◌||◌, [], IfOk, IfSome, OnOk, true};
 ghost use Rattle.std.specs.List.{Contains};
 ghost use Rattle.cube.specs.Cube.{Cube as Row, IsSubset};
 ghost use Rattle.cube.specs.Limits.{IsWithinLimits, format_limits};
 ghost use Rattle.cover.specs.Cubes.{AreCubes};
 ghost use Rattle.cover.specs.Places.{places};
 ghost use Rattle.pla.specs.Sets.{SetLists};
-ghost use Rattle.minimum.specs.Points.{AreDominating, function_of, IsLeastOfPoints, IsSource, StandsFor, lists_of};
+ghost use Rattle.minimum.specs.Points.{AreDominating, function_by, function_of, IsFound, IsLeastOfPoints, IsSource, StandsFor, lists_of};
 ghost use Rattle.minimum.specs.Primes.{care_on, exact_of};
 
 use crate::cubes::cubes_at;
@@ -27,6 +27,7 @@ use cover::{Cover, in_row_order};
 use covering::{Choice, Effort, least_cover_with_effort, short_cover};
 use cube::Cube;
 use growth::add_copy;
+use signature_search::Proposer;
 use std::alloc::{AllocError, Global};
 
 /// A cover of the table of the points by these columns, in row order: the least, after which `effort`
@@ -82,6 +83,47 @@ fn cubes_left_out(alloc: Global, on: &Cover, dc: &Cover, list: &Cover) -> Result
     Ok(left)
 }
 
+/// Points to begin with, and their columns: of the places that are proposed first.
+fn first_points(
+    alloc: Global,
+    on: &Cover,
+    dc: &Cover,
+    source: &Source,
+    proposer: &Proposer,
+    choice: Choice,
+) -> Result<PickedPoints, AllocError>
+    requires dc { dc.now.size ≡ on.now.size }
+    requires source { IsSource on.now.size source.now }
+    ensures { IfOk result (IsFound choice (function_by (lists_of on.now dc.now) source.now)) }
+{
+    let mut found = PickedPoints::new(alloc, on.shape());
+    let places = first_places(alloc, proposer, on)?;
+    add_places(alloc, on, dc, source, &places, choice, &mut found)?;
+    Ok(found)
+}
+
+/// Adds points that the list leaves out of the ON cubes `left`, and their columns. `true` if one was
+/// added.
+fn add_points_left_out(
+    alloc: Global,
+    on: &Cover,
+    dc: &Cover,
+    source: &Source,
+    proposer: &Proposer,
+    left: &Cover,
+    list: &Cover,
+    choice: Choice,
+    found: &mut PickedPoints,
+) -> Result<bool, AllocError>
+    requires dc { dc.now.size ≡ on.now.size }
+    requires source { IsSource on.now.size source.now }
+    requires found { IsFound choice (function_by (lists_of on.now dc.now) source.now) found.old }
+    ensures { OnOk result (IsFound choice (function_by (lists_of on.now dc.now) source.now) found.new) }
+{
+    let places = places_left_out(alloc, proposer, left, list)?;
+    add_places(alloc, on, dc, source, &places, choice, found)
+}
+
 // At most this many rounds are made.
 const MOST_ROUNDS: usize = 500;
 
@@ -105,9 +147,7 @@ pub(crate) fn exact_by_points(
         { size = on.now.size; cubes = exact_of choice sets })) }
 {
     let proposer = proposer_of(alloc, on, dc, source, sampled)?;
-    let mut found = PickedPoints::new(alloc, on.shape());
-    let places = first_places(alloc, &proposer, on)?;
-    add_places(alloc, on, dc, source, &places, choice, &mut found)?;
+    let mut found = first_points(alloc, on, dc, source, &proposer, choice)?;
     let mut is_least = true;
     let mut last = Cover::new(alloc, on.shape());
     let mut effort = Effort::none();
@@ -119,12 +159,14 @@ pub(crate) fn exact_by_points(
             return Ok(Some(list));
         }
         is_least = asks_for_least(&left, &found.points, effort.tables);
-        let places = places_left_out(alloc, &proposer, &left, &list)?;
         last = list;
         if left.is_empty() {
             continue;
         }
-        if !add_places(alloc, on, dc, source, &places, choice, &mut found)? {
+        let is_added = add_points_left_out(
+            alloc, on, dc, source, &proposer, &left, &last, choice, &mut found,
+        )?;
+        if !is_added {
             return Ok(None);
         }
     }
