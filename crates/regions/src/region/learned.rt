@@ -433,6 +433,25 @@ fn part_at_output(alloc: Global, region: &Cube, output: usize) -> Result<Option<
     region.meet(&all)
 }
 
+/// What a search shows of a part of the region, which has one output. The search, and the implicants that
+/// its answer needed, are kept in `learned`.
+fn shown_of_part(
+    alloc: Global,
+    rows: &[&Cube],
+    learned: &mut Learned,
+    output: usize,
+    part: &Cube,
+) -> Result<Shown, AllocError>
+    requires sizes { All (λ d. SameSize d.now part.now) rows.now }
+    requires known { AreLearned part.now rows.now learned.old.known.items }
+    ensures known { OnOk result (AreLearned part.now rows.now learned.new.known.items) }
+    ensures shown { IfOk result (Shows part.now rows.now) }
+{
+    learned.prepare_search(alloc, rows, output, part.shape())?;
+    let answer = learned.ask_search(alloc, output, part)?;
+    shown_by_answer(alloc, rows, &mut learned.known, output, part, &answer)
+}
+
 /// What searches show of the region, output by output: `Held` if the part at each is shown to be
 /// held, else what is shown at the first output where it is not. The searches that were built, and
 /// the implicants that their answers needed, are kept in `learned`.
@@ -451,9 +470,7 @@ pub(crate) fn shown_by_search(
         let Some(part) = part_at_output(alloc, region, output)? else {
             continue;
         };
-        learned.prepare_search(alloc, rows, output, part.shape())?;
-        let answer = learned.ask_search(alloc, output, &part)?;
-        match shown_by_answer(alloc, rows, &mut learned.known, output, &part, &answer)? {
+        match shown_of_part(alloc, rows, learned, output, &part)? {
             Shown::Held => (),
             Shown::LeftOut(point) => return Ok(Shown::LeftOut(point)),
             Shown::Nothing => return Ok(Shown::Nothing),
