@@ -110,7 +110,8 @@ CUTS = [
 # Questions come to the linear relaxation, with its cuts, at once.
 RELAXED = [
     ("warm_start/warm_start/relaxing", "QUICK_TABLES: u64 = 200", "QUICK_TABLES: u64 = 2"),
-    ("warm_start/warm_start/relaxing", "QUICK_TABLES_ONCE_HARD: u64 = 8", "QUICK_TABLES_ONCE_HARD: u64 = 1"),
+    ("warm_start/warm_start/relaxing", "QUICK_TABLES_ONCE_HARD: u64 = 2", "QUICK_TABLES_ONCE_HARD: u64 = 1"),
+    ("covering/search", "BRIEF_TABLES: u64 = 400", "BRIEF_TABLES: u64 = 2"),
 ]
 # A local search looks at a few of the chosen columns for one to drop.
 FEW_LOOKS_TO_DROP = [

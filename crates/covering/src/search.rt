@@ -30,10 +30,10 @@ use warm_start::{WarmStart, is_worth_a_bound};
 pub(crate) const UNLIMITED: u64 = u64::MAX;
 
 /// A brief look with the linear relaxation is at no more than so many tables.
-const BRIEF_TABLES: u64 = 40;
+const BRIEF_TABLES: u64 = 400;
 
 /// A local search before a brief look takes the steps of one before a long look, divided by this.
-const BRIEF_PART: usize = 8;
+const BRIEF_PART: usize = 16;
 
 /// A local search near the last cover takes three steps a row, and no more than so many: in a large table
 /// what a question changes is near what it asks for.

@@ -1,11 +1,12 @@
 //! The linear relaxation of a covering table, by the bounded dual simplex method.
 //!
 //! Each column has a value from 0 to 1, or is fixed at one of these, and each row wants values of at
-//! least 1 together, each cut of as much as it needs. A basis is kept dual feasible: a column outside it is at the bound that its
-//! reduced cost tells. A step takes the position whose value is furthest outside its bounds by steepest
-//! edge (Forrest and Goldfarb, Steepest-edge simplex algorithms for linear programming, 1992), and a ratio test with a tolerance (Harris,
-//! Pivot selection methods of the Devex LP code, 1973) names the variable that enters. Costs are
-//! perturbed downwards a little against ties, so that weights stay within the true costs.
+//! least 1 together, each cut of as much as it needs. A basis is kept dual feasible: a column outside it
+//! is at the bound that its reduced cost tells. A step takes the position whose value is furthest outside
+//! its bounds by steepest edge (Forrest and Goldfarb, Steepest-edge simplex algorithms for linear
+//! programming, 1992), and a ratio test with a tolerance (Harris, Pivot selection methods of the Devex LP
+//! code, 1973) names the variable that enters. Costs are perturbed downwards a little against ties, so
+//! that weights stay within the true costs.
 //!
 //! Where columns have different costs, one more row, the limit, says how many there are at most: each
 //! column counts -1 there, and the row wants at least minus that number.

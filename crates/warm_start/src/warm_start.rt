@@ -214,9 +214,10 @@ impl WarmStart {
     }
 
     /// Marks for `columns` columns: those of which the last fractional cover has some part are set, its
-    /// support; `None` if there is no such cover.
+    /// support. `None` if there is no such cover, or once a search was hard: then one with the linear
+    /// relaxation mostly ends sooner than one in the support.
     pub fn support(&self, alloc: Global, columns: usize) -> Result<Option<Vec<bool>>, AllocError> {
-        if !self.fractional {
+        if !self.fractional || self.hard {
             return Ok(None);
         }
         let mut marks = vec![in alloc; false; columns]?;

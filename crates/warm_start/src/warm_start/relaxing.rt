@@ -13,7 +13,7 @@ use std::mem::replace;
 const QUICK_TABLES: u64 = 200;
 
 /// and at so many once another one was.
-const QUICK_TABLES_ONCE_HARD: u64 = 8;
+const QUICK_TABLES_ONCE_HARD: u64 = 2;
 
 /// Where columns have different costs it looks at so many,
 const QUICK_TABLES_BY_COST: u64 = 100;
