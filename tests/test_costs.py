@@ -16,6 +16,7 @@ TOP = os.path.dirname(os.path.dirname(os.path.abspath(__file__)))
 sys.path.append(os.path.join(TOP, "bench"))
 
 from bench import FUNCTIONS, function_rows, partition, split_rows  # noqa: E402
+from users import ruled_samples  # noqa: E402
 
 SECONDS = 30                       # each of these runs takes a fraction of one
 
@@ -57,6 +58,13 @@ class Stack(ProgramTest):
         self.within(*(on_input(command, f"-D{command}", text, printed(1024, 2, whole)) for command in ("primes", "exact")),
                     Case("intersect", "-Dintersect a b", {"a": text, "b": text}, printed(1024, 2, whole)),
                     Case("sharp", "-Dsharp b a", {"a": text, "b": pla(1024, 2, whole)}, printed(1024, 2)))
+
+    def test_a_search_that_drops_many_columns(self):
+        """It drops them one after the other: with a call inside the other for each it ran out."""
+        samples = ruled_samples(64, 1, 80, 0.0, 1)
+        literals = ({35: "0", 49: "1", 50: "0", 55: "1"}, {26: "0", 48: "1", 60: "0"}, {8: "1", 17: "0", 32: "1"}, {3: "0", 13: "0", 40: "0"})
+        terms = ("".join(each.get(i, "-") for i in range(64)) + " 1" for each in literals)
+        self.within(on_input("samples", "-Dexact", pla(64, 1, *samples.rows, head=samples.head()), printed(64, 1, *terms)))
 
 
 class Room(ProgramTest):

@@ -296,3 +296,19 @@ pub all_marked_at : (n c : ℕ) → c < n → marked (replicate n true) c ≡ tr
 all_marked_at zero c h = absurd (omega arith)
 all_marked_at (suc n) zero h = refl
 all_marked_at (suc n) (suc c) h = all_marked_at n c (omega arith)
+
+-- a table without a column that no cover within the cutoff has, and what that is pruned to
+pub dropped_pruned : (choice : Choice) (t u : Table) (c k w : ℕ) (o : Option Table) → IsTable t → has c t.live ≡ true → NoneWithin choice (take_column c t) k w → u ≡ drop_column c t → MatchOption o (NoneWithin choice u k w) (IsPruned choice k w u) → MatchOption o (NoneWithin choice t k w) (IsPruned choice k w t)
+dropped_pruned choice t u c k w None wt live none is a = answers_dropped choice t c k w None wt live none (subst (λ g. NoneWithin choice g k w) is a)
+dropped_pruned choice t u c k w (Some v) wt live none is a = record {
+  leads = λ o b. answers_dropped choice t c k w o wt live none (subst (λ g. Answers choice g k w o) is (a.leads o b));
+  live = let falls = live_falls t c wt live in let same = ap (λ (g : Table). length g.live) is in let less = a.live in omega (arith, falls, same, less);
+}
+
+pub dropped_fewer : (choice : Choice) (t u : Table) (c k w : ℕ) (o : Option Table) → IsTable t → has c t.live ≡ true → u ≡ drop_column c t → MatchOption o (NoneWithin choice u k w) (IsPruned choice k w u) → IfSome o (λ v. length v.live < length t.live)
+dropped_fewer choice t u c k w None wt live is a = tt
+dropped_fewer choice t u c k w (Some v) wt live is a = let falls = live_falls t c wt live in let same = ap (λ (g : Table). length g.live) is in let less = a.live in omega (arith, falls, same, less)
+
+-- a table is pruned to itself
+pub pruned_here : (choice : Choice) (t u : Table) (k w : ℕ) → u ≡ t → IsPruned choice k w t u
+pruned_here choice t u k w e = record { leads = λ o a. subst (λ g. Answers choice g k w o) e a; live = let same = ap (λ (g : Table). length g.live) e in omega (arith, same) }

@@ -9,10 +9,11 @@
 //! looked at many tables is begun anew, with its tables bounded by their linear relaxation, which cuts
 //! make stronger (`find_or_refute_in_stages`).
 
-ghost use Rattle.std.specs.Prelude.{◌≡◌, ◌≤◌, ◌-◌, ℕ, [], IfOk, IfSome, MatchOption, MatchBool, length, true, false};
+ghost use Rattle.std.specs.Prelude.{◌≡◌, ◌≤◌, ◌<◌, ◌-◌, ℕ, [], IfOk, IfSome, MatchOption, MatchBool, length, true, false};
 ghost use Rattle.covering.specs.Table.{IsTable, has};
 ghost use Rattle.covering.specs.Cover.{counted, sum_over};
 ghost use Rattle.covering.specs.Search.{NoneWithin, AnswersWithin, IsAnswer, IsPruned, IsOutside, marked};
+ghost use Rattle.covering.specs.Steps.{take_column};
 
 use crate::bound::{Cutoff, columns_within_gap, limit_of, scaled_costs};
 use crate::choice::{Choice, cost, total_cost};
@@ -413,9 +414,40 @@ impl Table {
         }
     }
 
+    /// The table without the column, which no cover within the cutoff has, as far as a search has to look
+    /// at it; `None` if that shows that there is no such cover. Subtracts it from `tables_left`, and is
+    /// `Spent` if that is 0.
+    fn prune_without(
+        &self,
+        alloc: Global,
+        choice: Choice,
+        cutoff: Cutoff,
+        column: usize,
+        warm_start: &mut WarmStart,
+        tables_left: &mut u64,
+        lists: &mut Vec<Vec<usize>>,
+    ) -> Result<Option<Table>, Stop>
+        requires table { IsTable self.now }
+        requires live { has column self.now.live ≡ true }
+        requires none { NoneWithin choice (take_column column self.now) cutoff.columns cutoff.cost }
+        ensures pruned { IfOk result (λ o. MatchOption o (NoneWithin choice self.now cutoff.columns
+            cutoff.cost) (IsPruned choice cutoff.columns cutoff.cost self.now)) }
+        ensures fewer { IfOk result (λ o. IfSome o (λ t. length t.live < length self.now.live)) }
+    {
+        let Some(rest) = tables_left.checked_sub(1) else {
+            return Err(Stop::Spent);
+        };
+        *tables_left = rest;
+        warm_start.count_table();
+        match self.drop_live(alloc, column)? {
+            None => Ok(None),
+            Some(table) => Ok(table.prune(alloc, choice, cutoff, Due::ROWS, warm_start, lists)?),
+        }
+    }
+
     /// A cover within the cutoff, or none if there is none: branches on a live column, which is
-    /// first taken, and dropped if no such cover has it. Subtracts the tables that it branches into
-    /// from `tables_left`, and is `Spent` if they do not suffice.
+    /// first taken, and dropped if no such cover has it, and so on. Subtracts the tables that it branches
+    /// into from `tables_left`, and is `Spent` if they do not suffice.
     #[cycle(search)]
     fn branch(
         &self,
@@ -428,43 +460,55 @@ impl Table {
     ) -> Result<Option<Vec<usize>>, Stop>
         ensures { IfOk result (AnswersWithin choice self.now cutoff) }
     {
-        if self.is_over_cutoff(choice, cutoff) {
-            return Ok(None);
-        }
-        if self.is_solved() {
-            return Ok(Some(copy_of(alloc, self.taken_columns())?));
-        }
-        let goal = self.goal(choice, cutoff);
-        let Some(column) = self.branching_column(alloc, goal, warm_start)? else {
-            return Ok(None);
-        };
-        let basis = warm_start.branch(alloc, column)?;
-        let with = self.take(alloc, column)?;
-        if let Some(cover) = with.search(
-            alloc,
-            choice,
-            cutoff,
-            Due::COLUMNS,
-            warm_start,
-            tables_left,
-            lists,
-        )? {
-            return Ok(Some(cover));
-        }
-        warm_start.go_back(alloc, basis)?;
-        match self.drop_live(alloc, column)? {
-            None => Ok(None),
-            Some(rest) => {
-                rest.search(
+        let mut table = self.copy(alloc)?;
+        loop {
+            if table.is_over_cutoff(choice, cutoff) {
+                return Ok(None);
+            }
+            if table.is_solved() {
+                return Ok(Some(copy_of(alloc, table.taken_columns())?));
+            }
+            let goal = table.goal(choice, cutoff);
+            let Some(column) = table.branching_column(alloc, goal, warm_start)? else {
+                return Ok(None);
+            };
+            let basis = warm_start.branch(alloc, column)?;
+            let with = table.take(alloc, column)?;
+            if let Some(cover) = with.search(
+                alloc,
+                choice,
+                cutoff,
+                Due::COLUMNS,
+                warm_start,
+                tables_left,
+                lists,
+            )? {
+                return Ok(Some(cover));
+            }
+            warm_start.go_back(alloc, basis)?;
+            let Some(rest) = table.prune_without(
+                alloc,
+                choice,
+                cutoff,
+                column,
+                warm_start,
+                tables_left,
+                lists,
+            )?
+            else {
+                return Ok(None);
+            };
+            if !warm_start.is_relaxing() && rest.has_few_live_columns() {
+                return rest.branch_in_fewer_columns(
                     alloc,
                     choice,
                     cutoff,
-                    Due::ROWS,
                     warm_start,
                     tables_left,
                     lists,
-                )
+                );
             }
+            table = rest;
         }
     }
 
@@ -715,13 +759,16 @@ impl Table {
             return Ok(Some(cover));
         }
         let mut tables_left = most_tables;
-        table.branch_in_fewer_columns(
+        let mut own = warm_start.copy(alloc)?;
+        let found = table.branch_in_fewer_columns(
             alloc,
             choice,
             cutoff,
-            warm_start,
+            &mut own,
             &mut tables_left,
             &mut lists,
-        )
+        );
+        warm_start.learn(&own);
+        found
     }
 }

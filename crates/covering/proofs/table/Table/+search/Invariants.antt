@@ -1,4 +1,5 @@
 use Rattle.std.proofs.Common.{◌+◌, ◌*◌, length}
+use Rattle.covering.specs.Search.{IsPruned}
 use Rattle.covering.proofs.table.Table.+search.Given as goal
 
 abbrev pub decreases-search : goal.decreases-search
@@ -9,3 +10,9 @@ decreases-branch l = 3 * length l.self.now.live
 
 abbrev pub decreases-branch_in_fewer_columns : goal.decreases-branch_in_fewer_columns
 decreases-branch_in_fewer_columns l = 3 * length l.self.now.live + 1
+
+abbrev pub invariant-branch-loop-alloc : goal.invariant-branch-loop-alloc
+invariant-branch-loop-alloc l = IsPruned l.choice l.cutoff.columns l.cutoff.cost l.fn.self l.table
+
+abbrev pub decreases-branch-loop-alloc : goal.decreases-branch-loop-alloc
+decreases-branch-loop-alloc l = length l.table.live
