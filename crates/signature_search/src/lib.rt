@@ -40,6 +40,7 @@ mod finder;
 mod function;
 mod lists;
 mod occurrences;
+mod parts;
 mod prime_list;
 mod proposer;
 mod question;

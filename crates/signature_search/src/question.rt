@@ -2,14 +2,16 @@
 //!
 //! The cubes are clauses: a place is outside a cube if it has the opposite of one of its literals.
 //! Cubes of one literal force the opposite one, and literals that stand in one sense alone are
-//! opposed too. Most questions are answered so, by a few passes over the cubes; what is left is
-//! split (`splits`). The number of regions that are looked at is bounded by a budget.
+//! opposed too. Most questions are answered so, by a few passes over the cubes. Of what is left the
+//! parts that former answers avoid are settled by these (`parts`), and the rest is split (`splits`).
+//! The number of regions that are looked at is bounded by a budget.
 
 use crate::bits::{
     Literals, few_in_word, force_opposites, has_literal, literals_at, meets, narrow_at, row_at,
-    tail,
+    tail, word_at,
 };
 use crate::lists::{Outside, any_meets, push_cofactors};
+use crate::parts::take_inputs_of_parts;
 use crate::splits::{Splits, State};
 use std::alloc::{AllocError, Global};
 
@@ -35,6 +37,8 @@ pub(crate) struct Question {
     notes: Notes,
     // By input: the literal that it last had in an answer, where the cube asked for had none.
     remembered: Vec<Literals>,
+    // The inputs of the parts that are not settled by it.
+    unsettled: Vec<u64>,
     splits: Splits,
 }
 
@@ -119,12 +123,14 @@ impl Question {
         let width = words.max(1);
         let forced: Vec<Literals> = vec![in alloc; Literals::NONE; width]?;
         let remembered: Vec<Literals> = vec![in alloc; Literals::NONE; width]?;
+        let unsettled: Vec<u64> = vec![in alloc; 0; width]?;
         Ok(Question {
             width,
             rows: Vec::new(alloc),
             forced,
             notes: Notes::new(alloc, width)?,
             remembered,
+            unsettled,
             splits: Splits::new(alloc, width)?,
         })
     }
@@ -162,6 +168,7 @@ impl Question {
     // Whether a place is found by splits, which is then the answer. `false` too if the budget is
     // spent.
     fn search(&mut self, budget: &mut u64) -> Result<bool, AllocError> {
+        self.settle_parts();
         let rows = self.rows.as_slice();
         self.splits
             .begin(row_at(rows, 0, self.width), tail(rows, self.width))?;
@@ -210,6 +217,20 @@ impl Question {
         self.forced.fill(Literals::NONE);
         self.take_forced_literals();
         Ok(Outside::Unknown)
+    }
+
+    // Takes the literals of former answers at the inputs of the parts of the cubes that avoid these: only
+    // the other parts are searched.
+    fn settle_parts(&mut self) {
+        let cubes = tail(&self.rows, self.width);
+        if !take_inputs_of_parts(cubes, &self.remembered, &mut self.unsettled) {
+            return;
+        }
+        for k in 0..self.forced.len() {
+            let open = !(word_at(&self.unsettled, k) | literals_at(&self.rows, k).inputs());
+            self.forced[k] = literals_at(&self.remembered, k).at(open);
+        }
+        self.take_forced_literals();
     }
 
     // Takes what is forced, until nothing is. Answers what is known then.
