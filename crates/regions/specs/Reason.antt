@@ -58,6 +58,16 @@ AreKnown size known rows = All (λ d. HasSize d size) known × IsSubset (places 
 abbrev pub AreLearned : Cube → List (Bor Cube) → List Cube → Type 0
 AreLearned region rows known = AreKnown (size_of region) known (behind rows)
 
+-- rows of the region's size, and cubes that a search learned of them
+pub record AreRowsWithLearned (region : Cube) (rows : List (Bor Cube)) (known : List Cube) : Type 0 where
+  pub sizes : All (λ d. SameSize d.now region) rows
+  pub learned : AreLearned region rows known
+
+-- what a search shows of a region, with cubes that it learned of the rows
+pub record ShowsAndLearns (region : Cube) (rows : List (Bor Cube)) (known : List Cube) (shown : Shown) : Type 0 where
+  pub learned : AreLearned region rows known
+  pub shows : Shows region rows shown
+
 -- the cube has no literal at an input where the region has none
 abbrev pub IsClosed : Cube → Cube → Type 0
 IsClosed region c = (i : ℕ) → i < length region.symbols

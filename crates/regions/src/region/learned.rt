@@ -10,7 +10,7 @@ ghost use Rattle.std.specs.Prelude.{◌≡◌, ◌<◌, ◌||◌, [], IsTrue, If
 ghost use Rattle.std.specs.List.{list_any};
 ghost use Rattle.cube.specs.Cube.{HasSize, Place, SameSize, IsSubset, holds};
 ghost use Rattle.rows.specs.Places.{places, behind};
-ghost use Rattle.regions.specs.Reason.{AreKnown, AreLearned, Shows};
+ghost use Rattle.regions.specs.Reason.{AreKnown, AreRowsWithLearned, Shows, ShowsAndLearns};
 
 use crate::region::passes::{passes_before_search, passes_for_second_try};
 use cube::{Cube, Shape, Symbol};
@@ -394,10 +394,8 @@ fn shown_by_answer(
     region: &Cube,
     answer: &Answer,
 ) -> Result<Shown, AllocError>
-    requires sizes { All (λ d. SameSize d.now region.now) rows.now }
-    requires known { AreLearned region.now rows.now known.old.items }
-    ensures known { OnOk result (AreLearned region.now rows.now known.new.items) }
-    ensures shown { IfOk result (Shows region.now rows.now) }
+    requires { AreRowsWithLearned region.now rows.now known.old.items }
+    ensures { IfOk result (ShowsAndLearns region.now rows.now known.new.items) }
 {
     match answer {
         Answer::Unknown => Ok(Shown::Nothing),
@@ -442,10 +440,8 @@ fn shown_of_part(
     output: usize,
     part: &Cube,
 ) -> Result<Shown, AllocError>
-    requires sizes { All (λ d. SameSize d.now part.now) rows.now }
-    requires known { AreLearned part.now rows.now learned.old.known.items }
-    ensures known { OnOk result (AreLearned part.now rows.now learned.new.known.items) }
-    ensures shown { IfOk result (Shows part.now rows.now) }
+    requires { AreRowsWithLearned part.now rows.now learned.old.known.items }
+    ensures { IfOk result (ShowsAndLearns part.now rows.now learned.new.known.items) }
 {
     learned.prepare_search(alloc, rows, output, part.shape())?;
     let answer = learned.ask_search(alloc, output, part)?;
@@ -461,10 +457,8 @@ pub(crate) fn shown_by_search(
     learned: &mut Learned,
     region: &Cube,
 ) -> Result<Shown, AllocError>
-    requires sizes { All (λ d. SameSize d.now region.now) rows.now }
-    requires known { AreLearned region.now rows.now learned.old.known.items }
-    ensures known { OnOk result (AreLearned region.now rows.now learned.new.known.items) }
-    ensures shown { IfOk result (Shows region.now rows.now) }
+    requires { AreRowsWithLearned region.now rows.now learned.old.known.items }
+    ensures { IfOk result (ShowsAndLearns region.now rows.now learned.new.known.items) }
 {
     for output in 0..region.shape().outputs() {
         let Some(part) = part_at_output(alloc, region, output)? else {

@@ -5,10 +5,10 @@
 //! share a literal with it are looked at before the others.
 ghost use Rattle.std.specs.Prelude.{◌↔◌, IsTrue, IfOk, OnOk, All};
 ghost use Rattle.std.specs.List.{AllZip};
-ghost use Rattle.cube.specs.Cube.{HasSize, SameSize, IsSubset, size_of};
+ghost use Rattle.cube.specs.Cube.{HasSize, IsSubset, size_of};
 ghost use Rattle.rows.specs.Places.{places, behind};
 ghost use Rattle.regions.specs.LeftOut.{LeavesOut};
-ghost use Rattle.regions.specs.Reason.{AreAmong, AreLearned};
+ghost use Rattle.regions.specs.Reason.{AreAmong, AreLearned, AreRowsWithLearned};
 
 use crate::region::learned::Learned;
 use crate::region::nearest_rows::RowBits;
@@ -93,8 +93,7 @@ fn part_left_out_nearest_first(
     region: &Cube,
     learned: &mut Learned,
 ) -> Result<Option<Cube>, AllocError>
-    requires sizes { All (λ d. SameSize d.now region.now) rows.now }
-    requires known { AreLearned region.now rows.now learned.old.known.items }
+    requires { AreRowsWithLearned region.now rows.now learned.old.known.items }
     ensures known { OnOk result (AreLearned region.now rows.now learned.new.known.items) }
     ensures part { IfOk result (LeavesOut (size_of region.now) (behind rows.now) region.now) }
 {
