@@ -308,7 +308,3 @@ dropped_pruned choice t u c k w (Some v) wt live none is a = record {
 pub dropped_fewer : (choice : Choice) (t u : Table) (c k w : ℕ) (o : Option Table) → IsTable t → has c t.live ≡ true → u ≡ drop_column c t → MatchOption o (NoneWithin choice u k w) (IsPruned choice k w u) → IfSome o (λ v. length v.live < length t.live)
 dropped_fewer choice t u c k w None wt live is a = tt
 dropped_fewer choice t u c k w (Some v) wt live is a = let falls = live_falls t c wt live in let same = ap (λ (g : Table). length g.live) is in let less = a.live in omega (arith, falls, same, less)
-
--- a table is pruned to itself
-pub pruned_here : (choice : Choice) (t u : Table) (k w : ℕ) → u ≡ t → IsPruned choice k w t u
-pruned_here choice t u k w e = record { leads = λ o a. subst (λ g. Answers choice g k w o) e a; live = let same = ap (λ (g : Table). length g.live) e in omega (arith, same) }

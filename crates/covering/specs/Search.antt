@@ -5,6 +5,8 @@ use Rattle.covering.specs.declared.bound.Cutoff.{Cutoff}
 use Rattle.covering.specs.declared.choice.Choice.{Choice}
 use Rattle.covering.specs.declared.choice.Choice.TheVariants.{Literals}
 use Rattle.covering.specs.declared.in_order.Partial.{Partial}
+use Rattle.covering.specs.declared.search.Outcome.{Outcome}
+use Rattle.covering.specs.declared.search.Outcome.TheVariants.{Answer, Rest}
 use Rattle.covering.specs.Table.{Table, has}
 use Rattle.covering.specs.Cover.{IsCover, IsLeast, counted, sum_over}
 
@@ -68,6 +70,12 @@ marked marks c = slice_index_or marks c false
 pub record IsPruned (choice : Choice) (k w : ℕ) (t u : Table) : Type 0 where
   pub leads : Leads choice k w t u
   pub live : length u.live ≤ length t.live
+
+-- what a branch shows: an answer, or a table with fewer live columns, in which to search instead
+abbrev pub IsOutcome : Choice → Table → Cutoff → Outcome → Type 0
+IsOutcome choice t cutoff (Answer found) = AnswersWithin choice t cutoff found
+IsOutcome choice t cutoff (Rest u) = IsPruned choice cutoff.columns cutoff.cost t u
+    × (length u.live < length t.live)
 
 -- no cover goes without the column
 abbrev pub IsForced : Table → ℕ → Type 0

@@ -39,6 +39,7 @@ mod bound;
 mod choice;
 mod column_dominance;
 mod columns;
+mod cutoff;
 mod cuts;
 mod exhaustive;
 mod fewest_literals;

@@ -3,27 +3,22 @@
 //! A cutoff is a number of columns and a cost. A search answers a cover within it, or that there is
 //! none: it prunes the table, branches on a column, first taken and then dropped, and prunes on. A
 //! table is pruned by the steps of a reduction, by dropping columns that another one dominates and
-//! that cost no less, and by weights of its rows (the dual bound): if the weights are more than the
-//! cutoff there is no cover within it, and a column with more slack than the remaining gap is in
-//! none. Any cover within the cutoff is a right answer, so any order of branches serves. A search that
-//! looked at many tables is begun anew, with its tables bounded by their linear relaxation, which cuts
-//! make stronger (`find_or_refute_in_stages`).
+//! that cost no less, and by weights of its rows (`drop_by_bound`). Any cover within the cutoff is a
+//! right answer, so any order of branches serves. A search that looked at many tables is begun anew,
+//! with its tables bounded by their linear relaxation, which cuts make stronger
+//! (`find_or_refute_in_stages`).
 
-ghost use Rattle.std.specs.Prelude.{◌≡◌, ◌≤◌, ◌<◌, ◌-◌, ℕ, [], IfOk, IfSome, MatchOption, MatchBool, length, true, false};
+ghost use Rattle.std.specs.Prelude.{◌≡◌, ◌<◌, [], IfOk, IfSome, MatchOption, length, true};
 ghost use Rattle.covering.specs.Table.{IsTable, has};
-ghost use Rattle.covering.specs.Cover.{counted, sum_over};
-ghost use Rattle.covering.specs.Search.{NoneWithin, AnswersWithin, IsAnswer, IsPruned, IsOutside, marked};
+ghost use Rattle.covering.specs.Search.{NoneWithin, AnswersWithin, IsAnswer, IsOutcome, IsPruned};
 ghost use Rattle.covering.specs.Steps.{take_column};
 
-use crate::bound::{Cutoff, columns_within_gap, limit_of, scaled_costs};
-use crate::choice::{Choice, cost, total_cost};
+use crate::bound::Cutoff;
+use crate::choice::Choice;
 use crate::columns::{contains, copy_of};
-use crate::cuts::loads_of;
-use crate::marks::{all_kept, all_marked};
 use crate::reduction::Due;
 use crate::table::Table;
-use heuristics::{Goal, Multipliers, likeliest, row_counts, steps_of_long_search};
-use number_lists::Compact;
+use heuristics::{Goal, likeliest, row_counts, steps_of_long_search};
 use std::alloc::{AllocError, Global};
 use warm_start::{WarmStart, is_worth_a_bound};
 
@@ -45,9 +40,6 @@ const MOST_STEPS_REDUCED: usize = 5_000;
 
 /// A search in the support of a fractional cover looks at no more than so many tables.
 const SUPPORT_TABLES: u64 = 500;
-
-/// A table is wide if it has more live columns than this many times its rows.
-const WIDE: usize = 16;
 
 /// How many steps a local search near the last cover takes in a table of so many rows.
 fn steps_near(rows: usize) -> usize {
@@ -85,6 +77,15 @@ impl From<AllocError> for Stop {
     }
 }
 
+/// What a branch on a column shows.
+#[derive(Drop)]
+enum Outcome {
+    /// A cover within the cutoff, or none if there is none.
+    Answer(Option<Vec<usize>>),
+    /// A table with fewer live columns, in which to search instead.
+    Rest(Table),
+}
+
 /// Whether a search ended because it looked at as many tables as it may.
 fn is_spent(found: &Result<Option<Vec<usize>>, Stop>) -> bool {
     match found {
@@ -93,185 +94,7 @@ fn is_spent(found: &Result<Option<Vec<usize>>, Stop>) -> bool {
     }
 }
 
-/// The cost of each live column, for hints.
-fn live_costs(
-    alloc: Global,
-    choice: Choice,
-    literals: &[u32],
-    live: &[usize],
-) -> Result<Vec<i64>, AllocError> {
-    let mut costs = Vec::with_capacity(alloc, live.len())?;
-    for column in live {
-        costs.push(i64::from(cost(choice, literals, *column)))?;
-    }
-    Ok(costs)
-}
-
 impl Table {
-    /// Whether the taken columns alone go past the cutoff.
-    fn is_over_cutoff(&self, choice: Choice, cutoff: Cutoff) -> bool
-        ensures { MatchBool result (NoneWithin choice self.now cutoff.columns cutoff.cost)
-            ((length self.now.taken ≤ cutoff.columns)
-            × (sum_over (counted choice self.now.weights) self.now.taken ≤ cutoff.cost)) }
-    {
-        if self.taken_columns().len() > cutoff.columns {
-            return true;
-        }
-        total_cost(choice, self.literals(), self.taken_columns()) > cutoff.cost
-    }
-
-    /// The cutoff less the taken columns: what a cover within it may have beside these; 0 where
-    /// they go past it.
-    fn remaining_cutoff(&self, choice: Choice, cutoff: Cutoff) -> Cutoff
-        ensures columns { result.columns ≡ cutoff.columns - length self.now.taken }
-        ensures cost { result.cost ≡ cutoff.cost
-            - sum_over (counted choice self.now.weights) self.now.taken }
-    {
-        let taken = self.taken_columns();
-        Cutoff {
-            columns: cutoff.columns.saturating_sub(taken.len()),
-            cost: cutoff
-                .cost
-                .saturating_sub(total_cost(choice, self.literals(), taken)),
-        }
-    }
-
-    /// What is left of the cutoff beside the taken columns, as hints take it: a number that is too
-    /// large for them is the largest.
-    pub(crate) fn goal(&self, choice: Choice, cutoff: Cutoff) -> Goal {
-        let rest = self.remaining_cutoff(choice, cutoff);
-        Goal {
-            columns: i64::try_from(rest.columns).unwrap_or(i64::MAX),
-            cost: i64::try_from(rest.cost).unwrap_or(i64::MAX),
-        }
-    }
-
-    /// The rows with the live columns as their indices, and what each of these costs, for hints.
-    pub(crate) fn compact(&self, alloc: Global, choice: Choice) -> Result<Compact, AllocError>
-        ensures { IsTable self.now }
-    {
-        let live = self.live_columns();
-        let costs = live_costs(alloc, choice, self.literals(), live)?;
-        Compact::of(alloc, self.row_lists(), live, self.columns(), costs)
-    }
-
-    /// All columns marked, as by a bound that excludes none.
-    fn all_columns_marked(&self, alloc: Global) -> Result<Vec<bool>, AllocError>
-        ensures { IfOk result (λ v. (c : ℕ) → has c self.now.live ≡ true
-            → marked v.items c ≡ true) }
-    {
-        all_marked(alloc, self.columns())
-    }
-
-    /// Marks the columns that a cover within the cutoff may have, as far as these multipliers show;
-    /// `None` if they show that there is no such cover.
-    fn columns_by_bound(
-        &self,
-        alloc: Global,
-        choice: Choice,
-        cutoff: Cutoff,
-        multipliers: &Multipliers,
-    ) -> Result<Option<Vec<bool>>, AllocError>
-        ensures { IfOk result (λ o. MatchOption o (NoneWithin choice self.now cutoff.columns
-            cutoff.cost) (λ v. (c : ℕ) → has c self.now.live ≡ true → marked v.items c ≡ false
-            → IsOutside choice self.now cutoff.columns cutoff.cost c)) }
-    {
-        let rows = self.row_lists();
-        if multipliers.weights.len() != rows.len() || rows.len() >= 4611686018427387904 {
-            return Ok(Some(self.all_columns_marked(alloc)?));
-        }
-        let scaled_costs = scaled_costs(
-            alloc,
-            choice,
-            self.literals(),
-            multipliers.column,
-            multipliers.cost,
-        )?;
-        let loads = loads_of(alloc, rows, multipliers, &scaled_costs)?;
-        let rest = self.remaining_cutoff(choice, cutoff);
-        let Some(limit) = limit_of(
-            multipliers.column,
-            rest.columns,
-            multipliers.cost,
-            rest.cost,
-            loads.over,
-        ) else {
-            return Ok(Some(self.all_columns_marked(alloc)?));
-        };
-        if loads.total > limit {
-            return Ok(None);
-        }
-        Ok(Some(columns_within_gap(alloc, &scaled_costs, &loads.loads, limit - loads.total)?))
-    }
-
-    /// Marks the columns that a cover within the cutoff may have, as far as the multipliers show that
-    /// subgradient steps find, or the linear relaxation where the search has one; `None` if they show
-    /// that there is no such cover.
-    pub(crate) fn columns_within_cutoff(
-        &self,
-        alloc: Global,
-        choice: Choice,
-        cutoff: Cutoff,
-        warm_start: &mut WarmStart,
-    ) -> Result<Option<Vec<bool>>, AllocError>
-        ensures marks { IfOk result (λ o. MatchOption o (NoneWithin choice self.now cutoff.columns
-            cutoff.cost) (λ v. (c : ℕ) → has c self.now.live ≡ true → marked v.items c ≡ false
-            → IsOutside choice self.now cutoff.columns cutoff.cost c)) }
-        ensures table { IsTable self.now }
-    {
-        let compact = self.compact(alloc, choice)?;
-        let goal = self.goal(choice, cutoff);
-        let multipliers = warm_start.multipliers(
-            alloc,
-            &compact,
-            self.live_columns(),
-            self.taken_columns(),
-            self.row_lists(),
-            self.columns(),
-            goal,
-        )?;
-        self.columns_by_bound(alloc, choice, cutoff, &multipliers)
-    }
-
-    /// The table without the columns that no cover within the cutoff has, as far as row weights
-    /// show; `None` if they show that there is no such cover.
-    fn drop_by_bound(
-        self,
-        alloc: Global,
-        choice: Choice,
-        cutoff: Cutoff,
-        warm_start: &mut WarmStart,
-    ) -> Result<Option<Table>, AllocError>
-        ensures { IfOk result (λ o. MatchOption o (NoneWithin choice self cutoff.columns
-            cutoff.cost) (IsPruned choice cutoff.columns cutoff.cost self)) }
-    {
-        let Some(keep) = self.columns_within_cutoff(alloc, choice, cutoff, warm_start)? else {
-            return Ok(None);
-        };
-        if all_kept(self.live_columns(), &keep) {
-            return Ok(Some(self));
-        }
-        Ok(self.keep_marked(&keep))
-    }
-
-    /// What `drop_by_bound` gives, if columns are so many beside the rows that column dominance is dear;
-    /// else the table as it is.
-    fn drop_by_bound_if_wide(
-        self,
-        alloc: Global,
-        choice: Choice,
-        cutoff: Cutoff,
-        warm_start: &mut WarmStart,
-    ) -> Result<Option<Table>, AllocError>
-        ensures { IfOk result (λ o. MatchOption o (NoneWithin choice self cutoff.columns
-            cutoff.cost) (IsPruned choice cutoff.columns cutoff.cost self)) }
-    {
-        if self.live_columns().len() / WIDE <= self.row_lists().len() {
-            return Ok(Some(self));
-        }
-        self.drop_by_bound(alloc, choice, cutoff, warm_start)
-    }
-
     /// The table as far as a search within the cutoff has to look at it, after the passes that are
     /// due and the bound by row weights, with which a wide table begins; `None` if these show that
     /// there is no such cover. The lists are memory for the rows of each column.
@@ -445,6 +268,54 @@ impl Table {
         }
     }
 
+    /// What a branch on a live column shows: a cover within the cutoff that has the column, or that no
+    /// cover is within the cutoff, or else the table without it, as far as a search has to look at that.
+    /// Subtracts the tables that it branches into from `tables_left`, and is `Spent` if they do not
+    /// suffice.
+    #[cycle(search)]
+    fn take_or_drop(
+        &self,
+        alloc: Global,
+        choice: Choice,
+        cutoff: Cutoff,
+        column: usize,
+        warm_start: &mut WarmStart,
+        tables_left: &mut u64,
+        lists: &mut Vec<Vec<usize>>,
+    ) -> Result<Outcome, Stop>
+        requires table { IsTable self.now }
+        requires live { has column self.now.live ≡ true }
+        ensures { IfOk result (IsOutcome choice self.now cutoff) }
+    {
+        let basis = warm_start.branch(alloc, column)?;
+        let with = self.take(alloc, column)?;
+        let found = with.search(
+            alloc,
+            choice,
+            cutoff,
+            Due::COLUMNS,
+            warm_start,
+            tables_left,
+            lists,
+        )?;
+        if let Some(cover) = found {
+            return Ok(Outcome::Answer(Some(cover)));
+        }
+        warm_start.go_back(alloc, basis)?;
+        match self.prune_without(
+            alloc,
+            choice,
+            cutoff,
+            column,
+            warm_start,
+            tables_left,
+            lists,
+        )? {
+            None => Ok(Outcome::Answer(None)),
+            Some(rest) => Ok(Outcome::Rest(rest)),
+        }
+    }
+
     /// A cover within the cutoff, or none if there is none: branches on a live column, which is
     /// first taken, and dropped if no such cover has it, and so on. Subtracts the tables that it branches
     /// into from `tables_left`, and is `Spent` if they do not suffice.
@@ -472,21 +343,7 @@ impl Table {
             let Some(column) = table.branching_column(alloc, goal, warm_start)? else {
                 return Ok(None);
             };
-            let basis = warm_start.branch(alloc, column)?;
-            let with = table.take(alloc, column)?;
-            if let Some(cover) = with.search(
-                alloc,
-                choice,
-                cutoff,
-                Due::COLUMNS,
-                warm_start,
-                tables_left,
-                lists,
-            )? {
-                return Ok(Some(cover));
-            }
-            warm_start.go_back(alloc, basis)?;
-            let Some(rest) = table.prune_without(
+            let rest = match table.take_or_drop(
                 alloc,
                 choice,
                 cutoff,
@@ -494,9 +351,9 @@ impl Table {
                 warm_start,
                 tables_left,
                 lists,
-            )?
-            else {
-                return Ok(None);
+            )? {
+                Outcome::Answer(found) => return Ok(found),
+                Outcome::Rest(rest) => rest,
             };
             if !warm_start.is_relaxing() && rest.has_few_live_columns() {
                 return rest.branch_in_fewer_columns(
