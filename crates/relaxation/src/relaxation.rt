@@ -18,7 +18,10 @@ use std::num::{nearest_i64_to_f64, nearest_u64_to_f64, saturating_f64_to_u64};
 const MOST_ROWS: usize = 2_500;
 
 /// The most columns.
-const MOST_COLUMNS: usize = 20_000;
+const MOST_COLUMNS: usize = 100_000;
+
+/// The most places, rows times columns.
+const MOST_PLACES: usize = 50_000_000;
 
 /// The most steps at a table.
 const MOST_STEPS: u32 = 5_000;
@@ -144,7 +147,9 @@ impl Drop for Relaxation {
 
 /// Whether a table is small enough for the relaxation.
 pub fn is_small_enough(rows: usize, columns: usize) -> bool {
-    rows <= MOST_ROWS && columns <= MOST_COLUMNS
+    rows <= MOST_ROWS
+        && columns <= MOST_COLUMNS
+        && rows.saturating_mul(columns) <= MOST_PLACES
 }
 
 /// For each column below `columns` its index among the live ones, or `NONE` if it is not live.
