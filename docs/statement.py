@@ -38,9 +38,9 @@ essential primes hold each wanted place, then all these together are the least c
     ("growth", "Cubes that grow", """`grow` returns a cube that contains the given one, and lies on the same side of the rows, inside or outside, if that one does: then
 it is a prime of that side, whose literals come no later than those of any other that contains the cube (`AreFirst`). With it come rows
 that hold the same places beside it as all rows (`AreNear`), or none, which stands for all rows; `rows_to_ask` returns these. `columns_of_point`
-returns primes outside a list, or none: each cube outside the list that contains the point is dominated by one. No contract says how few
-they are, in which order `large_first` puts a list, which part `outputs_at` takes, or which rows are near. The others are questions
-about cubes, copies, and rows by their outputs."""),
+returns primes outside a list, or none: each cube outside the list that contains the point is dominated by one. `large_first` returns
+the same cubes, those of fewer literals first. No contract says how few the columns are, which part `outputs_at` takes, or which rows
+are near. The others are questions about cubes, copies, and rows by their outputs."""),
     ("covering", "The covering problem", """`least_cover`, `least_cover_with_effort` and `least_cover_plain` return the first by list order of the shortest covers of a table, or of
 those with the fewest literals: for every table, and there is one (`least_is_unique`). Lists of one length compare by the least
 number in which they differ (`least_difference_decides`). A reduced table comes from the old one by steps that drop a row, choose a
