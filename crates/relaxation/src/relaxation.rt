@@ -147,9 +147,7 @@ impl Drop for Relaxation {
 
 /// Whether a table is small enough for the relaxation.
 pub fn is_small_enough(rows: usize, columns: usize) -> bool {
-    rows <= MOST_ROWS
-        && columns <= MOST_COLUMNS
-        && rows.saturating_mul(columns) <= MOST_PLACES
+    rows <= MOST_ROWS && columns <= MOST_COLUMNS && rows.saturating_mul(columns) <= MOST_PLACES
 }
 
 /// For each column below `columns` its index among the live ones, or `NONE` if it is not live.
