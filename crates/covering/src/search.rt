@@ -11,6 +11,7 @@
 ghost use Rattle.std.specs.Prelude.{◌≡◌, ◌<◌, [], IfOk, IfSome, MatchOption, length, true};
 ghost use Rattle.covering.specs.Table.{IsTable, has};
 ghost use Rattle.covering.specs.Search.{NoneWithin, AnswersWithin, IsAnswer, IsOutcome, IsPruned};
+ghost use Rattle.covering.specs.Parts.{IsRenumbered};
 ghost use Rattle.covering.specs.Steps.{take_column};
 
 use crate::bound::Cutoff;
@@ -480,9 +481,48 @@ impl Table {
         )
     }
 
+    /// A cover within the cutoff, or none if there is none: what is answered by
+    /// `find_or_refute_in_two_looks` of the renumbered table. What branches gained is kept.
+    fn find_or_refute_in_fewer_columns(
+        &self,
+        alloc: Global,
+        choice: Choice,
+        cutoff: Cutoff,
+        fewer: &Table,
+        warm_start: &mut WarmStart,
+        most_tables: u64,
+    ) -> Result<Option<Vec<usize>>, Stop>
+        requires { IsRenumbered self.now fewer.now }
+        ensures { IfOk result (AnswersWithin choice self.now cutoff) }
+    {
+        if self.is_over_cutoff(choice, cutoff) {
+            return Ok(None);
+        }
+        let (rows, live) = (self.row_lists(), self.live_columns());
+        let mut own = warm_start.renumber(alloc, rows, live, self.columns(), fewer.row_lists())?;
+        own.take_gains_at(alloc, warm_start, live)?;
+        let rest = self.remaining_cutoff(choice, cutoff);
+        let mut lists = Vec::new(alloc);
+        let found = fewer.find_or_refute_in_two_looks(
+            alloc,
+            choice,
+            rest,
+            &mut own,
+            most_tables,
+            &mut lists,
+        );
+        own.stop_relaxing();
+        warm_start.learn(&own);
+        warm_start.take_gains_back(alloc, &own, live, self.columns())?;
+        match found? {
+            None => Ok(None),
+            Some(numbers) => Ok(Some(self.cover_of_numbers(alloc, &numbers)?)),
+        }
+    }
+
     /// A cover within the cutoff, or none if there is none, where a search did not end soon: the
-    /// table is pruned, and then looked at with the linear relaxation, in no more than
-    /// `most_tables` tables.
+    /// table is pruned, renumbered if no more than half of its columns are live, and then looked at with
+    /// the linear relaxation, in no more than `most_tables` tables.
     fn find_or_refute_with_relaxation(
         self,
         alloc: Global,
@@ -498,6 +538,18 @@ impl Table {
         else {
             return Ok(None);
         };
+        if table.live_columns().len() <= table.columns() / 2 {
+            if let Some(fewer) = table.renumber(alloc)? {
+                return table.find_or_refute_in_fewer_columns(
+                    alloc,
+                    choice,
+                    cutoff,
+                    &fewer,
+                    warm_start,
+                    most_tables,
+                );
+            }
+        }
         let found = table.find_or_refute_in_two_looks(
             alloc,
             choice,

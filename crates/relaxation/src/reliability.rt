@@ -6,11 +6,11 @@
 //! once there were enough of them. The product of both gains is what counts. Columns are looked at
 //! from the most promising one on, until some in a row are no better.
 
-use crate::floats::{add_float, float};
+use crate::floats::{add_float, float, put_float};
 use crate::relaxation::{MARGIN, Relaxation};
 use crate::simplex::{End, NONE, Saved};
 use heuristics::Goal;
-use number_lists::{add_to, number};
+use number_lists::{add_to, number, set};
 use std::alloc::{AllocError, Global};
 use std::num::{nearest_u64_to_f64, saturating_f64_to_u64};
 
@@ -80,6 +80,25 @@ impl Direction {
         add_to(&mut self.counts, column, 1);
     }
 
+    /// The gains of these columns, each by its index.
+    fn at(&self, alloc: Global, columns: &[usize]) -> Result<Direction, AllocError> {
+        let mut sums = Vec::with_capacity(alloc, columns.len())?;
+        let mut counts = Vec::with_capacity(alloc, columns.len())?;
+        for column in columns {
+            sums.push(float(&self.sums, *column))?;
+            counts.push(number(&self.counts, *column))?;
+        }
+        Ok(Direction { sums, counts })
+    }
+
+    /// Takes the gains of these columns from those by their indices.
+    fn take(&mut self, columns: &[usize], from: &Direction) {
+        for (index, column) in columns.iter().enumerate() {
+            put_float(&mut self.sums, *column, float(&from.sums, index));
+            set(&mut self.counts, *column, number(&from.counts, index));
+        }
+    }
+
     /// The pseudo-cost of a column, or the other number if there were no gains.
     fn cost(&self, column: usize, otherwise: f64) -> f64 {
         let count = number(&self.counts, column);
@@ -114,6 +133,20 @@ impl PseudoCosts {
             up: Direction::new(alloc, columns)?,
             down: Direction::new(alloc, columns)?,
         })
+    }
+
+    /// What was gained on these columns, each by its index.
+    pub fn at(&self, alloc: Global, columns: &[usize]) -> Result<PseudoCosts, AllocError> {
+        Ok(PseudoCosts {
+            up: self.up.at(alloc, columns)?,
+            down: self.down.at(alloc, columns)?,
+        })
+    }
+
+    /// Takes what was gained on these columns from what was on their indices.
+    pub fn take(&mut self, columns: &[usize], from: &PseudoCosts) {
+        self.up.take(columns, &from.up);
+        self.down.take(columns, &from.down);
     }
 
     /// Notes what it gained to move a column from its value to 1, if `up`, or to 0. A value too

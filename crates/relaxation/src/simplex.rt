@@ -132,6 +132,8 @@ pub(crate) struct Simplex {
     active: Vec<bool>,
     /// The columns that were not fixed when the steps began.
     open: Vec<usize>,
+    /// Whether each column is open.
+    is_open: Vec<bool>,
     /// The open columns of each row.
     open_rows: Lists,
     /// A row of the inverse: an entry for each row.
@@ -170,6 +172,7 @@ impl Drop for Simplex {
             is_trial: _,
             active: _,
             open: _,
+            is_open: _,
             open_rows: _,
             inverse_row: _,
             tableau_row: _,
@@ -255,6 +258,7 @@ impl Simplex {
             is_trial: false,
             active: vec![in alloc; true; rows]?,
             open: Vec::new(alloc),
+            is_open: vec![in alloc; false; columns]?,
             open_rows: Lists::new(alloc),
             inverse_row: vec![in alloc; 0.0; rows]?,
             tableau_row: vec![in alloc; 0.0; columns]?,
@@ -390,7 +394,9 @@ impl Simplex {
     fn list_open_columns(&mut self) -> Result<(), AllocError> {
         self.open.clear();
         for column in 0..self.costs.len() {
-            if self.is_free(column) {
+            let is_open = self.is_free(column);
+            mark(&mut self.is_open, column, is_open);
+            if is_open {
                 self.open.push(column)?;
             }
         }
@@ -400,8 +406,7 @@ impl Simplex {
     /// Lists the columns of a row that are not fixed, as the next list of `open_rows`.
     fn list_open_of(&mut self, row: usize) -> Result<(), AllocError> {
         for column in self.rows.list(row) {
-            let place = *column as usize;
-            if float(&self.lower, place) < float(&self.upper, place) {
+            if flag(&self.is_open, *column as usize) {
                 self.open_rows.push(*column)?;
             }
         }

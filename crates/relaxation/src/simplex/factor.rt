@@ -151,7 +151,7 @@ impl Simplex {
         self.basis.objective = objective;
     }
 
-    /// Computes the weights, at least 0, and the reduced costs.
+    /// Computes the weights, at least 0, and the reduced costs of the columns that are not fixed.
     fn compute_duals(&mut self) {
         for position in 0..self.basis.basic.len() {
             let cost = self.cost_at(position);
@@ -168,7 +168,9 @@ impl Simplex {
             put_float(&mut self.basis.weights, row, weight);
         }
         for column in 0..self.costs.len() {
-            self.compute_reduced_cost(column);
+            if self.is_free(column) {
+                self.compute_reduced_cost(column);
+            }
         }
     }
 

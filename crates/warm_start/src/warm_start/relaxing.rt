@@ -168,6 +168,41 @@ impl WarmStart {
         self.gains = from.gains.take();
     }
 
+    /// Takes over what branches gained in another table, of which these are the live columns, each by its
+    /// index.
+    pub fn take_gains_at(
+        &mut self,
+        alloc: Global,
+        from: &WarmStart,
+        live: &[usize],
+    ) -> Result<(), AllocError> {
+        if let Some(gains) = &from.gains {
+            self.gains = Some(gains.at(alloc, live)?);
+        }
+        Ok(())
+    }
+
+    /// Takes back what branches gained in a table with only these columns, each by its index; the columns
+    /// are below `columns`.
+    pub fn take_gains_back(
+        &mut self,
+        alloc: Global,
+        from: &WarmStart,
+        live: &[usize],
+        columns: usize,
+    ) -> Result<(), AllocError> {
+        let Some(gained) = &from.gains else {
+            return Ok(());
+        };
+        let mut gains = match self.gains.take() {
+            Some(gains) => gains,
+            None => PseudoCosts::new(alloc, columns)?,
+        };
+        gains.take(live, gained);
+        self.gains = Some(gains);
+        Ok(())
+    }
+
     /// Takes the relaxation over from another, which is left without one; drops its own.
     pub fn take_relaxation(&mut self, from: &mut WarmStart) {
         self.relaxation = from.relaxation.take();
