@@ -183,7 +183,8 @@ impl Table {
             return Err(Stop::Spent);
         };
         *tables_left = rest;
-        let mut own = warm_start.copy(alloc)?;
+        let mut own = WarmStart::new(alloc, warm_start.effort());
+        own.take_copy(alloc, warm_start)?;
         own.count_table();
         own.take_relaxation(warm_start);
         let found = match self.prune(alloc, choice, cutoff, due, &mut own, lists)? {
@@ -217,20 +218,38 @@ impl Table {
     ) -> Result<Option<Vec<usize>>, Stop>
         ensures { IfOk result (AnswersWithin choice self.now cutoff) }
     {
-        if self.is_over_cutoff(choice, cutoff) {
-            return Ok(None);
-        }
         if warm_start.is_relaxing() || !self.has_few_live_columns() {
             return self.branch(alloc, choice, cutoff, warm_start, tables_left, lists);
         }
-        let Some(table) = self.renumber(alloc)? else {
+        let Some(fewer) = self.renumber(alloc)? else {
             return self.branch(alloc, choice, cutoff, warm_start, tables_left, lists);
         };
+        self.branch_renumbered(alloc, choice, cutoff, &fewer, warm_start, tables_left)
+    }
+
+    /// What is answered by `branch` of the renumbered table. A function of its own, so that a search whose
+    /// columns keep their numbers needs no stack for it.
+    #[cycle(search)]
+    fn branch_renumbered(
+        &self,
+        alloc: Global,
+        choice: Choice,
+        cutoff: Cutoff,
+        fewer: &Table,
+        warm_start: &mut WarmStart,
+        tables_left: &mut u64,
+    ) -> Result<Option<Vec<usize>>, Stop>
+        requires { IsRenumbered self.now fewer.now }
+        ensures { IfOk result (AnswersWithin choice self.now cutoff) }
+    {
+        if self.is_over_cutoff(choice, cutoff) {
+            return Ok(None);
+        }
         let (rows, live) = (self.row_lists(), self.live_columns());
-        let mut own = warm_start.renumber(alloc, rows, live, self.columns(), table.row_lists())?;
+        let mut own = warm_start.renumber(alloc, rows, live, self.columns(), fewer.row_lists())?;
         let rest = self.remaining_cutoff(choice, cutoff);
-        let mut own_lists = Vec::new(alloc);
-        let found = table.branch(alloc, choice, rest, &mut own, tables_left, &mut own_lists);
+        let mut lists = Vec::new(alloc);
+        let found = fewer.branch(alloc, choice, rest, &mut own, tables_left, &mut lists);
         warm_start.learn(&own);
         match found? {
             None => Ok(None),

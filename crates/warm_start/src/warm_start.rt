@@ -258,17 +258,23 @@ impl WarmStart {
     /// gained; its bounds take all steps again.
     pub fn copy(&self, alloc: Global) -> Result<WarmStart, AllocError> {
         let mut copy = WarmStart::new(alloc, self.effort);
-        copy.column = self.column;
-        copy.missing = self.missing;
-        copy.hard = self.hard;
-        copy.fractional = self.fractional;
-        copy.rows.extend_from(&self.rows)?;
-        copy.numbers.extend_from_slice(&self.numbers)?;
-        copy.weights.extend_from_slice(&self.weights)?;
-        copy.cuts = self.cuts.copy(alloc)?;
-        copy.likely.extend_from_slice(&self.likely)?;
-        copy.hint.extend_from_slice(&self.hint)?;
+        copy.take_copy(alloc, self)?;
         Ok(copy)
+    }
+
+    /// Makes one that remembers nothing a copy of another, where it stands.
+    pub fn take_copy(&mut self, alloc: Global, from: &WarmStart) -> Result<(), AllocError> {
+        self.column = from.column;
+        self.missing = from.missing;
+        self.hard = from.hard;
+        self.fractional = from.fractional;
+        self.rows.extend_from(&from.rows)?;
+        self.numbers.extend_from_slice(&from.numbers)?;
+        self.weights.extend_from_slice(&from.weights)?;
+        self.cuts = from.cuts.copy(alloc)?;
+        self.likely.extend_from_slice(&from.likely)?;
+        self.hint.extend_from_slice(&from.hint)?;
+        Ok(())
     }
 
     /// A copy for a branch in a table whose columns are renumbered, each of the live ones by its index in
